@@ -1,0 +1,45 @@
+-- linearizable is closed under fronts
+use Rattle.std.proofs.Common.{◌≡◌, ◌↔◌, List, [], ◌∷◌, ◌++◌, refl, sym, ap, ◌∙◌, subst, append_assoc}
+use Rattle.std.proofs.lemmas.List.{append-nil}
+use Rattle.models.specs.Objects.{Object}
+use Rattle.history.specs.Events.{Mark, Entry, marks, IsFront}
+use Rattle.history.specs.Events.Mark.{Invoked, Returned, Failed, Crashed}
+use Rattle.linspec.specs.WellFormed.{MayFollow, AreWellFormed}
+use Rattle.linspec.specs.Orders.{Taken, IsLinearizable}
+use Rattle.linspec.specs.Ends.{End, Leaves, IsEnd}
+use Rattle.linspec.proofs.Marks.{IsLegalOrder-fewer}
+use Rattle.linspec.proofs.Fates.{end_of}
+use Rattle.linspec.proofs.Reach.{Reaches, invoke_before}
+
+-- a history is linearizable where it has an end
+pub IsLinearizable-end : (o : Object) (marks : List Mark) → IsLinearizable o marks ↔ ((e : End o.State) × IsEnd o marks e)
+IsLinearizable-end o marks = (
+  (λ h. let e : (e : End o.State) × Leaves o marks h.0 e × (e.state ≡ h.1) = end_of o marks h.0 h.1 h.2 in (e.0, (h.0, e.1))),
+  (λ h. let v : Leaves o marks h.1.0 h.0 = h.1.1 in (h.1.0, h.0.state, v.legal)),
+)
+
+-- one mark fewer
+IsLinearizable-fewer : (o : Object) (marks : List Mark) (m : Mark) → MayFollow marks m → IsLinearizable o (marks ++ m ∷ []) → IsLinearizable o marks
+IsLinearizable-fewer o marks (Invoked id op) new h =
+    let f : (e : End o.State) × IsEnd o (marks ++ Invoked id op ∷ []) e = (IsLinearizable-end o (marks ++ Invoked id op ∷ [])).0 h in
+    let e : (e : End o.State) × (xs : List Taken) × IsEnd o marks e × Reaches o (marks ++ Invoked id op ∷ []) e xs f.0 = invoke_before o marks id op new f.0 f.1 in
+    (IsLinearizable-end o marks).1 (e.0, e.2)
+IsLinearizable-fewer o marks (Returned id a) is_open h = (h.0, h.1, IsLegalOrder-fewer o marks (Returned id a) h.0 h.1 (λ x k e. cc) h.2)
+IsLinearizable-fewer o marks (Failed id) is_open h = (h.0, h.1, IsLegalOrder-fewer o marks (Failed id) h.0 h.1 (λ x k e. cc) h.2)
+IsLinearizable-fewer o marks (Crashed id) is_open h = (h.0, h.1, IsLegalOrder-fewer o marks (Crashed id) h.0 h.1 (λ x k e. cc) h.2)
+
+pub IsLinearizable-append : (o : Object) (marks rest : List Mark) → AreWellFormed (marks ++ rest) → IsLinearizable o (marks ++ rest) → IsLinearizable o marks
+IsLinearizable-append o marks [] well h = subst (IsLinearizable o) (append-nil marks) h
+IsLinearizable-append o marks (m ∷ rest) well h =
+    IsLinearizable-fewer o marks m (well marks rest m refl)
+    (IsLinearizable-append o (marks ++ m ∷ []) rest (subst AreWellFormed (sym (append_assoc marks (m ∷ []) rest)) well) (subst (IsLinearizable o) (sym (append_assoc marks (m ∷ []) rest)) h))
+
+pub marks-append : (xs ys : List Entry) → marks (xs ++ ys) ≡ marks xs ++ marks ys
+marks-append [] ys = refl
+marks-append (x ∷ xs) ys = ap (λ l. x.mark ∷ l) (marks-append xs ys)
+
+-- of a history's entries
+pub IsLinearizable-front : (o : Object) (front entries : List Entry) → AreWellFormed (marks entries) → IsFront front entries → IsLinearizable o (marks entries) → IsLinearizable o (marks front)
+IsLinearizable-front o front entries well is h =
+    let e : marks entries ≡ marks front ++ marks is.0 = ap marks (sym is.1) ∙ marks-append front is.0 in
+    IsLinearizable-append o (marks front) (marks is.0) (subst AreWellFormed e well) (subst (IsLinearizable o) e h)

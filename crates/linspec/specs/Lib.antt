@@ -1,0 +1,6 @@
+pub mod Operations
+pub mod Orders
+pub mod Ends
+pub mod Verdicts
+pub mod WellFormed
+pub mod Rows

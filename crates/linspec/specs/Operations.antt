@@ -1,0 +1,29 @@
+-- Operations, and which precede which (Herlihy and Wing 1990, section 2.2). An operation is named by the index of
+-- its invocation, and what became of it is a fact about the marks of its history
+use Rattle.std.specs.Prelude.{◌≡◌, ℕ, List, ◌++◌}
+use Rattle.std.specs.List.{Contains}
+use Rattle.models.specs.declared.operation.Op.{Op}
+use Rattle.models.specs.declared.finding.Answer.{Answer}
+use Rattle.history.specs.Events.{Mark}
+use Rattle.history.specs.Events.Mark.{Invoked, Returned, Failed, Crashed}
+
+-- the operation is invoked; it is done; it is open, which is invoked without a completion
+abbrev pub IsInvoked : List Mark → ℕ → Type 0
+IsInvoked marks id = (op : Op) × Contains marks (Invoked id op)
+
+abbrev pub HasReturned : List Mark → ℕ → Type 0
+HasReturned marks id = (answer : Answer) × Contains marks (Returned id answer)
+
+pub record IsOpen (marks : List Mark) (id : ℕ) : Type 0 where
+  pub invoked : IsInvoked marks id
+  pub not_returned : ¬ HasReturned marks id
+  pub not_failed : ¬ Contains marks (Failed id)
+  pub not_crashed : ¬ Contains marks (Crashed id)
+
+-- a precedes b: the history can be cut so that a has returned before the cut and b is invoked after it
+pub record Precedes (marks : List Mark) (a b : ℕ) : Type 0 where
+  pub before : List Mark
+  pub after : List Mark
+  pub cut : before ++ after ≡ marks
+  pub returned : HasReturned before a
+  pub invoked : IsInvoked after b

@@ -1,0 +1,44 @@
+-- Histories that show what the definitions say
+use Rattle.std.specs.Prelude.{ℕ, pos, None, List, [], ◌∷◌}
+use Rattle.models.specs.declared.operation.Name.TheVariants.{Read, Write, Enqueue}
+use Rattle.models.specs.declared.operation.Part.{Part}
+use Rattle.models.specs.declared.operation.Part.TheVariants.{Nil, Int}
+use Rattle.models.specs.declared.operation.Op.{Op}
+use Rattle.history.specs.declared.events.EventKind.{EventKind}
+use Rattle.history.specs.declared.events.EventKind.TheVariants.{Invoke, Ok, Fail, Info}
+use Rattle.history.specs.declared.events.Process.TheVariants.{Client}
+use Rattle.history.specs.declared.events.Body.TheVariants.{Op as AnOp}
+use Rattle.history.specs.declared.events.Event.{Event}
+
+abbrev pub write : ℕ → ℕ → Op
+write key v = record { name = Write; key = key; part = Int (pos v) }
+
+abbrev pub read : ℕ → Part → Op
+read key part = record { name = Read; key = key; part = part }
+
+abbrev pub enqueue : ℕ → ℕ → Op
+enqueue key v = record { name = Enqueue; key = key; part = Int (pos v) }
+
+abbrev pub event : ℕ → EventKind → Op → Event
+event process kind op = record { index = None; kind = kind; process = Client process; body = AnOp op }
+
+-- a write of 3, and then a read that answers a
+abbrev pub write_then_read : ℕ → List Event
+write_then_read a =
+    event 0 Invoke (write 7 3)
+    ∷ event 0 Ok (write 7 3)
+    ∷ event 0 Invoke (read 7 Nil)
+    ∷ event 0 Ok (read 7 (Int (pos a)))
+    ∷ []
+
+-- a write and, before it has returned, a read that answers its value; then the write ends with this kind
+abbrev pub read_of_pending_write : List Event
+read_of_pending_write =
+    event 0 Invoke (write 7 1)
+    ∷ event 1 Invoke (read 7 Nil)
+    ∷ event 1 Ok (read 7 (Int (pos 1)))
+    ∷ []
+
+-- two enqueues at once
+abbrev pub two_enqueues : List Event
+two_enqueues = event 0 Invoke (enqueue 1 5) ∷ event 1 Invoke (enqueue 1 6) ∷ []

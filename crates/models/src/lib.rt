@@ -1,0 +1,14 @@
+//! The sequential objects: operations, what they find, and what answers say of it.
+#![tactic(auto)]
+
+pub mod finding;
+pub mod kinds;
+pub mod object;
+pub mod operation;
+pub mod registers;
+
+pub use finding::{Answer, Found};
+pub use kinds::ModelKind;
+pub use object::SeqObject;
+pub use operation::{Members, Name, Op, Part};
+pub use registers::Register;

@@ -1,0 +1,44 @@
+//! The register.
+ghost use Rattle.std.specs.Prelude.{None};
+
+use crate::finding::Found;
+use crate::object::SeqObject;
+use crate::operation::{Name, Op, Part};
+use std::alloc::{AllocError, Global};
+
+/// A register, nil at first.
+pub struct Register;
+
+impl SeqObject for Register {
+    type State = Option<i64>;
+
+    ghost use Rattle.models.specs.Objects.{register_apply};
+
+    ghost start_state = { None };
+
+    ghost apply_to = { λ op s. register_apply op.name op.part s };
+
+    fn start(_alloc: Global) -> Option<i64> {
+        None
+    }
+
+    fn copy(alloc: Global, state: &Option<i64>) -> Result<Option<i64>, AllocError> {
+        Ok(*state)
+    }
+
+    fn apply(
+        alloc: Global,
+        state: &Option<i64>,
+        op: &Op,
+    ) -> Result<Option<(Option<i64>, Found)>, AllocError> {
+        match (op.name, &op.part) {
+            (Name::Write, Part::Int(v)) => Ok(Some((Some(*v), Found::Unit))),
+            (Name::Read, Part::Nil) => Ok(Some((*state, Found::Reg(*state)))),
+            _ => Ok(None),
+        }
+    }
+
+    fn same(a: &Option<i64>, b: &Option<i64>) -> bool {
+        *a == *b
+    }
+}
