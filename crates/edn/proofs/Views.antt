@@ -1,0 +1,16 @@
+-- The data of an element, level by level
+use Rattle.std.proofs.Common.{◌≡◌, List, [], ◌∷◌, ◌++◌, refl, ap, rules, Vec}
+use Rattle.std.specs.declared.alloc.Global.{Global}
+use Rattle.edn.specs.Value.{nil, vector, none, more, joined}
+use Rattle.edn.specs.View.{value_of, values_of}
+use Rattle.edn.specs.declared.elements.Edn.{Edn, Nil, Vector, the_lemmas}
+
+pub view-Vector : (v : Vec Edn Global) → value_of (Vector v) ≡ vector (values_of v.items)
+view-Vector v = search (rules, the_lemmas)
+
+pub view-Nil : value_of Nil ≡ nil
+view-Nil = search (rules, the_lemmas)
+
+pub values_of-push : (vs : List Edn) (v : Edn) → values_of (vs ++ v ∷ []) ≡ joined (values_of vs) (more (value_of v) none)
+values_of-push [] v = refl
+values_of-push (x ∷ vs) v = ap (more (value_of x)) (values_of-push vs v)

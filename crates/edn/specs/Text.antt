@@ -1,0 +1,50 @@
+-- The grammar of texts. Each relation is between a text and what is left of it: `Reads open text value rest` says
+-- that the text begins with an element of this value, and that rest follows it, while so many collections are open.
+-- So what may follow an atom, and where the text ends, are facts of rest.
+use Rattle.std.specs.Prelude.{◌≡◌, ℕ, ◌+◌, ◌<◌, ◌≤◌, IsTrue, List, [], ◌∷◌, ◌++◌, length, take}
+use Rattle.edn.specs.Value.{Value, vector, pairs, Values, none, more, Pairs, in_text, keys, AreDistinct}
+use Rattle.edn.specs.Bytes.{is_white, MayFollowAtom, IsAtom}
+
+-- up to, and not with, the next line feed or the end of the text
+pub data SkipsLine : List ℕ → List ℕ → Type 0 where
+  at_end : SkipsLine [] []
+  at_line_feed : {t : List ℕ} → SkipsLine (10 ∷ t) (10 ∷ t)
+  over : {b : ℕ} {t r : List ℕ} → ¬ (b ≡ 10) → SkipsLine t r → SkipsLine (b ∷ t) r
+
+mutual
+  -- white space, comments and discards, in any order and number
+  pub data SkipsGap : ℕ → List ℕ → List ℕ → Type 0 where
+    no_gap : {d : ℕ} {t : List ℕ} → SkipsGap d t t
+    white : {d b : ℕ} {t r : List ℕ} → IsTrue (is_white b) → SkipsGap d t r → SkipsGap d (b ∷ t) r
+    comment : {d : ℕ} {t u r : List ℕ} → SkipsLine t u → SkipsGap d u r → SkipsGap d (59 ∷ t) r
+    discard : {d : ℕ} {t u w r : List ℕ} {v : Value} → SkipsGap d t u → Reads d u v w → SkipsGap d w r → SkipsGap d (35 ∷ 95 ∷ t) r
+
+  -- one element
+  pub data Reads : ℕ → List ℕ → Value → List ℕ → Type 0 where
+    atom : {d : ℕ} {t r a : List ℕ} {v : Value} → IsAtom a v → MayFollowAtom r → t ≡ a ++ r → Reads d t v r
+    in_brackets : {d : ℕ} {t r : List ℕ} {vs : Values} → d < 32 → ReadsAll (d + 1) t vs (93 ∷ r) → Reads d (91 ∷ t) (vector vs) r
+    in_braces : {d : ℕ} {t r : List ℕ} {ps : Pairs} → d < 32 → ReadsAll (d + 1) t (in_text ps) (125 ∷ r) → AreDistinct (keys ps) → Reads d (123 ∷ t) (pairs ps) r
+
+  -- the inside of a collection: a gap, then elements, each followed by a gap
+  pub data ReadsAll : ℕ → List ℕ → Values → List ℕ → Type 0 where
+    no_more : {d : ℕ} {t r : List ℕ} → SkipsGap d t r → ReadsAll d t none r
+    one_more : {d : ℕ} {t u w r : List ℕ} {v : Value} {vs : Values} → SkipsGap d t u → Reads d u v w → ReadsAll d w vs r → ReadsAll d t (more v vs) r
+
+-- the bytes are a text of these elements
+abbrev pub IsText : List ℕ → Values → Type 0
+IsText bytes values = ReadsAll 0 bytes values []
+
+-- so many bytes at the front are a text
+abbrev pub IsFront : List ℕ → ℕ → Type 0
+IsFront bytes n = (n ≤ length bytes) × (values : Values) × IsText (take n bytes) values
+
+-- the longest front that is a text
+pub record IsLongestFront (bytes : List ℕ) (n : ℕ) : Type 0 where
+  pub is_front : IsFront bytes n
+  pub longest : (m : ℕ) → n < m → IsFront bytes m → ⊥
+
+-- the longest atom at the front, by its length, or 0
+pub record IsLongestAtom (bytes : List ℕ) (n : ℕ) : Type 0 where
+  pub within : n ≤ length bytes
+  pub is_atom : 0 < n → (v : Value) × IsAtom (take n bytes) v
+  pub longest : (a z : List ℕ) (v : Value) → IsAtom a v → bytes ≡ a ++ z → length a ≤ n

@@ -1,0 +1,17 @@
+/// What each piece of some work calls as it begins and as it ends, by its place from 0. A test gives one of its own
+/// to hold pieces back, and so sees that two of them run at once.
+pub trait Gate {
+    fn begin(&self, place: u32);
+
+    fn end(&self, place: u32);
+}
+
+/// The gate that lets each piece pass at once.
+#[derive(Clone, Copy, Debug)]
+pub struct OpenGate;
+
+impl Gate for OpenGate {
+    fn begin(&self, _place: u32) {}
+
+    fn end(&self, _place: u32) {}
+}

@@ -1,0 +1,15 @@
+//! Laws of the texts, proved of their definition alone.
+
+ghost use Rattle.std.specs.Prelude.{◌≡◌, ℕ, [], ◌∷◌, pos, List};
+ghost use Rattle.edn.specs.Value.{Values, int, none, more};
+ghost use Rattle.edn.specs.Text.{IsText};
+
+/// A text has one reading.
+pub fn one_reading()
+    ensures { (bytes : List ℕ) (v w : Values) → IsText bytes v → IsText bytes w → v ≡ w }
+{}
+
+/// `#_ [] 1;x` reads as 1.
+pub fn discards_are_skipped()
+    ensures { IsText (35 ∷ 95 ∷ 32 ∷ 91 ∷ 93 ∷ 32 ∷ 49 ∷ 59 ∷ 120 ∷ []) (more (int (pos 1)) none) }
+{}

@@ -1,0 +1,60 @@
+//! How far an unreadable input is a text.
+
+ghost use Rattle.std.specs.Prelude.{◌≡◌, IfOk, IsErrOf};
+ghost use Rattle.edn.specs.Text.{IsLongestFront};
+
+use crate::atoms::longest_atom;
+use crate::elements::Edn;
+use crate::pieces::{after, after_discard, after_white, line_end};
+use crate::reading::element;
+use crate::stops::Stop;
+use std::alloc::Global;
+
+// Drops an element. Dropped in a larger function, an enum gives that function's goals once for each variant.
+fn discarded(_value: Edn) {}
+
+/// The length of the longest front that is a text, in one pass over the bytes.
+pub fn place_of(alloc: Global, bytes: &[u8]) -> Result<usize, Stop>
+    ensures ok { IfOk result (λ n. IsLongestFront bytes.now n) }
+    ensures never { IsErrOf result Stop.Unreadable → ⊥ }
+{
+    let mut best = 0;
+    let mut owed: usize = 0;
+    let mut rest = bytes;
+    'elements: while !rest.is_empty() {
+        if owed == 0 {
+            best = bytes.len() - rest.len();
+        }
+        if let Some(next) = after_white(rest) {
+            rest = next;
+        } else if let Some(line) = after(rest, b';') {
+            rest = line_end(line);
+        } else if let Some(next) = after_discard(rest) {
+            owed += 1;
+            rest = next;
+        } else {
+            match element(alloc, 0, rest) {
+                Ok((value, next)) => {
+                    discarded(value);
+                    owed = owed.saturating_sub(1);
+                    rest = next;
+                }
+                Err(Stop::NoMemory) => return Err(Stop::NoMemory),
+                Err(Stop::Unreadable) => {
+                    if owed > 1 {
+                        return Ok(best);
+                    }
+                    let n = longest_atom(alloc, rest)?;
+                    if n == 0 {
+                        return Ok(best);
+                    }
+                    return Ok(bytes.len() - rest.len() + n);
+                }
+            }
+        }
+    }
+    if owed == 0 {
+        return Ok(bytes.len());
+    }
+    Ok(best)
+}
