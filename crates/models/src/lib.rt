@@ -6,9 +6,11 @@ pub mod kinds;
 pub mod object;
 pub mod operation;
 pub mod registers;
+pub mod sets;
 
-pub use finding::{Answer, Found};
+pub use finding::{Answer, Found, fits};
 pub use kinds::ModelKind;
 pub use object::SeqObject;
-pub use operation::{Members, Name, Op, Part};
+pub use operation::{Key, Name, Op, Part};
 pub use registers::Register;
+pub use sets::Members;

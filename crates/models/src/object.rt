@@ -1,4 +1,4 @@
-//! What each sequential object has.
+//! What each sequential object has: a sequential specification (Herlihy and Wing 1990, section 2.2).
 ghost use Rattle.std.specs.Prelude.{◌≡◌, ◌↔◌, IsTrue, IfOk, Option};
 ghost use Rattle.models.specs.declared.operation.Op.{Op};
 ghost use Rattle.models.specs.declared.finding.Found.{Found};
@@ -7,7 +7,8 @@ use crate::finding::Found;
 use crate::operation::Op;
 use std::alloc::{AllocError, Global};
 
-/// A sequential object.
+/// A sequential object: its states, the one it starts in, and what each operation does in each state. The state after
+/// an operation and what it finds are functions of the state and the operation alone.
 pub trait SeqObject {
     type State: Drop;
 
@@ -17,12 +18,16 @@ pub trait SeqObject {
     /// Where an operation applies, the state after it and what it finds.
     ghost apply_to: { Op → Self.State → Option (Self.State × Found) };
 
+    /// The start state. Takes no memory.
     fn start(alloc: Global) -> Self::State
         ensures { result ≡ start_state };
 
+    /// An equal state; `AllocError` where there is no memory for it.
     fn copy(alloc: Global, state: &Self::State) -> Result<Self::State, AllocError>
         ensures { IfOk result (λ other. other ≡ state.now) };
 
+    /// The state after the operation and what it finds, or `None` where the operation can't take place in the state;
+    /// `AllocError` where there is no memory for the new state. Leaves the state as it was.
     fn apply(
         alloc: Global,
         state: &Self::State,
@@ -30,6 +35,7 @@ pub trait SeqObject {
     ) -> Result<Option<(Self::State, Found)>, AllocError>
         ensures { IfOk result (λ outcome. outcome ≡ apply_to op.now state.now) };
 
+    /// Whether both are the same state. Takes no memory.
     fn same(a: &Self::State, b: &Self::State) -> bool
         ensures { IsTrue result ↔ (a.now ≡ b.now) };
 }

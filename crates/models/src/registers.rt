@@ -6,7 +6,7 @@ use crate::object::SeqObject;
 use crate::operation::{Name, Op, Part};
 use std::alloc::{AllocError, Global};
 
-/// A register, nil at first.
+/// A register, nil at first: a write leaves its value, a read finds the state.
 pub struct Register;
 
 impl SeqObject for Register {
