@@ -1,0 +1,43 @@
+-- What a frontier stands for: the ends of a history of one key, and the operations of it that may still take place
+use Rattle.std.specs.Prelude.{◌≢◌, ◌↔◌, ℕ, List, map, IsTrue}
+use Rattle.std.specs.List.{Contains}
+use Rattle.std.specs.FinMap as finmap
+use Rattle.std.specs.FinSet as finset
+use Rattle.models.specs.declared.operation.Op.{Op}
+use Rattle.models.specs.Objects.{Object}
+use Rattle.history.specs.Events.{Mark}
+use Rattle.history.specs.Events.Mark.{Invoked, Failed, Crashed}
+use Rattle.linspec.specs.Operations.{HasReturned}
+use Rattle.linspec.specs.Orders.{Pairwise}
+use Rattle.linspec.specs.Ends.{End, IsEnd}
+use Rattle.frontier.specs.declared.calls.Call.{Call}
+use Rattle.frontier.specs.declared.ends.Kept.{Kept}
+use Rattle.frontier.specs.declared.frontiers.Frontier.{Frontier}
+
+-- the end that is kept so
+abbrev pub end_kept : {S : Type 0} → Kept S → End S
+end_kept kept = record { state = kept.state; pending = finmap.from_entries kept.pending.items; crashed = finset.from_list kept.crashed.items }
+
+-- the operation may still take place: it is invoked, and has neither returned nor failed
+pub record IsPending (marks : List Mark) (id : ℕ) (op : Op) : Type 0 where
+  pub invoked : Contains marks (Invoked id op)
+  pub not_returned : ¬ HasReturned marks id
+  pub not_failed : ¬ Contains marks (Failed id)
+
+-- the list has each end of the history, once, and nothing else
+pub record AreTheEnds (o : Object) (ends : List (End o.State)) (marks : List Mark) : Type 0 where
+  pub each : (e : End o.State) → Contains ends e ↔ IsEnd o marks e
+  pub once : Pairwise (λ e f. e ≢ f) ends
+
+-- the list has each operation that may still take place, and whether it has crashed
+abbrev pub AreTheCalls : List Call → List Mark → Type 0
+AreTheCalls calls marks = (c : Call) → Contains calls c ↔ (IsPending marks c.id c.op × (IsTrue c.crashed ↔ Contains marks (Crashed c.id)))
+
+-- the frontier keeps just the ends of the history, and knows what may still take place
+pub record StandsFor {M : Type 0} (o : Object) (f : Frontier M o.State) (marks : List Mark) : Type 0 where
+  pub ends : AreTheEnds o (map end_kept f.ends.items) marks
+  pub calls : AreTheCalls f.calls.items marks
+
+-- more ends than this are not kept past an ok
+abbrev pub budget_of : {M S : Type 0} → Frontier M S → ℕ
+budget_of f = f.budget

@@ -1,0 +1,133 @@
+//! Frontiers, and what each event does to one.
+ghost use Rattle.std.specs.Prelude.{◌≡◌, ◌≢◌, ◌↔◌, List, [], ◌∷◌, ◌++◌, OnErr, OnOk, IfOk};
+ghost use Rattle.models.specs.Objects.{of_table};
+ghost use Rattle.history.specs.Events.{Mark};
+ghost use Rattle.history.specs.Events.Mark.{Invoked, Returned, Failed, Crashed};
+ghost use Rattle.linspec.specs.Operations.{IsOpen};
+ghost use Rattle.linspec.specs.Orders.{IsLinearizable};
+ghost use Rattle.linspec.specs.Ends.{HasMoreThan};
+ghost use Rattle.linspec.specs.WellFormed.{IsNew};
+ghost use Rattle.frontier.specs.Standing.{StandsFor, budget_of};
+
+use crate::calls::Call;
+use crate::ends::Kept;
+use models::{Answer, Op, SeqObject};
+use std::alloc::{AllocError, Global};
+
+/// What an event leaves.
+#[derive(Clone, Copy)]
+pub enum Step {
+    /// Some end is left: the history is linearizable.
+    Alive,
+    /// No end is left: the history is not linearizable.
+    Dead,
+    /// There were more ends than the budget just before the event.
+    Over,
+}
+
+/// All ends of the legal orders of one key's history, kept as its events come (Herlihy and Wing 1990, section 2.3;
+/// the search over sets of states is that of Lowe 2017). It does not keep the events.
+#[derive(Drop)]
+pub struct Frontier<M: SeqObject> {
+    alloc: Global,
+    budget: u32,
+    calls: Vec<Call>,
+    ends: Vec<Kept<M::State>>,
+}
+
+impl<M: SeqObject> Frontier<M> {
+    /// The frontier of a history without events, with the greatest number of ends that an ok may meet. Fails where
+    /// memory is wanting.
+    pub fn start(alloc: Global, budget: u32) -> Result<Self, AllocError>
+        ensures stands { let object = of_table M.State M.start_state M.apply_to in
+            IfOk result (λ f. StandsFor object f []) }
+        ensures budget { IfOk result (λ f. budget_of f ≡ budget) }
+    {
+        Err(AllocError)
+    }
+
+    /// An operation is invoked, whose id no event before it has. This never kills. Where memory is wanting, the
+    /// frontier stands for what it stood for.
+    pub fn invoke(&mut self, id: u32, op: Op) -> Result<(), AllocError>
+        ensures stands { let object = of_table M.State M.start_state M.apply_to in
+            (marks : List Mark) → StandsFor object self.old marks → IsNew marks id
+            → OnOk result (StandsFor object self.new (marks ++ Invoked id op ∷ [])) }
+        ensures never_kills { let object = of_table M.State M.start_state M.apply_to in
+            (marks : List Mark) → StandsFor object self.old marks → IsNew marks id → IsLinearizable object marks
+            → OnOk result (IsLinearizable object (marks ++ Invoked id op ∷ [])) }
+        ensures no_memory { let object = of_table M.State M.start_state M.apply_to in
+            (marks : List Mark) → StandsFor object self.old marks → OnErr result (StandsFor object self.new marks) }
+        ensures budget { budget_of self.new ≡ budget_of self.old }
+    {
+        Err(AllocError)
+    }
+
+    /// An open operation has returned with this answer. Over where just before it there are more ends than the
+    /// budget; the frontier then stays as it was, as it does where memory is wanting.
+    pub fn ok(&mut self, id: u32, answer: &Answer) -> Result<Step, AllocError>
+        ensures over { let object = of_table M.State M.start_state M.apply_to in
+            (marks : List Mark) → StandsFor object self.old marks → IsOpen marks id
+            → IfOk result (λ step. (step ≡ Step.Over) ↔ HasMoreThan object marks (budget_of self.old)) }
+        ensures over_keeps { let object = of_table M.State M.start_state M.apply_to in
+            (marks : List Mark) → StandsFor object self.old marks
+            → IfOk result (λ step. step ≡ Step.Over → StandsFor object self.new marks) }
+        ensures stands { let object = of_table M.State M.start_state M.apply_to in
+            (marks : List Mark) → StandsFor object self.old marks → IsOpen marks id
+            → IfOk result (λ step. step ≢ Step.Over → StandsFor object self.new (marks ++ Returned id answer.now ∷ [])) }
+        ensures alive { let object = of_table M.State M.start_state M.apply_to in
+            (marks : List Mark) → StandsFor object self.old marks → IsOpen marks id
+            → IfOk result (λ step. step ≢ Step.Over → (step ≡ Step.Alive) ↔ IsLinearizable object (marks ++ Returned id answer.now ∷ [])) }
+        ensures dead { let object = of_table M.State M.start_state M.apply_to in
+            (marks : List Mark) → StandsFor object self.old marks → IsOpen marks id
+            → IfOk result (λ step. step ≢ Step.Over → (step ≡ Step.Dead) ↔ (¬ IsLinearizable object (marks ++ Returned id answer.now ∷ []))) }
+        ensures no_memory { let object = of_table M.State M.start_state M.apply_to in
+            (marks : List Mark) → StandsFor object self.old marks → OnErr result (StandsFor object self.new marks) }
+        ensures budget { budget_of self.new ≡ budget_of self.old }
+    {
+        Err(AllocError)
+    }
+
+    /// An open operation did not take place. Never Over.
+    pub fn fail(&mut self, id: u32) -> Result<Step, AllocError>
+        ensures stands { let object = of_table M.State M.start_state M.apply_to in
+            (marks : List Mark) → StandsFor object self.old marks → IsOpen marks id
+            → OnOk result (StandsFor object self.new (marks ++ Failed id ∷ [])) }
+        ensures alive { let object = of_table M.State M.start_state M.apply_to in
+            (marks : List Mark) → StandsFor object self.old marks → IsOpen marks id
+            → IfOk result (λ step. (step ≡ Step.Alive) ↔ IsLinearizable object (marks ++ Failed id ∷ [])) }
+        ensures dead { let object = of_table M.State M.start_state M.apply_to in
+            (marks : List Mark) → StandsFor object self.old marks → IsOpen marks id
+            → IfOk result (λ step. (step ≡ Step.Dead) ↔ (¬ IsLinearizable object (marks ++ Failed id ∷ []))) }
+        ensures never_over { IfOk result (λ step. step ≢ Step.Over) }
+        ensures no_memory { let object = of_table M.State M.start_state M.apply_to in
+            (marks : List Mark) → StandsFor object self.old marks → OnErr result (StandsFor object self.new marks) }
+        ensures budget { budget_of self.new ≡ budget_of self.old }
+    {
+        Err(AllocError)
+    }
+
+    /// An open operation may take place at any later moment, or never. This never kills. Where memory is wanting,
+    /// the frontier stands for what it stood for.
+    pub fn crash(&mut self, id: u32) -> Result<(), AllocError>
+        ensures stands { let object = of_table M.State M.start_state M.apply_to in
+            (marks : List Mark) → StandsFor object self.old marks → IsOpen marks id
+            → OnOk result (StandsFor object self.new (marks ++ Crashed id ∷ [])) }
+        ensures never_kills { let object = of_table M.State M.start_state M.apply_to in
+            (marks : List Mark) → StandsFor object self.old marks → IsOpen marks id → IsLinearizable object marks
+            → OnOk result (IsLinearizable object (marks ++ Crashed id ∷ [])) }
+        ensures no_memory { let object = of_table M.State M.start_state M.apply_to in
+            (marks : List Mark) → StandsFor object self.old marks → OnErr result (StandsFor object self.new marks) }
+        ensures budget { budget_of self.new ≡ budget_of self.old }
+    {
+        Err(AllocError)
+    }
+
+    /// Another frontier of the same history and budget. Fails where memory is wanting.
+    pub fn copy(&self) -> Result<Self, AllocError>
+        ensures stands { let object = of_table M.State M.start_state M.apply_to in
+            (marks : List Mark) → StandsFor object self.now marks → IfOk result (λ f. StandsFor object f marks) }
+        ensures budget { IfOk result (λ f. budget_of f ≡ budget_of self.now) }
+    {
+        Err(AllocError)
+    }
+}
