@@ -546,12 +546,12 @@ head_atom bytes owed rest best n on none_on h = record {
     go m l (inr (inr q)) = none_on q.0 (omega (arith, q.1)) q.2
 
 -- an atom ends a front where at most one element is owed
-pub atom_on : (owed : ℕ) (rest : List ℕ) (n : ℕ) (v : Value) → owed ≤ 1 → n ≤ length rest → IsAtom (take n rest) v → Ends owed rest n
-atom_on zero rest n v p w i = let c = cut_at n rest w in
-    record { before = take n rest; after = c.0; cut = c.1; size = c.2; values = more v none; read = one_more no_gap (atom i tt (sym (append-nil _))) (no_more no_gap) }
-atom_on (suc zero) rest n v p w i = let c = cut_at n rest w in
-    record { before = take n rest; after = c.0; cut = c.1; size = c.2; values = none; read = (take n rest, [], v, no_gap, atom i tt (sym (append-nil _)), no_more no_gap) }
-atom_on (suc (suc k)) rest n v p w i = absurd (omega arith)
+pub atom_on : (owed : ℕ) (rest a left : List ℕ) (v : Value) → owed ≤ 1 → rest ≡ a ++ left → IsAtom a v → Ends owed rest (length a)
+atom_on zero rest a left v p cut i =
+    record { before = a; after = left; cut = cut; size = refl; values = more v none; read = one_more no_gap (atom i tt (sym (append-nil _))) (no_more no_gap) }
+atom_on (suc zero) rest a left v p cut i =
+    record { before = a; after = left; cut = cut; size = refl; values = none; read = (a, [], v, no_gap, atom i tt (sym (append-nil _)), no_more no_gap) }
+atom_on (suc (suc k)) rest a left v p cut i = absurd (omega arith)
 
 -- where no element begins, a front that goes on is an atom
 pub only_atoms : (owed : ℕ) (rest : List ℕ) (n : ℕ) → begins_gap rest ≡ false → ((v : Value) (w : List ℕ) → Reads 0 rest v w → ⊥) →

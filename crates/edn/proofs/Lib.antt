@@ -2,6 +2,9 @@ pub mod Spellings
 pub mod Unique
 pub mod Resume
 pub mod Beginnings
+pub mod Digits
+pub mod Names
+pub mod Longest
 pub mod Views
 pub mod Extend
 pub mod Fronts

@@ -42,9 +42,3 @@ IsFront bytes n = (n ≤ length bytes) × (values : Values) × IsText (take n by
 pub record IsLongestFront (bytes : List ℕ) (n : ℕ) : Type 0 where
   pub is_front : IsFront bytes n
   pub longest : (m : ℕ) → n < m → IsFront bytes m → ⊥
-
--- the longest atom at the front, by its length, or 0
-pub record IsLongestAtom (bytes : List ℕ) (n : ℕ) : Type 0 where
-  pub within : n ≤ length bytes
-  pub is_atom : 0 < n → (v : Value) × IsAtom (take n bytes) v
-  pub longest : (a z : List ℕ) (v : Value) → IsAtom a v → bytes ≡ a ++ z → length a ≤ n

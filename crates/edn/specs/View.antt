@@ -3,6 +3,7 @@ use Rattle.std.specs.Prelude.{List, [], ◌∷◌, map, string_bytes}
 use Rattle.edn.specs.Value.{Value, nil, bool, int, text, keyword, vector, pairs, members, Values, none, more, Pairs, no_pairs, pair}
 use Rattle.edn.specs.declared.elements.Edn.{Edn, fold-Edn}
 use Rattle.edn.specs.declared.elements.Edn.TheOpen.{Edn-F}
+use Rattle.edn.specs.declared.atoms.Atom.{Atom}
 
 abbrev pub list_of : List Value → Values
 list_of [] = none
@@ -31,3 +32,9 @@ values_of vs = list_of (map value_of vs)
 
 abbrev pub entries_of : List (Edn × Edn) → Pairs
 entries_of ps = pairs_of (map (λ p. (value_of p.0, value_of p.1)) ps)
+
+-- the value of an atom that was found
+abbrev pub atom_value : Atom → Value
+atom_value Atom.Nil = nil
+atom_value (Atom.Int z) = int z
+atom_value (Atom.Keyword name) = keyword name.now

@@ -9,8 +9,10 @@
 mod atoms;
 mod elements;
 mod gates;
+mod keywords;
 mod laws;
 mod maps;
+mod numerals;
 mod pieces;
 mod places;
 mod reading;

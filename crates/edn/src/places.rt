@@ -44,11 +44,10 @@ pub fn place_of(alloc: Global, bytes: &[u8]) -> Result<usize, Stop>
                     if owed > 1 {
                         return Ok(best);
                     }
-                    let n = longest_atom(alloc, rest)?;
-                    if n == 0 {
+                    let Some((_, left)) = longest_atom(rest) else {
                         return Ok(best);
-                    }
-                    return Ok(bytes.len() - rest.len() + n);
+                    };
+                    return Ok(bytes.len() - left.len());
                 }
             }
         }

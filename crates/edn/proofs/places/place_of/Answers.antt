@@ -1,4 +1,4 @@
-use Rattle.std.proofs.Common.{◌≡◌, ℕ, ◌+◌, ◌-◌, ◌<◌, ◌≤◌, ◌⊎◌, inl, inr, List, [], ◌∷◌, length, refl, sym, ap, subst, arith, add-one, Err}
+use Rattle.std.proofs.Common.{◌≡◌, ℕ, ◌+◌, ◌-◌, ◌<◌, ◌≤◌, ◌⊎◌, inl, inr, List, [], ◌∷◌, length, refl, sym, ap, subst, arith, add-one, Err, length-append, ◌∙◌, ◌+◌}
 use Rattle.edn.specs.Text.{IsLongestFront}
 use Rattle.edn.proofs.Beginnings.{no_piece, line_shorter, reads_shorter}
 use Rattle.edn.proofs.Fronts.{AtHead, head_start, set_best, head_white, head_comment, head_discard, head_read, head_end, head_atom, atom_on, only_atoms, two_owed, nothing_left}
@@ -57,29 +57,30 @@ returns-then-owed-gt1-clause-ok c =
     let no_gap = no_piece c.elements.rest.now c.in_default.ensures.none c.in_default-after.ensures.none c.in_default-after_discard.ensures.none in
     head_end _ _ _ _ now.1 (two_owed _ _ c.if-owed-gt1.true no_gap why) now.0
 
-pub returns-then-n-eq0-clause-ok : goal.returns-then-n-eq0-clause-ok
-returns-then-n-eq0-clause-ok c =
+pub returns-in_default-longest_atom-clause-ok : goal.returns-in_default-longest_atom-clause-ok
+returns-in_default-longest_atom-clause-ok c =
     let how : ((c.elements.owed ≡ 0) × (c.if-owed-eq0.best ≡ length c.args.bytes.now - length c.elements.rest.now)) ⊎ ((0 < c.elements.owed) × (c.if-owed-eq0.best ≡ c.elements.best)) =
-    elim c.if-owed-eq0.branch [ then-owed-eq0 w ↦ inl (omega arith, omega arith) | else-owed-eq0 w ↦ inr (omega arith, omega arith) ] in
+      elim c.if-owed-eq0.branch [ then-owed-eq0 w ↦ inl (omega arith, omega arith) | else-owed-eq0 w ↦ inr (omega arith, omega arith) ] in
     let now = set_best _ _ _ _ _ how c.elements.invariant.head in
     let why = c.in-Err-Unreadable.ensures.unreadable (ap (λ x. Err x) c.in-Err-Unreadable.field-0-is) in
     let no_gap = no_piece c.elements.rest.now c.in_default.ensures.none c.in_default-after.ensures.none c.in_default-after_discard.ensures.none in
-    let n = c.in_ok-n-in-Err-Unreadable.n in
-    let none_longer = only_atoms c.elements.owed c.elements.rest.now n no_gap why c.in_ok-n-in-Err-Unreadable.ensures.ok.longest in
-    head_end _ _ _ _ now.1 (λ j p h. (none_longer j (omega arith) h).1) now.0
+    let none_longer = only_atoms c.elements.owed c.elements.rest.now 0 no_gap why (λ a z v i e. absurd (c.in_default-longest_atom.ensures.none a z v i e)) in
+    head_end _ _ _ _ now.1 (λ j p h. (none_longer j p h).1) now.0
 
 pub returns-in-Err-Unreadable-clause-ok : goal.returns-in-Err-Unreadable-clause-ok
 returns-in-Err-Unreadable-clause-ok c =
     let how : ((c.elements.owed ≡ 0) × (c.if-owed-eq0.best ≡ length c.args.bytes.now - length c.elements.rest.now)) ⊎ ((0 < c.elements.owed) × (c.if-owed-eq0.best ≡ c.elements.best)) =
-    elim c.if-owed-eq0.branch [ then-owed-eq0 w ↦ inl (omega arith, omega arith) | else-owed-eq0 w ↦ inr (omega arith, omega arith) ] in
+      elim c.if-owed-eq0.branch [ then-owed-eq0 w ↦ inl (omega arith, omega arith) | else-owed-eq0 w ↦ inr (omega arith, omega arith) ] in
     let now = set_best _ _ _ _ _ how c.elements.invariant.head in
     let why = c.in-Err-Unreadable.ensures.unreadable (ap (λ x. Err x) c.in-Err-Unreadable.field-0-is) in
     let no_gap = no_piece c.elements.rest.now c.in_default.ensures.none c.in_default-after.ensures.none c.in_default-after_discard.ensures.none in
-    let n = c.in_ok-n-in-Err-Unreadable.n in
-    let most = c.in_ok-n-in-Err-Unreadable.ensures.ok in
-    let none_longer = only_atoms c.elements.owed c.elements.rest.now n no_gap why most.longest in
-    let a = most.is_atom (omega arith) in
-    head_atom _ _ _ _ n (atom_on _ _ _ a.0 (omega arith) most.within a.1) (λ j p h. (none_longer j p h).1) now.0
+    let most = c.in-Some-longest_atom.ensures.found in
+    let left = c.in-Some-longest_atom.left.now in
+    let none_longer = only_atoms c.elements.owed c.elements.rest.now (length most.front) no_gap why most.longest in
+    let here = head_atom _ _ _ _ (length most.front) (atom_on _ _ _ left _ (omega arith) most.cut most.spells) (λ j p h. (none_longer j p h).1) now.0 in
+    let n = ap length most.cut ∙ length-append most.front left in
+    let place : length c.args.bytes.now - length left ≡ (length c.args.bytes.now - length c.elements.rest.now) + length most.front = omega arith in
+    subst (IsLongestFront c.args.bytes.now) (sym place) here
 
 pub elements-smaller : goal.elements-smaller
 elements-smaller c = let m = reads_shorter c.in-Ok.ensures.ok in omega arith
