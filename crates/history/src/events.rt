@@ -1,5 +1,9 @@
 //! Events.
+ghost use Rattle.std.specs.Prelude.{◌≡◌, IfOk};
+
+use crate::groups::Groups;
 use models::Op;
+use std::alloc::AllocError;
 
 /// What an event says of its operation: it is invoked; it took place; it did not; it may take place at any later
 /// moment, or never. (The Jepsen documentation.)
@@ -21,7 +25,7 @@ pub enum Process {
 /// What the nemesis does to a replicated store.
 #[derive(Drop)]
 pub enum Fault {
-    Partition(Vec<Vec<u8>>),
+    Partition(Groups),
     Heal,
     Pause(u8),
     Resume(u8),
@@ -44,4 +48,48 @@ pub struct Event {
     pub kind: EventKind,
     pub process: Process,
     pub body: Body,
+}
+
+impl Fault {
+    /// An equal fault, with memory of its own; `AllocError` where there is none. Takes the time of a partition's groups.
+    pub fn copy(&self) -> Result<Fault, AllocError>
+        ensures { IfOk result (λ other. other ≡ self.now) }
+    {
+        match self {
+            Fault::Partition(groups) => Ok(Fault::Partition(groups.copy()?)),
+            Fault::Heal => Ok(Fault::Heal),
+            Fault::Pause(replica) => Ok(Fault::Pause(*replica)),
+            Fault::Resume(replica) => Ok(Fault::Resume(*replica)),
+            Fault::Crash(replica) => Ok(Fault::Crash(*replica)),
+            Fault::Restart(replica) => Ok(Fault::Restart(*replica)),
+            Fault::LoseReplies(count) => Ok(Fault::LoseReplies(*count)),
+        }
+    }
+}
+
+impl Body {
+    /// An equal body, with memory of its own; `AllocError` where there is none.
+    pub fn copy(&self) -> Result<Body, AllocError>
+        ensures { IfOk result (λ other. other ≡ self.now) }
+    {
+        match self {
+            Body::Op(op) => Ok(Body::Op(op.copy()?)),
+            Body::Fault(fault) => Ok(Body::Fault(fault.copy()?)),
+        }
+    }
+}
+
+impl Event {
+    /// An equal event, with memory of its own; `AllocError` where there is none.
+    pub fn copy(&self) -> Result<Event, AllocError>
+        ensures { IfOk result (λ other. other ≡ self.now) }
+    {
+        let body = self.body.copy()?;
+        Ok(Event {
+            index: self.index,
+            kind: self.kind,
+            process: self.process,
+            body,
+        })
+    }
 }

@@ -2,5 +2,14 @@
 #![tactic(auto)]
 
 pub mod events;
+mod groups;
+mod histories;
+mod laws;
+mod reading;
+mod rows;
 
 pub use events::{Body, Event, EventKind, Fault, Process};
+pub use groups::Groups;
+pub use histories::History;
+pub use laws::{crashed_process_is_replaced, refusals_in_order};
+pub use reading::from_edn;

@@ -1,0 +1,230 @@
+-- Which event may follow which. Processes and threads are those of the Jepsen documentation; the tables, the limits
+-- and the order of the tests are this project's own. c is the concurrency, and an event's index is its place
+use Rattle.std.specs.Prelude.{◌≡◌, ℕ, ◌+◌, ◌*◌, ◌%◌, ◌^◌, ◌<◌, ◌≤◌, Bool, true, false, ◌&&◌, ◌==◌, if◌then◌else◌, Option, Some, None, IsSome, IfSome, option_map, option_and_then, List, [], ◌∷◌, ◌++◌, length, All, count_by}
+use Rattle.std.specs.Option.{option_or}
+use Rattle.std.specs.List.{concat}
+use Rattle.models.specs.declared.operation.Name.{Name}
+use Rattle.models.specs.declared.operation.Name.TheVariants.{Read, Write, Cas, Acquire, Release, Enqueue, Dequeue, Add}
+use Rattle.models.specs.declared.operation.Part.{Part}
+use Rattle.models.specs.declared.operation.Part.TheVariants.{Nil, Int, Pair}
+use Rattle.models.specs.declared.operation.Op.{Op}
+use Rattle.edn.specs.declared.refusals.Refusal.{Refusal}
+use Rattle.edn.specs.declared.refusals.Refusal.TheVariants.{Busy, WrongProcess, NotOpen, Mismatch, BadValue, BadIndex, HistoryFull, BadConcurrency, NoMemory}
+use Rattle.history.specs.declared.events.EventKind.{EventKind}
+use Rattle.history.specs.declared.events.EventKind.TheVariants.{Invoke, Ok, Info}
+use Rattle.history.specs.declared.events.Process.{Process}
+use Rattle.history.specs.declared.events.Process.TheVariants.{Client, Nemesis}
+use Rattle.history.specs.declared.events.Fault.{Fault}
+use Rattle.history.specs.declared.events.Fault.TheVariants.{Partition, Heal, Pause, Resume, Crash, Restart, LoseReplies}
+use Rattle.history.specs.declared.events.Body.{Body}
+use Rattle.history.specs.declared.events.Body.TheVariants.{Op as AnOp, Fault as AFault}
+use Rattle.history.specs.declared.events.Event.{Event}
+
+-- Processes and threads
+
+-- the thread of a process
+abbrev pub thread_of : ℕ → ℕ → ℕ
+thread_of c p = p % c
+
+abbrev pub is_info : EventKind → Bool
+is_info Info = true
+is_info _ = false
+
+abbrev pub is_on : ℕ → ℕ → Process → Bool
+is_on c thread (Client p) = thread_of c p == thread
+is_on c thread Nemesis = false
+
+-- the event is an info of a process of the thread
+abbrev pub crashes : ℕ → ℕ → Event → Bool
+crashes c thread e = is_info e.kind && is_on c thread e.process
+
+-- the current process of a thread: its own number, plus c for each info of its processes so far
+abbrev pub current_of : ℕ → List Event → ℕ → ℕ
+current_of c events thread = thread + c * count_by (crashes c thread) events
+
+abbrev pub is_client : ℕ → Process → Bool
+is_client p (Client q) = q == p
+is_client p Nemesis = false
+
+-- the last event of a process, with its index, which counts from n on
+abbrev pub last_from : ℕ → List Event → ℕ → Option (ℕ × Event)
+last_from n [] p = None
+last_from n (e ∷ events) p = option_or (last_from (n + 1) events p) (if is_client p e.process then Some (n, e) else None)
+
+abbrev pub last_of : List Event → ℕ → Option (ℕ × Event)
+last_of events p = last_from 0 events p
+
+-- the operation that an invocation invokes
+abbrev pub invoked_in : EventKind → Body → Option Op
+invoked_in Invoke (AnOp op) = Some op
+invoked_in _ _ = None
+
+-- the open operation of a process, with the index of its invocation: its last event is that invocation
+abbrev pub open_of : List Event → ℕ → Option (ℕ × Op)
+open_of events p = option_and_then (λ last. option_map (λ op. (last.0, op)) (invoked_in last.1.kind last.1.body)) (last_of events p)
+
+-- the index of a thread's open invocation
+abbrev pub open_index : ℕ → List Event → ℕ → Option ℕ
+open_index c events thread = option_map (λ x. x.0) (open_of events (current_of c events thread))
+
+-- The tables of values
+
+-- the part of an invocation, of a fail and of an info
+abbrev pub IsPart : Name → Part → Type 0
+IsPart Read Nil = Unit {0}
+IsPart Write (Int v) = Unit {0}
+IsPart Enqueue (Int v) = Unit {0}
+IsPart Add (Int v) = Unit {0}
+IsPart Cas (Pair a b) = Unit {0}
+IsPart Acquire Nil = Unit {0}
+IsPart Release Nil = Unit {0}
+IsPart Dequeue Nil = Unit {0}
+IsPart _ _ = ⊥
+
+-- the part of an ok: the answer of a read or a dequeue, and otherwise that of the invocation
+abbrev pub IsOkPart : Name → Part → Type 0
+IsOkPart Read (Pair a b) = ⊥
+IsOkPart Read _ = Unit {0}
+IsOkPart Dequeue (Int v) = Unit {0}
+IsOkPart Dequeue _ = ⊥
+IsOkPart name part = IsPart name part
+
+abbrev pub IsPartOf : EventKind → Name → Part → Type 0
+IsPartOf Ok name part = IsOkPart name part
+IsPartOf _ name part = IsPart name part
+
+abbrev pub IsReplica : ℕ → Type 0
+IsReplica r = r ≤ 6
+
+-- replica numbers are 0 to 6, and a partition names each at most once
+abbrev pub IsFault : Fault → Type 0
+IsFault (Partition groups) = All IsReplica (concat groups) × ((r : ℕ) → count_by (λ x. x == r) (concat groups) ≤ 1)
+IsFault Heal = Unit {0}
+IsFault (Pause r) = IsReplica r
+IsFault (Resume r) = IsReplica r
+IsFault (Crash r) = IsReplica r
+IsFault (Restart r) = IsReplica r
+IsFault (LoseReplies n) = n < 2 ^ 16
+
+-- a client's operation with a part of the table, or the nemesis's info of a fault
+abbrev pub IsInTables : EventKind → Process → Body → Type 0
+IsInTables kind (Client p) (AnOp op) = IsPartOf kind op.name op.part
+IsInTables Info Nemesis (AFault fault) = IsFault fault
+IsInTables _ _ _ = ⊥
+
+abbrev pub key_behind : Body → Option ℕ → Option ℕ
+key_behind (AnOp op) rest = Some op.key
+key_behind (AFault fault) rest = rest
+
+-- the key of the first operation
+abbrev pub first_key : List Event → Option ℕ
+first_key [] = None
+first_key (e ∷ events) = key_behind e.body (first_key events)
+
+-- the event's operation has the key of the first one
+abbrev pub SharesKey : List Event → Body → Type 0
+SharesKey events (AnOp op) = IfSome (first_key events) (λ key. op.key ≡ key)
+SharesKey events (AFault fault) = Unit {0}
+
+-- The tests of an event
+
+abbrev pub IsValue : List Event → Event → Type 0
+IsValue events e =
+    IsInTables e.kind e.process e.body
+    × SharesKey events e.body  -- for now a history has one key
+
+-- a stated index is the length
+abbrev pub IsIndex : List Event → Option ℕ → Type 0
+IsIndex events index = IfSome index (λ i. i ≡ length events)
+
+abbrev pub HasRoom : List Event → Type 0
+HasRoom events = length events < 2 ^ 20
+
+-- the process is its thread's current one
+abbrev pub IsCurrent : ℕ → List Event → ℕ → Type 0
+IsCurrent c events p = p ≡ current_of c events (thread_of c p)
+
+-- the answer of a read or a dequeue is its own; every other completion repeats the part of the invocation
+abbrev pub IsRepeat : EventKind → Name → Part → Part → Type 0
+IsRepeat Ok Read invoked answer = Unit {0}
+IsRepeat Ok Dequeue invoked answer = Unit {0}
+IsRepeat _ _ invoked part = part ≡ invoked
+
+-- a completion of this kind and operation completes the invoked one
+abbrev pub Completes : EventKind → Op → Op → Type 0
+Completes kind invoked op = (op.name ≡ invoked.name) × (op.key ≡ invoked.key) × IsRepeat kind op.name invoked.part op.part
+
+-- P of the process and the operation that an invocation names; Q for any other event
+abbrev pub invocation_in : (ℕ → Op → Type 0) → Type 0 → EventKind → Process → Body → Type 0
+invocation_in P Q Invoke (Client p) (AnOp op) = P p op
+invocation_in P Q _ _ _ = Q
+
+abbrev pub IfInvocation : Event → (ℕ → Op → Type 0) → Type 0
+IfInvocation e P = invocation_in P (Unit {0}) e.kind e.process e.body
+
+abbrev pub IsInvocationAnd : Event → (ℕ → Op → Type 0) → Type 0
+IsInvocationAnd e P = invocation_in P ⊥ e.kind e.process e.body
+
+-- the same for a completion
+abbrev pub completion_in : (ℕ → Op → Type 0) → Type 0 → EventKind → Process → Body → Type 0
+completion_in P Q Invoke _ _ = Q
+completion_in P Q _ (Client p) (AnOp op) = P p op
+completion_in P Q _ _ _ = Q
+
+abbrev pub IfCompletion : Event → (ℕ → Op → Type 0) → Type 0
+IfCompletion e P = completion_in P (Unit {0}) e.kind e.process e.body
+
+abbrev pub IsCompletionAnd : Event → (ℕ → Op → Type 0) → Type 0
+IsCompletionAnd e P = completion_in P ⊥ e.kind e.process e.body
+
+-- the current process of a thread invokes where it has no open operation, and a completion is of the open one
+abbrev pub FollowsRule : ℕ → List Event → Event → Type 0
+FollowsRule c events e =
+    IfInvocation e (λ p op. IsCurrent c events p × (open_of events p ≡ None))
+    × IfCompletion e (λ p op. (i : ℕ) × (invoked : Op) × (open_of events p ≡ Some (i, invoked)) × Completes e.kind invoked op)
+
+abbrev pub IsWellFormed : ℕ → List Event → Event → Type 0
+IsWellFormed c events e = IsValue events e × IsIndex events e.index × HasRoom events × FollowsRule c events e
+
+-- the event passes the tests that come before the process rule
+abbrev pub MayEnter : List Event → Event → Type 0
+MayEnter events e = IsValue events e × IsIndex events e.index × HasRoom events
+
+-- why an event is refused: by the first test that it does not pass
+abbrev pub Refuses : ℕ → List Event → Event → Refusal → Type 0
+Refuses c events e BadValue = ¬ IsValue events e
+Refuses c events e BadIndex = IsValue events e × ¬ IsIndex events e.index
+Refuses c events e HistoryFull = IsValue events e × IsIndex events e.index × ¬ HasRoom events
+Refuses c events e WrongProcess = MayEnter events e × IsInvocationAnd e (λ p op. ¬ IsCurrent c events p)
+Refuses c events e Busy = MayEnter events e × IsInvocationAnd e (λ p op. IsCurrent c events p × IsSome (open_of events p))
+Refuses c events e NotOpen = MayEnter events e × IsCompletionAnd e (λ p op. open_of events p ≡ None)
+Refuses c events e Mismatch = MayEnter events e
+    × IsCompletionAnd e (λ p op. (i : ℕ) × (invoked : Op) × (open_of events p ≡ Some (i, invoked)) × ¬ Completes e.kind invoked op)
+Refuses c events e _ = ⊥
+
+-- as above, or memory ran out
+abbrev pub MayRefuse : ℕ → List Event → Event → Refusal → Type 0
+MayRefuse c events e NoMemory = Unit {0}
+MayRefuse c events e why = Refuses c events e why
+
+-- each event is well-formed after those before it
+abbrev pub IsHistoryOf : ℕ → List Event → Type 0
+IsHistoryOf c events = (before after : List Event) (e : Event) → events ≡ before ++ e ∷ after → IsWellFormed c before e
+
+-- what a history holds
+pub record Contents : Type 0 where
+  pub concurrency : ℕ
+  pub events : List Event
+  pub prepared : Option Event
+
+abbrev pub IsConcurrency : ℕ → Type 0
+IsConcurrency c = (1 ≤ c) × (c ≤ 64)
+
+abbrev pub no_events : ℕ → Contents
+no_events c = record { concurrency = c; events = []; prepared = None }
+
+-- why no history is opened for the concurrency
+abbrev pub MayNotOpen : ℕ → Refusal → Type 0
+MayNotOpen c BadConcurrency = ¬ IsConcurrency c
+MayNotOpen c NoMemory = IsConcurrency c
+MayNotOpen c _ = ⊥

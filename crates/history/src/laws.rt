@@ -1,0 +1,22 @@
+//! Laws that show that the definitions say what they should.
+ghost use Rattle.std.specs.Prelude.{◌≡◌, ◌<◌, ℕ, pos, []};
+ghost use Rattle.edn.specs.declared.refusals.Refusal.TheVariants.{Busy, WrongProcess, NotOpen, Mismatch};
+ghost use Rattle.models.specs.declared.operation.Part.TheVariants.{Nil, Int};
+ghost use Rattle.history.specs.declared.events.EventKind.TheVariants.{Invoke, Ok, Info};
+ghost use Rattle.history.specs.WellFormed.{IsWellFormed, Refuses};
+ghost use Rattle.history.specs.Examples.{event, read, write, open_write, crashed_write};
+
+/// With two threads: a process that crashed is replaced by the one two above it.
+pub fn crashed_process_is_replaced()
+    ensures crashed { Refuses 2 crashed_write (event 0 Invoke (write 4)) WrongProcess }
+    ensures next { IsWellFormed 2 crashed_write (event 2 Invoke (write 4)) }
+    ensures other { IsWellFormed 2 crashed_write (event 1 Invoke (read Nil)) }
+{}
+
+/// Why an event may not follow an open write of 3 by process 0.
+pub fn refusals_in_order()
+    ensures busy { Refuses 2 open_write (event 0 Invoke (read Nil)) Busy }
+    ensures mismatch { Refuses 2 open_write (event 0 Ok (write 4)) Mismatch }
+    ensures not_open { Refuses 2 open_write (event 1 Ok (write 3)) NotOpen }
+    ensures completes { IsWellFormed 2 open_write (event 0 Ok (write 3)) }
+{}
