@@ -1,0 +1,5 @@
+pub mod Lines
+pub mod Script
+pub mod Steps
+pub mod Watch
+pub mod Words
