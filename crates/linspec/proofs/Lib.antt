@@ -8,7 +8,6 @@ pub mod Open
 pub mod Completions
 pub mod Reach
 pub mod Fronts
-pub mod Rows
 pub mod Products
 pub mod Filters
 pub mod Keyed
@@ -19,4 +18,6 @@ pub mod SetAside
 pub mod Joins
 pub mod Histories
 pub mod KeyEvents
-pub mod RowTen
+pub mod Enqueues
+pub mod LegalOrders
+pub mod RegisterReads

@@ -3,4 +3,4 @@ pub mod Orders
 pub mod Ends
 pub mod Verdicts
 pub mod WellFormed
-pub mod Rows
+pub mod Examples

@@ -3,14 +3,14 @@ ghost use Rattle.std.specs.Prelude.{◌≡◌, ◌≢◌, ◌↔◌, ℕ, pos, L
 ghost use Rattle.models.specs.declared.kinds.ModelKind.{ModelKind};
 ghost use Rattle.models.specs.Objects.{object_of, register, fifo_queue};
 ghost use Rattle.history.specs.declared.events.Event.{Event};
-ghost use Rattle.history.specs.Events.{Entry, IsFront, entries_of, indexed_from, marks, of_key};
+ghost use Rattle.history.specs.Events.{Entry, IsFront, entries_of, marks, of_key};
 ghost use Rattle.history.specs.Rule.{IsHistory};
 ghost use Rattle.linspec.specs.declared.verdicts.KeyStatus.{KeyStatus};
 ghost use Rattle.linspec.specs.declared.verdicts.Verdict.{Verdict};
 ghost use Rattle.linspec.specs.WellFormed.{IsKeyed, AreWellFormed};
 ghost use Rattle.linspec.specs.Orders.{IsLinearizable};
 ghost use Rattle.linspec.specs.Ends.{HasMoreThan};
-ghost use Rattle.linspec.specs.Rows.{write_then_read, two_enqueues};
+ghost use Rattle.linspec.specs.Examples.{key_marks, write_then_open_read, write_then_read, read_of_pending_write, read_of_failed_write, reads_after_crashed_write, two_enqueues};
 ghost use Rattle.linspec.specs.Orders.{product};
 ghost use Rattle.linspec.specs.Verdicts.{IsVerdict, IsRising, AreStatuses, IsJoin};
 
@@ -20,6 +20,14 @@ pub fn fronts_law()
         IsLinearizable (object_of kind) (marks entries) → IsLinearizable (object_of kind) (marks front) }
     ensures all { (kinds : ℕ → ModelKind) (front entries : List Entry) → AreWellFormed (marks entries) → IsFront front entries →
         IsLinearizable (product kinds) (marks entries) → IsLinearizable (product kinds) (marks front) }
+{}
+
+/// No longer history revives a front that is not linearizable: then the whole isn't either.
+pub fn no_revival_law()
+    ensures one { (kind : ModelKind) (front entries : List Entry) → AreWellFormed (marks entries) → IsFront front entries →
+        ¬ IsLinearizable (object_of kind) (marks front) → ¬ IsLinearizable (object_of kind) (marks entries) }
+    ensures all { (kinds : ℕ → ModelKind) (front entries : List Entry) → AreWellFormed (marks entries) → IsFront front entries →
+        ¬ IsLinearizable (product kinds) (marks front) → ¬ IsLinearizable (product kinds) (marks entries) }
 {}
 
 /// Locality: a history is linearizable exactly where each key's part of it is.
@@ -42,10 +50,28 @@ pub fn history_law()
     ensures rising { (events : List (ℕ × Event)) → IsHistory events → IsRising (entries_of events) }
 {}
 
-/// Worked rows 2, 3 and 10 of the papers, as a check of the definitions.
-pub fn worked_rows()
-    ensures write_then_read { IsLinearizable register (marks (of_key 7 (entries_of (indexed_from 0 (write_then_read 3))))) }
-    ensures other_value { (a : ℕ) → pos 3 ≢ pos a → ¬ IsLinearizable register (marks (of_key 7 (entries_of (indexed_from 0 (write_then_read a))))) }
-    ensures two_enqueues { HasMoreThan fifo_queue (marks (of_key 1 (entries_of (indexed_from 0 two_enqueues)))) 4 }
-    ensures not_six_ends { ¬ HasMoreThan fifo_queue (marks (of_key 1 (entries_of (indexed_from 0 two_enqueues)))) 5 }
+/// A read after a write of 3 may answer 3 and no other value; before it has answered, nothing is wrong yet.
+pub fn write_then_read_law()
+    ensures unanswered { IsLinearizable register (key_marks 7 write_then_open_read) }
+    ensures its_value { IsLinearizable register (key_marks 7 (write_then_read 3)) }
+    ensures other_value { (a : ℕ) → pos 3 ≢ pos a → ¬ IsLinearizable register (key_marks 7 (write_then_read a)) }
+{}
+
+/// A pending write may have been read; where the write then fails, it may not.
+pub fn pending_write_law()
+    ensures pending { IsLinearizable register (key_marks 7 read_of_pending_write) }
+    ensures failed { ¬ IsLinearizable register (key_marks 7 read_of_failed_write) }
+{}
+
+/// A crashed write may take place at any later moment: after a read that answers the value before it, a read may answer
+/// its value. It takes place once: after a read that answers its value, none answers the value before it.
+pub fn crashed_write_law()
+    ensures later { IsLinearizable register (key_marks 7 (reads_after_crashed_write 1 2)) }
+    ensures not_undone { ¬ IsLinearizable register (key_marks 7 (reads_after_crashed_write 2 1)) }
+{}
+
+/// Two enqueues at once have five ends: none is included, either alone, or both in either order.
+pub fn two_enqueues_law()
+    ensures five { HasMoreThan fifo_queue (key_marks 1 two_enqueues) 4 }
+    ensures not_six { ¬ HasMoreThan fifo_queue (key_marks 1 two_enqueues) 5 }
 {}

@@ -1,5 +1,5 @@
 -- Histories that show what the definitions say
-use Rattle.std.specs.Prelude.{ℕ, pos, None, List, [], ◌∷◌}
+use Rattle.std.specs.Prelude.{ℕ, pos, None, List, [], ◌∷◌, ◌++◌}
 use Rattle.models.specs.declared.operation.Name.TheVariants.{Read, Write, Enqueue}
 use Rattle.models.specs.declared.operation.Part.{Part}
 use Rattle.models.specs.declared.operation.Part.TheVariants.{Nil, Int}
@@ -9,6 +9,7 @@ use Rattle.history.specs.declared.events.EventKind.TheVariants.{Invoke, Ok, Fail
 use Rattle.history.specs.declared.events.Process.TheVariants.{Client}
 use Rattle.history.specs.declared.events.Body.TheVariants.{Op as AnOp}
 use Rattle.history.specs.declared.events.Event.{Event}
+use Rattle.history.specs.Events.{Mark, entries_of, indexed_from, of_key, marks}
 
 abbrev pub write : ℕ → ℕ → Op
 write key v = record { name = Write; key = key; part = Int (pos v) }
@@ -22,21 +23,37 @@ enqueue key v = record { name = Enqueue; key = key; part = Int (pos v) }
 abbrev pub event : ℕ → EventKind → Op → Event
 event process kind op = record { index = None; kind = kind; process = Client process; body = AnOp op }
 
+-- what a whole history says of the operations of a key
+abbrev pub key_marks : ℕ → List Event → List Mark
+key_marks key events = marks (of_key key (entries_of (indexed_from 0 events)))
+
+-- a write of 3, and then a read that has not answered yet
+abbrev pub write_then_open_read : List Event
+write_then_open_read = event 0 Invoke (write 7 3) ∷ event 0 Ok (write 7 3) ∷ event 0 Invoke (read 7 Nil) ∷ []
+
 -- a write of 3, and then a read that answers a
 abbrev pub write_then_read : ℕ → List Event
-write_then_read a =
-    event 0 Invoke (write 7 3)
-    ∷ event 0 Ok (write 7 3)
-    ∷ event 0 Invoke (read 7 Nil)
-    ∷ event 0 Ok (read 7 (Int (pos a)))
-    ∷ []
+write_then_read a = write_then_open_read ++ event 0 Ok (read 7 (Int (pos a))) ∷ []
 
--- a write and, before it has returned, a read that answers its value; then the write ends with this kind
+-- a write and, before it has returned, a read that answers its value
 abbrev pub read_of_pending_write : List Event
-read_of_pending_write =
+read_of_pending_write = event 0 Invoke (write 7 1) ∷ event 1 Invoke (read 7 Nil) ∷ event 1 Ok (read 7 (Int (pos 1))) ∷ []
+
+-- the same, and then the write fails
+abbrev pub read_of_failed_write : List Event
+read_of_failed_write = read_of_pending_write ++ event 0 Fail (write 7 1) ∷ []
+
+-- a write of 1, a write of 2 that crashes, and then two reads, which answer a and b
+abbrev pub reads_after_crashed_write : ℕ → ℕ → List Event
+reads_after_crashed_write a b =
     event 0 Invoke (write 7 1)
+    ∷ event 0 Ok (write 7 1)
+    ∷ event 0 Invoke (write 7 2)
+    ∷ event 0 Info (write 7 2)
     ∷ event 1 Invoke (read 7 Nil)
-    ∷ event 1 Ok (read 7 (Int (pos 1)))
+    ∷ event 1 Ok (read 7 (Int (pos a)))
+    ∷ event 1 Invoke (read 7 Nil)
+    ∷ event 1 Ok (read 7 (Int (pos b)))
     ∷ []
 
 -- two enqueues at once

@@ -1,22 +1,22 @@
--- row 10: five ends stand before index 2
+-- two enqueues at once have five ends
 use Rattle.std.proofs.Common.{◌≡◌, ◌≢◌, ℕ, ◌+◌, ◌≤◌, ℤ, pos, ◌⊎◌, inl, inr, ⊎_elim, List, [], ◌∷◌, ◌++◌, length, refl, sym, ap, ◌∙◌, subst, arith}
 use Rattle.std.specs.List.{Contains}
 use Rattle.models.specs.declared.finding.Found.{Found}
 use Rattle.models.specs.declared.finding.Found.TheVariants.{Unit as Done}
 use Rattle.models.specs.Objects.{fifo_queue}
-use Rattle.history.specs.Events.{Mark, entries_of, indexed_from, of_key, marks}
+use Rattle.history.specs.Events.{Mark}
 use Rattle.history.specs.Events.Mark.{Invoked, Returned, Failed}
 use Rattle.linspec.specs.Operations.{HasReturned, Precedes}
 use Rattle.linspec.specs.Orders.{Taken, Pairwise, Run, IsLegalOrder}
 use Rattle.linspec.specs.Ends.{End, Leaves, IsEnd, HasMoreThan}
-use Rattle.linspec.specs.Rows.{enqueue, two_enqueues}
+use Rattle.linspec.specs.Examples.{enqueue, two_enqueues, key_marks}
 use Rattle.linspec.proofs.Lists.{Contains-nil, Contains-head, Contains-tail, Contains-cons_cases}
 use Rattle.linspec.proofs.Marks.{Precedes-returned}
 use Rattle.linspec.proofs.Fates.{end_of, end_is}
 use Rattle.linspec.proofs.Counts.{no_longer_than}
 
 abbrev H : List Mark
-H = marks (of_key 1 (entries_of (indexed_from 0 two_enqueues)))
+H = key_marks 1 two_enqueues
 
 is_H : H ≡ Invoked 0 (enqueue 1 5) ∷ Invoked 1 (enqueue 1 6) ∷ []
 is_H = refl

@@ -1,0 +1,10 @@
+use Rattle.models.specs.Objects.{object_of}
+use Rattle.linspec.specs.Orders.{product}
+use Rattle.linspec.proofs.Fronts.{IsLinearizable-front}
+use Rattle.linspec.proofs.laws.no_revival_law.Goals as goal
+
+pub returns-clause-one : goal.returns-clause-one
+returns-clause-one c kind front entries well is bad h = bad (IsLinearizable-front (object_of kind) front entries well is h)
+
+pub returns-clause-all : goal.returns-clause-all
+returns-clause-all c kinds front entries well is bad h = bad (IsLinearizable-front (product kinds) front entries well is h)
