@@ -43,7 +43,7 @@ abbrev pub current_of : ℕ → List Event → ℕ → ℕ
 current_of c events thread = thread + c * count_by (crashes c thread) events
 
 abbrev pub is_client : ℕ → Process → Bool
-is_client p (Client q) = q == p
+is_client p (Client q) = p == q
 is_client p Nemesis = false
 
 -- the last event of a process, with its index, which counts from n on
@@ -59,9 +59,12 @@ abbrev pub invoked_in : EventKind → Body → Option Op
 invoked_in Invoke (AnOp op) = Some op
 invoked_in _ _ = None
 
+abbrev pub invoked_at : ℕ × Event → Option (ℕ × Op)
+invoked_at last = option_map (λ op. (last.0, op)) (invoked_in last.1.kind last.1.body)
+
 -- the open operation of a process, with the index of its invocation: its last event is that invocation
 abbrev pub open_of : List Event → ℕ → Option (ℕ × Op)
-open_of events p = option_and_then (λ last. option_map (λ op. (last.0, op)) (invoked_in last.1.kind last.1.body)) (last_of events p)
+open_of events p = option_and_then invoked_at (last_of events p)
 
 -- the index of a thread's open invocation
 abbrev pub open_index : ℕ → List Event → ℕ → Option ℕ

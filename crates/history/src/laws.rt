@@ -1,9 +1,12 @@
 //! Laws that show that the definitions say what they should.
-ghost use Rattle.std.specs.Prelude.{◌≡◌, ◌<◌, ℕ, pos, []};
+ghost use Rattle.std.specs.Prelude.{ℕ, List};
 ghost use Rattle.edn.specs.declared.refusals.Refusal.TheVariants.{Busy, WrongProcess, NotOpen, Mismatch};
-ghost use Rattle.models.specs.declared.operation.Part.TheVariants.{Nil, Int};
-ghost use Rattle.history.specs.declared.events.EventKind.TheVariants.{Invoke, Ok, Info};
-ghost use Rattle.history.specs.WellFormed.{IsWellFormed, Refuses};
+ghost use Rattle.models.specs.declared.operation.Part.TheVariants.{Nil};
+ghost use Rattle.history.specs.declared.events.EventKind.TheVariants.{Invoke, Ok};
+ghost use Rattle.history.specs.declared.events.Event.{Event};
+ghost use Rattle.history.specs.Events.{indexed_from};
+ghost use Rattle.history.specs.Rule.{IsHistory};
+ghost use Rattle.history.specs.WellFormed.{IsWellFormed, Refuses, IsHistoryOf};
 ghost use Rattle.history.specs.Examples.{event, read, write, open_write, crashed_write};
 
 /// With two threads: a process that crashed is replaced by the one two above it.
@@ -19,4 +22,9 @@ pub fn refusals_in_order()
     ensures mismatch { Refuses 2 open_write (event 0 Ok (write 4)) Mismatch }
     ensures not_open { Refuses 2 open_write (event 1 Ok (write 3)) NotOpen }
     ensures completes { IsWellFormed 2 open_write (event 0 Ok (write 3)) }
+{}
+
+/// Events each of which is well-formed after those before it follow the process rule, as far as operations go.
+pub fn process_rule_law()
+    ensures { (c : ℕ) (events : List Event) → IsHistoryOf c events → IsHistory (indexed_from 0 events) }
 {}
