@@ -2,6 +2,7 @@
 #![tactic(auto)]
 
 pub mod answering;
+pub mod commands;
 pub mod laws;
 pub mod machine;
 pub mod replies;
