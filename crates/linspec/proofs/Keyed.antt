@@ -7,16 +7,8 @@ use Rattle.history.specs.Events.{Mark, Entry, of_key, marks}
 use Rattle.history.specs.Events.Mark.{Invoked, Returned}
 use Rattle.linspec.specs.WellFormed.{id_of}
 use Rattle.linspec.specs.Operations.{Precedes}
-use Rattle.linspec.specs.Orders.{Taken}
 use Rattle.linspec.proofs.Filters.{from_filter, to_filter, to_map, from_map, map-cut, filter-cut}
 use Rattle.linspec.proofs.Fronts.{marks-append}
-use Rattle.linspec.proofs.Products.{on_key}
-
-pub from_on_key : (k : ℕ) (order : List Taken) (x : Taken) → Contains (on_key k order) x → Contains order x × (x.op.key ≡ k)
-from_on_key k order x h = let r : Contains order x × (nat_eq x.op.key k ≡ true) = from_filter (λ (x : Taken). nat_eq x.op.key k) order x h in (r.0, eqb-true x.op.key k r.1)
-
-pub to_on_key : (k : ℕ) (order : List Taken) (x : Taken) → Contains order x → x.op.key ≡ k → Contains (on_key k order) x
-to_on_key k order x h e = to_filter (λ (x : Taken). nat_eq x.op.key k) order x h (eq-eqb x.op.key k e)
 
 -- a mark of a key's entries comes from an entry of that key, and the other way round
 pub from_of_key : (k : ℕ) (entries : List Entry) (m : Mark) → Contains (marks (of_key k entries)) m → (e : Entry) × Contains entries e × (e.key ≡ k) × (e.mark ≡ m)

@@ -8,14 +8,9 @@ pub mod Open
 pub mod Completions
 pub mod Reach
 pub mod Fronts
-pub mod Products
 pub mod Filters
 pub mod Keyed
-pub mod Merge
-pub mod Locality
 pub mod Counts
-pub mod SetAside
-pub mod Joins
 pub mod Histories
 pub mod KeyEvents
 pub mod Enqueues

@@ -5,14 +5,12 @@ ghost use Rattle.models.specs.Objects.{object_of, register, fifo_queue};
 ghost use Rattle.history.specs.declared.events.Event.{Event};
 ghost use Rattle.history.specs.Events.{Entry, IsFront, entries_of, marks, of_key};
 ghost use Rattle.history.specs.Rule.{IsHistory};
-ghost use Rattle.linspec.specs.declared.verdicts.KeyStatus.{KeyStatus};
-ghost use Rattle.linspec.specs.declared.verdicts.Verdict.{Verdict};
 ghost use Rattle.linspec.specs.WellFormed.{IsKeyed, AreWellFormed};
 ghost use Rattle.linspec.specs.Orders.{IsLinearizable};
 ghost use Rattle.linspec.specs.Ends.{HasMoreThan};
 ghost use Rattle.linspec.specs.Examples.{key_marks, write_then_open_read, write_then_read, read_of_pending_write, read_of_failed_write, reads_after_crashed_write, two_enqueues};
 ghost use Rattle.linspec.specs.Orders.{product};
-ghost use Rattle.linspec.specs.Verdicts.{IsVerdict, IsRising, AreStatuses, IsJoin};
+ghost use Rattle.linspec.specs.Verdicts.{IsRising};
 
 /// Each front of a linearizable history is linearizable, for one key and for all keys together.
 pub fn fronts_law()
@@ -28,19 +26,6 @@ pub fn no_revival_law()
         ¬ IsLinearizable (object_of kind) (marks front) → ¬ IsLinearizable (object_of kind) (marks entries) }
     ensures all { (kinds : ℕ → ModelKind) (front entries : List Entry) → AreWellFormed (marks entries) → IsFront front entries →
         ¬ IsLinearizable (product kinds) (marks front) → ¬ IsLinearizable (product kinds) (marks entries) }
-{}
-
-/// Locality: a history is linearizable exactly where each key's part of it is.
-pub fn locality_law()
-    ensures { (kinds : ℕ → ModelKind) (entries : List Entry) → IsKeyed entries → AreWellFormed (marks entries) →
-        IsLinearizable (product kinds) (marks entries) ↔ ((k : ℕ) → IsLinearizable (object_of (kinds k)) (marks (of_key k entries))) }
-{}
-
-/// The verdict on the whole history is the join of the statuses of its keys.
-pub fn join_law()
-    ensures { (kinds : ℕ → ModelKind) (budgets : ℕ → ℕ) (entries : List Entry) (statuses : List (ℕ × KeyStatus)) (v : Verdict) →
-        IsKeyed entries → AreWellFormed (marks entries) → IsRising entries →
-        AreStatuses kinds budgets entries statuses → IsJoin statuses v → IsVerdict kinds budgets entries v }
 {}
 
 /// What the process rule gives for the entries of a history.

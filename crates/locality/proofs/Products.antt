@@ -1,13 +1,14 @@
 -- a run of all keys is a run of each
-use Rattle.std.proofs.Common.{◌≡◌, ◌≢◌, ℕ, ◌⊎◌, inl, inr, ⊎_elim, cond, nat_eq, List, [], ◌∷◌, refl, sym, ap, ◌∙◌, subst}
+use Rattle.std.proofs.Common.{◌≡◌, ◌≢◌, ℕ, ◌⊎◌, inl, inr, ⊎_elim, cond, true, nat_eq, List, [], ◌∷◌, refl, sym, ap, ◌∙◌, subst}
 use mathlib.Core.Path.{fun_ext, subst_refl}
 use native.Mathlib.Nat.{ℕ_set}
-use Rattle.std.specs.List.{filter}
-use Rattle.std.proofs.lemmas.Bool.{cases_eq, eq-eqb, ne_eqb}
+use Rattle.std.specs.List.{filter, Contains}
+use Rattle.std.proofs.lemmas.Bool.{cases_eq, eq-eqb, eqb-true, ne_eqb}
 use Rattle.models.specs.declared.kinds.ModelKind.{ModelKind}
 use Rattle.models.specs.Objects.{object_of}
 use Rattle.linspec.specs.Orders.{Taken, Run}
 use Rattle.linspec.specs.Orders.{product}
+use Rattle.linspec.proofs.Filters.{from_filter, to_filter}
 
 -- the operations of a key, in their order
 abbrev pub on_key : ℕ → List Taken → List Taken
@@ -18,6 +19,12 @@ on_key-same k x order e = ap (λ b. cond b (x ∷ on_key k order) (on_key k orde
 
 pub on_key-other : (k : ℕ) (x : Taken) (order : List Taken) → x.op.key ≢ k → on_key k (x ∷ order) ≡ on_key k order
 on_key-other k x order ne = ap (λ b. cond b (x ∷ on_key k order) (on_key k order)) (ne_eqb x.op.key k ne)
+
+pub from_on_key : (k : ℕ) (order : List Taken) (x : Taken) → Contains (on_key k order) x → Contains order x × (x.op.key ≡ k)
+from_on_key k order x h = let r : Contains order x × (nat_eq x.op.key k ≡ true) = from_filter (λ (x : Taken). nat_eq x.op.key k) order x h in (r.0, eqb-true x.op.key k r.1)
+
+pub to_on_key : (k : ℕ) (order : List Taken) (x : Taken) → Contains order x → x.op.key ≡ k → Contains (on_key k order) x
+to_on_key k order x h e = to_filter (λ (x : Taken). nat_eq x.op.key k) order x h (eq-eqb x.op.key k e)
 
 module _ (kinds : ℕ → ModelKind) where
   abbrev StateOf : ℕ → Type 0

@@ -19,8 +19,8 @@ use Rattle.linspec.specs.Orders.{product}
 use Rattle.linspec.specs.Verdicts.{IsBlownKey, IsBlownKeyAt, set_aside, IsVerdictWith, IsVerdict, IsRising, AreStatuses, IsJoin}
 use Rattle.linspec.proofs.Lists.{Contains-nil, Contains-head, Contains-tail, Contains-cons_cases, Pairwise-across}
 use Rattle.linspec.proofs.Filters.{from_filter, two_cuts, filter-cut_at, filter-yes, filter-none, Pairwise-filter}
-use Rattle.linspec.proofs.SetAside.{IsKeyed-filter, IsKeyed-front, AreWellFormed-front, AreWellFormed-filter, of_key-kept, of_key-aside, IsLinearizable-empty}
-use Rattle.linspec.proofs.Locality.{IsLinearizable-split, IsLinearizable-join}
+use Rattle.locality.proofs.SetAside.{IsKeyed-filter, IsKeyed-front, AreWellFormed-front, AreWellFormed-filter, of_key-kept, of_key-aside, IsLinearizable-empty}
+use Rattle.locality.proofs.Locality.{IsLinearizable-split, IsLinearizable-join}
 
 -- the status that the list has for a key, or none
 look : (statuses : List (ℕ × KeyStatus)) (k : ℕ) → ((status : KeyStatus) × Contains statuses (k, status)) ⊎ ((status : KeyStatus) → ¬ Contains statuses (k, status))
@@ -216,7 +216,7 @@ module _ (kinds : ℕ → ModelKind) (budgets : ℕ → ℕ) (entries : List Ent
       )
 
   -- what join promises is the verdict
-  pub verdict_of : (v : Verdict) → IsJoin statuses v → IsVerdict kinds budgets entries v
-  verdict_of (Illegal key index) j = (blown, blown_is, illegal key index j)
-  verdict_of (Unknown key index) j = (blown, blown_is, unknown key index j)
-  verdict_of Legal j = (blown, blown_is, legal j)
+  pub IsVerdict-join : (v : Verdict) → IsJoin statuses v → IsVerdict kinds budgets entries v
+  IsVerdict-join (Illegal key index) j = (blown, blown_is, illegal key index j)
+  IsVerdict-join (Unknown key index) j = (blown, blown_is, unknown key index j)
+  IsVerdict-join Legal j = (blown, blown_is, legal j)

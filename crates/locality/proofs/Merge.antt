@@ -15,8 +15,8 @@ use Rattle.linspec.proofs.Filters.{filter-all, filter-none, to_map, two_cuts}
 use Rattle.linspec.proofs.Marks.{Precedes-returned}
 use Rattle.linspec.proofs.Invocations.{Around, around}
 use Rattle.linspec.proofs.Fronts.{marks-append}
-use Rattle.linspec.proofs.Products.{on_key}
-use Rattle.linspec.proofs.Keyed.{from_marks, to_on_key}
+use Rattle.locality.proofs.Products.{on_key, to_on_key}
+use Rattle.linspec.proofs.Keyed.{from_marks}
 
 -- the list at a key, and the others as they were
 abbrev give : (ℕ → List Taken) → ℕ → List Taken → ℕ → List Taken

@@ -1,4 +1,4 @@
--- locality: a history is linearizable where each key's part of it is (Herlihy and Wing 1990, theorem 1)
+-- locality: a history is linearizable where each key's part of it is (Herlihy and Wing 1990, section 3.1)
 use Rattle.std.proofs.Common.{◌≡◌, ◌≢◌, ◌↔◌, ℕ, ◌+◌, ◌<◌, suc, ⊎_elim, nat_eq, List, [], ◌∷◌, refl, sym, ap, ◌∙◌, subst, arith}
 use Rattle.std.specs.List.{Contains}
 use Rattle.std.proofs.lemmas.Bool.{cases_eq}
@@ -12,9 +12,9 @@ use Rattle.linspec.specs.Orders.{Taken, Pairwise, Includes, Run, IsLegalOrder, I
 use Rattle.linspec.specs.Orders.{product}
 use Rattle.linspec.proofs.Lists.{Contains-nil, Contains-head, Contains-tail, Contains-cons_cases, Pairwise-weaker}
 use Rattle.linspec.proofs.Filters.{Pairwise-filter}
-use Rattle.linspec.proofs.Products.{on_key, on_key-same, on_key-other, Run-split, Run-join}
-use Rattle.linspec.proofs.Keyed.{from_on_key, to_on_key, from_of_key, to_of_key, from_marks, of_key-marks, Precedes-whole, Precedes-key}
-use Rattle.linspec.proofs.Merge.{Rest, merge}
+use Rattle.locality.proofs.Products.{on_key, on_key-same, on_key-other, Run-split, Run-join, from_on_key, to_on_key}
+use Rattle.linspec.proofs.Keyed.{from_of_key, to_of_key, from_marks, of_key-marks, Precedes-whole, Precedes-key}
+use Rattle.locality.proofs.Merge.{Rest, merge}
 
 -- pairwise among each key's operations, and between those of two keys
 Pairwise-keys : (R : Taken → Taken → Type 0) (xs : List Taken) → ((k : ℕ) → Pairwise R (on_key k xs)) → ((x y : Taken) → Contains xs x → Contains xs y → x.op.key ≢ y.op.key → R x y) → Pairwise R xs

@@ -1,0 +1,7 @@
+pub mod Products
+pub mod Merge
+pub mod Locality
+pub mod SetAside
+pub mod Joins
+pub mod MoreStatuses
+pub mod OneKeyStatus

@@ -1,0 +1,18 @@
+-- Histories of one key
+use Rattle.std.specs.Prelude.{◌≡◌, ℕ, List}
+use Rattle.std.specs.List.{Contains}
+use Rattle.history.specs.Events.{Entry}
+use Rattle.linspec.specs.declared.verdicts.KeyStatus.{KeyStatus}
+use Rattle.linspec.specs.declared.verdicts.KeyStatus.TheVariants.{Alive, Dead, Over}
+use Rattle.linspec.specs.declared.verdicts.Verdict.{Verdict}
+use Rattle.linspec.specs.declared.verdicts.Verdict.TheVariants.{Legal, Illegal, Unknown}
+
+-- each entry is of the key
+abbrev pub IsOfKey : ℕ → List Entry → Type 0
+IsOfKey key entries = (e : Entry) → Contains entries e → e.key ≡ key
+
+-- the verdict on a history of this key alone, by the key's status
+abbrev pub verdict_of : ℕ → KeyStatus → Verdict
+verdict_of key Alive = Legal
+verdict_of key (Dead index) = Illegal key index
+verdict_of key (Over index) = Unknown key index

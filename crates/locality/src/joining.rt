@@ -1,0 +1,55 @@
+//! One verdict from the statuses of all keys.
+ghost use Rattle.std.specs.Prelude.{ℕ, List, [], ◌∷◌, ◌++◌};
+ghost use Rattle.linspec.specs.declared.verdicts.KeyStatus.{KeyStatus};
+ghost use Rattle.linspec.specs.Verdicts.{IsJoin};
+
+use linspec::{KeyStatus, Verdict};
+use models::Key;
+
+/// The verdict of a list of statuses: Illegal with the key and index of the least Dead; without a Dead Unknown with the
+/// key and index of the least Over; else Legal. Where the list has the status of each key of a history, once, this is
+/// the verdict on that history (`join_law`). Total, takes no memory, and the time of the list's length. (This project's
+/// own, on the locality of linearizability: Herlihy and Wing 1990, section 3.1.)
+pub fn join(statuses: &[(Key, KeyStatus)]) -> Verdict
+    ensures { IsJoin statuses.now result }
+{
+    let mut verdict = Verdict::Legal;
+    for (key, status) in statuses {
+        verdict = with_status(verdict, *key, *status);
+    }
+    verdict
+}
+
+/// The verdict of a list with one more status.
+fn with_status(verdict: Verdict, key: Key, status: KeyStatus) -> Verdict
+    ensures { (statuses : List (ℕ × KeyStatus)) → IsJoin statuses verdict → IsJoin (statuses ++ (key, status) ∷ []) result }
+{
+    match status {
+        KeyStatus::Alive => verdict,
+        KeyStatus::Dead(index) => with_dead(verdict, key, index),
+        KeyStatus::Over(index) => with_over(verdict, key, index),
+    }
+}
+
+/// The verdict of a list with one more dead key.
+fn with_dead(verdict: Verdict, key: Key, index: u32) -> Verdict
+    ensures { (statuses : List (ℕ × KeyStatus)) → IsJoin statuses verdict → IsJoin (statuses ++ (key, KeyStatus.Dead index) ∷ []) result }
+{
+    match verdict {
+        Verdict::Legal | Verdict::Unknown { .. } => Verdict::Illegal { key, index },
+        Verdict::Illegal { index: least, .. } if index < least => Verdict::Illegal { key, index },
+        Verdict::Illegal { .. } => verdict,
+    }
+}
+
+/// The verdict of a list with one more blown key.
+fn with_over(verdict: Verdict, key: Key, index: u32) -> Verdict
+    ensures { (statuses : List (ℕ × KeyStatus)) → IsJoin statuses verdict → IsJoin (statuses ++ (key, KeyStatus.Over index) ∷ []) result }
+{
+    match verdict {
+        Verdict::Illegal { .. } => verdict,
+        Verdict::Legal => Verdict::Unknown { key, index },
+        Verdict::Unknown { index: least, .. } if index < least => Verdict::Unknown { key, index },
+        Verdict::Unknown { .. } => verdict,
+    }
+}
