@@ -5,6 +5,9 @@ pub mod Beginnings
 pub mod Digits
 pub mod Names
 pub mod Longest
+pub mod Equivalence
+pub mod Matching
+pub mod PairMatching
 pub mod Views
 pub mod Extend
 pub mod Fronts

@@ -1,7 +1,7 @@
 //! Laws of the texts, proved of their definition alone.
 
 ghost use Rattle.std.specs.Prelude.{◌≡◌, ℕ, [], ◌∷◌, pos, List};
-ghost use Rattle.edn.specs.Value.{Values, int, none, more};
+ghost use Rattle.edn.specs.Value.{Value, Values, int, none, more, Same};
 ghost use Rattle.edn.specs.Text.{IsText};
 
 /// A text has one reading.
@@ -13,3 +13,12 @@ pub fn one_reading()
 pub fn discards_are_skipped()
     ensures { IsText (35 ∷ 95 ∷ 32 ∷ 91 ∷ 93 ∷ 32 ∷ 49 ∷ 59 ∷ 120 ∷ []) (more (int (pos 1)) none) }
 {}
+
+/// Each value is the same as itself; of two that are the same either may stand first; and values that are the same as
+/// a third are the same.
+pub fn sameness_is_an_equivalence()
+    ensures reflexive { (v : Value) → Same v v }
+    ensures symmetric { (v w : Value) → Same v w → Same w v }
+    ensures transitive { (u v w : Value) → Same u v → Same v w → Same u w }
+{
+}

@@ -17,10 +17,12 @@ mod pieces;
 mod places;
 mod reading;
 mod refusals;
+mod sameness;
 mod stops;
 
 pub use elements::Edn;
 pub use gates::{Gate, OpenGate};
-pub use laws::{discards_are_skipped, one_reading};
+pub use laws::{discards_are_skipped, one_reading, sameness_is_an_equivalence};
 pub use reading::read_all;
 pub use refusals::Refusal;
+pub use sameness::same;
