@@ -1,5 +1,5 @@
 //! What each sequential object has: a sequential specification (Herlihy and Wing 1990, section 2.2).
-ghost use Rattle.std.specs.Prelude.{◌≡◌, ◌↔◌, IsTrue, IfOk, Option};
+ghost use Rattle.std.specs.Prelude.{true, ◌≡◌, ◌↔◌, IsTrue, IfOk, Option};
 ghost use Rattle.models.specs.declared.operation.Op.{Op};
 ghost use Rattle.models.specs.declared.finding.Found.{Found};
 
@@ -10,7 +10,8 @@ use std::alloc::{AllocError, Global};
 /// A sequential object: its states, the one it starts in, and what each operation does in each state. The state after
 /// an operation and what it finds are functions of the state and the operation alone.
 pub trait SeqObject {
-    type State: Drop;
+    /// Its states. They compare and are ordered lawfully, and states that compare equal are the same.
+    type State: Drop + Ord;
 
     /// The start state.
     ghost start_state: { Self.State };
@@ -35,7 +36,13 @@ pub trait SeqObject {
     ) -> Result<Option<(Self::State, Found)>, AllocError>
         ensures { IfOk result (λ outcome. outcome ≡ apply_to op.now state.now) };
 
+    /// States that compare equal are the same state.
+    ghost exact: { (a b : Self.State) → Self.State.eq a b ≡ true → a ≡ b };
+
     /// Whether both are the same state. Takes no memory.
-    fn same(a: &Self::State, b: &Self::State) -> bool
-        ensures { IsTrue result ↔ (a.now ≡ b.now) };
+    final fn same(a: &Self::State, b: &Self::State) -> bool
+        ensures { IsTrue result ↔ (a.now ≡ b.now) }
+    {
+        *a == *b
+    }
 }

@@ -1,5 +1,6 @@
 //! The register.
 ghost use Rattle.std.specs.Prelude.{None};
+ghost use Rattle.models.specs.States.{option_eq-exact};
 
 use crate::finding::Found;
 use crate::object::SeqObject;
@@ -38,7 +39,5 @@ impl SeqObject for Register {
         }
     }
 
-    fn same(a: &Option<i64>, b: &Option<i64>) -> bool {
-        *a == *b
-    }
+    ghost exact = { option_eq-exact };
 }
