@@ -1,0 +1,4 @@
+pub mod OneKey
+pub mod OfOneKey
+pub mod Known
+pub mod Preparing

@@ -1,0 +1,64 @@
+-- The one-thread object: its state, and what each command may answer (this project's own)
+use Rattle.std.specs.Prelude.{◌≡◌, ℕ, ◌≤◌, List, [], ◌∷◌, ◌++◌, Option, None, Result, Ok, Err}
+use Rattle.edn.specs.declared.refusals.Refusal.{Refusal}
+use Rattle.edn.specs.declared.refusals.Refusal.TheVariants.{BadBudget, BadConcurrency, NoMemory}
+use Rattle.models.specs.declared.kinds.ModelKind.{ModelKind}
+use Rattle.models.specs.declared.kinds.ModelKind.TheVariants.{Register}
+use Rattle.history.specs.declared.events.Event.{Event}
+use Rattle.history.specs.Events.{entries_of, indexed_from}
+use Rattle.history.specs.WellFormed.{IsWellFormed, IsConcurrency, Refuses}
+use Rattle.linspec.specs.declared.verdicts.Verdict.{Verdict}
+use Rattle.linspec.specs.Verdicts.{IsVerdict}
+use Rattle.harness.specs.declared.commands.Config.{Config}
+use Rattle.harness.specs.declared.commands.Command.{Command}
+use Rattle.harness.specs.declared.commands.Command.TheVariants.{Append, Verdict as Ask}
+use Rattle.harness.specs.declared.commands.Reply.{Reply}
+use Rattle.harness.specs.declared.commands.Reply.TheVariants.{Verdict as Says}
+
+-- the history as it stands, its concurrency, and the budget of every key
+pub record Machine : Type 0 where
+  pub concurrency : ℕ
+  pub budget : ℕ
+  pub events : List Event
+
+-- every key is a register at this stage
+abbrev pub kind_of : ℕ → ModelKind
+kind_of key = Register
+
+-- the verdict, from scratch, on the history as it stands
+abbrev pub IsVerdictOn : Machine → Verdict → Type 0
+IsVerdictOn m v = IsVerdict kind_of (λ key. m.budget) (entries_of (indexed_from 0 m.events)) v
+
+abbrev pub with_event : Event → Machine → Machine
+with_event event m = record m { events = m.events ++ event ∷ [] }
+
+-- the command may be answered so, which leads from the old machine to the new. A refusal changes nothing
+abbrev pub MayStep : Machine → Command → Result Reply Refusal → Machine → Type 0
+MayStep old (Append event) (Ok (Says v)) new =
+    IsWellFormed old.concurrency old.events event × (new ≡ with_event event old) × IsVerdictOn new v
+MayStep old (Append event) (Err why) new = Refuses old.concurrency old.events event why × (new ≡ old)
+MayStep old Ask (Ok (Says v)) new = (new ≡ old) × IsVerdictOn old v
+MayStep old Ask (Err why) new = ⊥
+
+-- The opening
+
+abbrev pub IsBudget : ℕ → Type 0
+IsBudget n = (1 ≤ n) × (n ≤ 65536)
+
+abbrev pub opening : Config → Machine
+opening config = record { concurrency = config.concurrency; budget = config.budget; events = [] }
+
+-- why no object is opened: the budget is tested first
+abbrev pub MayNotOpen : Config → Refusal → Type 0
+MayNotOpen config BadBudget = ¬ IsBudget config.budget
+MayNotOpen config BadConcurrency = IsBudget config.budget × ¬ IsConcurrency config.concurrency
+MayNotOpen config NoMemory = IsBudget config.budget × IsConcurrency config.concurrency
+MayNotOpen config _ = ⊥
+
+-- What a caller sees: the machine, and the machine that a prepared command leads to
+pub record Standing : Type 0 where
+  pub machine : Machine
+  pub next : Option Machine
+
+abbrev pub at_rest : Machine → Standing
+at_rest m = record { machine = m; next = None }

@@ -1,0 +1,10 @@
+//! The one-thread object: commands in, verdicts out.
+#![tactic(auto)]
+
+pub mod commands;
+pub mod core_object;
+mod keys;
+mod readying;
+
+pub use commands::{Command, Config, Reply};
+pub use core_object::Core;
