@@ -1,1 +1,6 @@
 pub mod Soundness
+pub mod Pushes
+pub mod Statuses
+pub mod Stepping
+pub mod Judging
+pub mod Copies

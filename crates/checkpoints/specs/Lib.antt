@@ -1,1 +1,4 @@
+pub mod Steps
+pub mod Searches
+pub mod Standings
 pub mod Lines

@@ -1,6 +1,9 @@
-//! The line of one key: its events, and what is known of them while they come.
+//! The line of one key: its events, and what is known of the key while they come.
 #![tactic(auto)]
 
 mod line;
+mod searches;
+mod standings;
+mod steps;
 
 pub use line::KeyLine;

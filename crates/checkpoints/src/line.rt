@@ -1,109 +1,130 @@
 //! The line of one key.
-ghost use Rattle.std.specs.Prelude.{◌≡◌, None, Some, [], ◌∷◌, ◌++◌, length, IsSome, MatchOption, IfOk, OnOk, OnErr};
+ghost use Rattle.std.specs.Prelude.{◌≡◌, None, Some, [], ◌∷◌, ◌++◌, length, IsSome, IfSome, IfOk, OnOk, OnErr};
 ghost use Rattle.models.specs.Objects.{of_table};
 ghost use Rattle.history.specs.Events.{entries_of};
 ghost use Rattle.history.specs.Rule.{IsHistory};
 ghost use Rattle.linspec.specs.Verdicts.{IsKeyStatus};
 
+use crate::standings::Standing;
 use history::Event;
 use linspec::KeyStatus;
 use models::SeqObject;
 use std::alloc::{AllocError, Global};
-use std::marker::{Model, PhantomData};
+use std::marker::Model;
 
-/// An event that may be committed, and the status that it brings.
+/// An event that may be committed, and how the key stands with it.
 #[derive(Drop)]
-struct Prepared {
+struct Prepared<M: SeqObject> {
     index: u32,
     event: Event,
-    status: KeyStatus,
+    standing: Standing<M>,
 }
 
-/// The events of one key with their indices, in the order in which they came, and what is known of them: while every
-/// beginning of them is linearizable the line is alive (Herlihy and Wing 1990, section 2.3), else it is dead at the
+/// The events of one key with their indices, in the order in which they came, and what is known of the key. It is alive
+/// while every beginning of the events is linearizable (Herlihy and Wing 1990, section 2.3); else it is dead at the
 /// event that ends the shortest beginning that is not. Where an ok finds more ends than the budget just before it, the
-/// line is over at that event: it looks no further, and its key is set aside.
+/// key is over at that ok, whatever else is known of it (this project's own).
 ///
-/// A line is that of one key because it is given that key's events. It looks at no key itself.
+/// A line is that of one key because it is given that key's events alone; it looks at no key itself.
 #[derive(Drop)]
 pub struct KeyLine<M: SeqObject> {
     budget: u32,
     events: Vec<(u32, Event)>,
-    status: KeyStatus,
-    prepared: Option<Prepared>,
-    object: PhantomData<M>,
+    standing: Standing<M>,
+    prepared: Option<Prepared<M>>,
 }
 
 impl<M: SeqObject> Model for KeyLine<M> {
+    ghost use Rattle.std.specs.Prelude.{vec_capacity};
     ghost use Rattle.std.specs.Option.{option_map};
     ghost use Rattle.models.specs.Objects.{of_table};
-    ghost use Rattle.std.specs.Prelude.{vec_capacity};
     ghost use Rattle.checkpoints.specs.Lines.{Line, IsSound};
 
     ghost Value = { Line };
 
-    ghost view = { λ a. record { budget = a.budget; events = a.events.items; prepared = option_map (λ p. (p.index, p.event)) a.prepared } };
+    ghost view = { λ a. record {
+      budget = a.budget;
+      events = a.events.items;
+      prepared = option_map (λ p. (p.index, p.event)) a.prepared;
+    } };
 
-    ghost invariant = { λ a. IsSound (of_table M.State M.start_state M.apply_to) a.budget a.events.items a.status
-        (vec_capacity a.events) (option_map (λ p. ((p.index, p.event), p.status)) a.prepared) };
+    ghost invariant = { λ a. let object = of_table M.State M.start_state M.apply_to in
+        IsSound object a.budget a.events.items a.standing (vec_capacity a.events) a.prepared };
 }
 
 impl<M: SeqObject> KeyLine<M> {
-    /// The line of no events. The budget is how many ends an ok may find just before it.
+    /// The line of no events. An ok of it may find at most `budget` ends just before it.
     ///
     /// # Errors
     ///
     /// `AllocError` where memory was refused.
     pub fn new(alloc: Global, budget: u32) -> Result<Self, AllocError>
-        ensures empty { IfOk result (λ line. line ≡ record { budget = budget; events = []; prepared = None }) }
+        ensures { IfOk result (λ line. line ≡ record { budget = budget; events = []; prepared = None }) }
     {
-        Err(AllocError)
+        let standing = Standing::start(alloc, budget)?;
+        Ok(KeyLine {
+            budget,
+            events: Vec::new(alloc),
+            standing,
+            prepared: None,
+        })
     }
 
-    /// Prepares that an event comes next, whose index is in the whole history, and gives the status that
-    /// [`commit`](Self::commit) will bring. What was prepared before is dropped.
+    /// Prepares that this event comes next and gives the status that [`commit`](Self::commit) will bring. The index is
+    /// the event's place in the whole history. What was prepared before is dropped. It takes the time of a copy of the
+    /// ends of the events so far, and of the event.
     ///
     /// # Errors
     ///
     /// `AllocError` where memory was refused: then nothing is prepared, and the rest is as it was.
     pub fn prepare(&mut self, index: u32, event: Event) -> Result<KeyStatus, AllocError>
         requires { IsHistory (self.old.events ++ (index, event) ∷ []) }
-        ensures status { IfOk result (λ status. IsKeyStatus (of_table M.State M.start_state M.apply_to)
-            self.old.budget (entries_of (self.old.events ++ (index, event) ∷ [])) status) }
+        ensures status { let object = of_table M.State M.start_state M.apply_to in
+            let entries = entries_of (self.old.events ++ (index, event) ∷ []) in
+            IfOk result (λ status. IsKeyStatus object self.old.budget entries status) }
         ensures prepared { OnOk result (self.new ≡ record self.old { prepared = Some (index, event) }) }
         ensures err { OnErr result (self.new ≡ record self.old { prepared = None }) }
     {
         self.prepared = None;
-        Err(AllocError)
+        let standing = self.standing.after(index, &event)?;
+        self.events.reserve(1)?;
+        let status = standing.status();
+        self.prepared = Some(Prepared {
+            index,
+            event,
+            standing,
+        });
+        Ok(status)
     }
 
-    /// Carries out what is prepared: the event is then the last of the line. It takes no memory and cannot fail.
+    /// Carries out what is prepared: the event is then the last of the line. Takes no memory.
     pub fn commit(&mut self)
         requires { IsSome self.old.prepared }
-        ensures { MatchOption self.old.prepared ⊥ (λ change.
+        ensures { IfSome self.old.prepared (λ change.
             self.new ≡ record self.old { events = self.old.events ++ change ∷ []; prepared = None }) }
     {
-        if let Some(
-            Prepared {
+        if let Some(next) = self.prepared.take() {
+            let Prepared {
                 index,
                 event,
-                status,
-            },
-        ) = self.prepared.take()
-        {
+                standing,
+            } = next;
             self.events.push_reserved((index, event));
-            self.status = status;
+            self.standing = standing;
         }
     }
 
-    /// An event comes next: [`prepare`](Self::prepare) and [`commit`](Self::commit) in one.
+    /// This event comes next: [`prepare`](Self::prepare) and [`commit`](Self::commit) in one.
     ///
     /// # Errors
     ///
     /// `AllocError` where memory was refused: then nothing is prepared, and the rest is as it was.
     pub fn push(&mut self, index: u32, event: Event) -> Result<(), AllocError>
         requires { IsHistory (self.old.events ++ (index, event) ∷ []) }
-        ensures ok { OnOk result (self.new ≡ record self.old { events = self.old.events ++ (index, event) ∷ []; prepared = None }) }
+        ensures ok { OnOk result (self.new ≡ record self.old {
+          events = self.old.events ++ (index, event) ∷ [];
+          prepared = None;
+        }) }
         ensures err { OnErr result (self.new ≡ record self.old { prepared = None }) }
     {
         self.prepare(index, event)?;
@@ -111,15 +132,15 @@ impl<M: SeqObject> KeyLine<M> {
         Ok(())
     }
 
-    /// What is known of the key: over at the least index where an ok finds more ends than the budget just before it,
-    /// else dead at the event that ends the shortest beginning that is not linearizable, else alive.
+    /// What is known of the key. Takes no memory.
     pub fn status(&self) -> KeyStatus
-        ensures { IsKeyStatus (of_table M.State M.start_state M.apply_to) self.now.budget (entries_of self.now.events) result }
+        ensures { let object = of_table M.State M.start_state M.apply_to in
+            IsKeyStatus object self.now.budget (entries_of self.now.events) result }
     {
-        self.status
+        self.standing.status()
     }
 
-    /// How many events the line has.
+    /// How many events the line has. Takes no memory.
     pub fn len(&self) -> usize
         ensures { result ≡ length self.now.events }
     {

@@ -1,0 +1,9 @@
+use Rattle.std.proofs.Common.{◌∙◌, ap, sym}
+use Rattle.std.specs.Ordering.{nat_cmp}
+use Rattle.std.proofs.lemmas.Map.Entries.{entries_from_clone}
+use Rattle.checkpoints.proofs.Copies.{IsSearch-same}
+use Rattle.checkpoints.proofs.searches.Search.copy.Goals as goal
+
+pub returns : goal.returns
+returns g c budget events is_search =
+    IsSearch-same _ budget events c.args.self.now is_search _ (λ ms h. c.in_ok-frontier.ensures.stands ms h) c.in_ok-frontier.ensures.budget (entries_from_clone _ _ (λ x y h. h) (λ v w h. h) _ _ c.in_ok-invocations.ensures.cases)
