@@ -68,10 +68,10 @@ each_of c before [] may e h = absurd (Contains-nil e h)
 each_of c before (x ∷ after) may e h =
     ⊎_elim
     (λ same. subst (λ (w : Event). IsOf (unwrap_or (first_key (before ++ x ∷ after)) 0) w.body) same
-        (subst (λ (o : Option ℕ). IsOf (unwrap_or o 0) x.body) (sym (first_key-append before (x ∷ after)))
-        (shares before x.body (first_key after) ((may before after x refl).0.1))))
+    (subst (λ (o : Option ℕ). IsOf (unwrap_or o 0) x.body) (sym (first_key-append before (x ∷ after)))
+    (shares before x.body (first_key after) ((may before after x refl).0.1))))
     (λ later. subst (λ (l : List Event). IsOf (unwrap_or (first_key l) 0) e.body) (append_assoc before (x ∷ []) after)
-        (each_of c (before ++ x ∷ []) after (subst (IsHistoryOf c) (sym (append_assoc before (x ∷ []) after)) may) e later))
+    (each_of c (before ++ x ∷ []) after (subst (IsHistoryOf c) (sym (append_assoc before (x ∷ []) after)) may) e later))
     (Contains-cons_cases x after e h)
 
 pub history_key : (c : ℕ) (events : List Event) → IsHistoryOf c events → AllOfKey (unwrap_or (first_key events) 0) (entries_of (indexed_from 0 events))

@@ -27,9 +27,9 @@ pub one_status : (kinds : ℕ → ModelKind) (budgets : ℕ → ℕ) (k : ℕ) (
 one_status kinds budgets k entries status all is = record {
   each = λ j s h. ⊎_elim
       (λ e. (let key : k ≡ j = ap (λ (p : ℕ × KeyStatus). p.0) e in let same : status ≡ s = ap (λ (p : ℕ × KeyStatus). p.1) e in
-          subst (λ (n : ℕ). IsKeyStatus (object_of (kinds n)) (budgets n) (of_key n entries) s) key
-          (subst (λ (l : List Entry). IsKeyStatus (object_of (kinds k)) (budgets k) l s) (sym (of_key-all k entries all))
-          (subst (λ (t : KeyStatus). IsKeyStatus (object_of (kinds k)) (budgets k) entries t) same is))))
+      subst (λ (n : ℕ). IsKeyStatus (object_of (kinds n)) (budgets n) (of_key n entries) s) key
+      (subst (λ (l : List Entry). IsKeyStatus (object_of (kinds k)) (budgets k) l s) (sym (of_key-all k entries all))
+      (subst (λ (t : KeyStatus). IsKeyStatus (object_of (kinds k)) (budgets k) entries t) same is))))
       (λ n. absurd (Contains-nil (j, s) n))
       (Contains-cons_cases (k, status) [] (j, s) h);
   once = ((λ p h. absurd (Contains-nil p h)), tt);

@@ -71,10 +71,11 @@ rests history history' line line' known change kept keeps =
 pub verdict_after : Laws → (history history' : Contents) (line line' : Line) (known : Known) (change : Change) (event : Event) (status : KeyStatus) (key : Option ℕ) (v : Verdict)
     → IsKept history line known change → Readies history history' line line' event status → key ≡ option_or known.key (key_behind event.body None)
     → IsJoin ((unwrap_or key 0, status) ∷ []) v → IsKnown (with_event event (machine_of history line)) (record { key = key; verdict = v })
-verdict_after laws history history' line line' known change event status key v kept readies is_key joined =
-    (first ∙ sym is_key,
-    verdict_on laws history.concurrency line.budget (history.events ++ event ∷ []) status v readies.after readies.is_status
-        (subst (λ (o : Option ℕ). IsJoin ((unwrap_or o 0, status) ∷ []) v) (is_key ∙ sym first) joined))
+verdict_after laws history history' line line' known change event status key v kept readies is_key joined = (
+  first ∙ sym is_key,
+  verdict_on laws history.concurrency line.budget (history.events ++ event ∷ []) status v readies.after readies.is_status
+      (subst (λ (o : Option ℕ). IsJoin ((unwrap_or o 0, status) ∷ []) v) (is_key ∙ sym first) joined),
+)
   where
     first : first_key (history.events ++ event ∷ []) ≡ option_or known.key (key_behind event.body None)
     first = first_key-push history.events event ∙ ap (λ (o : Option ℕ). option_or o (key_behind event.body None)) kept.is_known.0
@@ -112,9 +113,11 @@ pub opened : Laws → (c budget : ℕ) (history : Contents) (line : Line) (statu
 opened laws c budget history line status v history_is line_is is joined =
     subst (λ (h : Contents). IsKept h line (record { key = None; verdict = v }) Nothing) (sym history_is)
     (subst (λ (l : Line). IsKept (no_events c) l (record { key = None; verdict = v }) Nothing) (sym line_is)
-    (record { same_events = refl;
-        is_known = (refl, verdict_on laws c budget [] status v none (subst (λ (l : Line). IsKeyStatus register l.budget (entries_of l.events) status) line_is is) joined);
-        readied = tt }))
+    (record {
+      same_events = refl;
+      is_known = (refl, verdict_on laws c budget [] status v none (subst (λ (l : Line). IsKeyStatus register l.budget (entries_of l.events) status) line_is is) joined);
+      readied = tt;
+    }))
   where
     none : IsHistoryOf c []
     none before after e cut = absurd (Contains-nil e (subst (λ (l : List Event). Contains l e) (sym cut) (Contains-append_right before (e ∷ after) e (Contains-head e after))))

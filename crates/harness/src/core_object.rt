@@ -5,9 +5,9 @@ ghost use Rattle.harness.specs.Machine.{Machine, opening, at_rest, with_event, I
 
 use crate::commands::{Command, Config, Reply};
 use crate::keys::key_after;
+use crate::readying::ready;
 use checkpoints::KeyLine;
 use edn::Refusal;
-use crate::readying::ready;
 use history::{Event, History, process_rule_law};
 use linspec::Verdict;
 use linspec::laws::history_law;
