@@ -8,6 +8,8 @@ pub mod Longest
 pub mod Equivalence
 pub mod Matching
 pub mod PairMatching
+pub mod Distinct
+pub mod Deciding
 pub mod Views
 pub mod Extend
 pub mod Fronts

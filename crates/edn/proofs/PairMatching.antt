@@ -174,7 +174,7 @@ seen_at [] i x l e = absurd (omega arith)
 seen_at (y ∷ xs) zero x l e = (xs, ap (λ (t : Edn × Edn). pair (value_of t.0) (value_of t.1) (entries_of xs)) (sym e))
 seen_at (y ∷ xs) (suc i) x l e = let k = seen_at xs i x (omega arith) e in (k.0, ap (λ t. pair (value_of y.0) (value_of y.1) t) k.1)
 
-seen_whole : (xs : List (Edn × Edn)) (i : ℕ) → length xs ≤ i → take i xs ≡ xs
+pub seen_whole : (xs : List (Edn × Edn)) (i : ℕ) → length xs ≤ i → take i xs ≡ xs
 seen_whole [] zero l = refl
 seen_whole [] (suc i) l = refl
 seen_whole (x ∷ xs) zero l = absurd (omega arith)

@@ -18,7 +18,7 @@ one_line (over n s) at_line_feed = absurd (n refl)
 one_line (over n s) (over m q) = one_line s q
 
 -- the values of two lists of pairs
-one_pairs : (ps qs : Pairs) → in_text ps ≡ in_text qs → ps ≡ qs
+pub one_pairs : (ps qs : Pairs) → in_text ps ≡ in_text qs → ps ≡ qs
 one_pairs no_pairs no_pairs e = refl
 one_pairs no_pairs (pair k v qs) e = absurd cc
 one_pairs (pair k v ps) no_pairs e = absurd cc

@@ -26,3 +26,6 @@ pub use laws::{discards_are_skipped, one_reading, sameness_is_an_equivalence};
 pub use reading::read_all;
 pub use refusals::Refusal;
 pub use sameness::same;
+
+#[cfg(test)]
+mod tests;

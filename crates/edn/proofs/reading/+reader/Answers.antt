@@ -7,15 +7,10 @@ use Rattle.edn.specs.View.{values_of}
 use Rattle.edn.specs.Text.{Reads, ReadsAll}
 use Rattle.edn.specs.Text.Reads.{atom, in_brackets, in_braces}
 use Rattle.edn.proofs.Beginnings.{bracket_off, brace_off, no_element, not_opens, other_close, no_piece, line_shorter, reads_shorter}
+use Rattle.edn.proofs.Deciding.{same_error}
 use Rattle.edn.proofs.Resume.{SoFar, so_far_white, so_far_comment, so_far_discard, so_far_paid, so_far_kept, so_far_done, so_far_owing, so_far_stuck}
 use Rattle.edn.proofs.Views.{view-Vector, values_of-push}
 use Rattle.edn.proofs.reading.+reader.Goals as goal
-
-same_error : {X Y : Type 0} {r : Result X Stop} {a b c : Stop} → r ≡ Err a → a ≡ b → IsErrOf r c → IsErrOf {T = Y} (Err b) c
-same_error {X} {Y} {r} {a} {b} {c} e f h =
-    let k : ◌≡◌ {A = Result X Stop} (Err a) (Err c) = sym e ∙ h in
-    let l : a ≡ c = cc in
-    ap (λ x. Err x) (sym f ∙ l)
 
 pub element-returns-in-Some-clause-ok : goal.element-returns-in-Some-clause-ok
 element-returns-in-Some-clause-ok t c =

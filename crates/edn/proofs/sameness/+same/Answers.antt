@@ -4,18 +4,10 @@ use Rattle.edn.specs.View.{value_of, values_of, entries_of}
 use Rattle.edn.specs.declared.elements.Edn.{Edn}
 use Rattle.edn.proofs.Views.{view-Map}
 use Rattle.edn.proofs.Matching.{counts_none, counts_same, counts_less, counts_all, counts_enough, has_few, members_start, members_more, members_all, members_fail, members_length, order_start, order_more, order_all, order_fail, order_length}
+use Rattle.edn.proofs.Deciding.{off, none_here, all_here}
 use Rattle.edn.proofs.PairMatching as paired
 use Rattle.edn.proofs.sameness.+same.Goals as goal
 use Rattle.edn.proofs.sameness.+same.Goals.{count_same-then-same, count_same-else-same, count_same_pairs-then-same_pair, count_same_pairs-else-same_pair, has_more_same-then-same+else-seen-count, has_more_same-else-same, has_more_same_pairs-then-same_pair+else-seen-count, has_more_same_pairs-else-same_pair}
-
-off : (r : Bool) (P : Type 0) → r ≡ false → (P → IsTrue r) → P → ⊥
-off r P e f p = cc (f p)
-
-none_here : (P : Type 0) → (P → ⊥) → (IsTrue false → P) × (P → IsTrue false)
-none_here P n = (λ e. absurd cc, λ p. absurd (n p))
-
-all_here : (P : Type 0) → P → (IsTrue true → P) × (P → IsTrue true)
-all_here P p = (λ e. p, λ q. refl)
 
 pub count_same-loop-y-init : goal.count_same-loop-y-init
 count_same-loop-y-init t c = record { counted = counts_none c.args.elements.now (value_of c.args.x.now); few = omega arith }
