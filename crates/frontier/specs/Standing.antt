@@ -1,8 +1,10 @@
 -- What a frontier stands for: the ends of a history of one key, and the operations of it that may still take place
-use Rattle.std.specs.Prelude.{◌≢◌, ◌↔◌, ℕ, List, map, IsTrue}
+use Rattle.std.specs.Prelude.{◌≢◌, ◌↔◌, ℕ, Option, List, map, Bool, IsTrue}
 use Rattle.std.specs.List.{Contains}
+use Rattle.std.specs.Ordering.{nat_cmp}
 use Rattle.std.specs.FinMap as finmap
 use Rattle.std.specs.FinSet as finset
+use Rattle.models.specs.declared.finding.Found.{Found}
 use Rattle.models.specs.declared.operation.Op.{Op}
 use Rattle.models.specs.Objects.{Object}
 use Rattle.history.specs.Events.{Mark}
@@ -14,9 +16,23 @@ use Rattle.frontier.specs.declared.calls.Call.{Call}
 use Rattle.frontier.specs.declared.ends.Kept.{Kept}
 use Rattle.frontier.specs.declared.frontiers.Frontier.{Frontier}
 
+-- what each open operation found, by the entries
+abbrev pub pending_in : List (ℕ × Found) → finmap.FinMap nat_cmp Found
+pending_in entries = finmap.from_entries entries
+
+-- what the operation found, where it is among the entries
+abbrev pub found_at : List (ℕ × Found) → ℕ → Option Found
+found_at entries id = finmap.get (pending_in entries) id
+
+abbrev pub crashed_in : List ℕ → finset.FinSet nat_cmp
+crashed_in ids = finset.from_list ids
+
+abbrev pub has_crashed : List ℕ → ℕ → Bool
+has_crashed ids id = finset.contains (crashed_in ids) id
+
 -- the end that is kept so
 abbrev pub end_kept : {S : Type 0} → Kept S → End S
-end_kept kept = record { state = kept.state; pending = finmap.from_entries kept.pending.items; crashed = finset.from_list kept.crashed.items }
+end_kept kept = record { state = kept.state; pending = pending_in kept.pending.items; crashed = crashed_in kept.crashed.items }
 
 -- the operation may still take place: it is invoked, and has neither returned nor failed
 pub record IsPending (marks : List Mark) (id : ℕ) (op : Op) : Type 0 where

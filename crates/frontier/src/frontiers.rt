@@ -9,8 +9,9 @@ ghost use Rattle.linspec.specs.Ends.{HasMoreThan};
 ghost use Rattle.linspec.specs.WellFormed.{IsNew};
 ghost use Rattle.frontier.specs.Standing.{StandsFor, budget_of};
 
-use crate::calls::Call;
+use crate::calls::{self, Call};
 use crate::ends::Kept;
+use crate::{closing, events};
 use models::{Answer, Op, SeqObject};
 use std::alloc::{AllocError, Global};
 
@@ -35,6 +36,15 @@ pub struct Frontier<M: SeqObject> {
     ends: Vec<Kept<M::State>>,
 }
 
+/// Alive where some end is left, else Dead.
+fn step_of(ends: usize) -> Step
+    ensures alive { (result ≡ Step.Alive) ↔ (ends ≢ 0) }
+    ensures dead { (result ≡ Step.Dead) ↔ (ends ≡ 0) }
+    ensures never_over { result ≢ Step.Over }
+{
+    if ends == 0 { Step::Dead } else { Step::Alive }
+}
+
 impl<M: SeqObject> Frontier<M> {
     /// The frontier of a history without events, with the greatest number of ends that an ok may meet. Fails where
     /// memory is wanting.
@@ -43,7 +53,18 @@ impl<M: SeqObject> Frontier<M> {
             IfOk result (λ f. StandsFor object f []) }
         ensures budget { IfOk result (λ f. budget_of f ≡ budget) }
     {
-        Err(AllocError)
+        let mut ends = Vec::new(alloc);
+        ends.push(Kept {
+            state: M::start(alloc),
+            pending: Vec::new(alloc),
+            crashed: Vec::new(alloc),
+        })?;
+        Ok(Frontier {
+            alloc,
+            budget,
+            calls: Vec::new(alloc),
+            ends,
+        })
     }
 
     /// An operation is invoked, whose id no event before it has. This never kills. Where memory is wanting, the
@@ -59,7 +80,20 @@ impl<M: SeqObject> Frontier<M> {
             (marks : List Mark) → StandsFor object self.old marks → OnErr result (StandsFor object self.new marks) }
         ensures budget { budget_of self.new ≡ budget_of self.old }
     {
-        Err(AllocError)
+        let before = self.ends.len();
+        self.calls.push(Call {
+            id,
+            op,
+            crashed: false,
+        })?;
+        match closing::grow::<M>(&mut self.ends, &self.calls) {
+            Ok(()) => Ok(()),
+            Err(error) => {
+                self.ends.truncate(before);
+                let _ = self.calls.pop();
+                Err(error)
+            }
+        }
     }
 
     /// An open operation has returned with this answer. Over where just before it there are more ends than the
@@ -84,7 +118,12 @@ impl<M: SeqObject> Frontier<M> {
             (marks : List Mark) → StandsFor object self.old marks → OnErr result (StandsFor object self.new marks) }
         ensures budget { budget_of self.new ≡ budget_of self.old }
     {
-        Err(AllocError)
+        if self.ends.len() > self.budget as usize {
+            return Ok(Step::Over);
+        }
+        self.ends = events::settled_ends::<M>(self.alloc, &self.ends, id, answer)?;
+        calls::drop_call(&mut self.calls, id);
+        Ok(step_of(self.ends.len()))
     }
 
     /// An open operation did not take place. Never Over.
@@ -103,7 +142,9 @@ impl<M: SeqObject> Frontier<M> {
             (marks : List Mark) → StandsFor object self.old marks → OnErr result (StandsFor object self.new marks) }
         ensures budget { budget_of self.new ≡ budget_of self.old }
     {
-        Err(AllocError)
+        self.ends.retain(|kept| !kept.includes(id));
+        calls::drop_call(&mut self.calls, id);
+        Ok(step_of(self.ends.len()))
     }
 
     /// An open operation may take place at any later moment, or never. This never kills. Where memory is wanting,
@@ -119,7 +160,9 @@ impl<M: SeqObject> Frontier<M> {
             (marks : List Mark) → StandsFor object self.old marks → OnErr result (StandsFor object self.new marks) }
         ensures budget { budget_of self.new ≡ budget_of self.old }
     {
-        Err(AllocError)
+        self.ends = events::crashed_ends::<M>(self.alloc, &self.ends, id)?;
+        calls::mark_crashed(&mut self.calls, id);
+        Ok(())
     }
 
     /// Another frontier of the same history and budget. Fails where memory is wanting.
@@ -128,6 +171,11 @@ impl<M: SeqObject> Frontier<M> {
             (marks : List Mark) → StandsFor object self.now marks → IfOk result (λ f. StandsFor object f marks) }
         ensures budget { IfOk result (λ f. budget_of f ≡ budget_of self.now) }
     {
-        Err(AllocError)
+        Ok(Frontier {
+            alloc: self.alloc,
+            budget: self.budget,
+            calls: calls::copy_calls(self.alloc, &self.calls)?,
+            ends: events::copied_ends::<M>(self.alloc, &self.ends)?,
+        })
     }
 }

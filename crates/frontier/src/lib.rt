@@ -2,7 +2,9 @@
 #![tactic(auto)]
 
 mod calls;
+mod closing;
 mod ends;
+mod events;
 pub mod frontiers;
 
 pub use frontiers::{Frontier, Step};

@@ -1,0 +1,14 @@
+use Rattle.std.proofs.Common.{ap, ◌∙◌, sym, subst, ◌∷◌, ◌++◌, []}
+use Rattle.models.specs.Objects.{of_table}
+use Rattle.frontier.specs.Standing.{AreTheCalls}
+use Rattle.frontier.proofs.AfterEvents.{kept_at_start, calls_at_start}
+use Rattle.frontier.proofs.frontiers.Frontier.start.Goals as goal
+
+pub returns-clause-stands : goal.returns-clause-stands
+returns-clause-stands g c = record {
+  ends = kept_at_start (of_table g.row.M-State.Denot g.M.SeqObject.start_state g.M.SeqObject.apply_to) c.push.new.self.items
+      (record { state = c.start.result; pending = c.new.result; crashed = c.new-2.result })
+      (c.in_ok-push.ensures.items ∙ ap (λ l. l ++ (record { state = c.start.result; pending = c.new.result; crashed = c.new-2.result } ∷ [])) c.new-ends.ensures.items)
+      c.start.ensures c.new.ensures.items c.new-2.ensures.items;
+  calls = subst (λ l. AreTheCalls l []) (sym c.new-3.ensures.items) calls_at_start;
+}

@@ -1,0 +1,61 @@
+//! The ends after an event, by those before it.
+ghost use Rattle.std.specs.Prelude.{◌≡◌, List, [], map, IfOk};
+ghost use Rattle.frontier.specs.Standing.{end_kept};
+ghost use Rattle.frontier.specs.Steps.{Settles, Crashes, Along, Adds};
+
+use crate::ends::{Kept, copy_of, keep};
+use models::{Answer, SeqObject};
+use std::alloc::{AllocError, Global};
+
+/// The ends after the operation has returned with this answer: of those where it is in and what it found fits, each
+/// without it.
+pub fn settled_ends<M: SeqObject>(
+    alloc: Global,
+    ends: &[Kept<M::State>],
+    id: u32,
+    answer: &Answer,
+) -> Result<Vec<Kept<M::State>>, AllocError>
+    ensures { IfOk result (λ after. Adds (Along (Settles id answer.now) (map end_kept ends.now)) [] (map end_kept after.items)) }
+{
+    let mut after = Vec::new(alloc);
+    for kept in ends {
+        if kept.fits_at(id, answer) {
+            let mut settled = copy_of::<M>(alloc, kept)?;
+            settled.settle(id);
+            keep::<M>(&mut after, settled)?;
+        }
+    }
+    Ok(after)
+}
+
+/// The ends after the operation has crashed.
+pub fn crashed_ends<M: SeqObject>(
+    alloc: Global,
+    ends: &[Kept<M::State>],
+    id: u32,
+) -> Result<Vec<Kept<M::State>>, AllocError>
+    ensures { IfOk result (λ after. Adds (Along (Crashes id) (map end_kept ends.now)) [] (map end_kept after.items)) }
+{
+    let mut after = Vec::new(alloc);
+    for kept in ends {
+        let mut crashed = copy_of::<M>(alloc, kept)?;
+        crashed.crash(id)?;
+        keep::<M>(&mut after, crashed)?;
+    }
+    Ok(after)
+}
+
+/// The same ends.
+pub fn copied_ends<M: SeqObject>(
+    alloc: Global,
+    ends: &[Kept<M::State>],
+) -> Result<Vec<Kept<M::State>>, AllocError>
+    ensures { IfOk result (λ copies. map end_kept copies.items ≡ map end_kept ends.now) }
+{
+    let mut copies = Vec::new(alloc);
+    for kept in ends {
+        let copy = copy_of::<M>(alloc, kept)?;
+        copies.push(copy)?;
+    }
+    Ok(copies)
+}
