@@ -16,7 +16,7 @@ use models::{Answer, Op, SeqObject};
 use std::alloc::{AllocError, Global};
 
 /// What an event leaves.
-#[derive(Clone, Copy)]
+#[derive(Clone, Copy, Debug, PartialEq, Eq)]
 pub enum Step {
     /// Some end is left: the history is linearizable.
     Alive,

@@ -6,5 +6,7 @@ mod closing;
 mod ends;
 mod events;
 pub mod frontiers;
+#[cfg(test)]
+mod tests;
 
 pub use frontiers::{Frontier, Step};
