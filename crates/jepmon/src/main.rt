@@ -1,13 +1,60 @@
-//! The program.
+//! `jepmon script` reads events of a store's clients, a line each, and answers each by the verdict on all of them:
+//! whether what the clients saw is linearizable (Herlihy and Wing, TOPLAS 1990).
 #![tactic(auto)]
 
 pub mod answering;
 pub mod commands;
+pub mod endings;
 pub mod laws;
 pub mod machine;
+pub mod orders;
 pub mod replies;
+pub mod script;
 pub mod session;
+#[cfg(test)]
+mod tests;
 pub mod watched;
 pub mod writing;
 
-fn main(_rt: HostRuntime) {}
+use edn::Refusal;
+use endings::{status_after, status_of_stop};
+use orders::{Order, Stop, no_text, order_of};
+use script::run_script;
+use std::alloc::{AllocError, Global};
+use std::env;
+use std::env::Args;
+use std::io::ErrorKind;
+use std::process::ExitCode;
+use std::rt::Env;
+use watched::Watched;
+
+// The order that this program was given.
+fn order_given<R: Env + AllocGlobal>(rt: &R) -> Result<Order, Stop> {
+    let alloc = rt.alloc();
+    match env::args(rt) {
+        Ok(words) => order_of(alloc, rest_of(alloc, words)?.as_slice()),
+        Err(error) if error.kind() == ErrorKind::OutOfMemory => {
+            Err(Stop::Refused(Refusal::NoMemory))
+        }
+        Err(_) => Err(no_text(alloc)),
+    }
+}
+
+// The words after the program's name.
+fn rest_of(alloc: Global, words: Args) -> Result<Vec<String>, AllocError> {
+    words.skip(1).collect(alloc)
+}
+
+fn main(rt: HostRuntime) -> ExitCode {
+    let alloc: Global = rt.alloc();
+    let status = match order_given(&rt) {
+        Ok(Order::Script(config)) => {
+            let mut reader = Watched::new(rt.stdin());
+            let mut writer = Watched::new(rt.stdout());
+            let outcome = run_script(&rt, alloc, config, &mut reader, &mut writer);
+            status_after(&rt, alloc, outcome)
+        }
+        Err(stop) => status_of_stop(&rt, alloc, &stop),
+    };
+    ExitCode::from(status)
+}
