@@ -37,8 +37,10 @@ fn with_dead(verdict: Verdict, key: Key, index: u32) -> Verdict
 {
     match verdict {
         Verdict::Legal | Verdict::Unknown { .. } => Verdict::Illegal { key, index },
-        Verdict::Illegal { index: least, .. } if index < least => Verdict::Illegal { key, index },
-        Verdict::Illegal { .. } => verdict,
+        Verdict::Illegal { index: least, .. } => {
+            let is_sooner = index < least;
+            if is_sooner { Verdict::Illegal { key, index } } else { verdict }
+        }
     }
 }
 
@@ -49,7 +51,9 @@ fn with_over(verdict: Verdict, key: Key, index: u32) -> Verdict
     match verdict {
         Verdict::Illegal { .. } => verdict,
         Verdict::Legal => Verdict::Unknown { key, index },
-        Verdict::Unknown { index: least, .. } if index < least => Verdict::Unknown { key, index },
-        Verdict::Unknown { .. } => verdict,
+        Verdict::Unknown { index: first, .. } => {
+            let is_sooner = index < first;
+            if is_sooner { Verdict::Unknown { key, index } } else { verdict }
+        }
     }
 }

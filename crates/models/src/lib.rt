@@ -3,10 +3,13 @@
 
 pub mod finding;
 pub mod kinds;
+pub mod laws;
 pub mod object;
 pub mod operation;
 pub mod registers;
 pub mod sets;
+#[cfg(test)]
+mod tests;
 
 pub use finding::{Answer, Found, fits};
 pub use kinds::ModelKind;

@@ -42,7 +42,7 @@ impl Members {
         ensures value { result.now ≡ self.now }
         ensures ascending { IsAscending self.now }
     {
-        self.items.as_slice()
+        &self.items
     }
 
     /// An equal set, with memory of its own; `AllocError` where there is none.

@@ -10,8 +10,8 @@ returns-in-Legal c statuses j =
     (λ e. IsJoin-dead_unknown statuses c.args.key c.args.index e.0 e.1 (subst (IsJoin statuses) e.2 j))
     c.in-Legal.is
 
-pub returns-in-Illegal : goal.returns-in-Illegal
-returns-in-Illegal c statuses j = IsJoin-dead_earlier statuses c.args.key c.args.index c.in-Illegal.key c.in-Illegal.least (subst (IsJoin statuses) c.in-Illegal.is j) c.if-index-least.true
+pub returns-then-is_sooner : goal.returns-then-is_sooner
+returns-then-is_sooner c statuses j = IsJoin-dead_earlier statuses c.args.key c.args.index _ _ (subst (IsJoin statuses) c.in-Illegal.is j) c.if-is_sooner.true
 
-pub returns-in-Illegal-2 : goal.returns-in-Illegal-2
-returns-in-Illegal-2 c statuses j = IsJoin-dead_later statuses c.args.key c.args.index c.in-Illegal.key c.in-Illegal.least (subst (IsJoin statuses) c.in-Illegal.is j) c.if-index-least.false
+pub returns-else-is_sooner : goal.returns-else-is_sooner
+returns-else-is_sooner c statuses j = IsJoin-dead_later statuses c.args.key c.args.index _ _ (subst (IsJoin statuses) c.in-Illegal.is j) c.if-is_sooner.false
