@@ -74,7 +74,7 @@ open_of_at events p i op h = by_last (last_of events p) refl h
 pub current_of-push : (c : ℕ) (events : List Event) (e : Event) (t : ℕ) → current_of c (events ++ e ∷ []) t ≡ current_of c events t + c * cond (crashes c t e) 1 0
 current_of-push c events e t =
     (let s : count_by (crashes c t) (events ++ e ∷ []) ≡ count_by (crashes c t) events + (0 + cond (crashes c t e) 1 0) = sum_by-append (λ x. cond (crashes c t x) 1 0) events (e ∷ []) in
-        let m : c * count_by (crashes c t) (events ++ e ∷ []) ≡ c * (count_by (crashes c t) events + (0 + cond (crashes c t e) 1 0)) = ap (λ n. c * n) s in omega arith)
+    let m : c * count_by (crashes c t) (events ++ e ∷ []) ≡ c * (count_by (crashes c t) events + (0 + cond (crashes c t e) 1 0)) = ap (λ n. c * n) s in omega arith)
 
 pub current_of-crashed : (c : ℕ) (events : List Event) (e : Event) (t : ℕ) → crashes c t e ≡ true → current_of c (events ++ e ∷ []) t ≡ current_of c events t + c
 current_of-crashed c events e t h =

@@ -23,10 +23,10 @@ Agrees busy events = (p : ℕ) → busy p ≡ open_key events p
 
 may_come : (c : ℕ) (before : List Event) (index : Option ℕ) (kind : EventKind) (process : Process) (body : Body) (busy : ℕ → Option ℕ) → Agrees busy before
     → IsWellFormed c before (record { index = index; kind = kind; process = process; body = body }) → MayCome busy (number_in process) (key_in body) (act_in kind body)
-may_come c before index Invoke (Client p) (AnOp op) busy agree well = (agree p ∙ ap (option_map (λ (x : ℕ × Op). x.1.key)) well.3.0.1, refl)
-may_come c before index Ok (Client p) (AnOp op) busy agree well = agree p ∙ ap (option_map (λ (x : ℕ × Op). x.1.key)) well.3.1.2 ∙ ap Some (sym well.3.1.3.1)
-may_come c before index Fail (Client p) (AnOp op) busy agree well = agree p ∙ ap (option_map (λ (x : ℕ × Op). x.1.key)) well.3.1.2 ∙ ap Some (sym well.3.1.3.1)
-may_come c before index Info (Client p) (AnOp op) busy agree well = agree p ∙ ap (option_map (λ (x : ℕ × Op). x.1.key)) well.3.1.2 ∙ ap Some (sym well.3.1.3.1)
+may_come c before index Invoke (Client p) (AnOp op) busy agree well = (agree p ∙ ap (option_map (λ (x : ℕ × Op). x.1.key)) well.3.1, refl)
+may_come c before index Ok (Client p) (AnOp op) busy agree well = agree p ∙ ap (option_map (λ (x : ℕ × Op). x.1.key)) well.3.2 ∙ ap Some (sym well.3.3.1)
+may_come c before index Fail (Client p) (AnOp op) busy agree well = agree p ∙ ap (option_map (λ (x : ℕ × Op). x.1.key)) well.3.2 ∙ ap Some (sym well.3.3.1)
+may_come c before index Info (Client p) (AnOp op) busy agree well = agree p ∙ ap (option_map (λ (x : ℕ × Op). x.1.key)) well.3.2 ∙ ap Some (sym well.3.3.1)
 may_come c before index Info Nemesis (AFault fault) busy agree well = tt
 may_come c before index _ _ _ busy agree well = absurd well.0.0
 

@@ -1,5 +1,5 @@
 -- The events that elements of a text spell (the Jepsen documentation; the table of parts is this project's own)
-use Rattle.std.specs.Prelude.{◌≡◌, ℕ, ◌<◌, ◌^◌, pos, Bool, false, Option, Some, None, List, codes, if◌then◌else◌}
+use Rattle.std.specs.Prelude.{◌≡◌, ℕ, ◌<◌, ◌^◌, ℤ, pos, Bool, false, Option, Some, None, MatchOption, IsSomeAnd, List, codes, if◌then◌else◌}
 use Rattle.std.specs.Str.{bytes_eq}
 use Rattle.edn.specs.Value.{Value, int, keyword, nil, vector, pairs, none, more, Pairs, no_pairs, pair}
 use Rattle.edn.specs.declared.refusals.Refusal.{Refusal}
@@ -11,9 +11,9 @@ use Rattle.models.specs.declared.operation.Part.TheVariants.{Nil, Int}
 use Rattle.history.specs.declared.events.EventKind.{EventKind}
 use Rattle.history.specs.declared.events.EventKind.TheVariants.{Invoke, Ok}
 use Rattle.history.specs.declared.events.Process.{Process}
-use Rattle.history.specs.declared.events.Process.TheVariants.{Client}
+use Rattle.history.specs.declared.events.Process.TheVariants.{Client, Nemesis}
 use Rattle.history.specs.declared.events.Body.{Body}
-use Rattle.history.specs.declared.events.Body.TheVariants.{Op as AnOp}
+use Rattle.history.specs.declared.events.Body.TheVariants.{Op as AnOp, Fault as AFault}
 use Rattle.history.specs.declared.events.Event.{Event}
 
 -- the element is the keyword of this name
@@ -26,51 +26,78 @@ abbrev pub value_at : List ℕ → Pairs → Option Value
 value_at name no_pairs = None
 value_at name (pair key value ps) = if is_keyword name key then Some value else value_at name ps
 
+-- an integer of 0 to m - 1
+abbrev pub IsNumber : ℕ → Value → ℕ → Type 0
+IsNumber m v n = (v ≡ int (pos n)) × (n < m)
+
+-- an index may be left out
 abbrev pub SpellsIndex : Option Value → Option ℕ → Type 0
-SpellsIndex None index = index ≡ None
-SpellsIndex (Some (int z)) index = (n : ℕ) × (z ≡ pos n) × (n < 2 ^ 32) × (index ≡ Some n)
-SpellsIndex _ index = ⊥
+SpellsIndex (Some v) (Some n) = IsNumber (2 ^ 32) v n
+SpellsIndex None None = Unit {0}
+SpellsIndex _ _ = ⊥
 
 -- for now :invoke and :ok alone
-abbrev pub SpellsKind : Option Value → EventKind → Type 0
-SpellsKind (Some (keyword s)) Invoke = s ≡ codes "invoke"
-SpellsKind (Some (keyword s)) Ok = s ≡ codes "ok"
-SpellsKind _ _ = ⊥
+abbrev pub SpellsKind : Value → EventKind → Type 0
+SpellsKind v Invoke = v ≡ keyword (codes "invoke")
+SpellsKind v Ok = v ≡ keyword (codes "ok")
+SpellsKind v _ = ⊥
 
 -- for now clients alone
-abbrev pub SpellsProcess : Option Value → Process → Type 0
-SpellsProcess (Some (int z)) (Client p) = (z ≡ pos p) × (p < 2 ^ 32)
-SpellsProcess _ _ = ⊥
+abbrev pub SpellsProcess : Value → Process → Type 0
+SpellsProcess v (Client p) = IsNumber (2 ^ 32) v p
+SpellsProcess v Nemesis = ⊥
 
 -- for now :read and :write alone
-abbrev pub SpellsName : Option Value → Name → Type 0
-SpellsName (Some (keyword s)) Read = s ≡ codes "read"
-SpellsName (Some (keyword s)) Write = s ≡ codes "write"
-SpellsName _ _ = ⊥
+abbrev pub SpellsName : Value → Name → Type 0
+SpellsName v Read = v ≡ keyword (codes "read")
+SpellsName v Write = v ≡ keyword (codes "write")
+SpellsName v _ = ⊥
 
+-- the part of a read is nil, or in an ok the integer that it answers; that of a write is an integer
 abbrev pub SpellsPart : EventKind → Name → Value → Part → Type 0
-SpellsPart kind Read nil Nil = Unit {0}
-SpellsPart Ok Read (int z) (Int a) = z ≡ a
-SpellsPart kind Write (int z) (Int a) = z ≡ a
+SpellsPart kind Read v Nil = v ≡ nil
+SpellsPart Ok Read v (Int a) = v ≡ int a
+SpellsPart kind Write v (Int a) = v ≡ int a
 SpellsPart _ _ _ _ = ⊥
 
--- [key part], where the key is 0 to 65,535
-abbrev pub SpellsOperation : EventKind → Option Value → Option Value → Body → Type 0
-SpellsOperation kind f (Some (vector (more (int z) (more part none)))) (AnOp op) =
-    SpellsName f op.name × (z ≡ pos op.key) × (op.key < 2 ^ 16) × SpellsPart kind op.name part op.part
-SpellsOperation _ _ _ _ = ⊥
+-- a name, and a value [key part], where the key is 0 to 65,535
+abbrev pub SpellsBody : EventKind → Value → Value → Body → Type 0
+SpellsBody kind f v (AnOp op) =
+    SpellsName f op.name
+    × ((key : Value) × (part : Value) × (v ≡ vector (more key (more part none))) × IsNumber (2 ^ 16) key op.key × SpellsPart kind op.name part op.part)
+SpellsBody kind f v (AFault fault) = ⊥
 
--- the element is a map that spells the event. Other keys say nothing
-abbrev pub Spells : Value → Event → Type 0
-Spells (pairs ps) e =
+-- the pairs of a map spell the event. Other keys say nothing
+abbrev pub PairsSpell : Pairs → Event → Type 0
+PairsSpell ps e =
     SpellsIndex (value_at (codes "index") ps) e.index
-    × SpellsKind (value_at (codes "type") ps) e.kind
-    × SpellsProcess (value_at (codes "process") ps) e.process
-    × SpellsOperation e.kind (value_at (codes "f") ps) (value_at (codes "value") ps) e.body
-Spells _ e = ⊥
+    × IsSomeAnd (value_at (codes "type") ps) (λ v. SpellsKind v e.kind)
+    × IsSomeAnd (value_at (codes "process") ps) (λ v. SpellsProcess v e.process)
+    × IsSomeAnd (value_at (codes "f") ps) (λ f. IsSomeAnd (value_at (codes "value") ps) (λ v. SpellsBody e.kind f v e.body))
+
+-- the element spells the event
+abbrev pub Spells : Value → Event → Type 0
+Spells v e = (ps : Pairs) × (v ≡ pairs ps) × PairsSpell ps e
 
 -- why no event was read: the element spells none, or memory ran out
 abbrev pub WhyUnspelled : Value → Refusal → Type 0
 WhyUnspelled v BadValue = (e : Event) → ¬ Spells v e
 WhyUnspelled v NoMemory = Unit {0}
 WhyUnspelled v _ = ⊥
+
+-- what was found is such a thing; or there is none
+abbrev pub Finds : {X : Type 0} → Option X → (X → Type 0) → Type 0
+Finds {X} found P = MatchOption found ((x : X) → ¬ P x) P
+
+-- what a value is, if it is that
+abbrev pub int_in : Value → Option ℤ
+int_in (int z) = Some z
+int_in _ = None
+
+abbrev pub name_in : Value → Option (List ℕ)
+name_in (keyword s) = Some s
+name_in _ = None
+
+abbrev pub two_in : Value → Option (Value × Value)
+two_in (vector (more v (more w none))) = Some (v, w)
+two_in _ = None

@@ -2,7 +2,6 @@
 -- and the order of the tests are this project's own. c is the concurrency, and an event's index is its place
 use Rattle.std.specs.Prelude.{◌≡◌, ℕ, ◌+◌, ◌*◌, ◌%◌, ◌^◌, ◌<◌, ◌≤◌, Bool, true, false, ◌&&◌, ◌==◌, if◌then◌else◌, Option, Some, None, IsSome, IfSome, option_map, option_and_then, List, [], ◌∷◌, ◌++◌, length, All, count_by}
 use Rattle.std.specs.Option.{option_or}
-use Rattle.std.specs.List.{concat}
 use Rattle.models.specs.declared.operation.Name.{Name}
 use Rattle.models.specs.declared.operation.Name.TheVariants.{Read, Write, Cas, Acquire, Release, Enqueue, Dequeue, Add}
 use Rattle.models.specs.declared.operation.Part.{Part}
@@ -10,6 +9,7 @@ use Rattle.models.specs.declared.operation.Part.TheVariants.{Nil, Int, Pair}
 use Rattle.models.specs.declared.operation.Op.{Op}
 use Rattle.edn.specs.declared.refusals.Refusal.{Refusal}
 use Rattle.edn.specs.declared.refusals.Refusal.TheVariants.{Busy, WrongProcess, NotOpen, Mismatch, BadValue, BadIndex, HistoryFull, BadConcurrency, NoMemory}
+use Rattle.history.specs.Replicas.{IsReplica, AreGroups}
 use Rattle.history.specs.declared.events.EventKind.{EventKind}
 use Rattle.history.specs.declared.events.EventKind.TheVariants.{Invoke, Ok, Info}
 use Rattle.history.specs.declared.events.Process.{Process}
@@ -96,18 +96,15 @@ abbrev pub IsPartOf : EventKind → Name → Part → Type 0
 IsPartOf Ok name part = IsOkPart name part
 IsPartOf _ name part = IsPart name part
 
-abbrev pub IsReplica : ℕ → Type 0
-IsReplica r = r ≤ 6
-
 -- replica numbers are 0 to 6, and a partition names each at most once
 abbrev pub IsFault : Fault → Type 0
-IsFault (Partition groups) = All IsReplica (concat groups) × ((r : ℕ) → count_by (λ x. x == r) (concat groups) ≤ 1)
+IsFault (Partition groups) = AreGroups groups
 IsFault Heal = Unit {0}
 IsFault (Pause r) = IsReplica r
 IsFault (Resume r) = IsReplica r
 IsFault (Crash r) = IsReplica r
 IsFault (Restart r) = IsReplica r
-IsFault (LoseReplies n) = n < 2 ^ 16
+IsFault (LoseReplies n) = Unit {0}
 
 -- a client's operation with a part of the table, or the nemesis's info of a fault
 abbrev pub IsInTables : EventKind → Process → Body → Type 0
@@ -157,37 +154,36 @@ IsRepeat _ _ invoked part = part ≡ invoked
 abbrev pub Completes : EventKind → Op → Op → Type 0
 Completes kind invoked op = (op.name ≡ invoked.name) × (op.key ≡ invoked.key) × IsRepeat kind op.name invoked.part op.part
 
--- P of the process and the operation that an invocation names; Q for any other event
-abbrev pub invocation_in : (ℕ → Op → Type 0) → Type 0 → EventKind → Process → Body → Type 0
-invocation_in P Q Invoke (Client p) (AnOp op) = P p op
-invocation_in P Q _ _ _ = Q
+-- the process rule for an event of this kind of process p: the current process of a thread invokes where it has no
+-- open operation, and a completion completes the open one
+abbrev pub FollowsRule : ℕ → List Event → EventKind → ℕ → Op → Type 0
+FollowsRule c events Invoke p op = IsCurrent c events p × (open_of events p ≡ None)
+FollowsRule c events kind p op = (i : ℕ) × (invoked : Op) × (open_of events p ≡ Some (i, invoked)) × Completes kind invoked op
 
-abbrev pub IfInvocation : Event → (ℕ → Op → Type 0) → Type 0
-IfInvocation e P = invocation_in P (Unit {0}) e.kind e.process e.body
+-- how the event breaks the process rule, in the order of the tests
+abbrev pub BreaksRule : ℕ → List Event → EventKind → ℕ → Op → Refusal → Type 0
+BreaksRule c events Invoke p op WrongProcess = ¬ IsCurrent c events p
+BreaksRule c events Invoke p op Busy = IsCurrent c events p × IsSome (open_of events p)
+BreaksRule c events Invoke p op _ = ⊥
+BreaksRule c events kind p op NotOpen = open_of events p ≡ None
+BreaksRule c events kind p op Mismatch = (i : ℕ) × (invoked : Op) × (open_of events p ≡ Some (i, invoked)) × ¬ Completes kind invoked op
+BreaksRule c events kind p op _ = ⊥
 
-abbrev pub IsInvocationAnd : Event → (ℕ → Op → Type 0) → Type 0
-IsInvocationAnd e P = invocation_in P ⊥ e.kind e.process e.body
+-- P of the process and the operation of a client's event. Events of the nemesis belong to no operation
+abbrev pub IfClient : Process → Body → (ℕ → Op → Type 0) → Type 0
+IfClient (Client p) (AnOp op) P = P p op
+IfClient _ _ P = Unit {0}
 
--- the same for a completion
-abbrev pub completion_in : (ℕ → Op → Type 0) → Type 0 → EventKind → Process → Body → Type 0
-completion_in P Q Invoke _ _ = Q
-completion_in P Q _ (Client p) (AnOp op) = P p op
-completion_in P Q _ _ _ = Q
-
-abbrev pub IfCompletion : Event → (ℕ → Op → Type 0) → Type 0
-IfCompletion e P = completion_in P (Unit {0}) e.kind e.process e.body
-
-abbrev pub IsCompletionAnd : Event → (ℕ → Op → Type 0) → Type 0
-IsCompletionAnd e P = completion_in P ⊥ e.kind e.process e.body
-
--- the current process of a thread invokes where it has no open operation, and a completion is of the open one
-abbrev pub FollowsRule : ℕ → List Event → Event → Type 0
-FollowsRule c events e =
-    IfInvocation e (λ p op. IsCurrent c events p × (open_of events p ≡ None))
-    × IfCompletion e (λ p op. (i : ℕ) × (invoked : Op) × (open_of events p ≡ Some (i, invoked)) × Completes e.kind invoked op)
+abbrev pub IsClientAnd : Process → Body → (ℕ → Op → Type 0) → Type 0
+IsClientAnd (Client p) (AnOp op) P = P p op
+IsClientAnd _ _ P = ⊥
 
 abbrev pub IsWellFormed : ℕ → List Event → Event → Type 0
-IsWellFormed c events e = IsValue events e × IsIndex events e.index × HasRoom events × FollowsRule c events e
+IsWellFormed c events e =
+    IsValue events e
+    × IsIndex events e.index
+    × HasRoom events
+    × IfClient e.process e.body (λ p op. FollowsRule c events e.kind p op)
 
 -- the event passes the tests that come before the process rule
 abbrev pub MayEnter : List Event → Event → Type 0
@@ -198,12 +194,7 @@ abbrev pub Refuses : ℕ → List Event → Event → Refusal → Type 0
 Refuses c events e BadValue = ¬ IsValue events e
 Refuses c events e BadIndex = IsValue events e × ¬ IsIndex events e.index
 Refuses c events e HistoryFull = IsValue events e × IsIndex events e.index × ¬ HasRoom events
-Refuses c events e WrongProcess = MayEnter events e × IsInvocationAnd e (λ p op. ¬ IsCurrent c events p)
-Refuses c events e Busy = MayEnter events e × IsInvocationAnd e (λ p op. IsCurrent c events p × IsSome (open_of events p))
-Refuses c events e NotOpen = MayEnter events e × IsCompletionAnd e (λ p op. open_of events p ≡ None)
-Refuses c events e Mismatch = MayEnter events e
-    × IsCompletionAnd e (λ p op. (i : ℕ) × (invoked : Op) × (open_of events p ≡ Some (i, invoked)) × ¬ Completes e.kind invoked op)
-Refuses c events e _ = ⊥
+Refuses c events e why = MayEnter events e × IsClientAnd e.process e.body (λ p op. BreaksRule c events e.kind p op why)
 
 -- as above, or memory ran out
 abbrev pub MayRefuse : ℕ → List Event → Event → Refusal → Type 0

@@ -1,8 +1,12 @@
 //! The groups of a partition.
-ghost use Rattle.std.specs.Prelude.{◌≡◌, map, IfOk};
+ghost use Rattle.std.specs.Prelude.{◌≡◌, ◌≢◌, ◌↔◌, ℕ, List, ◌++◌, length, map, IsTrue, IfOk, MatchBool};
+ghost use Rattle.history.specs.Replicas.{AreApart, AreGroups, HasSeen};
 
 use std::alloc::AllocError;
 use std::marker::Model;
+
+/// The replicas are numbered from 0 to one below this.
+const REPLICAS: usize = 7;
 
 /// The groups into which a partition cuts the replicas, by their numbers. A replica that no group names is alone.
 #[derive(Drop)]
@@ -45,4 +49,34 @@ impl Groups {
         }
         Ok(Groups { groups })
     }
+
+    /// Whether the numbers are those of replicas, 0 to 6, and each stands there at most once. Takes no memory.
+    pub fn are_apart(&self) -> bool
+        ensures { IsTrue result ↔ AreGroups self.now }
+    {
+        let mut seen = [false; REPLICAS];
+        for group in &self.groups {
+            if !mark(group.as_slice(), &mut seen) {
+                return false;
+            }
+        }
+        true
+    }
+}
+
+// Marks the replicas that the numbers name. It answers false where a number is not that of a replica, or is marked.
+fn mark(numbers: &[u8], seen: &mut [bool]) -> bool
+    requires { length seen.old ≡ 7 }
+    ensures { (before : List ℕ) → HasSeen seen.old before → MatchBool result
+        (HasSeen seen.new (before ++ numbers.now))
+        ((after : List ℕ) → ¬ AreApart ((before ++ numbers.now) ++ after)) }
+{
+    for number in numbers {
+        let replica = usize::from(*number);
+        if replica >= seen.len() || seen[replica] {
+            return false;
+        }
+        seen[replica] = true;
+    }
+    true
 }

@@ -1,16 +1,22 @@
 //! Histories: events in order, each well-formed after those before it.
-ghost use Rattle.std.specs.Prelude.{◌≡◌, ℕ, ◌<◌, ◌≤◌, ◌++◌, ◌∷◌, ◌^◌, ◌↔◌, [], length, slice_get, IsTrue, IsSome, IfSome, OnOk, IfOk, IfErr, OnErr};
-ghost use Rattle.history.specs.WellFormed.{IsConcurrency, no_events, MayNotOpen, IsWellFormed, MayRefuse, IsHistoryOf, current_of, open_index};
+ghost use Rattle.std.specs.Prelude.{◌≡◌, ℕ, ◌<◌, ◌≤◌, ◌++◌, ◌∷◌, ◌^◌, ◌↔◌, [], length, slice_get, IsTrue, IsSome, IfSome, option_map, OnOk, IfOk, IfErr, OnErr, IsErrOf};
+ghost use Rattle.std.specs.Option.{option_copied};
+ghost use Rattle.history.specs.WellFormed.{IsConcurrency, no_events, MayNotOpen, IsWellFormed, MayRefuse, IsHistoryOf, current_of, open_of, open_index, IsValue, IsCurrent, FollowsRule, BreaksRule, Refuses};
 ghost use Rattle.history.specs.Kept.{row_of};
 
-use crate::events::Event;
-use crate::rows::Row;
+use crate::events::{Body, Event, EventKind, Process};
+use crate::rows::{Row, move_on};
+use crate::tables::{completes, is_in_tables, key_of, shares_key};
 use edn::Refusal;
+use models::Op;
 use std::alloc::{AllocError, Global};
 use std::marker::Model;
 
 /// The most threads of a history.
 const MOST_THREADS: u32 = 64;
+
+/// The most events of a history.
+const MOST_EVENTS: u32 = 1_048_576;
 
 /// A history of events, in the manner of Jepsen (<https://github.com/jepsen-io/jepsen>): an event enters it only where
 /// it is well-formed after those before it. The index of an event is its place, from 0. A history holds at most 2^20
@@ -27,7 +33,7 @@ pub struct History {
 }
 
 impl Model for History {
-    ghost use Rattle.std.specs.Prelude.{◌≡◌, None, vec_capacity};
+    ghost use Rattle.std.specs.Prelude.{vec_capacity};
     ghost use Rattle.history.specs.WellFormed.{Contents};
     ghost use Rattle.history.specs.Kept.{IsKept, IsReady};
 
@@ -36,8 +42,7 @@ impl Model for History {
     ghost view = { λ a. record { concurrency = a.concurrency; events = a.events.items; prepared = a.prepared } };
 
     ghost invariant = { λ a. IsKept a.concurrency a.events.items a.rows.items a.key
-        × IsReady a.concurrency a.events.items (vec_capacity a.events) a.prepared
-        × (a.prepared ≡ None) };
+        × IsReady a.concurrency a.events.items (vec_capacity a.events) a.prepared };
 }
 
 impl History {
@@ -74,12 +79,14 @@ impl History {
         ensures well_formed { OnOk result (IsWellFormed self.old.concurrency self.old.events event) }
         ensures prepared { OnOk result (self.new ≡ record self.old { prepared = Some event }) }
         ensures refused { IfErr result (MayRefuse self.old.concurrency self.old.events event) }
+        ensures memory_last { IsErrOf result Refusal.NoMemory → IsWellFormed self.old.concurrency self.old.events event }
         ensures err { OnErr result (self.new ≡ record self.old { prepared = None }) }
     {
-        // Not written yet: it gives up, which meets the contract.
-        let _ = event;
         self.prepared = None;
-        Err(Refusal::NoMemory)
+        self.test(&event)?;
+        self.events.reserve(1)?;
+        self.prepared = Some(event);
+        Ok(())
     }
 
     /// Appends the prepared event. It takes no memory.
@@ -87,10 +94,13 @@ impl History {
         requires { IsSome self.old.prepared }
         ensures { IfSome self.old.prepared (λ event. self.new ≡ record self.old { events = self.old.events ++ event ∷ []; prepared = None }) }
     {
-        match self.prepared.take() {
-            Some(_) => unreachable!(),
-            None => unreachable!(),
-        }
+        let Some(event) = self.prepared.take() else {
+            unreachable!()
+        };
+        let index = self.events.len() as u32;
+        move_on(&mut self.rows, index, event.kind, event.process);
+        self.key = self.key.or(key_of(&event.body));
+        self.events.push(event).unwrap();
     }
 
     /// Appends an event that is well-formed after those before it: [`prepare`](History::prepare) and
@@ -102,11 +112,88 @@ impl History {
         ensures well_formed { OnOk result (IsWellFormed self.old.concurrency self.old.events event) }
         ensures pushed { OnOk result (self.new ≡ record self.old { events = self.old.events ++ event ∷ []; prepared = None }) }
         ensures refused { IfErr result (MayRefuse self.old.concurrency self.old.events event) }
+        ensures memory_last { IsErrOf result Refusal.NoMemory → IsWellFormed self.old.concurrency self.old.events event }
         ensures err { OnErr result (self.new ≡ record self.old { prepared = None }) }
     {
         self.prepare(event)?;
         self.commit();
         Ok(())
+    }
+
+    // Tests an event, all but whether there is memory for it.
+    fn test(&self, event: &Event) -> Result<(), Refusal>
+        ensures ok { OnOk result (IsWellFormed self.now.concurrency self.now.events event.now) }
+        ensures refused { IfErr result (Refuses self.now.concurrency self.now.events event.now) }
+    {
+        if !self.may_have(event) {
+            return Err(Refusal::BadValue);
+        }
+        if event.index.is_some_and(|index| index != self.len()) {
+            return Err(Refusal::BadIndex);
+        }
+        if self.len() >= MOST_EVENTS {
+            return Err(Refusal::HistoryFull);
+        }
+        match (event.process, &event.body) {
+            (Process::Client(process), Body::Op(op)) => self.test_rule(event.kind, process, op),
+            _ => Ok(()),
+        }
+    }
+
+    // Whether the event is one of the tables.
+    fn may_have(&self, event: &Event) -> bool
+        ensures { IsTrue result ↔ IsValue self.now.events event.now }
+    {
+        is_in_tables(event.kind, event.process, &event.body) && shares_key(self.key, &event.body)
+    }
+
+    // Whether the process is its thread's current one.
+    fn is_current(&self, process: u32) -> bool
+        ensures { IsTrue result ↔ IsCurrent self.now.concurrency self.now.events process }
+    {
+        self.current(process % self.concurrency) == process
+    }
+
+    // The open operation of a process.
+    fn open_operation(&self, process: u32) -> Option<&Op>
+        ensures { option_copied result ≡ option_map (λ x. x.1) (open_of self.now.events process) }
+    {
+        let thread = process % self.concurrency;
+        if self.current(thread) != process {
+            return None;
+        }
+        let index = self.open_at(thread)?;
+        match &self.events[index as usize].body {
+            Body::Op(op) => Some(op),
+            Body::Fault(_) => None,
+        }
+    }
+
+    // Tests an event by the process rule.
+    fn test_rule(&self, kind: EventKind, process: u32, op: &Op) -> Result<(), Refusal>
+        ensures ok { OnOk result (FollowsRule self.now.concurrency self.now.events kind process op.now) }
+        ensures refused { IfErr result (BreaksRule self.now.concurrency self.now.events kind process op.now) }
+    {
+        match kind {
+            EventKind::Invoke => {
+                if !self.is_current(process) {
+                    return Err(Refusal::WrongProcess);
+                }
+                if self.open_operation(process).is_some() {
+                    return Err(Refusal::Busy);
+                }
+                Ok(())
+            }
+            _ => {
+                let Some(invoked) = self.open_operation(process) else {
+                    return Err(Refusal::NotOpen);
+                };
+                if !completes(kind, invoked, op) {
+                    return Err(Refusal::Mismatch);
+                }
+                Ok(())
+            }
+        }
     }
 
     /// The number of threads, 1 to 64.

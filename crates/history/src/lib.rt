@@ -1,12 +1,14 @@
 //! Histories of client events, in the manner of Jepsen.
 #![tactic(auto)]
 
+mod elements;
 pub mod events;
 mod groups;
 mod histories;
 mod laws;
 mod reading;
 mod rows;
+mod tables;
 
 pub use events::{Body, Event, EventKind, Fault, Process};
 pub use groups::Groups;

@@ -1,11 +1,103 @@
 //! Events as they are spelled in texts.
-ghost use Rattle.std.specs.Prelude.{IfOk, IfErr};
-ghost use Rattle.edn.specs.View.{value_of};
-ghost use Rattle.history.specs.Spelling.{Spells, WhyUnspelled};
+ghost use Rattle.std.specs.Prelude.{◌≡◌, codes, option_map, IfOk, IfErr};
+ghost use Rattle.std.specs.Option.{option_copied};
+ghost use Rattle.edn.specs.View.{value_of, entries_of};
+ghost use Rattle.history.specs.Spelling.{SpellsIndex, SpellsKind, SpellsProcess, SpellsName, SpellsPart, SpellsBody, PairsSpell, Spells, WhyUnspelled, Finds};
 
-use crate::events::Event;
+use crate::elements::{integer, is_nil, key_of, name_of, number_of, two_of, value_at};
+use crate::events::{Body, Event, EventKind, Process};
 use edn::{Edn, Refusal};
+use models::{Name, Op, Part};
 use std::alloc::Global;
+
+fn index_of(found: Option<&Edn>) -> Option<Option<u32>>
+    ensures { Finds result (SpellsIndex (option_map value_of (option_copied found.entry))) }
+{
+    match found {
+        None => Some(None),
+        Some(element) => Some(Some(number_of(element)?)),
+    }
+}
+
+fn kind_of(element: &Edn) -> Option<EventKind>
+    ensures { Finds result (SpellsKind (value_of element.now)) }
+{
+    let name = name_of(element)?;
+    if name == "invoke" {
+        return Some(EventKind::Invoke);
+    }
+    if name == "ok" {
+        return Some(EventKind::Ok);
+    }
+    None
+}
+
+fn process_of(element: &Edn) -> Option<Process>
+    ensures { Finds result (SpellsProcess (value_of element.now)) }
+{
+    Some(Process::Client(number_of(element)?))
+}
+
+fn operation_name_of(element: &Edn) -> Option<Name>
+    ensures { Finds result (SpellsName (value_of element.now)) }
+{
+    let name = name_of(element)?;
+    if name == "read" {
+        return Some(Name::Read);
+    }
+    if name == "write" {
+        return Some(Name::Write);
+    }
+    None
+}
+
+// The part of a read: nil, or in an ok the integer that it answers.
+fn read_part(kind: EventKind, element: &Edn) -> Option<Part>
+    ensures { Finds result (SpellsPart kind Name.Read (value_of element.now)) }
+{
+    if is_nil(element) {
+        return Some(Part::Nil);
+    }
+    match kind {
+        EventKind::Ok => Some(Part::Int(integer(element)?)),
+        _ => None,
+    }
+}
+
+fn part_of(kind: EventKind, name: Name, element: &Edn) -> Option<Part>
+    ensures { Finds result (SpellsPart kind name (value_of element.now)) }
+{
+    match name {
+        Name::Read => read_part(kind, element),
+        Name::Write => Some(Part::Int(integer(element)?)),
+        _ => None,
+    }
+}
+
+fn body_of(kind: EventKind, name: &Edn, value: &Edn) -> Option<Body>
+    ensures { Finds result (SpellsBody kind (value_of name.now) (value_of value.now)) }
+{
+    let name = operation_name_of(name)?;
+    let (key, part) = two_of(value)?;
+    let key = key_of(key)?;
+    let part = part_of(kind, name, part)?;
+    Some(Body::Op(Op { name, key, part }))
+}
+
+fn event_of(pairs: &[(Edn, Edn)]) -> Option<Event>
+    ensures { Finds result (PairsSpell (entries_of pairs.now)) }
+{
+    let index = index_of(value_at(pairs, "index"))?;
+    let kind = kind_of(value_at(pairs, "type")?)?;
+    let process = process_of(value_at(pairs, "process")?)?;
+    let body = body_of(kind, value_at(pairs, "f")?, value_at(pairs, "value")?)?;
+    Some(Event {
+        index,
+        kind,
+        process,
+        body,
+    })
+}
 
 /// The event that a map of a text spells.
 ///
@@ -19,8 +111,12 @@ pub fn from_edn(alloc: Global, element: &Edn) -> Result<Event, Refusal>
     ensures ok { IfOk result (Spells (value_of element.now)) }
     ensures refused { IfErr result (WhyUnspelled (value_of element.now)) }
 {
-    // Not written yet: it gives up, which meets the contract.
     let _ = alloc;
-    let _ = element;
-    Err(Refusal::NoMemory)
+    let Edn::Map(pairs) = element else {
+        return Err(Refusal::BadValue);
+    };
+    match event_of(pairs.as_slice()) {
+        Some(event) => Ok(event),
+        None => Err(Refusal::BadValue),
+    }
 }

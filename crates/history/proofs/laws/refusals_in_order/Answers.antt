@@ -8,4 +8,4 @@ returns-clause-mismatch c =
     (((tt, refl), tt, omega arith), (0, write 3, refl, λ d. (let same : Int (pos 4) ≡ Int (pos 3) = d.2 in let numbers : ◌≡◌ {A = ℕ} 4 3 = cc in omega arith)))
 
 pub returns-clause-completes : goal.returns-clause-completes
-returns-clause-completes c = ((tt, refl), tt, omega arith, (tt, (0, write 3, refl, (refl, refl, refl))))
+returns-clause-completes c = ((tt, refl), tt, omega arith, (0, write 3, refl, (refl, refl, refl)))

@@ -1,0 +1,46 @@
+-- The open operation of a process, by the row of its thread and the event at its index
+use Rattle.std.proofs.Common.{◌≡◌, ◌≢◌, ℕ, ◌<◌, Option, Some, None, List, length, get_or, slice_get, option_map, refl, sym, ap, ◌∙◌, arith}
+use Rattle.std.proofs.lemmas.Option.{same_Some, get_or_from_slice_get, slice_get_within}
+use Rattle.models.specs.declared.operation.Op.{Op}
+use Rattle.history.specs.declared.events.EventKind.{EventKind}
+use Rattle.history.specs.declared.events.EventKind.TheVariants.{Invoke, Ok, Fail, Info}
+use Rattle.history.specs.declared.events.Body.{Body}
+use Rattle.history.specs.declared.events.Body.TheVariants.{Op as AnOp, Fault as AFault}
+use Rattle.history.specs.declared.events.Event.{Event}
+use Rattle.history.specs.WellFormed.{invoked_in, current_of, thread_of, open_of, open_index}
+use Rattle.history.proofs.Appending.{open_of_at}
+use Rattle.history.proofs.Keeping.{OpenIsCurrent, none_open}
+
+invoked_body : (kind : EventKind) (body : Body) (op : Op) → invoked_in kind body ≡ Some op → body ≡ AnOp op
+invoked_body Invoke (AnOp f) op h = ap AnOp (same_Some f op h)
+invoked_body Invoke (AFault fault) op h = cc
+invoked_body Ok body op h = cc
+invoked_body Fail body op h = cc
+invoked_body Info body op h = cc
+
+-- the open operation of a process whose index is known
+pub open_at_index : (events : List Event) (p i : ℕ) → option_map (λ (x : ℕ × Op). x.0) (open_of events p) ≡ Some i → (op : Op) × (open_of events p ≡ Some (i, op)) × (e : Event) × (slice_get events i ≡ Some e) × (e.body ≡ AnOp op)
+open_at_index events p i h = by_open (open_of events p) refl h
+  where
+    by_open : (o : Option (ℕ × Op)) → open_of events p ≡ o → option_map (λ (x : ℕ × Op). x.0) o ≡ Some i → (op : Op) × (open_of events p ≡ Some (i, op)) × (e : Event) × (slice_get events i ≡ Some e) × (e.body ≡ AnOp op)
+    by_open None is q = cc
+    by_open (Some x) is q =
+        (let here : x.0 ≡ i = same_Some x.0 i q in let at : open_of events p ≡ Some (i, x.1) = is ∙ ap (λ k. Some (k, x.1)) here in
+        let found = open_of_at events p i x.1 at in
+        (x.1, at, found.0, found.1, invoked_body found.0.kind found.0.body x.1 found.2))
+
+-- the index of a thread's open operation is that of its current process
+pub index_of_current : (c : ℕ) (events : List Event) (p : ℕ) (o : Option ℕ) → current_of c events (thread_of c p) ≡ p → o ≡ open_index c events (thread_of c p) → option_map (λ (x : ℕ × Op). x.0) (open_of events p) ≡ o
+index_of_current c events p o current is = sym (is ∙ ap (λ q. option_map (λ (x : ℕ × Op). x.0) (open_of events q)) current)
+
+pub within : (events : List Event) (p i : ℕ) → option_map (λ (x : ℕ × Op). x.0) (open_of events p) ≡ Some i → i < length events
+within events p i h = (let f = open_at_index events p i h in slice_get_within events i f.2 f.3)
+
+-- the event at the index is of that operation
+pub its_body : (events : List Event) (p i : ℕ) (item : Event) → option_map (λ (x : ℕ × Op). x.0) (open_of events p) ≡ Some i → item ≡ get_or events i item → (op : Op) × (open_of events p ≡ Some (i, op)) × (item.body ≡ AnOp op)
+its_body events p i item h is =
+    (let f = open_at_index events p i h in (f.0, f.1, ap (λ (e : Event). e.body) (is ∙ get_or_from_slice_get events i f.2 item f.3) ∙ f.4))
+
+-- a process that is not current has none
+pub not_current : (c : ℕ) (events : List Event) (p : ℕ) → OpenIsCurrent c events → current_of c events (thread_of c p) ≢ p → None ≡ option_map (λ (x : ℕ × Op). x.1) (open_of events p)
+not_current c events p kept ne = sym (ap (option_map (λ (x : ℕ × Op). x.1)) (none_open c events p kept (λ is. ne (sym is))))
