@@ -1,5 +1,5 @@
 -- What an answer says of the fact that it decides, and an error of what was called
-use Rattle.std.proofs.Common.{◌≡◌, Bool, true, false, IsTrue, refl, sym, ap, ◌∙◌, Result, Ok, Err}
+use Rattle.std.proofs.Common.{◌≡◌, Bool, true, false, IsTrue, refl, sym, ap, ◌∙◌, Result, Err}
 use Rattle.std.specs.Result.{IsErrOf}
 use Rattle.edn.specs.declared.stops.Stop.{Stop}
 

@@ -1,5 +1,5 @@
 -- To be the same is an equivalence
-use Rattle.std.proofs.Common.{◌≡◌, ℕ, ◌+◌, ◌<◌, ◌≤◌, List, [], ◌∷◌, ◌⊎◌, inl, inr, refl, sym, ap, ◌∙◌, subst, arith}
+use Rattle.std.proofs.Common.{inl, inr, refl, sym, subst}
 use Rattle.edn.specs.Value.{Value, nil, bool, int, text, keyword, vector, pairs, members, Values, none, more, Pairs, no_pairs, pair, TakesOut, TakesPairOut, Same, SameInOrder, SameMembers, SamePairs}
 
 -- members that match others can be told of in another order
@@ -123,17 +123,17 @@ mutual
   in_order_trans : (us vs ws : Values) → SameInOrder us vs → SameInOrder vs ws → SameInOrder us ws
   in_order_trans none vs ws h k = subst (λ x. SameInOrder x ws) h k
   in_order_trans (more u us) vs ws h k =
-    let q = subst (λ x. SameInOrder x ws) h.2 k in
-    (q.0, q.1, q.2, same_trans u h.0 q.0 h.3 q.3, in_order_trans us h.1 q.1 h.4 q.4)
+      let q = subst (λ x. SameInOrder x ws) h.2 k in
+      (q.0, q.1, q.2, same_trans u h.0 q.0 h.3 q.3, in_order_trans us h.1 q.1 h.4 q.4)
 
   members_trans : (us vs ws : Values) → SameMembers us vs → SameMembers vs ws → SameMembers us ws
   members_trans none vs ws h k = subst (λ x. SameMembers x ws) h k
   members_trans (more u us) vs ws h k =
-    let q = remove_member vs h.1 ws h.0 h.2 k in
-    (q.0, q.1, q.2, same_trans u h.0 q.0 h.3 q.3, members_trans us h.1 q.1 h.4 q.4)
+      let q = remove_member vs h.1 ws h.0 h.2 k in
+      (q.0, q.1, q.2, same_trans u h.0 q.0 h.3 q.3, members_trans us h.1 q.1 h.4 q.4)
 
   pairs_trans : (ps qs rs : Pairs) → SamePairs ps qs → SamePairs qs rs → SamePairs ps rs
   pairs_trans no_pairs qs rs h k = subst (λ x. SamePairs x rs) h k
   pairs_trans (pair a b ps) qs rs h k =
-    let q = remove_pair qs h.2 rs h.0 h.1 h.3 k in
-    (q.0, q.1, q.2, q.3, same_trans a h.0 q.0 h.4 q.4, same_trans b h.1 q.1 h.5 q.5, pairs_trans ps h.2 q.2 h.6 q.6)
+      let q = remove_pair qs h.2 rs h.0 h.1 h.3 k in
+      (q.0, q.1, q.2, q.3, same_trans a h.0 q.0 h.4 q.4, same_trans b h.1 q.1 h.5 q.5, pairs_trans ps h.2 q.2 h.6 q.6)

@@ -1,5 +1,5 @@
 -- The longest atom, by the byte that it begins with
-use Rattle.std.proofs.Common.{◌≡◌, ℕ, zero, suc, ◌+◌, ◌-◌, ◌^◌, ◌<◌, ◌≤◌, Bool, true, false, IsTrue, List, [], ◌∷◌, ◌++◌, length, ◌⊎◌, inl, inr, refl, sym, ap, ◌∙◌, subst, arith, append_assoc, append-nil, length-append, pos, neg_ℤ}
+use Rattle.std.proofs.Common.{◌≡◌, ℕ, suc, ◌-◌, ◌^◌, ◌<◌, ◌≤◌, List, [], ◌∷◌, ◌++◌, length, ◌⊎◌, inl, inr, refl, sym, ap, ◌∙◌, subst, arith, append-nil, length-append, pos, neg_ℤ}
 use Rattle.std.specs.Str.Parse.{digits_value}
 use Rattle.edn.specs.Value.{Value, nil, int, keyword}
 use Rattle.edn.specs.Bytes.{IsNumeral, IsKeywordText, IsAtom, IsNumeralOf, IsName, IsLongest, HasNone}
@@ -103,9 +103,9 @@ longest_keyword text inner name rest cut h = record {
   cut = cut ∙ ap (λ x. 58 ∷ x) h.cut;
   spells = subst (λ n. IsAtom (58 ∷ h.front) (keyword n)) (sym h.spells.1) (named h.spells.0);
   longest = λ a z w i e.
-    let k = keyword_off 58 inner a z w refl i (sym cut ∙ e) in
-    let l = h.longest k.0 z k.0 (k.2, refl) k.3 in
-    omega (arith, k.1);
+      let k = keyword_off 58 inner a z w refl i (sym cut ∙ e) in
+      let l = h.longest k.0 z k.0 (k.2, refl) k.3 in
+      omega (arith, k.1);
 }
 
 pub no_keyword : (text inner : List ℕ) → text ≡ 58 ∷ inner → HasNone IsName inner → HasNone IsAtom text
@@ -117,9 +117,9 @@ longest_minus text inner n rest cut h = record {
   cut = cut ∙ ap (λ x. 45 ∷ x) h.cut;
   spells = subst (λ m. IsAtom (45 ∷ h.front) (int (neg_ℤ (pos m)))) h.spells.1 (minus h.spells.0 (omega (arith, h.spells.1, h.spells.2)));
   longest = λ a z w i e.
-    let k = minus_off 45 inner a z w refl i (sym cut ∙ e) in
-    let l = h.longest k.0 z _ (k.2, refl, k.3) k.4 in
-    omega (arith, k.1);
+      let k = minus_off 45 inner a z w refl i (sym cut ∙ e) in
+      let l = h.longest k.0 z _ (k.2, refl, k.3) k.4 in
+      omega (arith, k.1);
 }
 
 pub no_minus_numeral : (text inner : List ℕ) → text ≡ 45 ∷ inner → HasNone (IsNumeralOf (2 ^ 63)) inner → HasNone IsAtom text
@@ -139,9 +139,9 @@ longest_plain text digits n rest no_nil no_colon no_minus (inl cut) h = record {
   cut = cut ∙ ap (λ x. 43 ∷ x) h.cut;
   spells = subst (λ m. IsAtom (43 ∷ h.front) (int (pos m))) h.spells.1 (plus h.spells.0 (omega (arith, h.spells.1, h.spells.2)));
   longest = λ a z w i e.
-    let k = plus_off 43 digits a z w refl i (sym cut ∙ e) in
-    let l = h.longest k.0 z _ (k.2, refl, omega (arith, k.3)) k.4 in
-    omega (arith, k.1);
+      let k = plus_off 43 digits a z w refl i (sym cut ∙ e) in
+      let l = h.longest k.0 z _ (k.2, refl, omega (arith, k.3)) k.4 in
+      omega (arith, k.1);
 }
 longest_plain text digits n rest no_nil no_colon no_minus (inr off) h =
     let p : IsPlain text = record { no_nil = no_nil; no_colon = no_colon; no_minus = no_minus; no_plus = off.1 } in
@@ -150,8 +150,8 @@ longest_plain text digits n rest no_nil no_colon no_minus (inr off) h =
       cut = sym off.0 ∙ h.cut;
       spells = subst (λ m. IsAtom h.front (int (pos m))) h.spells.1 (plain h.spells.0 (omega (arith, h.spells.1, h.spells.2)));
       longest = λ a z w i e.
-        let k = plain_off text a z w p i e in
-        h.longest a z _ (k.0, refl, omega (arith, k.1)) (off.0 ∙ e);
+          let k = plain_off text a z w p i e in
+          h.longest a z _ (k.0, refl, omega (arith, k.1)) (off.0 ∙ e);
     }
 
 pub no_plain : (text digits : List ℕ) → ((t : List ℕ) → text ≡ 110 ∷ 105 ∷ 108 ∷ t → ⊥) → ((t : List ℕ) → text ≡ 58 ∷ t → ⊥) → ((t : List ℕ) → text ≡ 45 ∷ t → ⊥) →

@@ -1,5 +1,5 @@
 -- Members that are matched one after the other, and how many are the same
-use Rattle.std.proofs.Common.{◌≡◌, ℕ, zero, suc, ◌+◌, ◌<◌, ◌≤◌, List, [], ◌∷◌, ◌++◌, ◌⊎◌, inl, inr, refl, sym, ap, ap₂, ◌∙◌, subst, arith, take, drop, length, get_or}
+use Rattle.std.proofs.Common.{◌≡◌, ℕ, zero, suc, ◌+◌, ◌<◌, ◌≤◌, List, [], ◌∷◌, ◌++◌, inl, inr, refl, sym, ap, ◌∙◌, subst, arith, take, length, get_or}
 use Rattle.std.proofs.lemmas.List.{take_more}
 use Rattle.edn.specs.Value.{Value, Values, none, more, joined, TakesOut, Same, SameInOrder, SameMembers, CountsSame, HasSame}
 use Rattle.edn.specs.View.{value_of, values_of}

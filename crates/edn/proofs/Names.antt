@@ -1,5 +1,5 @@
 -- Names of keywords that are read byte by byte
-use Rattle.std.proofs.Common.{◌≡◌, ℕ, zero, suc, ◌+◌, ◌-◌, ◌<◌, ◌≤◌, Bool, true, false, IsTrue, List, [], ◌∷◌, ◌++◌, length, ◌⊎◌, inl, inr, refl, sym, ap, ◌∙◌, subst, arith, append_assoc, append-nil, length-append, take, drop}
+use Rattle.std.proofs.Common.{◌≡◌, ℕ, zero, suc, ◌-◌, ◌<◌, ◌≤◌, Bool, true, false, IsTrue, List, [], ◌∷◌, ◌++◌, length, refl, sym, ap, ◌∙◌, subst, arith, append_assoc, length-append, take, drop}
 use Rattle.std.specs.Prelude.{◌||◌, ◌&&◌, ◌==◌, nat_le}
 use Rattle.std.specs.Str.{IsAscii, IsUtf8}
 use Rattle.std.proofs.lemmas.Str.{IsUtf8-from_ascii}
@@ -54,21 +54,27 @@ name_found text rest name left h stop e f = record {
   where
     size : length text - length rest ≡ length h.front
     size = let n = ap length h.cut ∙ length-append h.front rest in omega arith
+
     taken : (xs ys : List ℕ) → take (length xs) (xs ++ ys) ≡ xs
     taken [] [] = refl
     taken [] (y ∷ ys) = refl
     taken (x ∷ xs) ys = ap (λ t. x ∷ t) (taken xs ys)
+
     dropped : (xs ys : List ℕ) → drop (length xs) (xs ++ ys) ≡ ys
     dropped [] ys = refl
     dropped (x ∷ xs) ys = dropped xs ys
+
     before : name ≡ h.front
     before = e ∙ ap (λ n. take n text) size ∙ ap (take (length h.front)) h.cut ∙ taken h.front rest
+
     after : left ≡ rest
     after = f ∙ ap (λ n. drop n text) size ∙ ap (drop (length h.front)) h.cut ∙ dropped h.front rest
+
     longer : (a z : List ℕ) → IsKeywordText a → text ≡ a ++ z → length h.front < length a → ⊥
     longer a z i g l =
-      let p = goes_past h.front rest a z (sym h.cut ∙ g) l in
-      stop p.0 p.1 p.3 (name_at h.front p.2 p.0 h.shape (subst IsKeywordText p.4 i))
+        let p = goes_past h.front rest a z (sym h.cut ∙ g) l in
+        stop p.0 p.1 p.3 (name_at h.front p.2 p.0 h.shape (subst IsKeywordText p.4 i))
+
     not_more : (m n : ℕ) → (n < m → ⊥) → m ≤ n
     not_more m n p = grind arith
 

@@ -23,7 +23,10 @@ pub enum Atom<'a> {
 fn ends_atom(b: u8) -> bool
     ensures { result ≡ ends_atom b }
 {
-    matches!(b, b' ' | b'\t' | b'\n' | b'\r' | b',' | b';' | b'"' | b'[' | b']' | b'{' | b'}')
+    matches!(
+        b,
+        b' ' | b'\t' | b'\n' | b'\r' | b',' | b';' | b'"' | b'[' | b']' | b'{' | b'}'
+    )
 }
 
 /// The bytes up to the first that ends an atom, and the rest.

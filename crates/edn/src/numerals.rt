@@ -50,5 +50,9 @@ pub fn negated(size: u64) -> i64
     requires { size ≤ 2 ^ 63 }
     ensures { result ≡ neg_ℤ (pos size) }
 {
-    if size == 1 << 63 { i64::MIN } else { -(size as i64) }
+    if size == 1 << 63 {
+        i64::MIN
+    } else {
+        -(size as i64)
+    }
 }

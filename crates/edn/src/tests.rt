@@ -40,8 +40,14 @@ fn unreadable_places(rt: HostRuntime) -> Result<(), Fail> {
 
 #[test]
 fn elements_of_texts(rt: HostRuntime) -> Result<(), Fail> {
-    assert_eq!(rt; integers(&rt, b"1 #_ [2 3] +4, ; x")?.as_slice(), [1, 4].as_slice());
-    assert_eq!(rt; integers(&rt, b"-9223372036854775808 9223372036854775807 -0")?.as_slice(), [i64::MIN, i64::MAX, 0].as_slice());
+    assert_eq!(rt;
+        integers(&rt, b"1 #_ [2 3] +4, ; x")?.as_slice(),
+        [1, 4].as_slice()
+    );
+    assert_eq!(rt;
+        integers(&rt, b"-9223372036854775808 9223372036854775807 -0")?.as_slice(),
+        [i64::MIN, i64::MAX, 0].as_slice()
+    );
     assert_eq!(rt; read_all(rt.alloc(), b"")?.len(), 0);
     assert_eq!(rt; read_all(rt.alloc(), b"#_ #_ 1 2")?.len(), 0);
     Ok(())

@@ -1,7 +1,7 @@
-use Rattle.std.proofs.Common.{◌≡◌, ◌<◌, rules, arith, length, sym, ap, ◌∙◌, subst, to_z, of_z, w64}
+use Rattle.std.proofs.Common.{◌≡◌, arith, sym, subst, to_z, of_z, w64}
 use Rattle.std.proofs.lemmas.Int.{ints}
 use Rattle.edn.specs.View.{atom_value, value_of}
-use Rattle.edn.specs.Value.{Value, nil, int, keyword}
+use Rattle.edn.specs.Value.{keyword}
 use Rattle.edn.specs.Bytes.{IsAtom, IsLongest}
 use Rattle.edn.proofs.Longest.{whole_atom, no_whole_atom, no_whole}
 use Rattle.std.proofs.lemmas.Result.{IfOk-weaker}

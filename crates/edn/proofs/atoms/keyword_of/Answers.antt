@@ -1,5 +1,4 @@
-use Rattle.std.proofs.Common.{◌≡◌, ℕ, List, Result, Ok, Err, rules, arith, sym, ap, ◌∙◌, subst, Bor}
-use Rattle.std.specs.Result.{IsOk, MatchResult}
+use Rattle.std.proofs.Common.{◌≡◌, arith}
 use Rattle.edn.proofs.Names.{name_is_text}
 use Rattle.edn.proofs.Views.{view-Keyword}
 use Rattle.edn.proofs.atoms.keyword_of.Goals as goal

@@ -1,7 +1,5 @@
-use Rattle.std.proofs.Common.{◌≡◌, ◌^◌, ◌<◌, ℕ, refl, sym, ap, ◌∙◌, arith, rules, pos, to_z, of_z, w64, subst}
+use Rattle.std.proofs.Common.{◌≡◌, arith, pos, to_z, of_z, w64}
 use Rattle.std.proofs.lemmas.Int.{ints, to_z_pos}
-use Rattle.edn.specs.Value.{Value, int}
-use Rattle.edn.specs.Bytes.{IsAtom, IsLongest}
 use Rattle.edn.proofs.Longest.{longest_nil, longest_keyword, no_keyword, longest_minus, no_minus_numeral, longest_plain, no_plain}
 use Rattle.edn.proofs.atoms.longest_atom.Goals as goal
 

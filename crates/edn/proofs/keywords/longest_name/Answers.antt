@@ -1,5 +1,5 @@
-use Rattle.std.proofs.Common.{◌≡◌, ℕ, List, ◌∷◌, Bool, true, IsTrue, refl, sym, ap, ◌∙◌, arith, rules, length, take, drop}
-use Rattle.edn.specs.Bytes.{is_letter, goes_on}
+use Rattle.std.proofs.Common.{◌≡◌, ◌∷◌, IsTrue, arith}
+use Rattle.edn.specs.Bytes.{is_letter}
 use Rattle.edn.proofs.Names.{name_start, name_more, name_found}
 use Rattle.edn.proofs.keywords.longest_name.Goals as goal
 

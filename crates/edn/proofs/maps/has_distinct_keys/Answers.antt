@@ -1,4 +1,4 @@
-use Rattle.std.proofs.Common.{◌≡◌, ◌∷◌, Bool, true, false, IsTrue, refl, arith}
+use Rattle.std.proofs.Common.{◌≡◌, ◌∷◌, arith}
 use Rattle.edn.specs.Value.{keys, IsNew}
 use Rattle.edn.specs.View.{value_of, entries_of}
 use Rattle.edn.proofs.Deciding.{off, none_here, all_here}

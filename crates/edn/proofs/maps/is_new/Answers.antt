@@ -1,5 +1,5 @@
-use Rattle.std.proofs.Common.{◌≡◌, Bool, true, false, IsTrue, refl, arith}
-use Rattle.edn.specs.Value.{Same, IsNew}
+use Rattle.std.proofs.Common.{arith}
+use Rattle.edn.specs.Value.{Same}
 use Rattle.edn.specs.View.{value_of}
 use Rattle.edn.proofs.Deciding.{off, none_here, all_here}
 use Rattle.edn.proofs.Distinct.{new_start, new_more, new_all, new_fail}

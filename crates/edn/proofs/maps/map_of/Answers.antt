@@ -1,5 +1,5 @@
-use Rattle.std.proofs.Common.{◌≡◌, Bool, true, false, IsTrue, refl, sym, ap, ◌∙◌, subst, arith, rules}
-use Rattle.edn.specs.Value.{Pairs, keys, AreDistinct}
+use Rattle.std.proofs.Common.{sym, ◌∙◌, subst}
+use Rattle.edn.specs.Value.{keys, AreDistinct}
 use Rattle.edn.specs.View.{entries_of}
 use Rattle.std.proofs.lemmas.Result.{err_from_is_err_and}
 use Rattle.edn.proofs.Deciding.{off, same_error}

@@ -1,4 +1,3 @@
-use Rattle.std.proofs.Common.{◌≡◌, ℕ, ◌+◌, ◌-◌, ◌*◌, ◌≤◌, ◌∷◌, List, refl, sym, ap, ◌∙◌, arith, rules, length}
 use Rattle.edn.proofs.Digits.{digits_start, digits_more, longest_found, zero_found, none_found}
 use Rattle.edn.proofs.numerals.longest_numeral.Goals as goal
 

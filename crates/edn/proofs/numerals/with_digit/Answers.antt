@@ -1,5 +1,5 @@
-use Rattle.std.proofs.Common.{◌≡◌, ℕ, ◌+◌, ◌-◌, ◌*◌, ◌/◌, ◌<◌, ◌≤◌, Bool, true, false, IsTrue, List, ◌∷◌, refl, sym, ap, ◌∙◌, arith, rules}
-use Rattle.edn.specs.Bytes.{AddsDigit, is_digit}
+use Rattle.std.proofs.Common.{◌≡◌, ℕ, Bool, false, IsTrue, List, ◌∷◌, ap, arith}
+use Rattle.edn.specs.Bytes.{is_digit}
 use Rattle.edn.proofs.Digits.{digit_bounds, no_room, room}
 use Rattle.edn.proofs.numerals.with_digit.Goals as goal
 

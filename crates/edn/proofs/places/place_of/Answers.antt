@@ -60,7 +60,7 @@ returns-then-owed-gt1-clause-ok c =
 pub returns-in_default-longest_atom-clause-ok : goal.returns-in_default-longest_atom-clause-ok
 returns-in_default-longest_atom-clause-ok c =
     let how : ((c.elements.owed ≡ 0) × (c.if-owed-eq0.best ≡ length c.args.bytes.now - length c.elements.rest.now)) ⊎ ((0 < c.elements.owed) × (c.if-owed-eq0.best ≡ c.elements.best)) =
-      elim c.if-owed-eq0.branch [ then-owed-eq0 w ↦ inl (omega arith, omega arith) | else-owed-eq0 w ↦ inr (omega arith, omega arith) ] in
+    elim c.if-owed-eq0.branch [ then-owed-eq0 w ↦ inl (omega arith, omega arith) | else-owed-eq0 w ↦ inr (omega arith, omega arith) ] in
     let now = set_best _ _ _ _ _ how c.elements.invariant.head in
     let why = c.in-Err-Unreadable.ensures.unreadable (ap (λ x. Err x) c.in-Err-Unreadable.field-0-is) in
     let no_gap = no_piece c.elements.rest.now c.in_default.ensures.none c.in_default-after.ensures.none c.in_default-after_discard.ensures.none in
@@ -70,7 +70,7 @@ returns-in_default-longest_atom-clause-ok c =
 pub returns-in-Err-Unreadable-clause-ok : goal.returns-in-Err-Unreadable-clause-ok
 returns-in-Err-Unreadable-clause-ok c =
     let how : ((c.elements.owed ≡ 0) × (c.if-owed-eq0.best ≡ length c.args.bytes.now - length c.elements.rest.now)) ⊎ ((0 < c.elements.owed) × (c.if-owed-eq0.best ≡ c.elements.best)) =
-      elim c.if-owed-eq0.branch [ then-owed-eq0 w ↦ inl (omega arith, omega arith) | else-owed-eq0 w ↦ inr (omega arith, omega arith) ] in
+    elim c.if-owed-eq0.branch [ then-owed-eq0 w ↦ inl (omega arith, omega arith) | else-owed-eq0 w ↦ inr (omega arith, omega arith) ] in
     let now = set_best _ _ _ _ _ how c.elements.invariant.head in
     let why = c.in-Err-Unreadable.ensures.unreadable (ap (λ x. Err x) c.in-Err-Unreadable.field-0-is) in
     let no_gap = no_piece c.elements.rest.now c.in_default.ensures.none c.in_default-after.ensures.none c.in_default-after_discard.ensures.none in

@@ -1,6 +1,4 @@
-use Rattle.std.proofs.Common.{◌≡◌, ◌+◌, [], ◌∷◌, ◌++◌, length, refl, sym, ap, ◌∙◌, subst, arith, rules, add-one, suc, ◌-◌, Result, Err}
-use Rattle.std.specs.Result.{IsErrOf}
-use Rattle.edn.specs.declared.stops.Stop.{Stop}
+use Rattle.std.proofs.Common.{◌≡◌, ◌+◌, [], ◌∷◌, ◌++◌, length, refl, sym, ap, ◌∙◌, subst, arith, rules, add-one, suc, ◌-◌}
 use Rattle.std.proofs.lemmas.Result.{err_from_is_err_and}
 use Rattle.edn.specs.Value.{vector, pairs, in_text}
 use Rattle.edn.specs.View.{values_of}

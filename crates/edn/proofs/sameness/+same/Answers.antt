@@ -1,5 +1,5 @@
-use Rattle.std.proofs.Common.{◌≡◌, ℕ, ◌+◌, ◌<◌, ◌≤◌, Bool, true, false, IsTrue, List, length, get_or, refl, sym, ap, ◌∙◌, subst, arith, rules}
-use Rattle.edn.specs.Value.{Value, Same, SameInOrder, SameMembers, SamePairs, CountsSame, HasSame, CountsSamePair, HasSamePair, Pairs, pairs}
+use Rattle.std.proofs.Common.{◌≡◌, ◌+◌, Bool, IsTrue, List, length, sym, ap, ◌∙◌, subst, arith}
+use Rattle.edn.specs.Value.{Value, Same, SamePairs, HasSame, HasSamePair, Pairs, pairs}
 use Rattle.edn.specs.View.{value_of, values_of, entries_of}
 use Rattle.edn.specs.declared.elements.Edn.{Edn}
 use Rattle.edn.proofs.Views.{view-Map}
@@ -15,14 +15,14 @@ count_same-loop-y-init t c = record { counted = counts_none c.args.elements.now 
 pub count_same-loop-y-preserved : goal.count_same-loop-y-preserved
 count_same-loop-y-preserved t c =
     elim c.if-same.branch [
-      count_same-then-same w ↦
-        let s = c.same.ensures.0 w.if-same.true in
-        let more = counts_same c.args.elements.now c.loop-y.y-index c.y-item.result (value_of c.args.x.now) c.loop-y.count c.loop-y-test.true c.y-item.is s c.loop-y.invariant.counted in
-        record { counted = rw w.count-is more; few = omega (arith, c.loop-y.invariant.few) }
-    | count_same-else-same w ↦
-        let s = off c.same.result (Same (value_of c.args.x.now) (value_of c.y-item.result)) w.if-same.false c.same.ensures.1 in
-        let less = counts_less c.args.elements.now c.loop-y.y-index c.y-item.result (value_of c.args.x.now) c.loop-y.count c.loop-y-test.true c.y-item.is s c.loop-y.invariant.counted in
-        record { counted = rw w.count-is less; few = omega (arith, c.loop-y.invariant.few) }
+      | count_same-then-same w ↦
+          let s = c.same.ensures.0 w.if-same.true in
+          let more = counts_same c.args.elements.now c.loop-y.y-index c.y-item.result (value_of c.args.x.now) c.loop-y.count c.loop-y-test.true c.y-item.is s c.loop-y.invariant.counted in
+          record { counted = rw w.count-is more; few = omega (arith, c.loop-y.invariant.few) }
+      | count_same-else-same w ↦
+          let s = off c.same.result (Same (value_of c.args.x.now) (value_of c.y-item.result)) w.if-same.false c.same.ensures.1 in
+          let less = counts_less c.args.elements.now c.loop-y.y-index c.y-item.result (value_of c.args.x.now) c.loop-y.count c.loop-y-test.true c.y-item.is s c.loop-y.invariant.counted in
+          record { counted = rw w.count-is less; few = omega (arith, c.loop-y.invariant.few) }
     ]
 
 pub count_same-returns : goal.count_same-returns
@@ -40,14 +40,14 @@ has_more_same-returns-then-seen-count t c =
 pub has_more_same-loop-y-preserved : goal.has_more_same-loop-y-preserved
 has_more_same-loop-y-preserved t c =
     elim c.if-same.branch [
-      has_more_same-then-same+else-seen-count w ↦
-        let s = c.same.ensures.0 w.if-same.true in
-        let more = counts_same c.args.elements.now c.loop-y.y-index c.y-item.result (value_of c.args.x.now) c.loop-y.seen c.loop-y-test.true c.y-item.is s c.loop-y.invariant.counted in
-        record { counted = rw w.seen-is more; few = grind arith; within = omega (arith, c.loop-y.invariant.within) }
-    | has_more_same-else-same w ↦
-        let s = off c.same.result (Same (value_of c.args.x.now) (value_of c.y-item.result)) w.if-same.false c.same.ensures.1 in
-        let less = counts_less c.args.elements.now c.loop-y.y-index c.y-item.result (value_of c.args.x.now) c.loop-y.seen c.loop-y-test.true c.y-item.is s c.loop-y.invariant.counted in
-        record { counted = rw w.seen-is less; few = omega (arith, c.loop-y.invariant.few); within = omega (arith, c.loop-y.invariant.within) }
+      | has_more_same-then-same+else-seen-count w ↦
+          let s = c.same.ensures.0 w.if-same.true in
+          let more = counts_same c.args.elements.now c.loop-y.y-index c.y-item.result (value_of c.args.x.now) c.loop-y.seen c.loop-y-test.true c.y-item.is s c.loop-y.invariant.counted in
+          record { counted = rw w.seen-is more; few = grind arith; within = omega (arith, c.loop-y.invariant.within) }
+      | has_more_same-else-same w ↦
+          let s = off c.same.result (Same (value_of c.args.x.now) (value_of c.y-item.result)) w.if-same.false c.same.ensures.1 in
+          let less = counts_less c.args.elements.now c.loop-y.y-index c.y-item.result (value_of c.args.x.now) c.loop-y.seen c.loop-y-test.true c.y-item.is s c.loop-y.invariant.counted in
+          record { counted = rw w.seen-is less; few = omega (arith, c.loop-y.invariant.few); within = omega (arith, c.loop-y.invariant.within) }
     ]
 
 pub has_more_same-returns : goal.has_more_same-returns
@@ -61,14 +61,14 @@ count_same_pairs-loop-y-init t c = record { counted = paired.counts_none c.args.
 pub count_same_pairs-loop-y-preserved : goal.count_same_pairs-loop-y-preserved
 count_same_pairs-loop-y-preserved t c =
     elim c.if-same_pair.branch [
-      count_same_pairs-then-same_pair w ↦
-        let s = c.same_pair.ensures.0 w.if-same_pair.true in
-        let more = paired.counts_same c.args.pairs.now c.loop-y.y-index c.y-item.result (value_of c.args.x.now.0) (value_of c.args.x.now.1) c.loop-y.count c.loop-y-test.true c.y-item.is s c.loop-y.invariant.counted in
-        record { counted = rw w.count-is more; few = omega (arith, c.loop-y.invariant.few) }
-    | count_same_pairs-else-same_pair w ↦
-        let s = off c.same_pair.result (Same (value_of c.args.x.now.0) (value_of c.y-item.result.0) × Same (value_of c.args.x.now.1) (value_of c.y-item.result.1)) w.if-same_pair.false c.same_pair.ensures.1 in
-        let less = paired.counts_less c.args.pairs.now c.loop-y.y-index c.y-item.result (value_of c.args.x.now.0) (value_of c.args.x.now.1) c.loop-y.count c.loop-y-test.true c.y-item.is s c.loop-y.invariant.counted in
-        record { counted = rw w.count-is less; few = omega (arith, c.loop-y.invariant.few) }
+      | count_same_pairs-then-same_pair w ↦
+          let s = c.same_pair.ensures.0 w.if-same_pair.true in
+          let more = paired.counts_same c.args.pairs.now c.loop-y.y-index c.y-item.result (value_of c.args.x.now.0) (value_of c.args.x.now.1) c.loop-y.count c.loop-y-test.true c.y-item.is s c.loop-y.invariant.counted in
+          record { counted = rw w.count-is more; few = omega (arith, c.loop-y.invariant.few) }
+      | count_same_pairs-else-same_pair w ↦
+          let s = off c.same_pair.result (Same (value_of c.args.x.now.0) (value_of c.y-item.result.0) × Same (value_of c.args.x.now.1) (value_of c.y-item.result.1)) w.if-same_pair.false c.same_pair.ensures.1 in
+          let less = paired.counts_less c.args.pairs.now c.loop-y.y-index c.y-item.result (value_of c.args.x.now.0) (value_of c.args.x.now.1) c.loop-y.count c.loop-y-test.true c.y-item.is s c.loop-y.invariant.counted in
+          record { counted = rw w.count-is less; few = omega (arith, c.loop-y.invariant.few) }
     ]
 
 pub count_same_pairs-returns : goal.count_same_pairs-returns
@@ -86,14 +86,14 @@ has_more_same_pairs-returns-then-seen-count t c =
 pub has_more_same_pairs-loop-y-preserved : goal.has_more_same_pairs-loop-y-preserved
 has_more_same_pairs-loop-y-preserved t c =
     elim c.if-same_pair.branch [
-      has_more_same_pairs-then-same_pair+else-seen-count w ↦
-        let s = c.same_pair.ensures.0 w.if-same_pair.true in
-        let more = paired.counts_same c.args.pairs.now c.loop-y.y-index c.y-item.result (value_of c.args.x.now.0) (value_of c.args.x.now.1) c.loop-y.seen c.loop-y-test.true c.y-item.is s c.loop-y.invariant.counted in
-        record { counted = rw w.seen-is more; few = grind arith; within = omega (arith, c.loop-y.invariant.within) }
-    | has_more_same_pairs-else-same_pair w ↦
-        let s = off c.same_pair.result (Same (value_of c.args.x.now.0) (value_of c.y-item.result.0) × Same (value_of c.args.x.now.1) (value_of c.y-item.result.1)) w.if-same_pair.false c.same_pair.ensures.1 in
-        let less = paired.counts_less c.args.pairs.now c.loop-y.y-index c.y-item.result (value_of c.args.x.now.0) (value_of c.args.x.now.1) c.loop-y.seen c.loop-y-test.true c.y-item.is s c.loop-y.invariant.counted in
-        record { counted = rw w.seen-is less; few = omega (arith, c.loop-y.invariant.few); within = omega (arith, c.loop-y.invariant.within) }
+      | has_more_same_pairs-then-same_pair+else-seen-count w ↦
+          let s = c.same_pair.ensures.0 w.if-same_pair.true in
+          let more = paired.counts_same c.args.pairs.now c.loop-y.y-index c.y-item.result (value_of c.args.x.now.0) (value_of c.args.x.now.1) c.loop-y.seen c.loop-y-test.true c.y-item.is s c.loop-y.invariant.counted in
+          record { counted = rw w.seen-is more; few = grind arith; within = omega (arith, c.loop-y.invariant.within) }
+      | has_more_same_pairs-else-same_pair w ↦
+          let s = off c.same_pair.result (Same (value_of c.args.x.now.0) (value_of c.y-item.result.0) × Same (value_of c.args.x.now.1) (value_of c.y-item.result.1)) w.if-same_pair.false c.same_pair.ensures.1 in
+          let less = paired.counts_less c.args.pairs.now c.loop-y.y-index c.y-item.result (value_of c.args.x.now.0) (value_of c.args.x.now.1) c.loop-y.seen c.loop-y-test.true c.y-item.is s c.loop-y.invariant.counted in
+          record { counted = rw w.seen-is less; few = omega (arith, c.loop-y.invariant.few); within = omega (arith, c.loop-y.invariant.within) }
     ]
 
 pub has_more_same_pairs-returns : goal.has_more_same_pairs-returns
