@@ -46,8 +46,8 @@ fn step_of(ends: usize) -> Step
 }
 
 impl<M: SeqObject> Frontier<M> {
-    /// The frontier of a history without events, with the greatest number of ends that an ok may meet. Fails where
-    /// memory is wanting.
+    /// The frontier of a history without events. The budget is the greatest number of ends that an ok may meet.
+    /// `AllocError` where there is no memory for it.
     pub fn start(alloc: Global, budget: u32) -> Result<Self, AllocError>
         ensures stands { let object = of_table M.State M.start_state M.apply_to in
             IfOk result (λ f. StandsFor object f []) }
@@ -67,8 +67,9 @@ impl<M: SeqObject> Frontier<M> {
         })
     }
 
-    /// An operation is invoked, whose id no event before it has. This never kills. Where memory is wanting, the
-    /// frontier stands for what it stood for.
+    /// An operation is invoked, whose id (the index of its invocation) no event before it has. This never kills. On
+    /// `AllocError` the frontier stands for what it stood for. Tries each call on each new end, and compares each end
+    /// that comes of it with those that are there.
     pub fn invoke(&mut self, id: u32, op: Op) -> Result<(), AllocError>
         ensures stands { let object = of_table M.State M.start_state M.apply_to in
             (marks : List Mark) → StandsFor object self.old marks → IsNew marks id
@@ -96,8 +97,9 @@ impl<M: SeqObject> Frontier<M> {
         }
     }
 
-    /// An open operation has returned with this answer. Over where just before it there are more ends than the
-    /// budget; the frontier then stays as it was, as it does where memory is wanting.
+    /// An open operation has returned with this answer. Over where there were more ends than the budget just before
+    /// it; the frontier then stands for what it stood for, and so it does on `AllocError`. Compares the ends that are
+    /// left with one another.
     pub fn ok(&mut self, id: u32, answer: &Answer) -> Result<Step, AllocError>
         ensures over { let object = of_table M.State M.start_state M.apply_to in
             (marks : List Mark) → StandsFor object self.old marks → IsOpen marks id
@@ -126,7 +128,8 @@ impl<M: SeqObject> Frontier<M> {
         Ok(step_of(self.ends.len()))
     }
 
-    /// An open operation did not take place. Never Over.
+    /// An open operation did not take place. Never Over. On `AllocError` the frontier stands for what it stood for.
+    /// Goes through the ends once.
     pub fn fail(&mut self, id: u32) -> Result<Step, AllocError>
         ensures stands { let object = of_table M.State M.start_state M.apply_to in
             (marks : List Mark) → StandsFor object self.old marks → IsOpen marks id
@@ -147,8 +150,8 @@ impl<M: SeqObject> Frontier<M> {
         Ok(step_of(self.ends.len()))
     }
 
-    /// An open operation may take place at any later moment, or never. This never kills. Where memory is wanting,
-    /// the frontier stands for what it stood for.
+    /// An open operation has crashed: it may take place at any later moment, or never. This never kills. On
+    /// `AllocError` the frontier stands for what it stood for. Compares the ends with one another.
     pub fn crash(&mut self, id: u32) -> Result<(), AllocError>
         ensures stands { let object = of_table M.State M.start_state M.apply_to in
             (marks : List Mark) → StandsFor object self.old marks → IsOpen marks id
@@ -165,10 +168,12 @@ impl<M: SeqObject> Frontier<M> {
         Ok(())
     }
 
-    /// Another frontier of the same history and budget. Fails where memory is wanting.
+    /// An equal frontier, with memory of its own; `AllocError` where there is none.
     pub fn copy(&self) -> Result<Self, AllocError>
         ensures stands { let object = of_table M.State M.start_state M.apply_to in
             (marks : List Mark) → StandsFor object self.now marks → IfOk result (λ f. StandsFor object f marks) }
+        ensures nothing_else { let object = of_table M.State M.start_state M.apply_to in
+            (marks : List Mark) → IfOk result (λ f. StandsFor object f marks → StandsFor object self.now marks) }
         ensures budget { IfOk result (λ f. budget_of f ≡ budget_of self.now) }
     {
         Ok(Frontier {

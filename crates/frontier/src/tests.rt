@@ -38,7 +38,11 @@ fn write_then_read(rt: HostRuntime) -> Result<(), Fail> {
     frontier.invoke(2, read())?;
     let mut other = frontier.copy()?;
     assert_eq!(rt; frontier.ok(2, &Answer::Number(3))?, Step::Alive);
-    assert_eq!(rt; other.ok(2, &Answer::Number(4))?, Step::Dead, "a read of another value");
+    assert_eq!(rt;
+        other.ok(2, &Answer::Number(4))?,
+        Step::Dead,
+        "a read of another value"
+    );
     Ok(())
 }
 
@@ -47,7 +51,11 @@ fn budget_one_blown_by_a_write(rt: HostRuntime) -> Result<(), Fail> {
     let mut frontier = Frontier::<Register>::start(rt.alloc(), 1)?;
     frontier.invoke(0, write(1))?;
     assert_eq!(rt; frontier.ok(0, &Answer::Number(1))?, Step::Over);
-    assert_eq!(rt; frontier.ok(0, &Answer::Number(1))?, Step::Over, "it is as it was");
+    assert_eq!(rt;
+        frontier.ok(0, &Answer::Number(1))?,
+        Step::Over,
+        "it is as it was"
+    );
     assert_eq!(rt; frontier.fail(0)?, Step::Alive, "the write is still open");
     let mut wider = Frontier::<Register>::start(rt.alloc(), 2)?;
     wider.invoke(0, write(1))?;
