@@ -25,18 +25,19 @@ def words(case):
     return [w for w in read(case / "args").decode().split("\n") if w]
 
 
-def given(case):
-    script = case / "stdin.py"
+def stream(case, name):
+    """The bytes of a stream of the case: those of its file, or what its script prints."""
+    script = case / f"{name}.py"
     if script.exists():
         return subprocess.run([sys.executable, str(script)], stdout=subprocess.PIPE, check=True).stdout
-    return read(case / "stdin")
+    return read(case / name)
 
 
 def run_case(case):
-    ran = subprocess.run([str(PROGRAM)] + words(case), input=given(case), stdout=subprocess.PIPE,
+    ran = subprocess.run([str(PROGRAM)] + words(case), input=stream(case, "stdin"), stdout=subprocess.PIPE,
                          stderr=subprocess.PIPE, timeout=120)
     faults = []
-    if ran.stdout != read(case / "stdout"):
+    if ran.stdout != stream(case, "stdout"):
         faults.append(f"standard output was {ran.stdout[:400]!r}")
     if ran.returncode != int(read(case / "status", b"0")):
         faults.append(f"status was {ran.returncode}")
