@@ -1,5 +1,5 @@
 -- an equal search is one in the same events
-use Rattle.std.proofs.Common.{◌≡◌, ℕ, Option, Some, List, ◌∙◌, ap}
+use Rattle.std.proofs.Common.{◌≡◌, ℕ, List, ◌∙◌, ap}
 use Rattle.std.specs.Ordering.{is_eq, nat_cmp}
 use Rattle.std.specs.Map.{lookup}
 use Rattle.models.specs.Objects.{Object}

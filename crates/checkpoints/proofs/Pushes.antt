@@ -2,7 +2,7 @@
 use Rattle.std.proofs.Common.{◌≡◌, ℕ, ◌+◌, Option, None, List, [], ◌∷◌, ◌++◌, refl, sym, ap, ◌∙◌, append_assoc}
 use Rattle.std.proofs.lemmas.List.{append-nil}
 use Rattle.history.specs.declared.events.Event.{Event}
-use Rattle.history.specs.Events.{Act, Entry, act_of, key_of, process_of, marks_of, last_after, entries_from, entries_of}
+use Rattle.history.specs.Events.{act_of, key_of, process_of, marks_of, last_after, entries_from, entries_of}
 use Rattle.history.specs.Rule.{MayCome, busy_after, MayComeFrom, IsHistory}
 use Rattle.checkpoints.specs.Searches.{last_from, busy_from, last_of, busy_of}
 

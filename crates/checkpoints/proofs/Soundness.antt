@@ -1,5 +1,5 @@
 -- what a line keeps where its prepared event is committed, dropped or replaced
-use Rattle.std.proofs.Common.{◌≡◌, ℕ, ◌+◌, ◌<◌, ◌≤◌, Option, Some, None, List, [], ◌∷◌, ◌++◌, length, sym, ap, ◌∙◌, subst, arith}
+use Rattle.std.proofs.Common.{◌≡◌, ℕ, ◌<◌, Option, Some, None, List, [], ◌∷◌, ◌++◌, length, sym, ◌∙◌, subst}
 use Rattle.models.specs.Objects.{Object}
 use Rattle.history.specs.declared.events.Event.{Event}
 use Rattle.history.specs.Events.{entries_of}

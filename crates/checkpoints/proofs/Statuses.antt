@@ -1,5 +1,5 @@
 -- the status of a key with one more entry, by the status before
-use Rattle.std.proofs.Common.{◌≡◌, ◌≢◌, ℕ, suc, ◌+◌, ◌≤◌, ◌<◌, ◌⊎◌, inl, inr, ⊎_elim, List, [], ◌∷◌, ◌++◌, length, refl, sym, ap, ◌∙◌, subst, append_assoc, arith, length-append}
+use Rattle.std.proofs.Common.{◌≡◌, ℕ, ◌+◌, ◌≤◌, ◌<◌, ◌⊎◌, inl, inr, ⊎_elim, List, [], ◌∷◌, ◌++◌, length, refl, sym, ap, ◌∙◌, subst, append_assoc, arith, length-append}
 use Rattle.std.specs.List.{Contains}
 use Rattle.std.proofs.lemmas.List.{append-nil}
 use Rattle.std.proofs.lemmas.List.Elements.{Contains-append_right}
@@ -7,9 +7,9 @@ use Rattle.models.specs.declared.operation.Op.{Op}
 use Rattle.models.specs.declared.finding.Answer.{Answer}
 use Rattle.models.specs.Objects.{Object}
 use Rattle.history.specs.Events.{Mark, Entry, marks, IsFront}
-use Rattle.history.specs.Events.Mark.{Invoked, Returned, Failed, Crashed}
+use Rattle.history.specs.Events.Mark.{Invoked, Returned, Crashed}
 use Rattle.linspec.specs.WellFormed.{IsNew, AreWellFormed}
-use Rattle.linspec.specs.Orders.{Taken, IsLinearizable}
+use Rattle.linspec.specs.Orders.{IsLinearizable}
 use Rattle.linspec.specs.Ends.{End, IsEnd, HasMoreThan, IsBlownAt, IsBlownIndex, IsWithinBudget}
 use Rattle.linspec.specs.Verdicts.{EndsShortestBadFront, EveryFrontIsLinearizable, IsRising}
 use Rattle.linspec.proofs.Lists.{Contains-nil, Contains-head, snoc_cut, Pairwise-across}

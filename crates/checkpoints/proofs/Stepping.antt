@@ -17,7 +17,7 @@ use Rattle.frontier.specs.declared.frontiers.Frontier.{Frontier}
 use Rattle.frontier.specs.declared.frontiers.Step.{Step}
 use Rattle.frontier.specs.declared.frontiers.Step.TheVariants.{Alive, Dead, Over}
 use Rattle.frontier.specs.Standing.{StandsFor}
-use Rattle.checkpoints.specs.Steps.{mark_by, BlowsAt, IsStep}
+use Rattle.checkpoints.specs.Steps.{mark_by, IsStep}
 use Rattle.checkpoints.proofs.Statuses.{IsLinearizable-invoked, IsLinearizable-crashed}
 
 module _ {M : Type 0} (o : Object) (new : Frontier M o.State) (budget : ℕ) (marks : List Mark) where

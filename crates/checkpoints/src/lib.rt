@@ -7,3 +7,6 @@ mod standings;
 mod steps;
 
 pub use line::KeyLine;
+
+#[cfg(test)]
+mod tests;

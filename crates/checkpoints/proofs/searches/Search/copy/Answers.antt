@@ -1,5 +1,3 @@
-use Rattle.std.proofs.Common.{◌∙◌, ap, sym}
-use Rattle.std.specs.Ordering.{nat_cmp}
 use Rattle.std.proofs.lemmas.Map.Entries.{entries_from_clone}
 use Rattle.checkpoints.proofs.Copies.{IsSearch-same}
 use Rattle.checkpoints.proofs.searches.Search.copy.Goals as goal
