@@ -1,9 +1,8 @@
 -- What one more event changes: the last event and the open operation of a process, the current process of a thread,
 -- and the key of the first operation
-use Rattle.std.proofs.Common.{◌≡◌, ◌≢◌, ℕ, suc, ◌+◌, ◌*◌, ◌<◌, ◌≤◌, ◌==◌, Bool, true, false, cond, Option, Some, None, List, [], ◌∷◌, ◌++◌, length, slice_get, count_by, sum_by, option_map, option_and_then, refl, sym, ap, ◌∙◌, arith}
+use Rattle.std.proofs.Common.{◌≡◌, ℕ, suc, ◌+◌, ◌*◌, true, false, cond, Option, Some, None, List, [], ◌∷◌, ◌++◌, length, slice_get, count_by, option_map, option_and_then, refl, sym, ap, ◌∙◌, arith}
 use Rattle.std.specs.Option.{option_or}
-use Rattle.std.proofs.lemmas.Bool.{cond-true, cond-false}
-use Rattle.std.proofs.lemmas.Option.{cond_some, some_pair_parts, same_Some}
+use Rattle.std.proofs.lemmas.Option.{cond_some, some_pair_parts}
 use Rattle.std.proofs.lemmas.List.Sums.{sum_by-append}
 use Rattle.models.specs.declared.operation.Op.{Op}
 use Rattle.history.specs.declared.events.Body.{Body}

@@ -1,19 +1,17 @@
 -- A well-formed event keeps what a history keeps: the rows of its threads and the key of its first operation
-use Rattle.std.proofs.Common.{◌≡◌, ◌≢◌, ℕ, ◌+◌, ◌*◌, ◌%◌, ◌^◌, ◌<◌, ◌≤◌, nat_eq, Option, Some, None, List, [], ◌∷◌, ◌++◌, length, slice_get, slice_set, count_by, option_map, false, true, refl, sym, ap, ◌∙◌, subst, append_assoc, length-append, ⊎_elim, ◌⊎◌, inl, inr, arith}
-use Rattle.std.specs.Option.{option_or}
+use Rattle.std.proofs.Common.{◌≡◌, ◌≢◌, ℕ, ◌+◌, ◌*◌, ◌<◌, ◌≤◌, Option, Some, None, List, [], ◌∷◌, ◌++◌, length, count_by, option_map, false, refl, sym, ap, ◌∙◌, subst, ⊎_elim, arith}
 use Rattle.std.proofs.lemmas.Bool.{cases_eq, eq-eqb, ne_eqb}
 use Rattle.std.proofs.lemmas.List.Sums.{count_by-le-length}
 use Rattle.std.proofs.Math.Nat.{add-mul-mod_self_left, add-mod_right, mod-eq_of_lt, mul-le-mul_left}
 use Rattle.models.specs.declared.operation.Op.{Op}
 use Rattle.history.specs.declared.events.EventKind.{EventKind}
 use Rattle.history.specs.declared.events.EventKind.TheVariants.{Invoke, Ok, Fail, Info}
-use Rattle.history.specs.declared.events.Process.{Process}
 use Rattle.history.specs.declared.events.Process.TheVariants.{Client, Nemesis}
 use Rattle.history.specs.declared.events.Body.{Body}
-use Rattle.history.specs.declared.events.Body.TheVariants.{Op as AnOp, Fault as AFault}
+use Rattle.history.specs.declared.events.Body.TheVariants.{Op as AnOp}
 use Rattle.history.specs.declared.events.Event.{Event}
 use Rattle.history.specs.declared.rows.Row.{Row}
-use Rattle.history.specs.WellFormed.{thread_of, crashes, current_of, is_client, open_of, open_index, IsCurrent, IsWellFormed, IsHistoryOf}
+use Rattle.history.specs.WellFormed.{thread_of, crashes, current_of, is_client, open_of, IsCurrent, IsWellFormed}
 use Rattle.history.specs.Kept.{row_of, row_after}
 use Rattle.history.proofs.Appending.{open_of-own, open_of-other, current_of-same, current_of-crashed}
 

@@ -1,9 +1,9 @@
 -- What a history keeps, before any event and after one more
-use Rattle.std.proofs.Common.{◌≡◌, ◌≢◌, ℕ, ◌+◌, ◌*◌, ◌%◌, ◌^◌, ◌<◌, ◌≤◌, Option, Some, None, List, [], ◌∷◌, ◌++◌, length, slice_get, slice_set, get_or, take, drop, All, refl, sym, ap, ◌∙◌, subst, length-append, ⊎_elim, ◌⊎◌, inl, inr, arith}
+use Rattle.std.proofs.Common.{◌≡◌, ◌≢◌, ℕ, ◌+◌, ◌*◌, ◌^◌, ◌<◌, ◌≤◌, Option, Some, None, List, [], ◌∷◌, ◌++◌, length, slice_get, slice_set, get_or, take, drop, All, refl, sym, ap, ◌∙◌, subst, length-append, ⊎_elim, ◌⊎◌, inl, inr, arith}
 use Rattle.std.specs.Option.{option_or}
 use Rattle.std.proofs.lemmas.Bool.{cases_eq}
 use Rattle.std.proofs.lemmas.Option.{same_Some, slice_get-get_or, get_or_from_slice_get, slice_get_within}
-use Rattle.std.proofs.lemmas.List.{append-nil, take_at, length-set, get_or-set_same, get_or-set_other}
+use Rattle.std.proofs.lemmas.List.{take_at, length-set, get_or-set_same, get_or-set_other}
 use Rattle.std.proofs.Math.Nat.{mod-lt, mul-le-mul_left}
 use Rattle.models.specs.declared.operation.Op.{Op}
 use Rattle.history.specs.declared.events.EventKind.{EventKind}
@@ -14,7 +14,7 @@ use Rattle.history.specs.declared.events.Body.{Body}
 use Rattle.history.specs.declared.events.Body.TheVariants.{Op as AnOp, Fault as AFault}
 use Rattle.history.specs.declared.events.Event.{Event}
 use Rattle.history.specs.declared.rows.Row.{Row}
-use Rattle.history.specs.WellFormed.{thread_of, current_of, key_behind, first_key, IsConcurrency, IsWellFormed, IsHistoryOf}
+use Rattle.history.specs.WellFormed.{thread_of, current_of, key_behind, IsConcurrency, IsWellFormed, IsHistoryOf}
 use Rattle.history.specs.Kept.{row_of, row_after, MovesOn, IsKept}
 use Rattle.history.proofs.Appending.{first_key-push}
 use Rattle.history.proofs.Keeping.{OpenIsCurrent, by_client, by_nemesis, current_of-le, own_row_after, other_row_after, nemesis_row_after, client_keeps_current, nemesis_keeps_current}

@@ -1,5 +1,5 @@
 -- Marks of the replicas that were seen
-use Rattle.std.proofs.Common.{◌≡◌, ◌≢◌, ℕ, ◌+◌, ◌<◌, ◌≤◌, ◌==◌, Bool, true, false, cond, Vec, Global, map, take, drop, List, [], ◌∷◌, ◌++◌, length, get_or, slice_set, All, count_by, sum_by, refl, sym, ap, ◌∙◌, subst, append_assoc, length-append, ⊎_elim, arith}
+use Rattle.std.proofs.Common.{◌≡◌, ℕ, ◌+◌, ◌<◌, ◌≤◌, ◌==◌, Bool, true, false, cond, Vec, Global, map, take, drop, List, [], ◌∷◌, ◌++◌, length, get_or, slice_set, All, count_by, refl, sym, ap, ◌∙◌, subst, append_assoc, length-append, ⊎_elim, arith}
 use Rattle.std.proofs.lemmas.Bool.{cases_eq, eq-eqb, ne_eqb}
 use Rattle.std.specs.List.{concat}
 use Rattle.std.proofs.lemmas.List.{length-set, get_or-set_same, get_or-set_other, take-append-drop, take_more, take_all, map-append, append-nil}

@@ -1,5 +1,5 @@
 -- What the elements of a vector and the pairs of a map are
-use Rattle.std.proofs.Common.{◌≡◌, ◌≢◌, ℕ, ◌+◌, ◌<◌, ◌≤◌, cond, Option, Some, None, List, [], ◌∷◌, length, get_or, drop, refl, sym, ap, ◌∙◌, arith, rules, Vec, Global}
+use Rattle.std.proofs.Common.{◌≡◌, ◌≢◌, ℕ, ◌+◌, ◌<◌, ◌≤◌, cond, Some, None, List, [], ◌∷◌, length, get_or, drop, refl, sym, ap, ◌∙◌, arith, rules, Vec, Global}
 use Rattle.std.proofs.lemmas.List.{drop_more, drop_all}
 use Rattle.edn.specs.Value.{vector, pairs}
 use Rattle.edn.specs.View.{value_of, values_of, entries_of}

@@ -1,5 +1,5 @@
 -- The numbers of replicas
-use Rattle.std.specs.Prelude.{◌≡◌, ℕ, ◌≤◌, Bool, false, ◌==◌, if◌then◌else◌, List, ◌++◌, length, slice_index_or, All, count_by}
+use Rattle.std.specs.Prelude.{◌≡◌, ℕ, ◌≤◌, Bool, false, ◌==◌, if◌then◌else◌, List, length, slice_index_or, All, count_by}
 use Rattle.std.specs.List.{concat}
 
 abbrev pub IsReplica : ℕ → Type 0

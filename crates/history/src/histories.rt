@@ -97,8 +97,8 @@ impl History {
         let Some(event) = self.prepared.take() else {
             unreachable!()
         };
-        let index = self.events.len() as u32;
-        move_on(&mut self.rows, index, event.kind, event.process);
+        let place = self.events.len();
+        move_on(&mut self.rows, place as u32, event.kind, event.process);
         self.key = self.key.or(key_of(&event.body));
         self.events.push(event).unwrap();
     }

@@ -9,6 +9,8 @@ mod laws;
 mod reading;
 mod rows;
 mod tables;
+#[cfg(test)]
+mod tests;
 
 pub use events::{Body, Event, EventKind, Fault, Process};
 pub use groups::Groups;

@@ -107,11 +107,10 @@ fn event_of(pairs: &[(Edn, Edn)]) -> Option<Event>
 ///
 /// # Errors
 /// [`Refusal::BadValue`] where the element spells no event; else [`Refusal::NoMemory`] where a growth was refused.
-pub fn from_edn(alloc: Global, element: &Edn) -> Result<Event, Refusal>
+pub fn from_edn(_alloc: Global, element: &Edn) -> Result<Event, Refusal>
     ensures ok { IfOk result (Spells (value_of element.now)) }
     ensures refused { IfErr result (WhyUnspelled (value_of element.now)) }
 {
-    let _ = alloc;
     let Edn::Map(pairs) = element else {
         return Err(Refusal::BadValue);
     };

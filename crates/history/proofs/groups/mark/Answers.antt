@@ -1,4 +1,4 @@
-use Rattle.std.proofs.Common.{◌≡◌, ℕ, ◌<◌, ◌≤◌, ◌++◌, length, arith, subst}
+use Rattle.std.proofs.Common.{◌≡◌, ◌++◌, length, arith, subst}
 use Rattle.std.proofs.lemmas.List.{take_all}
 use Rattle.history.specs.Replicas.{HasSeen}
 use Rattle.history.proofs.Replicas.{stops_twice, stops_far, marks_more}

@@ -1,4 +1,4 @@
-use Rattle.std.proofs.Common.{◌≡◌, ℕ, map, take, Vec}
+use Rattle.std.proofs.Common.{ℕ, map, take, Vec}
 use Rattle.std.specs.List.{concat}
 use Rattle.std.specs.declared.alloc.Global.{Global}
 use Rattle.history.specs.Replicas.{HasSeen}

@@ -19,7 +19,7 @@ invariant_of-self c =
     let ready = subst (IsReady inside.concurrency inside.events.items (vec_capacity inside.events)) (sym c.in-Some.ensures.value) c.self.invariant.1 in
     let more : c.push.new.self.items ≡ inside.events.items ++ event ∷ [] =
     c.push.ensures.items ∙ ap (λ r. if is_ok r then inside.events.items ++ event ∷ [] else inside.events.items) c.unwrap.ensures in (
-      committed inside.concurrency inside.events.items c.push.new.self.items inside.rows.items c.deref_mut.result.now c.move_on.new.rows inside.key c.or-self-inside.result c.len-index.result inside.rows.len event c.self.invariant.0 ready.0
+      committed inside.concurrency inside.events.items c.push.new.self.items inside.rows.items c.deref_mut.result.now c.move_on.new.rows inside.key c.or-self-inside.result c.len-place.result inside.rows.len event c.self.invariant.0 ready.0
           (omega (arith, inside.events.ok.0)) c.deref_mut.ensures.value (omega (arith, inside.rows.ok.0)) c.move_on.ensures more (c.or-self-inside.ensures ∙ ap (option_or inside.key) c.key_of.ensures),
       subst (IsReady inside.concurrency c.push.new.self.items (vec_capacity c.push.new.self)) (sym c.in-Some.ensures.after) tt,
     )

@@ -1,8 +1,6 @@
-use Rattle.std.proofs.Common.{◌≡◌, ◌%◌, ℕ, Option, None, Some, option_map, ◌∙◌, sym, ap, subst, arith}
+use Rattle.std.proofs.Common.{◌≡◌, ℕ, Some, option_map, ◌∙◌, sym, ap, arith}
 use Rattle.models.specs.declared.operation.Op.{Op}
-use Rattle.history.specs.declared.events.Event.{Event}
 use Rattle.history.specs.declared.events.Body.TheVariants.{Op as AnOp}
-use Rattle.history.specs.WellFormed.{Contents, current_of, open_of, open_index, thread_of}
 use Rattle.history.proofs.OpenOperations.{index_of_current, within, its_body, not_current}
 use Rattle.history.proofs.histories.History.open_operation.Goals as goal
 

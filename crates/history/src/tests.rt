@@ -1,0 +1,127 @@
+//! Worked histories, with the answers that the rule gives.
+use crate::{Body, Event, EventKind, Fault, Groups, History, Process, from_edn};
+use edn::{Refusal, read_all};
+use models::{Name, Op, Part};
+use std::alloc::Global;
+use std::test::Fail;
+
+fn write(kind: EventKind, process: u32, value: i64) -> Event {
+    Event {
+        index: None,
+        kind,
+        process: Process::Client(process),
+        body: Body::Op(Op {
+            name: Name::Write,
+            key: 7,
+            part: Part::Int(value),
+        }),
+    }
+}
+
+fn partition(alloc: Global, other: u8) -> Result<Event, Fail> {
+    let mut groups = Vec::new(alloc);
+    groups.push(vec![in alloc; 0u8]?)?;
+    groups.push(vec![in alloc; 1u8, other]?)?;
+    Ok(Event {
+        index: None,
+        kind: EventKind::Info,
+        process: Process::Nemesis,
+        body: Body::Fault(Fault::Partition(Groups::new(groups))),
+    })
+}
+
+// What the history answers to the event of a line.
+fn answer(alloc: Global, history: &mut History, line: &str) -> Result<(), Refusal> {
+    let elements = read_all(alloc, line.as_bytes())?;
+    let Some(element) = elements.first() else {
+        return Err(Refusal::Idle);
+    };
+    history.push(from_edn(alloc, element)?)
+}
+
+#[test]
+fn refusals_in_order(rt: HostRuntime) -> Result<(), Fail> {
+    let alloc = rt.alloc();
+    let mut history = History::new(alloc, 2)?;
+    for (line, want) in [
+        (
+            "{:index 5, :type :invoke, :process 0, :f :write, :value [7 nil]}",
+            Err(Refusal::BadValue),
+        ),
+        (
+            "{:index 5, :type :invoke, :process 0, :f :write, :value [7 3]}",
+            Err(Refusal::BadIndex),
+        ),
+        (
+            "{:type :invoke, :process 0, :f :write, :value [7 3]}",
+            Ok(()),
+        ),
+        (
+            "{:type :ok, :process 0, :f :write, :value [7 4]}",
+            Err(Refusal::Mismatch),
+        ),
+        (
+            "{:type :ok, :process 1, :f :write, :value [7 3]}",
+            Err(Refusal::NotOpen),
+        ),
+        (
+            "{:index 1 :type :ok, :process 0, :f :write, :value [7 3], :time 9}",
+            Ok(()),
+        ),
+        (
+            "{:type :invoke, :process 0, :f :read, :value [7 nil]}",
+            Ok(()),
+        ),
+        ("{:type :ok, :process 0, :f :read, :value [7 3]}", Ok(())),
+    ] {
+        assert_eq!(rt; answer(alloc, &mut history, line), want, "{line}");
+    }
+    assert_eq!(rt; history.len(), 4);
+    Ok(())
+}
+
+#[test]
+fn crashed_process_is_replaced(rt: HostRuntime) -> Result<(), Fail> {
+    let mut history = History::new(rt.alloc(), 2)?;
+    for (event, want) in [
+        (write(EventKind::Invoke, 0, 2), Ok(())),
+        (write(EventKind::Info, 0, 2), Ok(())),
+        (write(EventKind::Invoke, 0, 9), Err(Refusal::WrongProcess)),
+        (write(EventKind::Invoke, 2, 9), Ok(())),
+        (write(EventKind::Invoke, 2, 9), Err(Refusal::Busy)),
+    ] {
+        assert_eq!(rt; history.push(event), want);
+    }
+    assert_eq!(rt; history.concurrency(), 2);
+    assert_eq!(rt; history.current(0), 2);
+    assert_eq!(rt; history.open_at(0), Some(2));
+    assert_eq!(rt; history.current(1), 1);
+    assert_eq!(rt; history.open_at(1), None);
+    Ok(())
+}
+
+#[test]
+fn faults_are_copied_and_counted(rt: HostRuntime) -> Result<(), Fail> {
+    let alloc = rt.alloc();
+    assert_eq!(rt; History::new(alloc, 0).err(), Some(Refusal::BadConcurrency));
+    assert_eq!(rt;
+        History::new(alloc, 65).err(),
+        Some(Refusal::BadConcurrency)
+    );
+    let mut history = History::new(alloc, 1)?;
+    history.push(partition(alloc, 2)?.copy()?)?;
+    assert_eq!(rt; history.push(partition(alloc, 1)?), Err(Refusal::BadValue));
+    history.push(write(EventKind::Invoke, 0, 3).copy()?)?;
+    assert_eq!(rt; history.len(), 2);
+    let Some(
+        Event {
+            body: Body::Fault(Fault::Partition(groups)),
+            ..
+        },
+    ) = history.events().first()
+    else {
+        return Err(Fail::new("the first event is the partition"));
+    };
+    assert_eq!(rt; groups.groups().len(), 2);
+    Ok(())
+}
