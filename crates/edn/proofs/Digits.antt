@@ -5,7 +5,8 @@ use Rattle.std.specs.Str.Parse.{digits_value, digits_value_after}
 use Rattle.std.specs.Char.{digit_value}
 use Rattle.std.proofs.lemmas.Bool.Decides.{nat_tests}
 use Rattle.std.proofs.lemmas.Int.Digits.{digits_value_push}
-use Rattle.edn.specs.Bytes.{is_digit, IsNumeral, AddsDigit, IsNumeralOf, IsLongest, HasNone}
+use Rattle.edn.specs.Bytes.{is_digit, IsNumeral}
+use Rattle.edn.specs.Longest.{AddsDigit, IsNumeralOf, IsLongest, HasNone}
 
 pub digit_bounds : (b : ℕ) → IsTrue (is_digit b) → (48 ≤ b) × (b ≤ 57)
 digit_bounds b h = (grind (arith, nat_tests), grind (arith, nat_tests))

@@ -2,7 +2,8 @@
 use Rattle.std.proofs.Common.{◌≡◌, ℕ, suc, ◌-◌, ◌^◌, ◌<◌, ◌≤◌, List, [], ◌∷◌, ◌++◌, length, ◌⊎◌, inl, inr, refl, sym, ap, ◌∙◌, subst, arith, append-nil, length-append, pos, neg_ℤ}
 use Rattle.std.specs.Str.Parse.{digits_value}
 use Rattle.edn.specs.Value.{Value, nil, int, keyword}
-use Rattle.edn.specs.Bytes.{IsNumeral, IsKeywordText, IsAtom, IsNumeralOf, IsName, IsLongest, HasNone}
+use Rattle.edn.specs.Bytes.{IsNumeral, IsKeywordText, IsAtom}
+use Rattle.edn.specs.Longest.{IsNumeralOf, IsName, IsLongest, HasNone}
 use Rattle.edn.specs.Bytes.IsAtom.{spelled_nil, plain, plus, minus, named}
 
 numeral_head : (a : List ℕ) → IsNumeral a → (x : ℕ) × (t : List ℕ) × (a ≡ x ∷ t) × (48 ≤ x) × (x ≤ 57)

@@ -1,7 +1,8 @@
 -- Members that are matched one after the other, and how many are the same
 use Rattle.std.proofs.Common.{◌≡◌, ℕ, zero, suc, ◌+◌, ◌<◌, ◌≤◌, List, [], ◌∷◌, ◌++◌, inl, inr, refl, sym, ap, ◌∙◌, subst, arith, take, length, get_or}
 use Rattle.std.proofs.lemmas.List.{take_more}
-use Rattle.edn.specs.Value.{Value, Values, none, more, joined, TakesOut, Same, SameInOrder, SameMembers, CountsSame, HasSame}
+use Rattle.edn.specs.Value.{Value, Values, none, more, joined, TakesOut, Same, SameInOrder, SameMembers}
+use Rattle.edn.specs.Counts.{CountsSame, HasSame}
 use Rattle.edn.specs.View.{value_of, values_of}
 use Rattle.edn.specs.declared.elements.Edn.{Edn}
 use Rattle.edn.proofs.Equivalence.{same_sym, same_trans}

@@ -7,7 +7,8 @@ use Rattle.std.proofs.lemmas.Bool.Decides.{nat_tests}
 use Rattle.std.specs.List.{AllByRecursion}
 use Rattle.edn.specs.Value.{keyword}
 use Rattle.edn.specs.Bytes.IsAtom.{named}
-use Rattle.edn.specs.Bytes.{is_one_of, is_digit, IsAtom, is_letter, goes_on, IsKeywordText, IsName, IsLongest, HasNone}
+use Rattle.edn.specs.Bytes.{is_one_of, is_digit, IsAtom, is_letter, goes_on, IsKeywordText}
+use Rattle.edn.specs.Longest.{IsName, IsLongest, HasNone}
 use Rattle.edn.proofs.Digits.{goes_past}
 
 -- a name so far, and what follows it

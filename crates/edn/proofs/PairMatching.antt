@@ -1,7 +1,8 @@
 -- Pairs that are matched one after the other, and how many are the same
 use Rattle.std.proofs.Common.{◌≡◌, ℕ, zero, suc, ◌+◌, ◌<◌, ◌≤◌, List, [], ◌∷◌, ◌++◌, inl, inr, refl, sym, ap, ◌∙◌, subst, arith, take, length, get_or}
 use Rattle.std.proofs.lemmas.List.{take_more}
-use Rattle.edn.specs.Value.{Value, Pairs, no_pairs, pair, TakesPairOut, Same, SamePairs, CountsSamePair, HasSamePair}
+use Rattle.edn.specs.Value.{Value, Pairs, no_pairs, pair, TakesPairOut, Same, SamePairs}
+use Rattle.edn.specs.Counts.{CountsSamePair, HasSamePair}
 use Rattle.edn.specs.View.{value_of, entries_of}
 use Rattle.edn.specs.declared.elements.Edn.{Edn}
 use Rattle.edn.proofs.Equivalence.{same_sym, same_trans}

@@ -1,5 +1,5 @@
 -- Kinds of bytes, and the atoms
-use Rattle.std.specs.Prelude.{◌≡◌, ℕ, ◌+◌, ◌-◌, ◌*◌, ◌<◌, ◌≤◌, ◌^◌, ◌⊎◌, Bool, ◌||◌, ◌&&◌, ◌==◌, nat_le, true, false, IsTrue, List, [], ◌∷◌, ◌++◌, length, pos, neg_ℤ}
+use Rattle.std.specs.Prelude.{◌≡◌, ℕ, ◌<◌, ◌≤◌, ◌^◌, ◌⊎◌, Bool, ◌||◌, ◌&&◌, ◌==◌, nat_le, true, false, IsTrue, List, [], ◌∷◌, pos, neg_ℤ}
 use Rattle.std.specs.List.{AllByRecursion}
 use Rattle.std.specs.Str.Parse.{digits_value}
 use Rattle.edn.specs.Value.{Value, nil, int, keyword}
@@ -41,7 +41,8 @@ abbrev pub IsKeywordText : List ℕ → Type 0
 IsKeywordText [] = ⊥
 IsKeywordText (b ∷ bs) = IsTrue (is_letter b) × AllByRecursion (λ c. IsTrue (goes_on c)) bs
 
--- the bytes are an atom of this value
+-- the bytes are an atom of this value: nil; a numeral that fits 64 bits with its sign, alone or after + or -; a keyword
+-- after its colon
 pub data IsAtom : List ℕ → Value → Type 0 where
   spelled_nil : IsAtom (110 ∷ 105 ∷ 108 ∷ []) nil
   plain : {ds : List ℕ} → IsNumeral ds → digits_value 10 ds < 2 ^ 63 → IsAtom ds (int (pos (digits_value 10 ds)))
@@ -57,26 +58,3 @@ IsToken = AllByRecursion (λ b. ends_atom b ≡ false)
 abbrev pub closes : List ℕ → Bool
 closes [] = true
 closes (b ∷ t) = is_one_of (93 ∷ 125 ∷ []) b
-
--- digits that write n, which is at most `most`
-abbrev pub IsNumeralOf : ℕ → List ℕ → ℕ → Type 0
-IsNumeralOf most ds n = IsNumeral ds × (digits_value 10 ds ≡ n) × (n ≤ most)
-
--- n is the value with the digit b written behind it
-abbrev pub AddsDigit : ℕ → ℕ → ℕ → Type 0
-AddsDigit value b n = IsTrue (is_digit b) × (n ≡ 10 * value + (b - 48))
-
--- the name of a keyword, as it stands in its text
-abbrev pub IsName : List ℕ → List ℕ → Type 0
-IsName bs name = IsKeywordText bs × (name ≡ bs)
-
--- the text begins with a spelling of v, rest follows it, and no longer front is a spelling
-pub record IsLongest {V : Type 0} (IsSpelling : List ℕ → V → Type 0) (text : List ℕ) (v : V) (rest : List ℕ) : Type 0 where
-  pub front : List ℕ
-  pub cut : text ≡ front ++ rest
-  pub spells : IsSpelling front v
-  pub longest : (a z : List ℕ) (w : V) → IsSpelling a w → text ≡ a ++ z → length a ≤ length front
-
--- no front of the text is a spelling
-abbrev pub HasNone : {V : Type 0} (IsSpelling : List ℕ → V → Type 0) → List ℕ → Type 0
-HasNone {V} IsSpelling text = (a z : List ℕ) (w : V) → IsSpelling a w → text ≡ a ++ z → ⊥

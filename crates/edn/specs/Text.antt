@@ -5,21 +5,21 @@ use Rattle.std.specs.Prelude.{◌≡◌, ℕ, ◌+◌, ◌<◌, ◌≤◌, IsTru
 use Rattle.edn.specs.Value.{Value, vector, pairs, Values, none, more, Pairs, in_text, keys, AreDistinct}
 use Rattle.edn.specs.Bytes.{is_white, MayFollowAtom, IsAtom}
 
--- up to, and not with, the next line feed or the end of the text
+-- up to, and not with, the next line feed (10) or the end of the text
 pub data SkipsLine : List ℕ → List ℕ → Type 0 where
   at_end : SkipsLine [] []
   at_line_feed : {t : List ℕ} → SkipsLine (10 ∷ t) (10 ∷ t)
   over : {b : ℕ} {t r : List ℕ} → ¬ (b ≡ 10) → SkipsLine t r → SkipsLine (b ∷ t) r
 
 mutual
-  -- white space, comments and discards, in any order and number
+  -- white space, comments (; is 59) and discards (#_ is 35 95), in any order and number
   pub data SkipsGap : ℕ → List ℕ → List ℕ → Type 0 where
     no_gap : {d : ℕ} {t : List ℕ} → SkipsGap d t t
     white : {d b : ℕ} {t r : List ℕ} → IsTrue (is_white b) → SkipsGap d t r → SkipsGap d (b ∷ t) r
     comment : {d : ℕ} {t u r : List ℕ} → SkipsLine t u → SkipsGap d u r → SkipsGap d (59 ∷ t) r
     discard : {d : ℕ} {t u w r : List ℕ} {v : Value} → SkipsGap d t u → Reads d u v w → SkipsGap d w r → SkipsGap d (35 ∷ 95 ∷ t) r
 
-  -- one element
+  -- one element: an atom, a vector in [ ] (91 93), or a map in { } (123 125)
   pub data Reads : ℕ → List ℕ → Value → List ℕ → Type 0 where
     atom : {d : ℕ} {t r a : List ℕ} {v : Value} → IsAtom a v → MayFollowAtom r → t ≡ a ++ r → Reads d t v r
     in_brackets : {d : ℕ} {t r : List ℕ} {vs : Values} → d < 32 → ReadsAll (d + 1) t vs (93 ∷ r) → Reads d (91 ∷ t) (vector vs) r

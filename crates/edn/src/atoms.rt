@@ -3,7 +3,8 @@
 ghost use Rattle.std.specs.Prelude.{◌≡◌, ℕ, ◌++◌, ◌∷◌, ◌⊎◌, List, IfOk, IfSome, IfNone, IsErrOf};
 ghost use Rattle.edn.specs.Value.{Value, keyword};
 ghost use Rattle.edn.specs.View.{value_of, atom_value};
-ghost use Rattle.edn.specs.Bytes.{MayFollowAtom, IsAtom, IsKeywordText, IsToken, IsLongest, HasNone, ends_atom};
+ghost use Rattle.edn.specs.Bytes.{MayFollowAtom, IsAtom, IsKeywordText, IsToken, ends_atom};
+ghost use Rattle.edn.specs.Longest.{IsLongest, HasNone};
 
 use crate::elements::Edn;
 use crate::keywords::longest_name;
@@ -72,6 +73,7 @@ pub fn longest_atom(text: &[u8]) -> Option<(Atom<'_>, &[u8])>
         return Some((Atom::Keyword(name), rest));
     }
     if let Some(digits) = after(text, b'-') {
+        // The least integer is one further from 0 than the greatest.
         let (size, rest) = longest_numeral(digits, 1 << 63)?;
         return Some((Atom::Int(negated(size)), rest));
     }

@@ -1,7 +1,8 @@
 //! The names of keywords.
 
 ghost use Rattle.std.specs.Prelude.{◌≡◌, ℕ, ◌∷◌, List, IsTrue, IfSome, IfNone};
-ghost use Rattle.edn.specs.Bytes.{IsName, IsLongest, HasNone, is_letter, goes_on};
+ghost use Rattle.edn.specs.Bytes.{is_letter, goes_on};
+ghost use Rattle.edn.specs.Longest.{IsName, IsLongest, HasNone};
 
 use crate::numerals::is_digit;
 

@@ -1,7 +1,8 @@
 //! Numerals: decimal digits without a leading zero.
 
 ghost use Rattle.std.specs.Prelude.{◌≡◌, ℕ, ◌≤◌, ◌^◌, ◌∷◌, List, pos, neg_ℤ, IfSome, IfNone};
-ghost use Rattle.edn.specs.Bytes.{is_digit, IsNumeralOf, AddsDigit, IsLongest, HasNone};
+ghost use Rattle.edn.specs.Bytes.{is_digit};
+ghost use Rattle.edn.specs.Longest.{IsNumeralOf, AddsDigit, IsLongest, HasNone};
 
 use crate::pieces::after;
 

@@ -98,7 +98,9 @@ fn text_of(alloc: Global, bytes: &[u8]) -> Result<Vec<Edn>, Stop>
     }
 }
 
-/// The elements of a text, in order.
+/// The elements of a text, in order. A text is a profile of EDN: `nil`, integers of 64 bits, keywords without a
+/// namespace, vectors and maps, of which at most 32 are open at once, with white space, comments and discards between
+/// them. The keys of a map are distinct by [`same`](crate::same).
 ///
 /// # Errors
 /// [`Refusal::Unreadable`] where the input is no text, with the length in bytes of the longest front of it that is

@@ -4,7 +4,8 @@
 //! than stand before it in its own set. So nothing has to be marked as taken, and no memory is needed.
 
 ghost use Rattle.std.specs.Prelude.{◌≡◌, ℕ, ◌+◌, ◌↔◌, IsTrue, IfSome, IfNone};
-ghost use Rattle.edn.specs.Value.{Value, Values, Pairs, Same, SameInOrder, SameMembers, SamePairs, CountsSame, HasSame, CountsSamePair, HasSamePair, vector, pairs, members};
+ghost use Rattle.edn.specs.Value.{Value, Values, Pairs, Same, SameInOrder, SameMembers, SamePairs, vector, pairs, members};
+ghost use Rattle.edn.specs.Counts.{CountsSame, HasSame, CountsSamePair, HasSamePair};
 ghost use Rattle.edn.specs.View.{value_of, values_of, entries_of};
 
 use crate::elements::Edn;

@@ -2,7 +2,8 @@ use Rattle.std.proofs.Common.{◌≡◌, arith, sym, subst, to_z, of_z, w64}
 use Rattle.std.proofs.lemmas.Int.{ints}
 use Rattle.edn.specs.View.{atom_value, value_of}
 use Rattle.edn.specs.Value.{keyword}
-use Rattle.edn.specs.Bytes.{IsAtom, IsLongest}
+use Rattle.edn.specs.Bytes.{IsAtom}
+use Rattle.edn.specs.Longest.{IsLongest}
 use Rattle.edn.proofs.Longest.{whole_atom, no_whole_atom, no_whole}
 use Rattle.std.proofs.lemmas.Result.{IfOk-weaker}
 use Rattle.edn.proofs.Names.{name_of_keyword}

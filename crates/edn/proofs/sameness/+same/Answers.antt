@@ -1,5 +1,6 @@
 use Rattle.std.proofs.Common.{◌≡◌, ◌+◌, Bool, IsTrue, List, length, sym, ap, ◌∙◌, subst, arith}
-use Rattle.edn.specs.Value.{Value, Same, SamePairs, HasSame, HasSamePair, Pairs, pairs}
+use Rattle.edn.specs.Value.{Value, Same, SamePairs, Pairs, pairs}
+use Rattle.edn.specs.Counts.{HasSame, HasSamePair}
 use Rattle.edn.specs.View.{value_of, values_of, entries_of}
 use Rattle.edn.specs.declared.elements.Edn.{Edn}
 use Rattle.edn.proofs.Views.{view-Map}

@@ -1,5 +1,5 @@
 use Rattle.std.proofs.Common.{◌+◌, ◌*◌, ◌≤◌, take}
-use Rattle.edn.specs.Value.{CountsSame, CountsSamePair}
+use Rattle.edn.specs.Counts.{CountsSame, CountsSamePair}
 use Rattle.edn.specs.View.{value_of, values_of, entries_of}
 use Rattle.edn.proofs.Matching.{InOrderSoFar, MembersSoFar}
 use Rattle.edn.proofs.PairMatching.{PairsSoFar}
