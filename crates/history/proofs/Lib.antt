@@ -6,3 +6,4 @@ pub mod OpenOperations
 pub mod Refusing
 pub mod Replicas
 pub mod Values
+pub mod OneEvent

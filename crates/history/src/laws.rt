@@ -1,5 +1,7 @@
 //! Laws that show that the definitions say what they should.
-ghost use Rattle.std.specs.Prelude.{ℕ, List};
+ghost use Rattle.std.specs.Prelude.{◌≡◌, ℕ, List};
+ghost use Rattle.edn.specs.Value.{Value};
+ghost use Rattle.history.specs.Spelling.{Spells};
 ghost use Rattle.edn.specs.declared.refusals.Refusal.TheVariants.{Busy, WrongProcess, NotOpen, Mismatch};
 ghost use Rattle.models.specs.declared.operation.Part.TheVariants.{Nil};
 ghost use Rattle.history.specs.declared.events.EventKind.TheVariants.{Invoke, Ok};
@@ -27,4 +29,9 @@ pub fn refusals_in_order()
 /// Events each of which is well-formed after those before it follow the process rule, as far as operations go.
 pub fn process_rule_law()
     ensures { (c : ℕ) (events : List Event) → IsHistoryOf c events → IsHistory (indexed_from 0 events) }
+{}
+
+/// An element spells at most one event.
+pub fn one_event()
+    ensures { (v : Value) (e f : Event) → Spells v e → Spells v f → e ≡ f }
 {}

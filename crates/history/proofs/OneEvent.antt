@@ -1,0 +1,107 @@
+-- An element spells at most one event
+use Rattle.std.proofs.Common.{◌≡◌, ℕ, ◌^◌, ℤ, pos, Option, Some, None, List, codes, refl, sym, ap, ◌∙◌, subst, arith}
+use Rattle.std.specs.Prelude.{IsSomeAnd}
+use Rattle.edn.specs.Value.{Value, int, keyword, nil, vector, pairs, none, more, Pairs}
+use Rattle.models.specs.declared.operation.Name.{Name}
+use Rattle.models.specs.declared.operation.Name.TheVariants.{Read, Write}
+use Rattle.models.specs.declared.operation.Part.{Part}
+use Rattle.models.specs.declared.operation.Part.TheVariants.{Nil, Int}
+use Rattle.models.specs.declared.operation.Op.{Op}
+use Rattle.history.specs.declared.events.EventKind.{EventKind}
+use Rattle.history.specs.declared.events.EventKind.TheVariants.{Invoke, Ok}
+use Rattle.history.specs.declared.events.Process.{Process}
+use Rattle.history.specs.declared.events.Process.TheVariants.{Client, Nemesis}
+use Rattle.history.specs.declared.events.Body.{Body}
+use Rattle.history.specs.declared.events.Body.TheVariants.{Op as AnOp, Fault as AFault}
+use Rattle.history.specs.declared.events.Event.{Event}
+use Rattle.history.specs.Spelling.{IsNumber, SpellsIndex, SpellsKind, SpellsProcess, SpellsName, SpellsPart, SpellsBody, PairsSpell, Spells, name_in, value_at}
+
+one_number : (m : ℕ) (v : Value) (n k : ℕ) → IsNumber m v n → IsNumber m v k → n ≡ k
+one_number m v n k a b = (let both : int (pos n) ≡ int (pos k) = sym a.0 ∙ b.0 in cc)
+
+one_index : (o : Option Value) (i j : Option ℕ) → SpellsIndex o i → SpellsIndex o j → i ≡ j
+one_index (Some v) (Some n) (Some k) a b = ap Some (one_number (2 ^ 32) v n k a b)
+one_index (Some v) (Some n) None a b = absurd b
+one_index (Some v) None j a b = absurd a
+one_index None (Some n) j a b = absurd a
+one_index None None (Some k) a b = absurd b
+one_index None None None a b = refl
+
+-- two keywords of other names are not one value
+two_names : (v : Value) (x y : List ℕ) → v ≡ keyword x → v ≡ keyword y → x ≡ y
+two_names v x y a b = (let both : keyword x ≡ keyword y = sym a ∙ b in cc)
+
+one_kind : (v : Value) (k j : EventKind) → SpellsKind v k → SpellsKind v j → k ≡ j
+one_kind v Invoke Invoke a b = refl
+one_kind v Ok Ok a b = refl
+one_kind v Invoke Ok a b = (let same : codes "invoke" ≡ codes "ok" = two_names v (codes "invoke") (codes "ok") a b in cc)
+one_kind v Ok Invoke a b = (let same : codes "ok" ≡ codes "invoke" = two_names v (codes "ok") (codes "invoke") a b in cc)
+one_kind v Invoke _ a b = absurd b
+one_kind v Ok _ a b = absurd b
+one_kind v _ j a b = absurd a
+
+one_process : (v : Value) (p q : Process) → SpellsProcess v p → SpellsProcess v q → p ≡ q
+one_process v (Client n) (Client k) a b = ap Client (one_number (2 ^ 32) v n k a b)
+one_process v (Client n) Nemesis a b = absurd b
+one_process v Nemesis q a b = absurd a
+
+one_name : (v : Value) (n k : Name) → SpellsName v n → SpellsName v k → n ≡ k
+one_name v Read Read a b = refl
+one_name v Write Write a b = refl
+one_name v Read Write a b = (let same : codes "read" ≡ codes "write" = two_names v (codes "read") (codes "write") a b in cc)
+one_name v Write Read a b = (let same : codes "write" ≡ codes "read" = two_names v (codes "write") (codes "read") a b in cc)
+one_name v Read _ a b = absurd b
+one_name v Write _ a b = absurd b
+one_name v _ k a b = absurd a
+
+one_part : (kind : EventKind) (name : Name) (v : Value) (x y : Part) → SpellsPart kind name v x → SpellsPart kind name v y → x ≡ y
+one_part kind Read v Nil Nil a b = refl
+one_part Ok Read v Nil (Int y) a b = (let both : nil ≡ int y = sym a ∙ b in cc)
+one_part Ok Read v (Int x) Nil a b = (let both : int x ≡ nil = sym a ∙ b in cc)
+one_part Ok Read v (Int x) (Int y) a b = (let both : int x ≡ int y = sym a ∙ b in let same : x ≡ y = cc in ap Int same)
+one_part kind Write v (Int x) (Int y) a b = (let both : int x ≡ int y = sym a ∙ b in let same : x ≡ y = cc in ap Int same)
+one_part _ Read v Nil _ a b = absurd b
+one_part Ok Read v (Int x) _ a b = absurd b
+one_part _ Write v (Int x) _ a b = absurd b
+one_part _ _ v _ _ a b = absurd a
+
+op_same : (n m : Name) (k j : ℕ) (x y : Part) → n ≡ m → k ≡ j → x ≡ y → ◌≡◌ {A = Op} (record { name = n; key = k; part = x }) (record { name = m; key = j; part = y })
+op_same n m k j x y a b d =
+    ap (λ (w : Name). let op : Op = record { name = w; key = k; part = x } in op) a ∙ ap (λ (w : ℕ). let op : Op = record { name = m; key = w; part = x } in op) b
+    ∙ ap (λ (w : Part). let op : Op = record { name = m; key = j; part = w } in op) d
+
+one_body : (kind : EventKind) (f v : Value) (x y : Body) → SpellsBody kind f v x → SpellsBody kind f v y → x ≡ y
+one_body kind f v (AnOp x) (AnOp y) a b =
+    (let names : x.name ≡ y.name = one_name f x.name y.name a.0 b.0 in
+    let both : vector (more a.1.0 (more a.1.1 none)) ≡ vector (more b.1.0 (more b.1.1 none)) = sym a.1.2 ∙ b.1.2 in
+    let keys : a.1.0 ≡ b.1.0 = cc in
+    let parts : a.1.1 ≡ b.1.1 = cc in
+    let other : SpellsPart kind x.name a.1.1 y.part = subst (λ n. SpellsPart kind n a.1.1 y.part) (sym names) (subst (λ w. SpellsPart kind y.name w y.part) (sym parts) b.1.4) in
+    ap AnOp (op_same x.name y.name x.key y.key x.part y.part names (one_number (2 ^ 16) a.1.0 x.key y.key a.1.3 (subst (λ w. IsNumber (2 ^ 16) w y.key) (sym keys) b.1.3)) (one_part kind x.name a.1.1 x.part y.part a.1.4 other)))
+one_body kind f v (AnOp x) (AFault fault) a b = absurd b
+one_body kind f v (AFault fault) y a b = absurd a
+
+at_one : {X : Type 0} (P : Value → X → Type 0) → ((v : Value) (x y : X) → P v x → P v y → x ≡ y) → (o : Option Value) (x y : X) → IsSomeAnd o (λ v. P v x) → IsSomeAnd o (λ v. P v y) → x ≡ y
+at_one P one (Some v) x y a b = one v x y a b
+at_one P one None x y a b = absurd a
+
+at_two : (kind : EventKind) (f v : Option Value) (x y : Body) → IsSomeAnd f (λ g. IsSomeAnd v (λ w. SpellsBody kind g w x)) → IsSomeAnd f (λ g. IsSomeAnd v (λ w. SpellsBody kind g w y)) → x ≡ y
+at_two kind (Some g) (Some w) x y a b = one_body kind g w x y a b
+at_two kind (Some g) None x y a b = absurd a
+at_two kind None v x y a b = absurd a
+
+pairs_spell_one : (ps : Pairs) (e f : Event) → PairsSpell ps e → PairsSpell ps f → e ≡ f
+pairs_spell_one ps e f a b =
+    ap (λ (w : Option ℕ). let g : Event = record { index = w; kind = e.kind; process = e.process; body = e.body } in g) (one_index (value_at (codes "index") ps) e.index f.index a.0 b.0)
+    ∙ ap (λ (w : EventKind). let g : Event = record { index = f.index; kind = w; process = e.process; body = e.body } in g) kinds
+    ∙ ap (λ (w : Process). let g : Event = record { index = f.index; kind = f.kind; process = w; body = e.body } in g) (at_one SpellsProcess one_process (value_at (codes "process") ps) e.process f.process a.2 b.2)
+    ∙ ap (λ (w : Body). let g : Event = record { index = f.index; kind = f.kind; process = f.process; body = w } in g)
+    (at_two e.kind (value_at (codes "f") ps) (value_at (codes "value") ps) e.body f.body a.3
+    (subst (λ k. IsSomeAnd (value_at (codes "f") ps) (λ g. IsSomeAnd (value_at (codes "value") ps) (λ w. SpellsBody k g w f.body))) (sym kinds) b.3))
+  where
+    kinds : e.kind ≡ f.kind
+    kinds = at_one SpellsKind one_kind (value_at (codes "type") ps) e.kind f.kind a.1 b.1
+
+pub spell_one : (v : Value) (e f : Event) → Spells v e → Spells v f → e ≡ f
+spell_one v e f a b =
+    (let both : pairs a.0 ≡ pairs b.0 = sym a.1 ∙ b.1 in let same : a.0 ≡ b.0 = cc in pairs_spell_one a.0 e f a.2 (subst (λ ps. PairsSpell ps f) (sym same) b.2))
