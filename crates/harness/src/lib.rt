@@ -8,3 +8,6 @@ mod readying;
 
 pub use commands::{Command, Config, Reply};
 pub use core_object::Core;
+
+#[cfg(test)]
+mod tests;
