@@ -1,50 +1,18 @@
 //! Any cutting, failing readers and writers, one flush, and the words of the command line.
 ghost use Rattle.std.specs.Prelude.{◌≡◌, false};
 
-use crate::answering::answer_lines;
-use crate::machine::LineMachine;
 use crate::orders::{Order, Stop, order_of};
 use crate::replies::{append_refusal, append_verdict};
+use crate::script::run_script;
 use crate::watched::{Failed, Watched};
 use edn::Refusal;
+use harness::Config;
 use linspec::Verdict;
 use std::alloc::{AllocError, Global};
 use std::io;
 use std::io::{ErrorKind, Read, Write};
 use std::sync::Wait;
 use std::test::Fail;
-
-// Answers each line that has a byte by `legal`, and counts them.
-#[derive(Drop)]
-struct Legal {
-    count: u64,
-}
-
-impl LineMachine for Legal {
-    ghost use Rattle.std.specs.Prelude.{⊤};
-
-    type State = u64;
-
-    type Verdict = u64;
-
-    ghost state = { λ machine. machine.count };
-
-    ghost may_reply = { λ s line reply t. ⊤ };
-
-    ghost shows = { λ s v. ⊤ };
-
-    fn answer(&mut self, line: &[u8], reply: &mut Vec<u8>) -> Result<(), AllocError> {
-        if !line.is_empty() {
-            reply.extend_from_slice(b"legal\n")?;
-            self.count = self.count.wrapping_add(1);
-        }
-        Ok(())
-    }
-
-    fn verdict(&self) -> u64 {
-        self.count
-    }
-}
 
 // Gives one byte a time, and fails at a place.
 #[derive(Drop)]
@@ -108,47 +76,41 @@ fn narrow_writer(alloc: Global, room: usize, fails: bool) -> Watched<Narrow>
     })
 }
 
+const DEFAULTS: Config = Config {
+    concurrency: 2,
+    budget: 4096,
+};
+
 #[test]
 fn any_cutting(rt: HostRuntime) {
-    let text = b"one\n\ntwo\nthree";
+    let text = b"[:verdict]\n\n; none\n{:type :invoke\n[:verdict] 1\n[:verdict]";
+    let want = b"legal\nrefused 11 Unreadable 0\nrefused 5 BadValue\nlegal\n";
     let mut whole = Watched::new(&text[..]);
     let mut first = Watched::new(Vec::new(rt.alloc()));
-    let count = answer_lines(&rt, rt.alloc(), Legal { count: 0 }, &mut whole, &mut first);
-    assert!(rt; matches!(count, Ok(3)));
-    assert_eq!(rt;
-        first.inner().as_slice(),
-        b"legal\nlegal\nlegal\n".as_slice()
-    );
+    let verdict = run_script(&rt, rt.alloc(), DEFAULTS, &mut whole, &mut first);
+    assert!(rt; matches!(verdict, Ok(Verdict::Legal)));
+    assert_eq!(rt; first.into_inner().as_slice(), want.as_slice());
     let mut bytes = Watched::new(Trickle {
         bytes: text,
         at: 0,
         fails_at: 99,
     });
     let mut second = Watched::new(Vec::new(rt.alloc()));
-    let count = answer_lines(&rt, rt.alloc(), Legal { count: 0 }, &mut bytes, &mut second);
-    assert!(rt; matches!(count, Ok(3)));
-    assert_eq!(rt;
-        second.into_inner().as_slice(),
-        first.into_inner().as_slice()
-    );
+    let verdict = run_script(&rt, rt.alloc(), DEFAULTS, &mut bytes, &mut second);
+    assert!(rt; matches!(verdict, Ok(Verdict::Legal)));
+    assert_eq!(rt; second.into_inner().as_slice(), want.as_slice());
 }
 
 #[test]
 fn one_flush_at_the_end(rt: HostRuntime) {
     let mut reader = Watched::new(Trickle {
-        bytes: b"one\ntwo\nthree",
+        bytes: b"[:verdict]\n[:verdict]\n[:verdict]",
         at: 0,
         fails_at: 99,
     });
     let mut writer = narrow_writer(rt.alloc(), 99, false);
-    let count = answer_lines(
-        &rt,
-        rt.alloc(),
-        Legal { count: 0 },
-        &mut reader,
-        &mut writer,
-    );
-    assert!(rt; matches!(count, Ok(3)));
+    let verdict = run_script(&rt, rt.alloc(), DEFAULTS, &mut reader, &mut writer);
+    assert!(rt; matches!(verdict, Ok(Verdict::Legal)));
     assert_eq!(rt; writer.inner().flushes, 1);
     assert_eq!(rt; writer.inner().flushed, 18);
 }
@@ -156,19 +118,13 @@ fn one_flush_at_the_end(rt: HostRuntime) {
 #[test]
 fn failing_reader(rt: HostRuntime) {
     let mut reader = Watched::new(Trickle {
-        bytes: b"one\ntwo\nthree\n",
+        bytes: b"[:verdict]\n[:verdict]\n[:verdict]\n",
         at: 0,
-        fails_at: 10,
+        fails_at: 32,
     });
     let mut writer = narrow_writer(rt.alloc(), 99, false);
-    let count = answer_lines(
-        &rt,
-        rt.alloc(),
-        Legal { count: 0 },
-        &mut reader,
-        &mut writer,
-    );
-    assert!(rt; matches!(count, Err(Refusal::ReadFailed)));
+    let verdict = run_script(&rt, rt.alloc(), DEFAULTS, &mut reader, &mut writer);
+    assert!(rt; matches!(verdict, Err(Refusal::ReadFailed)));
     assert!(rt; reader.failed());
     assert_eq!(rt;
         writer.inner().held.as_slice(),
@@ -177,11 +133,17 @@ fn failing_reader(rt: HostRuntime) {
     assert_eq!(rt; writer.inner().flushes, 0);
 }
 
+const WRITE_THEN_READ: &[u8] = b"{:type :invoke, :process 0, :f :write, :value [7 3]}
+{:type :ok, :process 0, :f :write, :value [7 3]}
+{:type :invoke, :process 0, :f :read, :value [7 nil]}
+{:type :ok, :process 0, :f :read, :value [7 3]}
+";
+
 fn takes_only<X: Wait>(rt: &X, alloc: Global, room: usize, fails: bool, want: &[u8]) -> bool {
-    let mut reader = Watched::new(&b"one\ntwo\nthree\n"[..]);
+    let mut reader = Watched::new(WRITE_THEN_READ);
     let mut writer = narrow_writer(alloc, room, fails);
-    let count = answer_lines(rt, alloc, Legal { count: 0 }, &mut reader, &mut writer);
-    matches!(count, Err(Refusal::WriteFailed))
+    let verdict = run_script(rt, alloc, DEFAULTS, &mut reader, &mut writer);
+    matches!(verdict, Err(Refusal::WriteFailed))
         && writer.failed()
         && writer.inner().held.as_slice() == want
 }
@@ -194,22 +156,36 @@ fn failing_writer(rt: HostRuntime) {
 }
 
 #[test]
+fn refused_config(rt: HostRuntime) {
+    for (concurrency, budget, want) in [(2, 0, 9), (2, 65_537, 9), (0, 1, 10), (65, 1, 10)] {
+        let mut reader = Watched::new(&b"[:verdict]\n"[..]);
+        let mut writer = narrow_writer(rt.alloc(), 99, false);
+        let config = Config {
+            concurrency,
+            budget,
+        };
+        let Err(refusal) = run_script(&rt, rt.alloc(), config, &mut reader, &mut writer) else {
+            panic!(rt; "opened with {concurrency} and {budget}");
+        };
+        assert_eq!(rt; refusal.number(), want);
+        assert_eq!(rt; reader.inner().len(), 11);
+        assert_eq!(rt; writer.inner().held.len(), 0);
+        assert_eq!(rt; writer.inner().flushes, 0);
+    }
+}
+
+#[test]
 fn longest_line(rt: HostRuntime) -> Result<(), AllocError> {
     let mut text = Vec::new(rt.alloc());
-    text.resize(65_536, b'x')?;
-    text.push(b'\n')?;
-    text.resize(131_074, b'y')?;
-    text.extend_from_slice(b"\nz")?;
+    text.extend_from_slice(b"[:verdict]")?;
+    text.resize(65_536, b' ')?;
+    text.extend_from_slice(b"\n[:verdict]")?;
+    text.resize(131_074, b' ')?;
+    text.extend_from_slice(b"\n[:verdict]")?;
     let mut reader = Watched::new(text.as_slice());
     let mut writer = Watched::new(Vec::new(rt.alloc()));
-    let count = answer_lines(
-        &rt,
-        rt.alloc(),
-        Legal { count: 0 },
-        &mut reader,
-        &mut writer,
-    );
-    assert!(rt; matches!(count, Ok(2)));
+    let verdict = run_script(&rt, rt.alloc(), DEFAULTS, &mut reader, &mut writer);
+    assert!(rt; matches!(verdict, Ok(Verdict::Legal)));
     let want = b"legal\nrefused 22 TooLong\nlegal\n";
     assert_eq!(rt; writer.inner().as_slice(), want.as_slice());
     Ok(())
