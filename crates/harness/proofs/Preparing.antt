@@ -1,5 +1,5 @@
 -- An event is prepared in the history and in the line
-use Rattle.std.proofs.Common.{◌≡◌, ℕ, ◌+◌, Option, Some, None, unwrap_or, Result, Ok, Err, IfOk, IfSome, MatchOption, IsOk, OnErr, List, [], ◌∷◌, ◌++◌, length, refl, sym, ap, ◌∙◌, subst, arith}
+use Rattle.std.proofs.Common.{◌≡◌, ℕ, ◌+◌, Option, Some, None, unwrap_or, Result, Ok, Err, IfOk, IfSome, IsOk, OnErr, List, [], ◌∷◌, ◌++◌, length, refl, sym, ap, ◌∙◌, subst, arith}
 use Rattle.std.specs.Option.{option_or}
 use Rattle.std.specs.List.{Contains}
 use Rattle.std.proofs.lemmas.List.Elements.{Contains-append_right}
@@ -91,7 +91,7 @@ readied history history' line line' known after change event status kept readies
 -- what is kept once the event is carried out
 pub committed : (history history' : Contents) (line line' : Line) (known next : Known) → IsKept history line known (Append next)
     → IfSome history.prepared (λ event. history' ≡ record history { events = history.events ++ event ∷ []; prepared = None })
-    → MatchOption line.prepared ⊥ (λ change. line' ≡ record line { events = line.events ++ change ∷ []; prepared = None })
+    → IfSome line.prepared (λ change. line' ≡ record line { events = line.events ++ change ∷ []; prepared = None })
     → IsKept history' line' next Nothing
 committed history history' line line' known next kept history_is line_is =
     subst (λ (h : Contents). IsKept h line' next Nothing) (sym now)
@@ -105,7 +105,7 @@ committed history history' line line' known next kept history_is line_is =
     now = subst (λ (o : Option Event). IfSome o (λ e. history' ≡ record history { events = history.events ++ e ∷ []; prepared = None })) kept.readied.1 history_is
 
     line_now : line' ≡ record line { events = line.events ++ (length history.events, event) ∷ []; prepared = None }
-    line_now = subst (λ (o : Option (ℕ × Event)). MatchOption o ⊥ (λ change. line' ≡ record line { events = line.events ++ change ∷ []; prepared = None })) kept.readied.2 line_is
+    line_now = subst (λ (o : Option (ℕ × Event)). IfSome o (λ change. line' ≡ record line { events = line.events ++ change ∷ []; prepared = None })) kept.readied.2 line_is
 
 -- what is kept at the opening
 pub opened : Laws → (c budget : ℕ) (history : Contents) (line : Line) (status : KeyStatus) (v : Verdict) → history ≡ no_events c → line ≡ record { budget = budget; events = []; prepared = None }
