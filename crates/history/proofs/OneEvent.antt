@@ -1,5 +1,5 @@
 -- An element spells at most one event
-use Rattle.std.proofs.Common.{◌≡◌, ℕ, ◌^◌, ℤ, pos, Option, Some, None, List, codes, refl, sym, ap, ◌∙◌, subst, arith}
+use Rattle.std.proofs.Common.{◌≡◌, ℕ, ◌^◌, pos, Option, Some, None, List, codes, refl, sym, ap, ◌∙◌, subst}
 use Rattle.std.specs.Prelude.{IsSomeAnd}
 use Rattle.edn.specs.Value.{Value, int, keyword, nil, vector, pairs, none, more, Pairs}
 use Rattle.models.specs.declared.operation.Name.{Name}
@@ -14,7 +14,7 @@ use Rattle.history.specs.declared.events.Process.TheVariants.{Client, Nemesis}
 use Rattle.history.specs.declared.events.Body.{Body}
 use Rattle.history.specs.declared.events.Body.TheVariants.{Op as AnOp, Fault as AFault}
 use Rattle.history.specs.declared.events.Event.{Event}
-use Rattle.history.specs.Spelling.{IsNumber, SpellsIndex, SpellsKind, SpellsProcess, SpellsName, SpellsPart, SpellsBody, PairsSpell, Spells, name_in, value_at}
+use Rattle.history.specs.Spelling.{IsNumber, SpellsIndex, SpellsKind, SpellsProcess, SpellsName, SpellsPart, SpellsBody, PairsSpell, Spells, value_at}
 
 one_number : (m : ℕ) (v : Value) (n k : ℕ) → IsNumber m v n → IsNumber m v k → n ≡ k
 one_number m v n k a b = (let both : int (pos n) ≡ int (pos k) = sym a.0 ∙ b.0 in cc)

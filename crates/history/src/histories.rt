@@ -75,6 +75,8 @@ impl History {
     /// [`Refusal::BadIndex`], [`Refusal::HistoryFull`], then [`Refusal::WrongProcess`] and [`Refusal::Busy`] for an
     /// invocation, or [`Refusal::NotOpen`] and [`Refusal::Mismatch`] for a completion; [`Refusal::NoMemory`] last.
     /// Then no event is prepared.
+    ///
+    /// The time does not grow with the history, but where its memory grows.
     pub fn prepare(&mut self, event: Event) -> Result<(), Refusal>
         ensures well_formed { OnOk result (IsWellFormed self.old.concurrency self.old.events event) }
         ensures prepared { OnOk result (self.new ≡ record self.old { prepared = Some event }) }
@@ -89,7 +91,7 @@ impl History {
         Ok(())
     }
 
-    /// Appends the prepared event. It takes no memory.
+    /// Appends the prepared event. It takes no memory and cannot fail, and its time does not grow with the history.
     pub fn commit(&mut self)
         requires { IsSome self.old.prepared }
         ensures { IfSome self.old.prepared (λ event. self.new ≡ record self.old { events = self.old.events ++ event ∷ []; prepared = None }) }
