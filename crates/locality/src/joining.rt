@@ -39,7 +39,11 @@ fn with_dead(verdict: Verdict, key: Key, index: u32) -> Verdict
         Verdict::Legal | Verdict::Unknown { .. } => Verdict::Illegal { key, index },
         Verdict::Illegal { index: least, .. } => {
             let is_sooner = index < least;
-            if is_sooner { Verdict::Illegal { key, index } } else { verdict }
+            if is_sooner {
+                Verdict::Illegal { key, index }
+            } else {
+                verdict
+            }
         }
     }
 }
@@ -53,7 +57,11 @@ fn with_over(verdict: Verdict, key: Key, index: u32) -> Verdict
         Verdict::Legal => Verdict::Unknown { key, index },
         Verdict::Unknown { index: first, .. } => {
             let is_sooner = index < first;
-            if is_sooner { Verdict::Unknown { key, index } } else { verdict }
+            if is_sooner {
+                Verdict::Unknown { key, index }
+            } else {
+                verdict
+            }
         }
     }
 }
