@@ -67,7 +67,8 @@ fn grow_once<M: SeqObject>(
     Ok(())
 }
 
-/// Adds the ends that the calls lead to, one after another.
+/// Adds the ends that the calls lead to, one after another. Each round takes one call more from the ends that the round
+/// before it added; a round for each call is enough, since none is taken twice.
 pub fn grow<M: SeqObject>(ends: &mut Vec<Kept<M::State>>, calls: &[Call]) -> Result<(), AllocError>
     ensures adds { let object = of_table M.State M.start_state M.apply_to in
         OnOk result (Adds (Reached object calls.now (length calls.now) (map end_kept ends.old.items)) (map end_kept ends.old.items) (map end_kept ends.new.items)) }
