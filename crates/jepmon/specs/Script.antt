@@ -1,8 +1,8 @@
 -- The reply text of an input, and what a writer that grew by it or by a beginning of it has taken.
-use Rattle.std.specs.Prelude.{◌≡◌, ◌≢◌, ℕ, ◌<◌, ◌≤◌, Bool, true, false, List, [], ◌∷◌, ◌++◌, length, Option}
+use Rattle.std.specs.Prelude.{◌≡◌, ◌≢◌, ℕ, ◌<◌, ◌≤◌, Bool, true, false, List, [], ◌∷◌, ◌++◌, length, Option, ◌⊎◌}
 use Rattle.std.specs.Io.KnownBytes.{Appends, Consumes, IsAtEnd}
 use Rattle.edn.specs.declared.refusals.Refusal.{Refusal}
-use Rattle.edn.specs.declared.refusals.Refusal.TheVariants.{TooLong, ReadFailed}
+use Rattle.edn.specs.declared.refusals.Refusal.TheVariants.{NoMemory, ReadFailed, WriteFailed, TooLong}
 use Rattle.jepmon.specs.Lines.{Cuts, last_line}
 use Rattle.jepmon.specs.Words.{refusal_line}
 
@@ -14,6 +14,10 @@ line_limit = 65536
 abbrev pub read_lines : Bool → List (List ℕ) → List ℕ → List (List ℕ)
 read_lines true lines rest = lines ++ last_line rest
 read_lines false lines rest = lines
+
+-- what a script may be refused for once it has begun
+abbrev pub MayStop : Refusal → Type 0
+MayStop e = (e ≡ NoMemory) ⊎ (e ≡ ReadFailed) ⊎ (e ≡ WriteFailed)
 
 module _ {S : Type 0} (may_reply : S → List ℕ → List ℕ → S → Type 0) where
   -- in the state old the line may be answered by this text, which leads to the state new. A line over the limit is

@@ -1,7 +1,7 @@
 //! Bytes to bytes, over any machine of lines.
 ghost use Rattle.std.specs.Prelude.{◌≡◌, ◌≢◌, ◌+◌, ◌<◌, ◌≤◌, ℕ, Bool, List, [], ◌∷◌, ◌++◌, take, length, IfOk, OnOk, OnErr, IfErr, true, false, Ok, Err};
 ghost use Rattle.std.specs.Io.KnownBytes.{Appends, Consumes, IsAtEnd, Keeps};
-ghost use Rattle.jepmon.specs.Script.{IsAnswered, IsUpToDate, Stops};
+ghost use Rattle.jepmon.specs.Script.{IsAnswered, IsUpToDate, MayStop, Stops};
 
 use crate::machine::LineMachine;
 use crate::session::Session;
@@ -73,6 +73,7 @@ pub fn answer_lines<X: Wait, M: LineMachine, R: Read + Failed, W: Write + Failed
     ensures live { result ≡ Err Refusal.ReadFailed → (seen : List ℕ)
         × Consumes (R.remaining reader.old) (R.remaining reader.new) seen
         × IsUpToDate M.may_reply (M.state machine) (W.contents writer.old) seen (W.contents writer.new) }
+    ensures kinds { IfErr result MayStop }
     ensures read { result ≡ Err Refusal.ReadFailed → R.has_failed reader.new ≡ true }
     ensures wrote { result ≡ Err Refusal.WriteFailed → W.has_failed writer.new ≡ true }
 {

@@ -1,6 +1,6 @@
 //! The words of the command line.
 ghost use Rattle.std.specs.Prelude.{◌≡◌, ◌≤◌, length, IfOk, Ok, IfSome};
-ghost use Rattle.jepmon.specs.Orders.{default_config, IsWithinLimits};
+ghost use Rattle.jepmon.specs.Orders.{default_config, HasLimits, IsWithinLimits};
 
 use clap::error::ErrorKind;
 use clap::{Arg, ArgMatches, Command};
@@ -92,7 +92,9 @@ pub fn no_text(alloc: Global) -> Stop {
 
 // The order of these numbers, where they are within their limits.
 fn script_order(concurrency: u32, budget: u32) -> Result<Order, Stop>
-    ensures { IfOk result IsWithinLimits }
+    ensures within { IfOk result IsWithinLimits }
+    ensures ok { HasLimits (record { concurrency = concurrency; budget = budget })
+        → result ≡ Ok (Order.Script (record { concurrency = concurrency; budget = budget })) }
 {
     if budget < 1 || budget > 65_536 {
         return Err(Stop::Refused(Refusal::BadBudget));

@@ -3,7 +3,7 @@ ghost use Rattle.std.specs.Prelude.{◌≡◌, ◌≢◌, ◌⊎◌, ℕ, List, 
 ghost use Rattle.std.specs.Io.KnownBytes.{Consumes, IsAtEnd};
 ghost use Rattle.harness.specs.Machine.{Machine, opening, MayNotOpen, IsVerdictOn};
 ghost use Rattle.jepmon.specs.Orders.{HasLimits};
-ghost use Rattle.jepmon.specs.Script.{IsAnswered, IsUpToDate, Stops};
+ghost use Rattle.jepmon.specs.Script.{IsAnswered, IsUpToDate, MayStop, Stops};
 ghost use Rattle.jepmon.specs.Replies.{CarriesOut, MayReply};
 
 use crate::answering::answer_lines;
@@ -114,6 +114,7 @@ pub fn run_script<X: Wait, R: Read + Failed, W: Write + Failed>(
     ensures live { result ≡ Err Refusal.ReadFailed → (seen : List ℕ)
         × Consumes (R.remaining reader.old) (R.remaining reader.new) seen
         × IsUpToDate MayReply (opening config) (W.contents writer.old) seen (W.contents writer.new) }
+    ensures kinds { IfErr result (λ e. MayNotOpen config e ⊎ MayStop e) }
     ensures read { result ≡ Err Refusal.ReadFailed → R.has_failed reader.new ≡ true }
     ensures wrote { result ≡ Err Refusal.WriteFailed → W.has_failed writer.new ≡ true }
 {

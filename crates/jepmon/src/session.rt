@@ -1,6 +1,6 @@
 //! What stands between two reads.
 ghost use Rattle.std.specs.Prelude.{◌≡◌, ◌≢◌, ◌+◌, ◌<◌, ◌≤◌, ℕ, List, [], ◌∷◌, ◌++◌, take, length, Option, OnOk, OnErr, IfErr, true, false, vec_len};
-ghost use Rattle.jepmon.specs.Script.{MayAnswer, line_limit};
+ghost use Rattle.jepmon.specs.Script.{MayAnswer, MayStop, line_limit};
 ghost use Rattle.jepmon.specs.Steps.{Reading, LineIsAnswered, LineIsHalfAnswered, GoesOn, StopsIn, Ends, StopsAtEnd};
 
 use crate::machine::LineMachine;
@@ -62,6 +62,7 @@ impl<M: LineMachine> Session<M> {
         ensures empty { OnOk result (self.new.line ≡ []) }
         ensures err { OnErr result (LineIsHalfAnswered M.may_reply self.old.line (M.state self.old.machine) (W.contents writer.old) (W.contents writer.new)) }
         ensures cause { IfErr result (λ e. (e ≢ Refusal.ReadFailed) × (e ≡ Refusal.WriteFailed → W.has_failed writer.new ≡ true)) }
+        ensures kinds { IfErr result MayStop }
     {
         make_reply(self.alloc, &mut self.machine, &self.line, &mut self.reply)?;
         write_text(rt, writer, &self.reply)?;
@@ -79,6 +80,7 @@ impl<M: LineMachine> Session<M> {
         ensures ok { OnOk result (GoesOn M.may_reply (byte ∷ []) self.old.line (M.state self.old.machine) (W.contents writer.old) self.new.line (M.state self.new.machine) (W.contents writer.new)) }
         ensures err { OnErr result (StopsIn M.may_reply (byte ∷ []) self.old.line (M.state self.old.machine) (W.contents writer.old) (W.contents writer.new)) }
         ensures cause { IfErr result (λ e. (e ≢ Refusal.ReadFailed) × (e ≡ Refusal.WriteFailed → W.has_failed writer.new ≡ true)) }
+        ensures kinds { IfErr result MayStop }
     {
         if byte == b'\n' {
             return self.end_line(rt, writer);
@@ -96,6 +98,7 @@ impl<M: LineMachine> Session<M> {
         ensures ok { OnOk result (GoesOn M.may_reply piece.now self.old.line (M.state self.old.machine) (W.contents writer.old) self.new.line (M.state self.new.machine) (W.contents writer.new)) }
         ensures err { OnErr result (StopsIn M.may_reply piece.now self.old.line (M.state self.old.machine) (W.contents writer.old) (W.contents writer.new)) }
         ensures cause { IfErr result (λ e. (e ≢ Refusal.ReadFailed) × (e ≡ Refusal.WriteFailed → W.has_failed writer.new ≡ true)) }
+        ensures kinds { IfErr result MayStop }
     {
         for byte in piece {
             self.take_byte(rt, writer, *byte)?;
@@ -113,6 +116,7 @@ impl<M: LineMachine> Session<M> {
         ensures unfailed { OnOk result (W.has_failed writer.new ≡ false) }
         ensures err { OnErr result (StopsAtEnd M.may_reply self.old.line (M.state self.old.machine) (W.contents writer.old) (W.contents writer.new)) }
         ensures cause { IfErr result (λ e. (e ≢ Refusal.ReadFailed) × (e ≡ Refusal.WriteFailed → W.has_failed writer.new ≡ true)) }
+        ensures kinds { IfErr result MayStop }
     {
         self.end_last_line(rt, writer)?;
         flush_all(rt, writer)
@@ -127,6 +131,7 @@ impl<M: LineMachine> Session<M> {
         ensures ok { OnOk result (Ends M.may_reply self.old.line (M.state self.old.machine) (W.contents writer.old) (M.state self.new.machine) (W.contents writer.new)) }
         ensures err { OnErr result (StopsAtEnd M.may_reply self.old.line (M.state self.old.machine) (W.contents writer.old) (W.contents writer.new)) }
         ensures cause { IfErr result (λ e. (e ≢ Refusal.ReadFailed) × (e ≡ Refusal.WriteFailed → W.has_failed writer.new ≡ true)) }
+        ensures kinds { IfErr result MayStop }
     {
         if self.holds_nothing() {
             return Ok(());
