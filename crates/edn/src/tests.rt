@@ -25,6 +25,11 @@ fn place_of_refusal(rt: &HostRuntime, text: &[u8]) -> Result<usize, Fail> {
     }
 }
 
+// As many collections open at once as may be, and one more.
+const DEEPEST: &[u8] = b"[[[[[[[[[[[[[[[[[[[[[[[[[[[[[[[[]]]]]]]]]]]]]]]]]]]]]]]]]]]]]]]]";
+
+const TOO_DEEP: &[u8] = b"[[[[[[[[[[[[[[[[[[[[[[[[[[[[[[[[[]]]]]]]]]]]]]]]]]]]]]]]]]]]]]]]]]";
+
 #[test]
 fn unreadable_places(rt: HostRuntime) -> Result<(), Fail> {
     assert_eq!(rt; place_of_refusal(&rt, b"007")?, 1);
@@ -35,6 +40,7 @@ fn unreadable_places(rt: HostRuntime) -> Result<(), Fail> {
     assert_eq!(rt; place_of_refusal(&rt, b"nil true fals")?, 4);
     assert_eq!(rt; place_of_refusal(&rt, b"12a")?, 2);
     assert_eq!(rt; place_of_refusal(&rt, b"#_ 12a")?, 5);
+    assert_eq!(rt; place_of_refusal(&rt, TOO_DEEP)?, 0);
     Ok(())
 }
 
@@ -50,6 +56,7 @@ fn elements_of_texts(rt: HostRuntime) -> Result<(), Fail> {
     );
     assert_eq!(rt; read_all(rt.alloc(), b"")?.len(), 0);
     assert_eq!(rt; read_all(rt.alloc(), b"#_ #_ 1 2")?.len(), 0);
+    assert_eq!(rt; read_all(rt.alloc(), DEEPEST)?.len(), 1);
     Ok(())
 }
 
