@@ -1,6 +1,7 @@
 //! The line of one key: its events, and what is known of the key while they come.
 #![tactic(auto)]
 
+pub mod laws;
 mod line;
 mod searches;
 mod standings;

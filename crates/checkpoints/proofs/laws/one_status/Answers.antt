@@ -1,0 +1,5 @@
+use Rattle.checkpoints.proofs.OneStatus.{one_status}
+use Rattle.checkpoints.proofs.laws.one_status.Goals as goal
+
+pub returns : goal.returns
+returns g c budget entries s t p q = one_status _ entries budget s t p q
