@@ -16,3 +16,5 @@ pub mod KeyEvents
 pub mod Enqueues
 pub mod LegalOrders
 pub mod RegisterReads
+pub mod OneAnswer
+pub mod OtherObjects

@@ -1,8 +1,8 @@
 -- Histories that show what the definitions say
 use Rattle.std.specs.Prelude.{ℕ, pos, None, List, [], ◌∷◌, ◌++◌}
-use Rattle.models.specs.declared.operation.Name.TheVariants.{Read, Write, Enqueue}
+use Rattle.models.specs.declared.operation.Name.TheVariants.{Read, Write, Cas, Acquire, Enqueue}
 use Rattle.models.specs.declared.operation.Part.{Part}
-use Rattle.models.specs.declared.operation.Part.TheVariants.{Nil, Int}
+use Rattle.models.specs.declared.operation.Part.TheVariants.{Nil, Int, Pair}
 use Rattle.models.specs.declared.operation.Op.{Op}
 use Rattle.history.specs.declared.events.EventKind.{EventKind}
 use Rattle.history.specs.declared.events.EventKind.TheVariants.{Invoke, Ok, Fail, Info}
@@ -19,6 +19,12 @@ read key part = record { name = Read; key = key; part = part }
 
 abbrev pub enqueue : ℕ → ℕ → Op
 enqueue key v = record { name = Enqueue; key = key; part = Int (pos v) }
+
+abbrev pub cas : ℕ → ℕ → ℕ → Op
+cas key a b = record { name = Cas; key = key; part = Pair (pos a) (pos b) }
+
+abbrev pub acquire : ℕ → Op
+acquire key = record { name = Acquire; key = key; part = Nil }
 
 abbrev pub event : ℕ → EventKind → Op → Event
 event process kind op = record { index = None; kind = kind; process = Client process; body = AnOp op }
@@ -59,3 +65,15 @@ reads_after_crashed_write a b =
 -- two enqueues at once
 abbrev pub two_enqueues : List Event
 two_enqueues = event 0 Invoke (enqueue 1 5) ∷ event 1 Invoke (enqueue 1 6) ∷ []
+
+-- a write of 1, and then a cas from 1 to 2
+abbrev pub write_then_cas : List Event
+write_then_cas = event 0 Invoke (write 7 1) ∷ event 0 Ok (write 7 1) ∷ event 0 Invoke (cas 7 1 2) ∷ event 0 Ok (cas 7 1 2) ∷ []
+
+-- a mutex that one process holds, and another one waits for
+abbrev pub acquire_while_held : List Event
+acquire_while_held = event 0 Invoke (acquire 4) ∷ event 0 Ok (acquire 4) ∷ event 1 Invoke (acquire 4) ∷ []
+
+-- the same, and then the other one has it too
+abbrev pub mutex_held_twice : List Event
+mutex_held_twice = acquire_while_held ++ event 1 Ok (acquire 4) ∷ []
