@@ -1,0 +1,6 @@
+pub mod Adding
+pub mod Prefixes
+pub mod Refusing
+pub mod Gathering
+pub mod Seating
+pub mod Truth

@@ -1,0 +1,4 @@
+pub mod Rules
+pub mod Tape
+pub mod Truth
+pub mod Seats

@@ -1,0 +1,58 @@
+//! What is published.
+ghost use Rattle.std.specs.Prelude.{◌≡◌};
+ghost use Rattle.board.specs.Tape.{Leads};
+
+use crate::fronts::Front;
+use crate::one_thread::OneThread;
+use crate::sheets::Again;
+use crate::tags::Tag;
+use std::marker::Model;
+
+/// What is published: a tape, and what is shown of the state that it leads to. Contracts see it as its lines.
+#[derive(Drop)]
+pub struct Page<X: OneThread, B: Tag> {
+    shown: X::Shown,
+    front: Front<X, B>,
+}
+
+impl<X: OneThread, B: Tag> Model for Page<X, B> {
+    ghost use Rattle.std.specs.Prelude.{◌≡◌, List};
+    ghost use Rattle.board.specs.declared.entries.Entry.{Entry};
+    ghost use Rattle.board.specs.Tape.{Leads};
+
+    ghost Value = { List (Entry X.State X.Command X.Reply) };
+
+    ghost view = { λ p. p.front };
+
+    ghost invariant = { λ p. (end : X.State) × Leads X.Tape.replies p.front end × X.shows end p.shown };
+}
+
+impl<X: OneThread, B: Tag> Page<X, B> {
+    pub fn new(shown: X::Shown, front: Front<X, B>) -> Page<X, B>
+        requires { (end : X.State) × Leads X.Tape.replies front end × X.shows end shown }
+        ensures { result ≡ front }
+    {
+        Page { shown, front }
+    }
+
+    pub fn shown(&self) -> X::Shown
+        ensures { (end : X.State) × Leads X.Tape.replies self.now end × X.shows end result }
+    {
+        self.shown
+    }
+
+    pub fn front(&self) -> &Front<X, B>
+        ensures { result.now ≡ self.now }
+    {
+        &self.front
+    }
+}
+
+impl<X: OneThread, B: Tag> Again for Page<X, B> {
+    fn again(&self) -> Page<X, B> {
+        Page {
+            shown: self.shown,
+            front: self.front.again(),
+        }
+    }
+}

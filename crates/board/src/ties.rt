@@ -1,0 +1,88 @@
+//! The lock round any object, tied to the published copy by one tape.
+ghost use Rattle.std.specs.Prelude.{◌≡◌, ◌+◌, ◌<◌, ◌^◌, ◌++◌, ◌∷◌, [], List, length, IfOk, IfErr, OnOk};
+ghost use mathlib.Core.List.{IsPrefix};
+ghost use Rattle.board.specs.declared.entries.Entry.{Entry as AnEntry};
+ghost use Rattle.board.specs.declared.entries.Entry.TheVariants.{Call};
+ghost use Rattle.std.specs.List.{All, sum_by};
+ghost use Rattle.board.specs.Tape.{IsLegalTape, IsNoEntry, Leads};
+
+use crate::desks::{Desk, gather};
+use crate::fronts::Head;
+use crate::one_thread::OneThread;
+use crate::pages::Page;
+use crate::places::{Place, Told};
+use crate::sheets::{Posts, Sheet};
+use crate::tags::Tag;
+use edn::{Gate, Refusal};
+use std::sync::{Mutex, MutexGuard, Wait};
+
+/// A lock round an object, and the published copy, on one tape.
+pub struct Tie<X: OneThread, B: Tag, T: Posts<Page<X, B>> = Sheet<Page<X, B>>> {
+    pub(crate) head: Head<X, B>,
+    pub(crate) lock: Mutex<Desk<X, B, T>>,
+}
+
+/// A reply, the number of the entry, and what the seat had then seen.
+#[derive(Drop)]
+pub struct Carried<X: OneThread, B: Tag> {
+    pub reply: X::Reply,
+    /// The number of the entry, from 1.
+    pub commit: u64,
+    pub news: Told<X, B>,
+}
+
+impl<X: OneThread, B: Tag, T: Posts<Page<X, B>>> Tie<X, B, T> {
+    // Carries out a command under the lock.
+    pub(crate) fn carry_out<G: Gate, R: Wait>(
+        &self,
+        rt: &R,
+        gate: &G,
+        seat: &mut Place<X, B, T>,
+        command: X::Command,
+    ) -> Result<Carried<X, B>, Refusal>
+        ensures same { seat.new.number ≡ seat.old.number }
+        ensures entry { IfOk result (λ a. (before : List (AnEntry X.State X.Command X.Reply)) × IsPrefix seat.old.tape before × (seat.new.tape ≡ before ++ Call seat.old.number command a.reply ∷ [])) }
+        ensures legal { OnOk result (IsLegalTape X.Tape.replies seat.new.tape) }
+        ensures commit { IfOk result (λ a. length seat.new.tape ≡ a.commit + 1) }
+        ensures count { OnOk result (seat.new.count ≡ seat.old.count + 1) }
+        ensures news { IfOk result (λ a. a.news ≡ seat.new.tape) }
+        ensures refused { IfErr result (λ e. (seat.new.count ≡ seat.old.count) × IsNoEntry X.Tape.replies e seat.old.tape seat.new.tape) }
+    {
+        let mut desk = self.lock.lock(rt);
+        let reply = desk.call(
+            rt,
+            gate,
+            &self.head,
+            seat.number,
+            &mut seat.front,
+            &mut seat.share,
+            command,
+        );
+        MutexGuard::unlock(desk);
+        let reply = reply?;
+        Ok(Carried {
+            reply,
+            commit: seat.front.count(),
+            news: seat.news(),
+        })
+    }
+}
+
+impl<X: OneThread, B: Tag> Tie<X, B> {
+    // The object, where its tape begins with all that these seats had seen, and has just their calls, where they are all.
+    pub(crate) fn finish<R: Wait>(self, rt: &R, seats: Vec<Place<X, B>>) -> X
+        ensures { (tape : List (AnEntry X.State X.Command X.Reply)) × Leads X.Tape.replies tape (X.state result) × All (λ s. IsPrefix s.tape tape) seats.items × (length seats.items ≡ B.parts → length tape ≡ sum_by (λ s. s.count) seats.items + 1) }
+    {
+        let Tie { head: _head, lock } = self;
+        let Desk {
+            object,
+            front,
+            writer,
+            mut book,
+            rest,
+        } = lock.into_inner();
+        writer.unwrap().take(rt);
+        gather(rt, &front, &mut book, rest, seats);
+        object
+    }
+}
