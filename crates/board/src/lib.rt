@@ -16,8 +16,6 @@ pub mod seats;
 pub mod sheets;
 pub mod tags;
 pub mod tape_rule;
-#[cfg(test)]
-mod tests;
 pub mod ties;
 
 pub use blanks::Blank;
