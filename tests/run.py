@@ -76,6 +76,29 @@ def run_live():
     return faults
 
 
+def run_with(stdin, stdout):
+    """Runs write_then_read with these streams in place of its own: the status and standard error."""
+    ran = subprocess.run([str(PROGRAM), "script"], stdin=stdin, stdout=stdout, stderr=subprocess.PIPE, timeout=60)
+    return ran.returncode, ran.stderr
+
+
+def run_failing_reader():
+    """Standard input that can't be read: refused 20, status 3."""
+    folder = os.open("/", os.O_RDONLY)
+    try:
+        got = run_with(folder, subprocess.DEVNULL)
+    finally:
+        os.close(folder)
+    return [] if got == (3, b"refused 20 ReadFailed\n") else [f"it ended with {got!r}"]
+
+
+def run_failing_writer():
+    """Standard output that takes no byte: refused 21, status 3."""
+    with open(TOP / "tests" / "cases" / "write_then_read" / "stdin", "rb") as given, open("/dev/full", "wb") as full:
+        got = run_with(given, full)
+    return [] if got == (3, b"refused 21 WriteFailed\n") else [f"it ended with {got!r}"]
+
+
 def run_start():
     """Starting the program costs milliseconds: the best of five starts takes less than 200."""
     best = min(start_time() for _ in range(5))
@@ -90,7 +113,8 @@ def start_time():
 
 def main():
     cases = [(c.name, lambda c=c: run_case(c)) for c in sorted((TOP / "tests" / "cases").iterdir()) if c.is_dir()]
-    cases += [("replies_are_live", run_live), ("starts_in_milliseconds", run_start)]
+    cases += [("replies_are_live", run_live), ("starts_in_milliseconds", run_start),
+              ("failing_reader", run_failing_reader), ("failing_writer", run_failing_writer)]
     failed = 0
     for name, run in cases:
         try:
