@@ -16,6 +16,8 @@ pub mod seats;
 pub mod sheets;
 pub mod tags;
 pub mod tape_rule;
+#[cfg(test)]
+mod tests;
 pub mod ties;
 
 pub use blanks::Blank;
