@@ -1,1 +1,3 @@
+pub mod AnyStates
 pub mod PutIn
+pub mod Tables

@@ -1,4 +1,4 @@
--- Sequential objects (sequential specifications; Herlihy and Wing 1990, section 2.2). The tables are this project's own,
+-- Sequential objects (sequential specifications; Herlihy and Wing 1990, section 2). The tables are this project's own,
 -- under the names of Knossos
 use Rattle.std.specs.Prelude.{◌≡◌, ℤ, Option, Some, None, List, [], ◌∷◌, ◌++◌, Bool, true, false, if◌then◌else◌}
 use Rattle.std.specs.Ordering.{int_eq}

@@ -2,11 +2,11 @@
 ghost use Rattle.std.specs.Prelude.{◌≡◌, ◌↔◌, IsTrue, IfOk};
 ghost use Rattle.models.specs.Objects.{Fits, answer_of};
 
+use crate::members::Members;
 use crate::operation::Part;
-use crate::sets::Members;
 use std::alloc::AllocError;
 
-/// What an operation finds where it takes place (a sequential specification; Herlihy and Wing 1990, section 2.2).
+/// What an operation finds where it takes place (a sequential specification; Herlihy and Wing 1990, section 2).
 #[derive(Drop)]
 pub enum Found {
     /// Nothing to tell, as for a write.

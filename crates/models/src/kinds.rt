@@ -1,4 +1,6 @@
 //! The kinds of sequential object.
+ghost use Rattle.std.specs.Prelude.{◌≡◌, ◌↔◌, IsTrue};
+ghost use Rattle.models.specs.Texts.{name_of, Finds};
 
 /// The kinds of sequential object, named as in Knossos. What the operations of each do is this project's own table
 /// (`Objects` of the crate's definitions); nothing rests on what a model of Knossos does.
@@ -14,4 +16,71 @@ pub enum ModelKind {
     FifoQueue,
     /// Empty at first: add, and a read of all members.
     Set,
+}
+
+/// The list of the kinds: calls `callback!(args; KIND "name", ..)`. Each function that tells the kinds apart, here and in
+/// the crates above, is a macro called with this list. KIND is the kind's variant in each enum of kinds, and its
+/// [`SeqObject`](crate::SeqObject).
+///
+/// A further kind is a line here, an implementation of `SeqObject`, a variant in each of these enums, and its table and
+/// name among the definitions.
+#[macro_export]
+macro_rules! each_kind {
+    ($callback:ident; $($args:tt)*) => {
+        $callback! { $($args)*;
+            Register "register",
+            CasRegister "cas-register",
+            Mutex "mutex",
+            FifoQueue "fifo-queue",
+            Set "set"
+        }
+    };
+}
+
+macro_rules! name_of_kind {
+    ($kind:expr; $($K:ident $name:literal),*) => {
+        match $kind {
+            $(ModelKind::$K => $name,)*
+        }
+    };
+}
+
+macro_rules! kind_of_name {
+    ($text:expr; $($K:ident $name:literal),*) => {{
+        $(if $text == $name {
+            return Some(ModelKind::$K);
+        })*
+        None
+    }};
+}
+
+macro_rules! same_kind {
+    ($a:expr, $b:expr; $($K:ident $name:literal),*) => {
+        match $a {
+            $(ModelKind::$K => matches!($b, ModelKind::$K),)*
+        }
+    };
+}
+
+impl ModelKind {
+    /// The kind's name, as a command line and a script give it. Takes no memory.
+    pub fn name(self) -> &'static str
+        ensures { result.now ≡ name_of self }
+    {
+        each_kind!(name_of_kind; self)
+    }
+
+    /// The kind of this name, or `None` where there is none. Takes no memory.
+    pub fn of_name(text: &str) -> Option<ModelKind>
+        ensures { Finds result (λ kind. text.now ≡ name_of kind) }
+    {
+        each_kind!(kind_of_name; text)
+    }
+
+    /// Whether both are the same kind.
+    pub fn same(self, other: ModelKind) -> bool
+        ensures { IsTrue result ↔ (self ≡ other) }
+    {
+        each_kind!(same_kind; self, other)
+    }
 }

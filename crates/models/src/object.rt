@@ -1,4 +1,4 @@
-//! What each sequential object has: a sequential specification (Herlihy and Wing 1990, section 2.2).
+//! What each sequential object has: a sequential specification (Herlihy and Wing 1990, section 2).
 ghost use Rattle.std.specs.Prelude.{true, ◌≡◌, ◌↔◌, IsTrue, IfOk, Option};
 ghost use Rattle.models.specs.declared.operation.Op.{Op};
 ghost use Rattle.models.specs.declared.finding.Found.{Found};

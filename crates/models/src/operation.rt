@@ -1,7 +1,8 @@
 //! Operations on an object.
-ghost use Rattle.std.specs.Prelude.{◌≡◌, IfOk};
+ghost use Rattle.std.specs.Prelude.{◌≡◌, ◌↔◌, IsTrue, IfOk};
+ghost use Rattle.models.specs.Texts.{text_of, Finds};
 
-use crate::sets::Members;
+use crate::members::Members;
 use std::alloc::AllocError;
 
 /// A key: each key is an object by itself.
@@ -18,6 +19,75 @@ pub enum Name {
     Enqueue,
     Dequeue,
     Add,
+}
+
+/// The list of the names: calls `callback!(args; NAME "text" PART HOW [PARTS], ..)`. PART is the variant of [`Part`] that
+/// an invocation carries, and PARTS are those that its ok may carry. HOW is `answers` where the ok says what was found,
+/// and `repeats` where it repeats what the invocation carries.
+///
+/// A further name is a line here, a variant of [`Name`], and its text among the definitions.
+#[macro_export]
+macro_rules! each_name {
+    ($callback:ident; $($args:tt)*) => {
+        $callback! { $($args)*;
+            Read "read" Nil answers [Nil Int Set],
+            Write "write" Int repeats [Int],
+            Cas "cas" Pair repeats [Pair],
+            Acquire "acquire" Nil repeats [Nil],
+            Release "release" Nil repeats [Nil],
+            Enqueue "enqueue" Int repeats [Int],
+            Dequeue "dequeue" Nil answers [Int],
+            Add "add" Int repeats [Int]
+        }
+    };
+}
+
+macro_rules! text_of_name {
+    ($name:expr; $($N:ident $text:literal $part:ident $how:ident [$($parts:ident)*]),*) => {
+        match $name {
+            $(Name::$N => $text,)*
+        }
+    };
+}
+
+macro_rules! name_of_text {
+    ($given:expr; $($N:ident $text:literal $part:ident $how:ident [$($parts:ident)*]),*) => {{
+        $(if $given == $text {
+            return Some(Name::$N);
+        })*
+        None
+    }};
+}
+
+macro_rules! same_name {
+    ($a:expr, $b:expr; $($N:ident $text:literal $part:ident $how:ident [$($parts:ident)*]),*) => {
+        match $a {
+            $(Name::$N => matches!($b, Name::$N),)*
+        }
+    };
+}
+
+impl Name {
+    /// The name as a history spells it. Takes no memory.
+    pub fn text(self) -> &'static str
+        ensures { result.now ≡ text_of self }
+    {
+        each_name!(text_of_name; self)
+    }
+
+    /// The name that is spelled so, or `None` where there is none. Takes no memory.
+    pub fn of_text(text: &str) -> Option<Name>
+        ensures { Finds result (λ name. text.now ≡ text_of name) }
+    {
+        each_name!(name_of_text; text)
+    }
+
+    /// Whether both are the same name.
+    pub fn same(self, other: Name) -> bool
+        ensures { IsTrue result ↔ (self ≡ other) }
+    {
+        each_name!(same_name; self, other)
+    }
 }
 
 /// What an operation carries beside its name and key.

@@ -1,62 +1,51 @@
-//! Sets of integers.
-ghost use Rattle.std.specs.Prelude.{◌≡◌, ◌↔◌, IsTrue, IfOk, [], List, ℤ};
-ghost use Rattle.models.specs.Members.{IsAscending};
+//! The set.
+ghost use Rattle.std.specs.Prelude.{[]};
+ghost use Rattle.models.specs.States.{ints_eq-exact};
 
+use crate::finding::Found;
+use crate::members::Members;
+use crate::object::SeqObject;
+use crate::operation::{Name, Op, Part};
 use std::alloc::{AllocError, Global};
-use std::marker::Model;
 
-/// A set of integers, ascending.
-#[derive(Drop)]
-pub struct Members {
-    items: Vec<i64>,
-}
+/// A set of integers, empty at first: an add puts its value in, a read finds all members.
+pub struct Set;
 
-impl Model for Members {
-    ghost Value = { List ℤ };
+impl SeqObject for Set {
+    type State = Members;
 
-    ghost view = { λ a. a.items.items };
+    ghost use Rattle.models.specs.Objects.{set_apply};
 
-    ghost invariant = { λ a. IsAscending a.items.items };
-}
+    ghost start_state = { [] };
 
-impl Members {
-    /// The empty set. Takes no memory.
-    pub fn new(alloc: Global) -> Members
-        ensures { result ≡ [] }
-    {
-        Members {
-            items: Vec::new(alloc),
+    ghost apply_to = { λ op s. set_apply op.name op.part s };
+
+    fn start(alloc: Global) -> Members {
+        Members::new(alloc)
+    }
+
+    fn copy(_alloc: Global, state: &Members) -> Result<Members, AllocError> {
+        state.copy()
+    }
+
+    fn apply(
+        _alloc: Global,
+        state: &Members,
+        op: &Op,
+    ) -> Result<Option<(Members, Found)>, AllocError> {
+        match (op.name, &op.part) {
+            (Name::Add, Part::Int(value)) => {
+                let more = state.with(*value)?;
+                Ok(Some((more, Found::Unit)))
+            }
+            (Name::Read, Part::Nil) => {
+                let members = state.copy()?;
+                let found = state.copy()?;
+                Ok(Some((members, Found::Elements(found))))
+            }
+            _ => Ok(None),
         }
     }
 
-    /// The set of these values, which the caller has put in ascending order, none twice. Takes no memory.
-    pub fn of_ascending(values: Vec<i64>) -> Members
-        requires { IsAscending values.items }
-        ensures { result ≡ values.items }
-    {
-        Members { items: values }
-    }
-
-    /// The members, ascending.
-    pub fn as_slice(&self) -> &[i64]
-        ensures value { result.now ≡ self.now }
-        ensures ascending { IsAscending self.now }
-    {
-        &self.items
-    }
-
-    /// An equal set, with memory of its own; `AllocError` where there is none.
-    pub fn copy(&self) -> Result<Members, AllocError>
-        ensures { IfOk result (λ other. other ≡ self.now) }
-    {
-        let items = Vec::from_slice(*self.items.allocator(), self.items.as_slice())?;
-        Ok(Members { items })
-    }
-
-    /// Whether both have the same members. Takes no memory.
-    pub fn same(&self, other: &Members) -> bool
-        ensures { IsTrue result ↔ (self.now ≡ other.now) }
-    {
-        self.items.as_slice() == other.items.as_slice()
-    }
+    ghost exact = { ints_eq-exact };
 }

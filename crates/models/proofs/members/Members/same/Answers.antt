@@ -2,7 +2,7 @@
 use Rattle.std.proofs.Common.{sym, ◌∙◌}
 use Rattle.std.proofs.lemmas.Bool.Decides.{Decides-int_eq}
 use Rattle.std.proofs.lemmas.Slice.Eq.{slice_eq-Decides}
-use Rattle.models.proofs.sets.Members.same.Goals as goal
+use Rattle.models.proofs.members.Members.same.Goals as goal
 
 pub returns : goal.returns
 returns c =
