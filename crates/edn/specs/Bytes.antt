@@ -42,7 +42,7 @@ IsKeywordText [] = ⊥
 IsKeywordText (b ∷ bs) = IsTrue (is_letter b) × AllByRecursion (λ c. IsTrue (goes_on c)) bs
 
 -- the bytes are an atom of this value: nil; a numeral that fits 64 bits with its sign, alone or after + or -; a keyword
--- after its colon
+-- after its colon. For now there are no booleans
 pub data IsAtom : List ℕ → Value → Type 0 where
   spelled_nil : IsAtom (110 ∷ 105 ∷ 108 ∷ []) nil
   plain : {ds : List ℕ} → IsNumeral ds → digits_value 10 ds < 2 ^ 63 → IsAtom ds (int (pos (digits_value 10 ds)))

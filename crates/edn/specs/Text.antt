@@ -19,7 +19,7 @@ mutual
     comment : {d : ℕ} {t u r : List ℕ} → SkipsLine t u → SkipsGap d u r → SkipsGap d (59 ∷ t) r
     discard : {d : ℕ} {t u w r : List ℕ} {v : Value} → SkipsGap d t u → Reads d u v w → SkipsGap d w r → SkipsGap d (35 ∷ 95 ∷ t) r
 
-  -- one element: an atom, a vector in [ ] (91 93), or a map in { } (123 125)
+  -- one element: an atom, a vector in [ ] (91 93), or a map in { } (123 125). For now there are no strings and no sets
   pub data Reads : ℕ → List ℕ → Value → List ℕ → Type 0 where
     atom : {d : ℕ} {t r a : List ℕ} {v : Value} → IsAtom a v → MayFollowAtom r → t ≡ a ++ r → Reads d t v r
     in_brackets : {d : ℕ} {t r : List ℕ} {vs : Values} → d < 32 → ReadsAll (d + 1) t vs (93 ∷ r) → Reads d (91 ∷ t) (vector vs) r

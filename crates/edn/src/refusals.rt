@@ -29,7 +29,7 @@ pub enum Refusal {
     #[error("the concurrency is outside its limits")]
     BadConcurrency,
     /// The length in bytes of the longest front of the input that is a text.
-    #[error("the input is no text from byte {0} on")]
+    #[error("the longest front of the input that is a text has {0} bytes")]
     Unreadable(usize),
     #[error("the tape or its tickets are full")]
     TapeFull,
@@ -45,7 +45,7 @@ pub enum Refusal {
     Stale,
     #[error("there is no such replica")]
     NoSuchReplica,
-    #[error("there is no such seat")]
+    #[error("the number of seats is outside its limits, or a seat got no place for a reader")]
     NoSeat,
     #[error("the reader failed")]
     ReadFailed,

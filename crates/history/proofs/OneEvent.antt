@@ -1,12 +1,14 @@
 -- An element spells at most one event
 use Rattle.std.proofs.Common.{◌≡◌, ℕ, ◌^◌, pos, Option, Some, None, List, codes, refl, sym, ap, ◌∙◌, subst}
-use Rattle.std.specs.Prelude.{IsSomeAnd}
+use Rattle.std.specs.Prelude.{IsSomeAnd, if◌then◌else◌}
+use Rattle.std.specs.Str.{bytes_eq}
 use Rattle.edn.specs.Value.{Value, int, keyword, nil, vector, pairs, none, more, Pairs}
 use Rattle.models.specs.declared.operation.Name.{Name}
-use Rattle.models.specs.declared.operation.Name.TheVariants.{Read, Write}
+use Rattle.models.specs.declared.operation.Name.TheVariants.{Read, Write, Cas, Acquire, Release, Enqueue, Dequeue, Add}
 use Rattle.models.specs.declared.operation.Part.{Part}
-use Rattle.models.specs.declared.operation.Part.TheVariants.{Nil, Int}
+use Rattle.models.specs.declared.operation.Part.TheVariants.{Nil, Int, Pair, Set}
 use Rattle.models.specs.declared.operation.Op.{Op}
+use Rattle.models.specs.Texts.{text_of}
 use Rattle.history.specs.declared.events.EventKind.{EventKind}
 use Rattle.history.specs.declared.events.EventKind.TheVariants.{Invoke, Ok}
 use Rattle.history.specs.declared.events.Process.{Process}
@@ -45,25 +47,49 @@ one_process v (Client n) (Client k) a b = ap Client (one_number (2 ^ 32) v n k a
 one_process v (Client n) Nemesis a b = absurd b
 one_process v Nemesis q a b = absurd a
 
-one_name : (v : Value) (n k : Name) → SpellsName v n → SpellsName v k → n ≡ k
-one_name v Read Read a b = refl
-one_name v Write Write a b = refl
-one_name v Read Write a b = (let same : codes "read" ≡ codes "write" = two_names v (codes "read") (codes "write") a b in cc)
-one_name v Write Read a b = (let same : codes "write" ≡ codes "read" = two_names v (codes "write") (codes "read") a b in cc)
-one_name v Read _ a b = absurd b
-one_name v Write _ a b = absurd b
-one_name v _ k a b = absurd a
+-- the name of a text
+name_at : List ℕ → Option Name
+name_at t =
+    if bytes_eq t (codes "read") then Some Read
+    else if bytes_eq t (codes "write") then Some Write
+    else if bytes_eq t (codes "cas") then Some Cas
+    else if bytes_eq t (codes "acquire") then Some Acquire
+    else if bytes_eq t (codes "release") then Some Release
+    else if bytes_eq t (codes "enqueue") then Some Enqueue
+    else if bytes_eq t (codes "dequeue") then Some Dequeue
+    else Some Add
 
-one_part : (kind : EventKind) (name : Name) (v : Value) (x y : Part) → SpellsPart kind name v x → SpellsPart kind name v y → x ≡ y
-one_part kind Read v Nil Nil a b = refl
-one_part Ok Read v Nil (Int y) a b = (let both : nil ≡ int y = sym a ∙ b in cc)
-one_part Ok Read v (Int x) Nil a b = (let both : int x ≡ nil = sym a ∙ b in cc)
-one_part Ok Read v (Int x) (Int y) a b = (let both : int x ≡ int y = sym a ∙ b in let same : x ≡ y = cc in ap Int same)
-one_part kind Write v (Int x) (Int y) a b = (let both : int x ≡ int y = sym a ∙ b in let same : x ≡ y = cc in ap Int same)
-one_part _ Read v Nil _ a b = absurd b
-one_part Ok Read v (Int x) _ a b = absurd b
-one_part _ Write v (Int x) _ a b = absurd b
-one_part _ _ v _ _ a b = absurd a
+name_at-text_of : (n : Name) → name_at (text_of n) ≡ Some n
+unfolding name_at
+name_at-text_of Read = refl
+name_at-text_of Write = refl
+name_at-text_of Cas = refl
+name_at-text_of Acquire = refl
+name_at-text_of Release = refl
+name_at-text_of Enqueue = refl
+name_at-text_of Dequeue = refl
+name_at-text_of Add = refl
+
+one_name : (v : Value) (n k : Name) → SpellsName v n → SpellsName v k → n ≡ k
+one_name v n k a b =
+    (let both : Some n ≡ Some k = sym (name_at-text_of n) ∙ ap name_at (two_names v (text_of n) (text_of k) a b) ∙ name_at-text_of k in cc)
+
+one_part : (v : Value) (x y : Part) → SpellsPart v x → SpellsPart v y → x ≡ y
+one_part v Nil Nil a b = refl
+one_part v Nil (Int y) a b = (let both : nil ≡ int y = sym a ∙ b in cc)
+one_part v Nil (Pair y z) a b = (let both : nil ≡ vector (more (int y) (more (int z) none)) = sym a ∙ b in cc)
+one_part v (Int x) Nil a b = (let both : int x ≡ nil = sym a ∙ b in cc)
+one_part v (Int x) (Int y) a b = (let both : int x ≡ int y = sym a ∙ b in let same : x ≡ y = cc in ap Int same)
+one_part v (Int x) (Pair y z) a b = (let both : int x ≡ vector (more (int y) (more (int z) none)) = sym a ∙ b in cc)
+one_part v (Pair w x) Nil a b = (let both : vector (more (int w) (more (int x) none)) ≡ nil = sym a ∙ b in cc)
+one_part v (Pair w x) (Int y) a b = (let both : vector (more (int w) (more (int x) none)) ≡ int y = sym a ∙ b in cc)
+one_part v (Pair w x) (Pair y z) a b =
+    (let both : vector (more (int w) (more (int x) none)) ≡ vector (more (int y) (more (int z) none)) = sym a ∙ b in
+    let first : w ≡ y = cc in
+    let second : x ≡ z = cc in
+    ap (λ l. Pair l x) first ∙ ap (Pair y) second)
+one_part v (Set x) y a b = absurd a
+one_part v _ (Set y) a b = absurd b
 
 op_same : (n m : Name) (k j : ℕ) (x y : Part) → n ≡ m → k ≡ j → x ≡ y → ◌≡◌ {A = Op} (record { name = n; key = k; part = x }) (record { name = m; key = j; part = y })
 op_same n m k j x y a b d =
@@ -76,8 +102,8 @@ one_body kind f v (AnOp x) (AnOp y) a b =
     let both : vector (more a.1.0 (more a.1.1 none)) ≡ vector (more b.1.0 (more b.1.1 none)) = sym a.1.2 ∙ b.1.2 in
     let keys : a.1.0 ≡ b.1.0 = cc in
     let parts : a.1.1 ≡ b.1.1 = cc in
-    let other : SpellsPart kind x.name a.1.1 y.part = subst (λ n. SpellsPart kind n a.1.1 y.part) (sym names) (subst (λ w. SpellsPart kind y.name w y.part) (sym parts) b.1.4) in
-    ap AnOp (op_same x.name y.name x.key y.key x.part y.part names (one_number (2 ^ 16) a.1.0 x.key y.key a.1.3 (subst (λ w. IsNumber (2 ^ 16) w y.key) (sym keys) b.1.3)) (one_part kind x.name a.1.1 x.part y.part a.1.4 other)))
+    let other : SpellsPart a.1.1 y.part = subst (λ w. SpellsPart w y.part) (sym parts) b.1.4 in
+    ap AnOp (op_same x.name y.name x.key y.key x.part y.part names (one_number (2 ^ 16) a.1.0 x.key y.key a.1.3 (subst (λ w. IsNumber (2 ^ 16) w y.key) (sym keys) b.1.3)) (one_part a.1.1 x.part y.part a.1.4 other)))
 one_body kind f v (AnOp x) (AFault fault) a b = absurd b
 one_body kind f v (AFault fault) y a b = absurd a
 

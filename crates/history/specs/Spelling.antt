@@ -1,13 +1,13 @@
 -- The events that elements of a text spell (the Jepsen documentation; the table of parts is this project's own)
-use Rattle.std.specs.Prelude.{◌≡◌, ℕ, ◌<◌, ◌^◌, ℤ, pos, Bool, false, Option, Some, None, MatchOption, IsSomeAnd, List, codes, if◌then◌else◌}
+use Rattle.std.specs.Prelude.{◌≡◌, ℕ, ◌<◌, ◌^◌, ℤ, pos, Bool, false, Option, Some, None, IsSomeAnd, List, codes, if◌then◌else◌}
 use Rattle.std.specs.Str.{bytes_eq}
 use Rattle.edn.specs.Value.{Value, int, keyword, nil, vector, pairs, none, more, Pairs, no_pairs, pair}
 use Rattle.edn.specs.declared.refusals.Refusal.{Refusal}
 use Rattle.edn.specs.declared.refusals.Refusal.TheVariants.{BadValue, NoMemory}
 use Rattle.models.specs.declared.operation.Name.{Name}
-use Rattle.models.specs.declared.operation.Name.TheVariants.{Read, Write}
 use Rattle.models.specs.declared.operation.Part.{Part}
-use Rattle.models.specs.declared.operation.Part.TheVariants.{Nil, Int}
+use Rattle.models.specs.declared.operation.Part.TheVariants.{Nil, Int, Pair, Set}
+use Rattle.models.specs.Texts.{text_of}
 use Rattle.history.specs.declared.events.EventKind.{EventKind}
 use Rattle.history.specs.declared.events.EventKind.TheVariants.{Invoke, Ok}
 use Rattle.history.specs.declared.events.Process.{Process}
@@ -15,6 +15,7 @@ use Rattle.history.specs.declared.events.Process.TheVariants.{Client, Nemesis}
 use Rattle.history.specs.declared.events.Body.{Body}
 use Rattle.history.specs.declared.events.Body.TheVariants.{Op as AnOp, Fault as AFault}
 use Rattle.history.specs.declared.events.Event.{Event}
+use Rattle.history.specs.WellFormed.{IsPartOf}
 
 -- the element is the keyword of this name
 abbrev pub is_keyword : List ℕ → Value → Bool
@@ -47,24 +48,23 @@ abbrev pub SpellsProcess : Value → Process → Type 0
 SpellsProcess v (Client p) = IsNumber (2 ^ 32) v p
 SpellsProcess v Nemesis = ⊥
 
--- for now :read and :write alone
+-- the keyword of the name's text
 abbrev pub SpellsName : Value → Name → Type 0
-SpellsName v Read = v ≡ keyword (codes "read")
-SpellsName v Write = v ≡ keyword (codes "write")
-SpellsName v _ = ⊥
+SpellsName v name = v ≡ keyword (text_of name)
 
--- the part of a read is nil, or in an ok the integer that it answers; that of a write is an integer
-abbrev pub SpellsPart : EventKind → Name → Value → Part → Type 0
-SpellsPart kind Read v Nil = v ≡ nil
-SpellsPart Ok Read v (Int a) = v ≡ int a
-SpellsPart kind Write v (Int a) = v ≡ int a
-SpellsPart _ _ _ _ = ⊥
+-- how a part is spelled. For now no text spells a set
+abbrev pub SpellsPart : Value → Part → Type 0
+SpellsPart v Nil = v ≡ nil
+SpellsPart v (Int a) = v ≡ int a
+SpellsPart v (Pair a b) = v ≡ vector (more (int a) (more (int b) none))
+SpellsPart v (Set members) = ⊥
 
--- a name, and a value [key part], where the key is 0 to 65,535
+-- a name, and a value [key part], where the key is 0 to 65,535 and the part is one of the table
 abbrev pub SpellsBody : EventKind → Value → Value → Body → Type 0
 SpellsBody kind f v (AnOp op) =
     SpellsName f op.name
-    × ((key : Value) × (part : Value) × (v ≡ vector (more key (more part none))) × IsNumber (2 ^ 16) key op.key × SpellsPart kind op.name part op.part)
+    × ((key : Value) × (part : Value) × (v ≡ vector (more key (more part none))) × IsNumber (2 ^ 16) key op.key × SpellsPart part op.part)
+    × IsPartOf kind op.name op.part
 SpellsBody kind f v (AFault fault) = ⊥
 
 -- the pairs of a map spell the event. Other keys say nothing
@@ -84,10 +84,6 @@ abbrev pub WhyUnspelled : Value → Refusal → Type 0
 WhyUnspelled v BadValue = (e : Event) → ¬ Spells v e
 WhyUnspelled v NoMemory = Unit {0}
 WhyUnspelled v _ = ⊥
-
--- what was found is such a thing; or there is none
-abbrev pub Finds : {X : Type 0} → Option X → (X → Type 0) → Type 0
-Finds {X} found P = MatchOption found ((x : X) → ¬ P x) P
 
 -- what a value is, if it is that
 abbrev pub int_in : Value → Option ℤ

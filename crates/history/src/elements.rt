@@ -1,9 +1,10 @@
 //! What elements of a text are.
 ghost use Rattle.std.specs.Prelude.{◌≡◌, ◌↔◌, ◌^◌, ℕ, IsTrue, option_map};
 ghost use Rattle.std.specs.Option.{option_copied};
-ghost use Rattle.edn.specs.Value.{nil, vector};
+ghost use Rattle.edn.specs.Value.{nil, int, vector, none, more};
 ghost use Rattle.edn.specs.View.{value_of, values_of, entries_of};
-ghost use Rattle.history.specs.Spelling.{is_keyword, value_at, int_in, name_in, two_in, Finds, IsNumber};
+ghost use Rattle.models.specs.Texts.{Finds};
+ghost use Rattle.history.specs.Spelling.{is_keyword, value_at, int_in, name_in, two_in, IsNumber};
 
 use edn::Edn;
 use models::Key;
@@ -53,6 +54,14 @@ pub fn two_of(element: &Edn) -> Option<(&Edn, &Edn)>
         Edn::Vector(parts) => both(parts.as_slice()),
         _ => None,
     }
+}
+
+/// The two integers of the vector of two that an element is.
+pub fn integers_of(element: &Edn) -> Option<(i64, i64)>
+    ensures { Finds result (λ p. value_of element.now ≡ vector (more (int p.0) (more (int p.1) none))) }
+{
+    let (a, b) = two_of(element)?;
+    Some((integer(a)?, integer(b)?))
 }
 
 /// The integer of 0 to 2^32 - 1 that an element is.

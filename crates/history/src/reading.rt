@@ -2,10 +2,12 @@
 ghost use Rattle.std.specs.Prelude.{◌≡◌, codes, option_map, IfOk, IfErr};
 ghost use Rattle.std.specs.Option.{option_copied};
 ghost use Rattle.edn.specs.View.{value_of, entries_of};
-ghost use Rattle.history.specs.Spelling.{SpellsIndex, SpellsKind, SpellsProcess, SpellsName, SpellsPart, SpellsBody, PairsSpell, Spells, WhyUnspelled, Finds};
+ghost use Rattle.history.specs.Spelling.{SpellsIndex, SpellsKind, SpellsProcess, SpellsName, SpellsPart, SpellsBody, PairsSpell, Spells, WhyUnspelled};
+ghost use Rattle.models.specs.Texts.{Finds};
 
-use crate::elements::{integer, is_nil, key_of, name_of, number_of, two_of, value_at};
+use crate::elements::{integer, integers_of, is_nil, key_of, name_of, number_of, two_of, value_at};
 use crate::events::{Body, Event, EventKind, Process};
+use crate::tables::is_part_of;
 use edn::{Edn, Refusal};
 use models::{Name, Op, Part};
 use std::alloc::Global;
@@ -41,37 +43,21 @@ fn process_of(element: &Edn) -> Option<Process>
 fn operation_name_of(element: &Edn) -> Option<Name>
     ensures { Finds result (SpellsName (value_of element.now)) }
 {
-    let name = name_of(element)?;
-    if name == "read" {
-        return Some(Name::Read);
-    }
-    if name == "write" {
-        return Some(Name::Write);
-    }
-    None
+    Name::of_text(name_of(element)?)
 }
 
-// The part of a read: nil, or in an ok the integer that it answers.
-fn read_part(kind: EventKind, element: &Edn) -> Option<Part>
-    ensures { Finds result (SpellsPart kind Name.Read (value_of element.now)) }
+#[tactic(auto, using(crate::proofs::Values::no_part))]
+fn part_of(element: &Edn) -> Option<Part>
+    ensures { Finds result (SpellsPart (value_of element.now)) }
 {
     if is_nil(element) {
         return Some(Part::Nil);
     }
-    match kind {
-        EventKind::Ok => Some(Part::Int(integer(element)?)),
-        _ => None,
+    if let Some(a) = integer(element) {
+        return Some(Part::Int(a));
     }
-}
-
-fn part_of(kind: EventKind, name: Name, element: &Edn) -> Option<Part>
-    ensures { Finds result (SpellsPart kind name (value_of element.now)) }
-{
-    match name {
-        Name::Read => read_part(kind, element),
-        Name::Write => Some(Part::Int(integer(element)?)),
-        _ => None,
-    }
+    let (a, b) = integers_of(element)?;
+    Some(Part::Pair(a, b))
 }
 
 fn body_of(kind: EventKind, name: &Edn, value: &Edn) -> Option<Body>
@@ -80,8 +66,12 @@ fn body_of(kind: EventKind, name: &Edn, value: &Edn) -> Option<Body>
     let name = operation_name_of(name)?;
     let (key, part) = two_of(value)?;
     let key = key_of(key)?;
-    let part = part_of(kind, name, part)?;
-    Some(Body::Op(Op { name, key, part }))
+    let part = part_of(part)?;
+    let op = Op { name, key, part };
+    if !is_part_of(kind, &op) {
+        return None;
+    }
+    Some(Body::Op(op))
 }
 
 fn event_of(pairs: &[(Edn, Edn)]) -> Option<Event>
@@ -102,8 +92,8 @@ fn event_of(pairs: &[(Edn, Edn)]) -> Option<Event>
 /// The event that a map of a text spells.
 ///
 /// The keys `:type`, `:process`, `:f` and `:value` must be there, `:index` may be, and other keys say nothing. An index
-/// and a process are 0 to 2^32 - 1, a key is 0 to 65,535, and a part is an integer of 64 bits or nil. For now there are
-/// only clients' `:invoke` and `:ok` of `:read` and `:write`.
+/// and a process are 0 to 2^32 - 1, a key is 0 to 65,535, and the part is one that the name may have in such an event:
+/// nil, an integer of 64 bits, or a vector of two. For now there are only clients' `:invoke` and `:ok`, and no sets.
 ///
 /// # Errors
 /// [`Refusal::BadValue`] where the element spells no event; else [`Refusal::NoMemory`] where a growth was refused.

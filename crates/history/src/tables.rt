@@ -4,38 +4,56 @@ ghost use Rattle.history.specs.declared.events.Event.{Event};
 ghost use Rattle.history.specs.WellFormed.{IsPart, IsOkPart, IsPartOf, IsFault, IsInTables, SharesKey, first_key, key_behind, IsRepeat, Completes};
 
 use crate::events::{Body, EventKind, Fault, Process};
-use models::{Key, Name, Op, Part};
+use models::{Key, Name, Op, Part, each_name};
 
 /// The greatest number of a replica.
 const LAST_REPLICA: u8 = 6;
+
+// Whether the part is the one that the name's line has for an invocation.
+macro_rules! is_invoked {
+    ($name:expr, $part:expr; $($N:ident $text:literal $P:ident $how:ident [$($A:ident)*]),*) => {
+        match $name {
+            $(Name::$N => matches!($part, Part::$P { .. }),)*
+        }
+    };
+}
+
+// Whether the part is one of those that the name's line has for an ok.
+macro_rules! is_answer {
+    ($name:expr, $part:expr; $($N:ident $text:literal $P:ident $how:ident [$($A:ident)*]),*) => {
+        match $name {
+            $(Name::$N => matches!($part, $(Part::$A { .. })|*),)*
+        }
+    };
+}
+
+// Whether an ok of the name says what was found.
+macro_rules! is_answered {
+    ($name:expr; $($N:ident $text:literal $P:ident $how:ident [$($A:ident)*]),*) => {
+        match $name {
+            $(Name::$N => is_answered!($how),)*
+        }
+    };
+    (answers) => { true };
+    (repeats) => { false };
+}
 
 // Whether the part is one of an invocation, a fail or an info of this name.
 fn is_part(name: Name, part: &Part) -> bool
     ensures { IsTrue result ↔ IsPart name part.now }
 {
-    match part {
-        Part::Nil => matches!(
-            name,
-            Name::Read | Name::Acquire | Name::Release | Name::Dequeue
-        ),
-        Part::Int(_) => matches!(name, Name::Write | Name::Enqueue | Name::Add),
-        Part::Pair(_, _) => matches!(name, Name::Cas),
-        Part::Set(_) => false,
-    }
+    each_name!(is_invoked; name, part)
 }
 
 // Whether the part is one of an ok of this name.
 fn is_ok_part(name: Name, part: &Part) -> bool
     ensures { IsTrue result ↔ IsOkPart name part.now }
 {
-    match name {
-        Name::Read => !matches!(part, Part::Pair(_, _)),
-        Name::Dequeue => matches!(part, Part::Int(_)),
-        _ => is_part(name, part),
-    }
+    each_name!(is_answer; name, part)
 }
 
-fn is_part_of(kind: EventKind, op: &Op) -> bool
+/// Whether the operation's part is one that an event of this kind may have.
+pub fn is_part_of(kind: EventKind, op: &Op) -> bool
     ensures { IsTrue result ↔ IsPartOf kind op.now.name op.now.part }
 {
     match kind {
@@ -94,22 +112,8 @@ pub fn key_of(body: &Body) -> Option<Key>
     }
 }
 
-fn same_name(a: Name, b: Name) -> bool
-    ensures { IsTrue result ↔ (a ≡ b) }
-{
-    match a {
-        Name::Read => matches!(b, Name::Read),
-        Name::Write => matches!(b, Name::Write),
-        Name::Cas => matches!(b, Name::Cas),
-        Name::Acquire => matches!(b, Name::Acquire),
-        Name::Release => matches!(b, Name::Release),
-        Name::Enqueue => matches!(b, Name::Enqueue),
-        Name::Dequeue => matches!(b, Name::Dequeue),
-        Name::Add => matches!(b, Name::Add),
-    }
-}
-
-fn same_part(a: &Part, b: &Part) -> bool
+/// Whether both parts are the same.
+pub fn same_part(a: &Part, b: &Part) -> bool
     ensures { IsTrue result ↔ (a.now ≡ b.now) }
 {
     match (a, b) {
@@ -125,15 +129,13 @@ fn same_part(a: &Part, b: &Part) -> bool
 fn repeats(kind: EventKind, invoked: &Part, op: &Op) -> bool
     ensures { IsTrue result ↔ IsRepeat kind op.now.name invoked.now op.now.part }
 {
-    match (kind, op.name) {
-        (EventKind::Ok, Name::Read | Name::Dequeue) => true,
-        _ => same_part(&op.part, invoked),
-    }
+    (matches!(kind, EventKind::Ok) && each_name!(is_answered; op.name))
+        || same_part(&op.part, invoked)
 }
 
 /// Whether a completion of this kind and operation completes the invoked one.
 pub fn completes(kind: EventKind, invoked: &Op, op: &Op) -> bool
     ensures { IsTrue result ↔ Completes kind invoked.now op.now }
 {
-    same_name(op.name, invoked.name) && op.key == invoked.key && repeats(kind, &invoked.part, op)
+    op.name.same(invoked.name) && op.key == invoked.key && repeats(kind, &invoked.part, op)
 }

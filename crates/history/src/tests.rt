@@ -1,4 +1,5 @@
 //! Worked histories, with the answers that the rule gives.
+use crate::tables::same_part;
 use crate::{Body, Event, EventKind, Fault, Groups, History, Process, from_edn};
 use edn::{Refusal, read_all};
 use models::{Name, Op, Part};
@@ -73,6 +74,76 @@ fn refusals_in_order(rt: HostRuntime) -> Result<(), Fail> {
             Ok(()),
         ),
         ("{:type :ok, :process 0, :f :read, :value [7 3]}", Ok(())),
+    ] {
+        assert_eq!(rt; answer(alloc, &mut history, line), want, "{line}");
+    }
+    assert_eq!(rt; history.len(), 4);
+    Ok(())
+}
+
+// The operation that a line's event is about.
+fn operation(alloc: Global, line: &str) -> Result<Op, Fail> {
+    let elements = read_all(alloc, line.as_bytes())?;
+    let Some(element) = elements.first() else {
+        return Err(Fail::new("the line has an element"));
+    };
+    match from_edn(alloc, element)?.body {
+        Body::Op(op) => Ok(op),
+        Body::Fault(_) => Err(Fail::new("the event is a client's")),
+    }
+}
+
+#[test]
+fn each_name_is_spelled(rt: HostRuntime) -> Result<(), Fail> {
+    let alloc = rt.alloc();
+    for (f, spelled, name, part) in [
+        ("read", "nil", Name::Read, Part::Nil),
+        ("write", "-3", Name::Write, Part::Int(-3)),
+        ("cas", "[1 2]", Name::Cas, Part::Pair(1, 2)),
+        ("acquire", "nil", Name::Acquire, Part::Nil),
+        ("release", "nil", Name::Release, Part::Nil),
+        ("enqueue", "5", Name::Enqueue, Part::Int(5)),
+        ("dequeue", "nil", Name::Dequeue, Part::Nil),
+        ("add", "+0", Name::Add, Part::Int(0)),
+    ] {
+        let line = format!(in alloc;
+            "{{:type :invoke, :process 0, :f :{f}, :value [65535 {spelled}]}}"
+        )?;
+        let op = operation(alloc, &line)?;
+        assert!(rt; op.name.same(name), "{line}");
+        assert!(rt; same_part(&op.part, &part), "{line}");
+        assert_eq!(rt; op.key, 65_535, "{line}");
+    }
+    Ok(())
+}
+
+#[test]
+fn completions_repeat_or_answer(rt: HostRuntime) -> Result<(), Fail> {
+    let alloc = rt.alloc();
+    let mut history = History::new(alloc, 1)?;
+    for (line, want) in [
+        (
+            "{:type :invoke, :process 0, :f :dequeue, :value [1 nil]}",
+            Ok(()),
+        ),
+        (
+            "{:type :ok, :process 0, :f :dequeue, :value [1 nil]}",
+            Err(Refusal::BadValue),
+        ),
+        (
+            "{:type :ok, :process 0, :f :read, :value [1 5]}",
+            Err(Refusal::Mismatch),
+        ),
+        ("{:type :ok, :process 0, :f :dequeue, :value [1 5]}", Ok(())),
+        (
+            "{:type :invoke, :process 0, :f :cas, :value [1 [2 3]]}",
+            Ok(()),
+        ),
+        (
+            "{:type :ok, :process 0, :f :cas, :value [1 [3 2]]}",
+            Err(Refusal::Mismatch),
+        ),
+        ("{:type :ok, :process 0, :f :cas, :value [1 [2 3]]}", Ok(())),
     ] {
         assert_eq!(rt; answer(alloc, &mut history, line), want, "{line}");
     }
