@@ -18,3 +18,10 @@ pub mod LegalOrders
 pub mod RegisterReads
 pub mod OneAnswer
 pub mod OtherObjects
+pub mod Questions
+pub mod EventMarks
+pub mod Finishing
+pub mod Trying
+pub mod Puts
+pub mod Keys
+pub mod Steps

@@ -1,15 +1,15 @@
 -- a key has one status and a history one verdict
-use Rattle.std.proofs.Common.{◌≡◌, ◌↔◌, ℕ, suc, ◌+◌, ◌≤◌, ◌<◌, ◌⊎◌, ⊎_elim, Bool, true, false, IsTrue, nat_eq, List, [], ◌∷◌, ◌++◌, length, refl, sym, ap, ◌∙◌, subst, arith, length-append}
+use Rattle.std.proofs.Common.{◌≡◌, ℕ, ◌+◌, ◌≤◌, ◌<◌, ⊎_elim, Bool, true, false, IsTrue, nat_eq, List, [], ◌∷◌, ◌++◌, length, refl, sym, ap, ◌∙◌, subst, arith, length-append}
 use mathlib.Core.Path.{fun_ext}
 use Rattle.std.specs.List.{Contains}
 use Rattle.std.proofs.lemmas.Bool.{cases_order, eqb-true}
 use Rattle.std.proofs.lemmas.List.Elements.{Contains-append_right}
 use Rattle.models.specs.declared.kinds.ModelKind.{ModelKind}
 use Rattle.models.specs.Objects.{Object, object_of}
-use Rattle.history.specs.Events.{Entry, marks, of_key, IsFront}
-use Rattle.linspec.specs.Orders.{Pairwise, IsLinearizable, product}
+use Rattle.history.specs.Events.{Entry, of_key}
+use Rattle.linspec.specs.Orders.{product}
 use Rattle.linspec.specs.Ends.{IsBlownAt, IsBlownIndex}
-use Rattle.linspec.specs.Verdicts.{EndsShortestBadFront, EveryFrontIsLinearizable, IsKeyStatus, IsBlownKey, IsBlownKeyAt, set_aside, IsVerdictWith, IsVerdict, IsRising}
+use Rattle.linspec.specs.Verdicts.{EndsShortestBadFront, EveryFrontIsLinearizable, IsKeyStatus, IsBlownKeyAt, set_aside, IsVerdictWith, IsVerdict, IsRising}
 use Rattle.linspec.specs.declared.verdicts.KeyStatus.{KeyStatus}
 use Rattle.linspec.specs.declared.verdicts.KeyStatus.TheVariants.{Alive, Dead, Over}
 use Rattle.linspec.specs.declared.verdicts.Verdict.{Verdict}

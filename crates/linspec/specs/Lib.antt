@@ -4,3 +4,7 @@ pub mod Ends
 pub mod Verdicts
 pub mod WellFormed
 pub mod Examples
+pub mod Said
+pub mod Search
+pub mod KindsOf
+pub mod States

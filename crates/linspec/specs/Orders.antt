@@ -1,4 +1,4 @@
--- Legal orders and linearizability (Herlihy and Wing 1990, section 2.3)
+-- Legal orders and linearizability (Herlihy and Wing 1990, section 2)
 use Rattle.std.specs.Prelude.{◌≡◌, ◌≢◌, ℕ, List, [], ◌∷◌}
 use Rattle.std.specs.List.{Contains}
 use Rattle.models.specs.declared.kinds.ModelKind.{ModelKind}

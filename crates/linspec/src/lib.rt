@@ -2,6 +2,11 @@
 #![tactic(auto)]
 
 pub mod laws;
+mod operations;
+mod search;
+#[cfg(test)]
+mod tests;
 pub mod verdicts;
 
+pub use search::brute;
 pub use verdicts::{KeyStatus, Verdict};

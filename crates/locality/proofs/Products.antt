@@ -1,7 +1,6 @@
 -- a run of all keys is a run of each
-use Rattle.std.proofs.Common.{◌≡◌, ◌≢◌, ℕ, ◌⊎◌, inl, inr, ⊎_elim, cond, true, nat_eq, List, [], ◌∷◌, refl, sym, ap, ◌∙◌, subst}
-use mathlib.Core.Path.{fun_ext, subst_refl}
-use native.Mathlib.Nat.{ℕ_set}
+use Rattle.std.proofs.Common.{◌≡◌, ◌≢◌, ℕ, ⊎_elim, cond, true, nat_eq, List, [], ◌∷◌, refl, sym, ap, subst}
+use mathlib.Core.Path.{fun_ext}
 use Rattle.std.specs.List.{filter, Contains}
 use Rattle.std.proofs.lemmas.Bool.{cases_eq, eq-eqb, eqb-true, ne_eqb}
 use Rattle.models.specs.declared.kinds.ModelKind.{ModelKind}
@@ -9,6 +8,7 @@ use Rattle.models.specs.Objects.{object_of}
 use Rattle.linspec.specs.Orders.{Taken, Run}
 use Rattle.linspec.specs.Orders.{product}
 use Rattle.linspec.proofs.Filters.{from_filter, to_filter}
+use Rattle.linspec.proofs.Puts.{put, put_same, put_other}
 
 -- the operations of a key, in their order
 abbrev pub on_key : ℕ → List Taken → List Taken
@@ -27,9 +27,6 @@ pub to_on_key : (k : ℕ) (order : List Taken) (x : Taken) → Contains order x 
 to_on_key k order x h e = to_filter (λ (x : Taken). nat_eq x.op.key k) order x h (eq-eqb x.op.key k e)
 
 module _ (kinds : ℕ → ModelKind) where
-  abbrev StateOf : ℕ → Type 0
-  StateOf k = (object_of (kinds k)).State
-
   pub Run-split : (order : List Taken) (s t : (k : ℕ) → (object_of (kinds k)).State) → Run (product kinds) s order t → (k : ℕ) → Run (object_of (kinds k)) (s k) (on_key k order) (t k)
   Run-split [] s t r k = ap (λ (f : (k : ℕ) → (object_of (kinds k)).State). f k) r
   Run-split (x ∷ order) s t r k =
@@ -40,40 +37,16 @@ module _ (kinds : ℕ → ModelKind) where
       (subst (λ u. Run (object_of (kinds k)) u (on_key k order) (t k)) (r.1.1 k (λ e. ne (sym e))) (Run-split order r.0 t r.2 k)))
       (cases_eq x.op.key k)
 
-  -- the states s, but v at the key k
-  put_by : (s : (k : ℕ) → StateOf k) (k : ℕ) → StateOf k → (j : ℕ) → (j ≡ k) ⊎ (j ≡ k → ⊥) → StateOf j
-  put_by s k v j (inl e) = subst StateOf (sym e) v
-  put_by s k v j (inr ne) = s j
-
-  put : (s : (k : ℕ) → StateOf k) (k : ℕ) → StateOf k → (j : ℕ) → StateOf j
-  put s k v j = put_by s k v j (cases_eq j k)
-
-  put_same : (s : (k : ℕ) → StateOf k) (k : ℕ) (v : StateOf k) → put s k v k ≡ v
-  unfolding put put_by
-  put_same s k v = by_case (cases_eq k k)
-    where
-      by_case : (c : (k ≡ k) ⊎ (k ≡ k → ⊥)) → put_by s k v k c ≡ v
-      by_case (inl e) = ap (λ p. subst StateOf p v) (ℕ_set k k (sym e) refl) ∙ subst_refl StateOf v
-      by_case (inr ne) = absurd (ne refl)
-
-  put_other : (s : (k : ℕ) → StateOf k) (k : ℕ) (v : StateOf k) (j : ℕ) → j ≢ k → put s k v j ≡ s j
-  unfolding put put_by
-  put_other s k v j ne = by_case (cases_eq j k)
-    where
-      by_case : (c : (j ≡ k) ⊎ (j ≡ k → ⊥)) → put_by s k v j c ≡ s j
-      by_case (inl e) = absurd (ne e)
-      by_case (inr ne) = refl
-
   pub Run-join : (order : List Taken) (s t : (k : ℕ) → (object_of (kinds k)).State) → ((k : ℕ) → Run (object_of (kinds k)) (s k) (on_key k order) (t k)) → Run (product kinds) s order t
   Run-join [] s t r = fun_ext r
   Run-join (x ∷ order) s t r =
       let k : ℕ = x.op.key in
       let here : Run (object_of (kinds k)) (s k) (x ∷ on_key k order) (t k) = subst (λ l. Run (object_of (kinds k)) (s k) l (t k)) (on_key-same k x order refl) (r k) in
-      let mid : (j : ℕ) → (object_of (kinds j)).State = put s k here.0 in (
+      let mid : (j : ℕ) → (object_of (kinds j)).State = put kinds s k here.0 in (
         mid,
-        (subst (λ u. (object_of (kinds k)).Steps (s k) x.op x.found u) (sym (put_same s k here.0)) here.1, λ j ne. put_other s k here.0 j ne),
+        (subst (λ u. (object_of (kinds k)).Steps (s k) x.op x.found u) (sym (put_same kinds s k here.0)) here.1, λ j ne. put_other kinds s k here.0 j ne),
         Run-join order mid t (λ j. ⊎_elim
-            (λ e. subst (λ i. Run (object_of (kinds i)) (mid i) (on_key i order) (t i)) (sym e) (subst (λ u. Run (object_of (kinds k)) u (on_key k order) (t k)) (sym (put_same s k here.0)) here.2))
-            (λ ne. subst (λ u. Run (object_of (kinds j)) u (on_key j order) (t j)) (sym (put_other s k here.0 j ne)) (subst (λ l. Run (object_of (kinds j)) (s j) l (t j)) (on_key-other j x order (λ e. ne (sym e))) (r j)))
+            (λ e. subst (λ i. Run (object_of (kinds i)) (mid i) (on_key i order) (t i)) (sym e) (subst (λ u. Run (object_of (kinds k)) u (on_key k order) (t k)) (sym (put_same kinds s k here.0)) here.2))
+            (λ ne. subst (λ u. Run (object_of (kinds j)) u (on_key j order) (t j)) (sym (put_other kinds s k here.0 j ne)) (subst (λ l. Run (object_of (kinds j)) (s j) l (t j)) (on_key-other j x order (λ e. ne (sym e))) (r j)))
             (cases_eq j k)),
       )

@@ -1,0 +1,15 @@
+-- The kinds of the keys of a history, given by a list
+use Rattle.std.specs.Prelude.{◌≡◌, ℕ, List}
+use Rattle.std.specs.List.{Contains}
+use Rattle.models.specs.declared.kinds.ModelKind.{ModelKind}
+use Rattle.models.specs.declared.operation.Op.{Op}
+use Rattle.history.specs.Events.{Mark}
+use Rattle.history.specs.Events.Mark.{Invoked}
+
+-- each key of the list is of the kind that the list gives it
+abbrev pub AgreeWith : (ℕ → ModelKind) → List (ℕ × ModelKind) → Type 0
+AgreeWith kinds list = (key : ℕ) (kind : ModelKind) → Contains list (key, kind) → kinds key ≡ kind
+
+-- the list has each key of an operation
+abbrev pub HaveKinds : List (ℕ × ModelKind) → List Mark → Type 0
+HaveKinds list marks = (id : ℕ) (op : Op) → Contains marks (Invoked id op) → (kind : ModelKind) × Contains list (op.key, kind)
