@@ -6,7 +6,8 @@ use Rattle.std.specs.Ordering.{nat_cmp}
 use Rattle.std.specs.BTreeMap.{get}
 use Rattle.models.specs.declared.operation.Op.{Op}
 use Rattle.models.specs.declared.finding.Answer.{Answer}
-use Rattle.models.specs.Objects.{Object}
+use Rattle.models.specs.declared.kinds.ModelKind.{ModelKind}
+use Rattle.models.specs.Objects.{Object, object_of}
 use Rattle.history.specs.declared.events.EventKind.{EventKind}
 use Rattle.history.specs.declared.events.EventKind.TheVariants as kinds
 use Rattle.history.specs.declared.events.Fault.{Fault}
@@ -25,7 +26,7 @@ use Rattle.linspec.proofs.Fronts.{marks-append}
 use Rattle.linspec.proofs.Histories.{cond_same, cond_other, of_history}
 use Rattle.frontier.specs.declared.frontiers.Step.{Step}
 use Rattle.frontier.specs.declared.frontiers.Step.TheVariants as steps
-use Rattle.frontier.specs.Standing.{StandsFor, budget_of}
+use Rattle.frontier.specs.Kinds.{AnyStandsFor, any_budget_of, kind_of}
 use Rattle.checkpoints.specs.declared.searches.Search.{Search}
 use Rattle.checkpoints.specs.declared.standings.Standing.{Standing}
 use Rattle.checkpoints.specs.declared.standings.Standing.TheVariants.{Alive, Dead, Over}
@@ -112,13 +113,14 @@ module _ (o : Object) (budget : ℕ) (events : List (ℕ × Event)) (x : ℕ × 
       subst (λ l. IsKeyStatus o budget l (status.Over i)) (sym q) (over_stays o budget (entries_of events) one.0 i (subst IsRising q (of_history (events ++ x ∷ []) history).2) over)))
       (none_or_one x.0 (last_of events) (process_of x.1) (key_of x.1) (act_of x.1))
 
-module _ {M : Type 0} (o : Object) (budget : ℕ) (events : List (ℕ × Event)) (index : ℕ) (event : Event) (search : Search M o.State) (is_search : IsSearch o budget events search) (alive : IsAlive o budget events) (history : IsHistory (events ++ (index, event) ∷ [])) where
+module _ (kind : ModelKind) (budget : ℕ) (events : List (ℕ × Event)) (index : ℕ) (event : Event) (search : Search) (is_search : IsSearch kind budget events search) (alive : IsAlive kind budget events) (history : IsHistory (events ++ (index, event) ∷ [])) where
   -- a fault leaves everything as it is
-  pub fault_after : (fault : Fault) → event.body ≡ bodies.Fault fault → IsStanding o budget (events ++ (index, event) ∷ []) (Alive search)
+  pub fault_after : (fault : Fault) → event.body ≡ bodies.Fault fault → IsStanding kind budget (events ++ (index, event) ∷ []) (Alive search)
   fault_after fault is = (
-    subst (λ l. IsKeyStatus o budget l status.Alive) (sym same) alive,
+    subst (λ l. IsKeyStatus (object_of kind) budget l status.Alive) (sym same) alive,
     record {
-      stands = subst (λ l. StandsFor o search.frontier (marks l)) (sym same) is_search.stands;
+      stands = subst (λ l. AnyStandsFor search.frontier (marks l)) (sym same) is_search.stands;
+      kind_is = is_search.kind_is;
       budget_is = is_search.budget_is;
       knows = λ p k h. is_search.knows p k (sym (ap (λ a. busy_after (busy_of events) (process_of event) (key_of event) a p) strikes) ∙ ap (λ (f : ℕ → Option ℕ). f p) (sym (busy_of-push events (index, event))) ∙ h)
           ∙ ap Some (sym (ap (λ (f : ℕ → ℕ). f p) (last_of-push events (index, event)) ∙ ap (λ a. last_after index (last_of events) (process_of event) a p) strikes));
@@ -129,7 +131,7 @@ module _ {M : Type 0} (o : Object) (budget : ℕ) (events : List (ℕ × Event))
       strikes = ap (act_in event.kind) is
 
       same : entries_of (events ++ (index, event) ∷ []) ≡ entries_of events
-      same = none_more o budget events (index, event) history (ap (λ a. marks_of index (last_of events) (process_of event) (key_of event) a) strikes)
+      same = none_more (object_of kind) budget events (index, event) history (ap (λ a. marks_of index (last_of events) (process_of event) (key_of event) a) strikes)
 
   module _ (op : Op) (is_op : event.body ≡ bodies.Op op) where
     acts : act_of event ≡ act_by event.kind op
@@ -151,15 +153,15 @@ module _ {M : Type 0} (o : Object) (budget : ℕ) (events : List (ℕ × Event))
     entry = entry_of index (key_of event) (mark_by the_id event.kind op)
 
     entries : entries_of (events ++ (index, event) ∷ []) ≡ entries_of events ++ entry ∷ []
-    entries = one_more o budget events (index, event) history entry
+    entries = one_more (object_of kind) budget events (index, event) history entry
         (ap (λ a. marks_of index (last_of events) (process_of event) (key_of event) a) acts ∙ one_mark index (process_of event) (key_of event) (last_of events) event.kind op)
 
     may_follow : MayFollow (marks (entries_of events)) (mark_by the_id event.kind op)
-    may_follow = well_with o budget events (index, event) history entry entries (marks (entries_of events)) [] (mark_by the_id event.kind op) (sym (marks-append (entries_of events) (entry ∷ [])))
+    may_follow = well_with (object_of kind) budget events (index, event) history entry entries (marks (entries_of events)) [] (mark_by the_id event.kind op) (sym (marks-append (entries_of events) (entry ∷ [])))
 
     -- what a step makes of the key
-    module _ (after : Search M o.State) (budget_stays : budget_of after.frontier ≡ budget_of search.frontier) (turned : (q : ℕ) → get nat_cmp after.invocations q ≡ cond (nat_eq q (process_of event)) (open_by index event.kind) (get nat_cmp search.invocations q)) where
-      abbrev pub judged : Step → Standing M o.State
+    module _ (after : Search) (kind_stays : kind_of after.frontier ≡ kind_of search.frontier) (budget_stays : any_budget_of after.frontier ≡ any_budget_of search.frontier) (turned : (q : ℕ) → get nat_cmp after.invocations q ≡ cond (nat_eq q (process_of event)) (open_by index event.kind) (get nat_cmp search.invocations q)) where
+      abbrev pub judged : Step → Standing
       judged steps.Alive = Alive after
       judged steps.Dead = Dead index
       judged steps.Over = Over index
@@ -167,12 +169,13 @@ module _ {M : Type 0} (o : Object) (budget : ℕ) (events : List (ℕ × Event))
       marks_with : marks (entries_of events ++ entry ∷ []) ≡ marks (entries_of events) ++ mark_by the_id event.kind op ∷ []
       marks_with = marks-append (entries_of events) (entry ∷ [])
 
-      not_here : ¬ BlowsAt o budget (marks (entries_of events)) (mark_by the_id event.kind op) → (id : ℕ) (answer : Answer) → entry.mark ≡ Returned id answer → ¬ HasMoreThan o (marks (entries_of events)) budget
+      not_here : ¬ BlowsAt (object_of kind) budget (marks (entries_of events)) (mark_by the_id event.kind op) → (id : ℕ) (answer : Answer) → entry.mark ≡ Returned id answer → ¬ HasMoreThan (object_of kind) (marks (entries_of events)) budget
       not_here none id answer is many = none ((id, answer, is), many)
 
-      search_after : StandsFor o after.frontier (marks (entries_of events) ++ mark_by the_id event.kind op ∷ []) → IsSearch o budget (events ++ (index, event) ∷ []) after
+      search_after : AnyStandsFor after.frontier (marks (entries_of events) ++ mark_by the_id event.kind op ∷ []) → IsSearch kind budget (events ++ (index, event) ∷ []) after
       search_after stands = record {
-        stands = subst (StandsFor o after.frontier) (sym (ap marks entries ∙ marks_with)) stands;
+        stands = subst (AnyStandsFor after.frontier) (sym (ap marks entries ∙ marks_with)) stands;
+        kind_is = kind_stays ∙ is_search.kind_is;
         budget_is = budget_stays ∙ is_search.budget_is;
         knows = λ p k h.
             knows_after index (process_of event) (key_of event) op (last_of events) (busy_of events) (get nat_cmp search.invocations) (get nat_cmp after.invocations) is_search.knows event.kind turned p k
@@ -180,66 +183,67 @@ module _ {M : Type 0} (o : Object) (budget : ℕ) (events : List (ℕ × Event))
             ∙ ap Some (sym (ap (λ (f : ℕ → ℕ). f p) (last_of-push events (index, event)) ∙ ap (λ a. last_after index (last_of events) (process_of event) a p) acts));
       }
 
-      by_step : (step : Step) → IsStep o after.frontier budget (marks (entries_of events)) (mark_by the_id event.kind op) step → IsStanding o budget (events ++ (index, event) ∷ []) (judged step)
+      by_step : (step : Step) → IsStep (object_of kind) after.frontier budget (marks (entries_of events)) (mark_by the_id event.kind op) step → IsStanding kind budget (events ++ (index, event) ∷ []) (judged step)
       by_step steps.Alive s =
-          let fronts : IsLinearizable o (marks (entries_of events)) = alive.1 (entries_of events) ([], append-nil (entries_of events)) in (
-            subst (λ l. IsKeyStatus o budget l status.Alive) (sym entries)
-                (alive_here o budget (entries_of events) entry (not_here s.0) alive.0 alive.1 (subst (IsLinearizable o) (sym marks_with) (s.1 fronts))),
+          let fronts : IsLinearizable (object_of kind) (marks (entries_of events)) = alive.1 (entries_of events) ([], append-nil (entries_of events)) in (
+            subst (λ l. IsKeyStatus (object_of kind) budget l status.Alive) (sym entries)
+                (alive_here (object_of kind) budget (entries_of events) entry (not_here s.0) alive.0 alive.1 (subst (IsLinearizable (object_of kind)) (sym marks_with) (s.1 fronts))),
             search_after s.2,
           )
       by_step steps.Dead s =
-          let r = dead_here o budget (entries_of events) entry (not_here s.0) alive.0 alive.1 (subst (λ l. ¬ IsLinearizable o l) (sym marks_with) s.1) in
-          subst (λ l. IsKeyStatus o budget l (status.Dead index)) (sym entries) (r.0, (entry, r.1, refl))
-      by_step steps.Over s = subst (λ l. IsKeyStatus o budget l (status.Over index)) (sym entries) (over_here o budget (entries_of events) entry s.0.0 s.0.1 s.0.2 alive.0 s.1)
+          let r = dead_here (object_of kind) budget (entries_of events) entry (not_here s.0) alive.0 alive.1 (subst (λ l. ¬ IsLinearizable (object_of kind) l) (sym marks_with) s.1) in
+          subst (λ l. IsKeyStatus (object_of kind) budget l (status.Dead index)) (sym entries) (r.0, (entry, r.1, refl))
+      by_step steps.Over s = subst (λ l. IsKeyStatus (object_of kind) budget l (status.Over index)) (sym entries) (over_here (object_of kind) budget (entries_of events) entry s.0.0 s.0.1 s.0.2 alive.0 s.1)
 
       pub after_step : (id : ℕ) → Some id ≡ id_by index event.kind (get nat_cmp search.invocations (process_of event)) → (step : Step)
-          → ((ms : List Mark) → StandsFor o search.frontier ms → MayFollow ms (mark_by id event.kind op) → IsStep o after.frontier (budget_of search.frontier) ms (mark_by id event.kind op) step)
-          → IsStanding o budget (events ++ (index, event) ∷ []) (judged step)
+          → ((ms : List Mark) → AnyStandsFor search.frontier ms → MayFollow ms (mark_by id event.kind op) → IsStep (object_of (kind_of search.frontier)) after.frontier (any_budget_of search.frontier) ms (mark_by id event.kind op) step)
+          → IsStanding kind budget (events ++ (index, event) ∷ []) (judged step)
       after_step id is step steps_so =
           let same_id : Some id ≡ Some the_id = is ∙ finds_id in
           let same : id ≡ the_id = cc in
-          by_step step (subst (λ n. IsStep o after.frontier n (marks (entries_of events)) (mark_by the_id event.kind op) step) is_search.budget_is
-          (subst (λ n. IsStep o after.frontier (budget_of search.frontier) (marks (entries_of events)) (mark_by n event.kind op) step) same
-          (steps_so (marks (entries_of events)) is_search.stands (subst (λ n. MayFollow (marks (entries_of events)) (mark_by n event.kind op)) (sym same) may_follow))))
+          by_step step (subst (λ k. IsStep (object_of k) after.frontier budget (marks (entries_of events)) (mark_by the_id event.kind op) step) is_search.kind_is
+          (subst (λ n. IsStep (object_of (kind_of search.frontier)) after.frontier n (marks (entries_of events)) (mark_by the_id event.kind op) step) is_search.budget_is
+          (subst (λ n. IsStep (object_of (kind_of search.frontier)) after.frontier (any_budget_of search.frontier) (marks (entries_of events)) (mark_by n event.kind op) step) same
+          (steps_so (marks (entries_of events)) is_search.stands (subst (λ n. MayFollow (marks (entries_of events)) (mark_by n event.kind op)) (sym same) may_follow)))))
 
 -- the same in the words of the code: the number of the process, the operation that was found, and what the step was
-module _ {M : Type 0} (o : Object) (budget : ℕ) (events : List (ℕ × Event)) (index : ℕ) (event : Event) (search : Search M o.State) (is_search : IsSearch o budget events search) (alive : IsAlive o budget events) (history : IsHistory (events ++ (index, event) ∷ [])) (op : Op) (is_op : event.body ≡ bodies.Op op) (p : ℕ) (is_p : p ≡ process_of event) (found : Option ℕ) (finds : found ≡ id_by index event.kind (get nat_cmp search.invocations p)) where
+module _ (kind : ModelKind) (budget : ℕ) (events : List (ℕ × Event)) (index : ℕ) (event : Event) (search : Search) (is_search : IsSearch kind budget events search) (alive : IsAlive kind budget events) (history : IsHistory (events ++ (index, event) ∷ [])) (op : Op) (is_op : event.body ≡ bodies.Op op) (p : ℕ) (is_p : p ≡ process_of event) (found : Option ℕ) (finds : found ≡ id_by index event.kind (get nat_cmp search.invocations p)) where
   finds_here : found ≡ id_by index event.kind (get nat_cmp search.invocations (process_of event))
   finds_here = finds ∙ ap (λ q. id_by index event.kind (get nat_cmp search.invocations q)) is_p
 
   pub never_none : found ≡ None → ⊥
-  never_none none = always_some o budget events index event search is_search alive history op is_op (sym finds_here ∙ none)
+  never_none none = always_some kind budget events index event search is_search alive history op is_op (sym finds_here ∙ none)
 
-  module _ (after : Search M o.State) (budget_stays : budget_of after.frontier ≡ budget_of search.frontier) (turned : (q : ℕ) → get nat_cmp after.invocations q ≡ cond (nat_eq q p) (open_by index event.kind) (get nat_cmp search.invocations q)) (id : ℕ) (is_id : found ≡ Some id) (step : Step) (steps_so : (ms : List Mark) → StandsFor o search.frontier ms → MayFollow ms (mark_by id event.kind op) → IsStep o after.frontier (budget_of search.frontier) ms (mark_by id event.kind op) step) where
-    by_judge : IsStanding o budget (events ++ (index, event) ∷ []) (judged o budget events index event search is_search alive history op is_op after budget_stays (λ q. turned q ∙ ap (λ n. cond (nat_eq q n) (open_by index event.kind) (get nat_cmp search.invocations q)) is_p) step)
-    by_judge = after_step o budget events index event search is_search alive history op is_op after budget_stays (λ q. turned q ∙ ap (λ n. cond (nat_eq q n) (open_by index event.kind) (get nat_cmp search.invocations q)) is_p) id (sym is_id ∙ finds_here) step steps_so
+  module _ (after : Search) (kind_stays : kind_of after.frontier ≡ kind_of search.frontier) (budget_stays : any_budget_of after.frontier ≡ any_budget_of search.frontier) (turned : (q : ℕ) → get nat_cmp after.invocations q ≡ cond (nat_eq q p) (open_by index event.kind) (get nat_cmp search.invocations q)) (id : ℕ) (is_id : found ≡ Some id) (step : Step) (steps_so : (ms : List Mark) → AnyStandsFor search.frontier ms → MayFollow ms (mark_by id event.kind op) → IsStep (object_of (kind_of search.frontier)) after.frontier (any_budget_of search.frontier) ms (mark_by id event.kind op) step) where
+    by_judge : IsStanding kind budget (events ++ (index, event) ∷ []) (judged kind budget events index event search is_search alive history op is_op after kind_stays budget_stays (λ q. turned q ∙ ap (λ n. cond (nat_eq q n) (open_by index event.kind) (get nat_cmp search.invocations q)) is_p) step)
+    by_judge = after_step kind budget events index event search is_search alive history op is_op after kind_stays budget_stays (λ q. turned q ∙ ap (λ n. cond (nat_eq q n) (open_by index event.kind) (get nat_cmp search.invocations q)) is_p) id (sym is_id ∙ finds_here) step steps_so
 
-    pub stands_alive : step ≡ steps.Alive → IsStanding o budget (events ++ (index, event) ∷ []) (Alive after)
-    stands_alive is = subst (λ s. IsStanding o budget (events ++ (index, event) ∷ []) (judged o budget events index event search is_search alive history op is_op after budget_stays (λ q. turned q ∙ ap (λ n. cond (nat_eq q n) (open_by index event.kind) (get nat_cmp search.invocations q)) is_p) s)) is by_judge
+    pub stands_alive : step ≡ steps.Alive → IsStanding kind budget (events ++ (index, event) ∷ []) (Alive after)
+    stands_alive is = subst (λ s. IsStanding kind budget (events ++ (index, event) ∷ []) (judged kind budget events index event search is_search alive history op is_op after kind_stays budget_stays (λ q. turned q ∙ ap (λ n. cond (nat_eq q n) (open_by index event.kind) (get nat_cmp search.invocations q)) is_p) s)) is by_judge
 
-    pub stands_dead : step ≡ steps.Dead → IsKeyStatus o budget (entries_of (events ++ (index, event) ∷ [])) (status.Dead index)
-    stands_dead is = subst (λ s. IsStanding o budget (events ++ (index, event) ∷ []) (judged o budget events index event search is_search alive history op is_op after budget_stays (λ q. turned q ∙ ap (λ n. cond (nat_eq q n) (open_by index event.kind) (get nat_cmp search.invocations q)) is_p) s)) is by_judge
+    pub stands_dead : step ≡ steps.Dead → IsKeyStatus (object_of kind) budget (entries_of (events ++ (index, event) ∷ [])) (status.Dead index)
+    stands_dead is = subst (λ s. IsStanding kind budget (events ++ (index, event) ∷ []) (judged kind budget events index event search is_search alive history op is_op after kind_stays budget_stays (λ q. turned q ∙ ap (λ n. cond (nat_eq q n) (open_by index event.kind) (get nat_cmp search.invocations q)) is_p) s)) is by_judge
 
-    pub stands_over : step ≡ steps.Over → IsKeyStatus o budget (entries_of (events ++ (index, event) ∷ [])) (status.Over index)
-    stands_over is = subst (λ s. IsStanding o budget (events ++ (index, event) ∷ []) (judged o budget events index event search is_search alive history op is_op after budget_stays (λ q. turned q ∙ ap (λ n. cond (nat_eq q n) (open_by index event.kind) (get nat_cmp search.invocations q)) is_p) s)) is by_judge
+    pub stands_over : step ≡ steps.Over → IsKeyStatus (object_of kind) budget (entries_of (events ++ (index, event) ∷ [])) (status.Over index)
+    stands_over is = subst (λ s. IsStanding kind budget (events ++ (index, event) ∷ []) (judged kind budget events index event search is_search alive history op is_op after kind_stays budget_stays (λ q. turned q ∙ ap (λ n. cond (nat_eq q n) (open_by index event.kind) (get nat_cmp search.invocations q)) is_p) s)) is by_judge
 
 -- a key without events is alive
 pub alive_at_first : (o : Object) (budget : ℕ) → IsKeyStatus o budget [] status.Alive
 alive_at_first o budget = (none_blown o budget, fronts_of_none o (IsLinearizable-empty o))
 
 -- what is kept of a key that stands so
-module _ {M : Type 0} (o : Object) (budget : ℕ) (events : List (ℕ × Event)) (standing : Standing M o.State) (stands : IsStanding o budget events standing) where
-  pub is_alive : (search : Search M o.State) → standing ≡ Alive search → IsAlive o budget events × IsSearch o budget events search
-  is_alive search is = subst (IsStanding o budget events) is stands
+module _ (kind : ModelKind) (budget : ℕ) (events : List (ℕ × Event)) (standing : Standing) (stands : IsStanding kind budget events standing) where
+  pub is_alive : (search : Search) → standing ≡ Alive search → IsAlive kind budget events × IsSearch kind budget events search
+  is_alive search is = subst (IsStanding kind budget events) is stands
 
-  pub is_dead : (i : ℕ) → standing ≡ Dead i → IsKeyStatus o budget (entries_of events) (status.Dead i)
-  is_dead i is = subst (IsStanding o budget events) is stands
+  pub is_dead : (i : ℕ) → standing ≡ Dead i → IsKeyStatus (object_of kind) budget (entries_of events) (status.Dead i)
+  is_dead i is = subst (IsStanding kind budget events) is stands
 
-  pub is_over : (i : ℕ) → standing ≡ Over i → IsKeyStatus o budget (entries_of events) (status.Over i)
-  is_over i is = subst (IsStanding o budget events) is stands
+  pub is_over : (i : ℕ) → standing ≡ Over i → IsKeyStatus (object_of kind) budget (entries_of events) (status.Over i)
+  is_over i is = subst (IsStanding kind budget events) is stands
 
 -- the status of the key is that of its events
-pub status_is : {M : Type 0} (o : Object) (budget : ℕ) (events : List (ℕ × Event)) (standing : Standing M o.State) → IsStanding o budget events standing → IsKeyStatus o budget (entries_of events) (status_of standing)
-status_is o budget events (Alive search) stands = stands.0
-status_is o budget events (Dead i) stands = stands
-status_is o budget events (Over i) stands = stands
+pub status_is : (kind : ModelKind) (budget : ℕ) (events : List (ℕ × Event)) (standing : Standing) → IsStanding kind budget events standing → IsKeyStatus (object_of kind) budget (entries_of events) (status_of standing)
+status_is kind budget events (Alive search) stands = stands.0
+status_is kind budget events (Dead i) stands = stands
+status_is kind budget events (Over i) stands = stands

@@ -13,22 +13,22 @@ use Rattle.linspec.specs.Orders.{IsLinearizable}
 use Rattle.linspec.specs.Ends.{HasMoreThan}
 use Rattle.linspec.specs.Operations.{IsOpen}
 use Rattle.linspec.specs.WellFormed.{IsNew, MayFollow}
-use Rattle.frontier.specs.declared.frontiers.Frontier.{Frontier}
+use Rattle.frontier.specs.declared.kinds.AnyFrontier.{AnyFrontier}
 use Rattle.frontier.specs.declared.frontiers.Step.{Step}
 use Rattle.frontier.specs.declared.frontiers.Step.TheVariants.{Alive, Dead, Over}
-use Rattle.frontier.specs.Standing.{StandsFor}
+use Rattle.frontier.specs.Kinds.{AnyStandsFor}
 use Rattle.checkpoints.specs.Steps.{mark_by, IsStep}
 use Rattle.checkpoints.proofs.Statuses.{IsLinearizable-invoked, IsLinearizable-crashed}
 
-module _ {M : Type 0} (o : Object) (new : Frontier M o.State) (budget : ℕ) (marks : List Mark) where
-  invoke_step : (id : ℕ) (op : Op) → IsNew marks id → StandsFor o new (marks ++ Invoked id op ∷ []) → IsStep o new budget marks (Invoked id op) Alive
+module _ (o : Object) (new : AnyFrontier) (budget : ℕ) (marks : List Mark) where
+  invoke_step : (id : ℕ) (op : Op) → IsNew marks id → AnyStandsFor new (marks ++ Invoked id op ∷ []) → IsStep o new budget marks (Invoked id op) Alive
   invoke_step id op new_id stands = (
     (λ b. (let clash : Invoked id op ≡ Returned b.0.0 b.0.1 = b.0.2 in cc)),
     IsLinearizable-invoked o marks id op new_id,
     stands,
   )
 
-  crash_step : (id : ℕ) → StandsFor o new (marks ++ Crashed id ∷ []) → IsStep o new budget marks (Crashed id) Alive
+  crash_step : (id : ℕ) → AnyStandsFor new (marks ++ Crashed id ∷ []) → IsStep o new budget marks (Crashed id) Alive
   crash_step id stands = (
     (λ b. (let clash : Crashed id ≡ Returned b.0.0 b.0.1 = b.0.2 in cc)),
     IsLinearizable-crashed o marks id,
@@ -37,7 +37,7 @@ module _ {M : Type 0} (o : Object) (new : Frontier M o.State) (budget : ℕ) (ma
 
   ok_step : {E : Type 0} (id : ℕ) (a b : Answer) → a ≡ b → (r : Result Step E)
       → IfOk r (λ step. (step ≡ Over) ↔ HasMoreThan o marks budget)
-      → IfOk r (λ step. step ≢ Over → StandsFor o new (marks ++ Returned id a ∷ []))
+      → IfOk r (λ step. step ≢ Over → AnyStandsFor new (marks ++ Returned id a ∷ []))
       → IfOk r (λ step. step ≢ Over → (step ≡ Alive) ↔ IsLinearizable o (marks ++ Returned id a ∷ []))
       → IfOk r (λ step. step ≢ Over → (step ≡ Dead) ↔ (¬ IsLinearizable o (marks ++ Returned id a ∷ [])))
       → IfOk r (IsStep o new budget marks (Returned id b))
@@ -50,11 +50,11 @@ module _ {M : Type 0} (o : Object) (new : Frontier M o.State) (budget : ℕ) (ma
   ok_step id a b is (Ok Alive) over stands alive dead = (
     (λ w. (let clash : Alive ≡ Over = over.1 w.1 in cc)),
     (λ _. subst (λ w. IsLinearizable o (marks ++ Returned id w ∷ [])) is ((alive (λ e. cc)).0 refl)),
-    subst (λ w. StandsFor o new (marks ++ Returned id w ∷ [])) is (stands (λ e. cc)),
+    subst (λ w. AnyStandsFor new (marks ++ Returned id w ∷ [])) is (stands (λ e. cc)),
   )
 
   fail_step : {E : Type 0} (id : ℕ) (r : Result Step E)
-      → OnOk r (StandsFor o new (marks ++ Failed id ∷ []))
+      → OnOk r (AnyStandsFor new (marks ++ Failed id ∷ []))
       → IfOk r (λ step. (step ≡ Alive) ↔ IsLinearizable o (marks ++ Failed id ∷ []))
       → IfOk r (λ step. (step ≡ Dead) ↔ (¬ IsLinearizable o (marks ++ Failed id ∷ [])))
       → IfOk r (λ step. step ≢ Over)
@@ -69,17 +69,17 @@ module _ {M : Type 0} (o : Object) (new : Frontier M o.State) (budget : ℕ) (ma
     is_open : (k : EventKind) → kind ≡ k → MayFollow marks (mark_by id k op)
     is_open k is = subst (λ k. MayFollow marks (mark_by id k op)) is may
 
-    pub step_invoke : kind ≡ kinds.Invoke → (copy : Op) → copy ≡ op → (IsNew marks id → StandsFor o new (marks ++ Invoked id copy ∷ [])) → IsStep o new budget marks (mark_by id kind op) Alive
+    pub step_invoke : kind ≡ kinds.Invoke → (copy : Op) → copy ≡ op → (IsNew marks id → AnyStandsFor new (marks ++ Invoked id copy ∷ [])) → IsStep o new budget marks (mark_by id kind op) Alive
     step_invoke is copy same stands =
         subst (λ k. IsStep o new budget marks (mark_by id k op) Alive) (sym is)
         (subst (λ w. IsStep o new budget marks (Invoked id w) Alive) same (invoke_step id copy (is_open kinds.Invoke is) (stands (is_open kinds.Invoke is))))
 
-    pub step_info : kind ≡ kinds.Info → (IsOpen marks id → StandsFor o new (marks ++ Crashed id ∷ [])) → IsStep o new budget marks (mark_by id kind op) Alive
+    pub step_info : kind ≡ kinds.Info → (IsOpen marks id → AnyStandsFor new (marks ++ Crashed id ∷ [])) → IsStep o new budget marks (mark_by id kind op) Alive
     step_info is stands = subst (λ k. IsStep o new budget marks (mark_by id k op) Alive) (sym is) (crash_step id (stands (is_open kinds.Info is)))
 
     pub step_ok : {E : Type 0} → kind ≡ kinds.Ok → (part : Part) → part ≡ op.part → (a : Answer) → a ≡ answer_of part → (r : Result Step E)
         → (IsOpen marks id → IfOk r (λ step. (step ≡ Over) ↔ HasMoreThan o marks budget))
-        → (IsOpen marks id → IfOk r (λ step. step ≢ Over → StandsFor o new (marks ++ Returned id a ∷ [])))
+        → (IsOpen marks id → IfOk r (λ step. step ≢ Over → AnyStandsFor new (marks ++ Returned id a ∷ [])))
         → (IsOpen marks id → IfOk r (λ step. step ≢ Over → (step ≡ Alive) ↔ IsLinearizable o (marks ++ Returned id a ∷ [])))
         → (IsOpen marks id → IfOk r (λ step. step ≢ Over → (step ≡ Dead) ↔ (¬ IsLinearizable o (marks ++ Returned id a ∷ []))))
         → IfOk r (IsStep o new budget marks (mark_by id kind op))
@@ -89,7 +89,7 @@ module _ {M : Type 0} (o : Object) (new : Frontier M o.State) (budget : ℕ) (ma
         (ok_step id a (answer_of op.part) (answers ∙ ap answer_of same) r (over h) (stands h) (alive h) (dead h))
 
     pub step_fail : {E : Type 0} → kind ≡ kinds.Fail → (r : Result Step E)
-        → (IsOpen marks id → OnOk r (StandsFor o new (marks ++ Failed id ∷ [])))
+        → (IsOpen marks id → OnOk r (AnyStandsFor new (marks ++ Failed id ∷ [])))
         → (IsOpen marks id → IfOk r (λ step. (step ≡ Alive) ↔ IsLinearizable o (marks ++ Failed id ∷ [])))
         → (IsOpen marks id → IfOk r (λ step. (step ≡ Dead) ↔ (¬ IsLinearizable o (marks ++ Failed id ∷ []))))
         → IfOk r (λ step. step ≢ Over)

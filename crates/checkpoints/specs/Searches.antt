@@ -2,13 +2,13 @@
 use Rattle.std.specs.Prelude.{◌≡◌, ℕ, Option, Some, None, List, [], ◌∷◌}
 use Rattle.std.specs.Ordering.{nat_cmp}
 use Rattle.std.specs.BTreeMap.{get}
-use Rattle.models.specs.Objects.{Object}
+use Rattle.models.specs.declared.kinds.ModelKind.{ModelKind}
 use Rattle.history.specs.declared.events.EventKind.{EventKind}
 use Rattle.history.specs.declared.events.EventKind.TheVariants.{Invoke, Ok, Fail, Info}
 use Rattle.history.specs.declared.events.Event.{Event}
 use Rattle.history.specs.Events.{act_of, key_of, process_of, last_after, entries_of, marks}
 use Rattle.history.specs.Rule.{busy_after}
-use Rattle.frontier.specs.Standing.{StandsFor, budget_of}
+use Rattle.frontier.specs.Kinds.{AnyStandsFor, any_budget_of, kind_of}
 use Rattle.checkpoints.specs.declared.searches.Search.{Search}
 
 -- the last invocation of each process, and the key of each process's open operation, after events
@@ -27,9 +27,10 @@ abbrev pub busy_of : List (ℕ × Event) → ℕ → Option ℕ
 busy_of events = busy_from (λ _. None) events
 
 -- the search keeps just the ends of the events, and knows the open operation of each process that has one
-pub record IsSearch {M : Type 0} (o : Object) (budget : ℕ) (events : List (ℕ × Event)) (search : Search M o.State) : Type 0 where
-  pub stands : StandsFor o search.frontier (marks (entries_of events))
-  pub budget_is : budget_of search.frontier ≡ budget
+pub record IsSearch (kind : ModelKind) (budget : ℕ) (events : List (ℕ × Event)) (search : Search) : Type 0 where
+  pub stands : AnyStandsFor search.frontier (marks (entries_of events))
+  pub kind_is : kind_of search.frontier ≡ kind
+  pub budget_is : any_budget_of search.frontier ≡ budget
   pub knows : (p k : ℕ) → busy_of events p ≡ Some k → get nat_cmp search.invocations p ≡ Some (last_of events p)
 
 -- the operation that an event is of, where this one was open

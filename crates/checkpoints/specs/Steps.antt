@@ -9,10 +9,10 @@ use Rattle.history.specs.Events.{Mark}
 use Rattle.history.specs.Events.Mark.{Invoked, Returned, Failed, Crashed}
 use Rattle.linspec.specs.Orders.{IsLinearizable}
 use Rattle.linspec.specs.Ends.{HasMoreThan}
-use Rattle.frontier.specs.declared.frontiers.Frontier.{Frontier}
+use Rattle.frontier.specs.declared.kinds.AnyFrontier.{AnyFrontier}
 use Rattle.frontier.specs.declared.frontiers.Step.{Step}
 use Rattle.frontier.specs.declared.frontiers.Step.TheVariants.{Alive, Dead, Over}
-use Rattle.frontier.specs.Standing.{StandsFor}
+use Rattle.frontier.specs.Kinds.{AnyStandsFor}
 
 -- the mark that an event of this kind makes of the operation with this id
 abbrev pub mark_by : ℕ → EventKind → Op → Mark
@@ -26,7 +26,7 @@ abbrev pub BlowsAt : Object → ℕ → List Mark → Mark → Type 0
 BlowsAt o budget marks m = ((id : ℕ) × (answer : Answer) × (m ≡ Returned id answer)) × HasMoreThan o marks budget
 
 -- over where the mark is an ok that finds more ends than the budget; else dead where no legal order is left; else alive
-abbrev pub IsStep : {M : Type 0} (o : Object) → Frontier M o.State → ℕ → List Mark → Mark → Step → Type 0
+abbrev pub IsStep : Object → AnyFrontier → ℕ → List Mark → Mark → Step → Type 0
 IsStep o f budget marks m Over = BlowsAt o budget marks m
 IsStep o f budget marks m Dead = (¬ BlowsAt o budget marks m) × (¬ IsLinearizable o (marks ++ m ∷ []))
-IsStep o f budget marks m Alive = (¬ BlowsAt o budget marks m) × (IsLinearizable o marks → IsLinearizable o (marks ++ m ∷ [])) × StandsFor o f (marks ++ m ∷ [])
+IsStep o f budget marks m Alive = (¬ BlowsAt o budget marks m) × (IsLinearizable o marks → IsLinearizable o (marks ++ m ∷ [])) × AnyStandsFor f (marks ++ m ∷ [])

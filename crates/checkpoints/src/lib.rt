@@ -10,4 +10,6 @@ mod steps;
 pub use line::KeyLine;
 
 #[cfg(test)]
+mod kinds_tests;
+#[cfg(test)]
 mod tests;

@@ -1,6 +1,6 @@
 //! The line of one key.
 ghost use Rattle.std.specs.Prelude.{◌≡◌, None, Some, [], ◌∷◌, ◌++◌, length, IsSome, IfSome, IfOk, OnOk, OnErr};
-ghost use Rattle.models.specs.Objects.{of_table};
+ghost use Rattle.models.specs.Objects.{object_of};
 ghost use Rattle.history.specs.Events.{entries_of};
 ghost use Rattle.history.specs.Rule.{IsHistory};
 ghost use Rattle.linspec.specs.Verdicts.{IsKeyStatus};
@@ -8,61 +8,63 @@ ghost use Rattle.linspec.specs.Verdicts.{IsKeyStatus};
 use crate::standings::Standing;
 use history::Event;
 use linspec::KeyStatus;
-use models::SeqObject;
+use models::ModelKind;
 use std::alloc::{AllocError, Global};
 use std::marker::Model;
 
 /// An event that may be committed, and how the key stands with it.
 #[derive(Drop)]
-struct Prepared<M: SeqObject> {
+struct Prepared {
     index: u32,
     event: Event,
-    standing: Standing<M>,
+    standing: Standing,
 }
 
 /// The events of one key with their indices, in the order in which they came, and what is known of the key. It is alive
-/// while every beginning of the events is linearizable (Herlihy and Wing 1990, section 2.3); else it is dead at the
+/// while every beginning of the events is linearizable (Herlihy and Wing 1990, section 2); else it is dead at the
 /// event that ends the shortest beginning that is not. Where an ok finds more ends than the budget just before it, the
 /// key is over at that ok, whatever else is known of it (this project's own).
 ///
 /// A line is that of one key because it is given that key's events alone; it looks at no key itself.
 #[derive(Drop)]
-pub struct KeyLine<M: SeqObject> {
+pub struct KeyLine {
+    kind: ModelKind,
     budget: u32,
     events: Vec<(u32, Event)>,
-    standing: Standing<M>,
-    prepared: Option<Prepared<M>>,
+    standing: Standing,
+    prepared: Option<Prepared>,
 }
 
-impl<M: SeqObject> Model for KeyLine<M> {
+impl Model for KeyLine {
     ghost use Rattle.std.specs.Prelude.{vec_capacity};
     ghost use Rattle.std.specs.Option.{option_map};
-    ghost use Rattle.models.specs.Objects.{of_table};
     ghost use Rattle.checkpoints.specs.Lines.{Line, IsSound};
 
     ghost Value = { Line };
 
     ghost view = { λ a. record {
+      kind = a.kind;
       budget = a.budget;
       events = a.events.items;
       prepared = option_map (λ p. (p.index, p.event)) a.prepared;
     } };
 
-    ghost invariant = { λ a. let object = of_table M.State M.start_state M.apply_to in
-        IsSound object a.budget a.events.items a.standing (vec_capacity a.events) a.prepared };
+    ghost invariant = { λ a. IsSound a.kind a.budget a.events.items a.standing (vec_capacity a.events) a.prepared };
 }
 
-impl<M: SeqObject> KeyLine<M> {
-    /// The line of no events. An ok of it may find at most `budget` ends just before it.
+impl KeyLine {
+    /// The line of no events of a key whose object is of this kind. An ok of it may find at most `budget` ends just
+    /// before it.
     ///
     /// # Errors
     ///
     /// `AllocError` where memory was refused.
-    pub fn new(alloc: Global, budget: u32) -> Result<Self, AllocError>
-        ensures { IfOk result (λ line. line ≡ record { budget = budget; events = []; prepared = None }) }
+    pub fn new(alloc: Global, kind: ModelKind, budget: u32) -> Result<Self, AllocError>
+        ensures { IfOk result (λ line. line ≡ record { kind = kind; budget = budget; events = []; prepared = None }) }
     {
-        let standing = Standing::start(alloc, budget)?;
+        let standing = Standing::start(alloc, kind, budget)?;
         Ok(KeyLine {
+            kind,
             budget,
             events: Vec::new(alloc),
             standing,
@@ -72,16 +74,16 @@ impl<M: SeqObject> KeyLine<M> {
 
     /// Prepares that this event comes next and gives the status that [`commit`](Self::commit) will bring. The index is
     /// the event's place in the whole history. What was prepared before is dropped. It takes the time of a copy of the
-    /// ends of the events so far, and of the event.
+    /// ends of the events so far, of the event, and of what the event does to the ends: see
+    /// [`Frontier`](frontier::Frontier)'s `invoke`, `ok`, `fail` and `crash`.
     ///
     /// # Errors
     ///
     /// `AllocError` where memory was refused: then nothing is prepared, and the rest is as it was.
     pub fn prepare(&mut self, index: u32, event: Event) -> Result<KeyStatus, AllocError>
         requires { IsHistory (self.old.events ++ (index, event) ∷ []) }
-        ensures status { let object = of_table M.State M.start_state M.apply_to in
-            let entries = entries_of (self.old.events ++ (index, event) ∷ []) in
-            IfOk result (λ status. IsKeyStatus object self.old.budget entries status) }
+        ensures status { let entries = entries_of (self.old.events ++ (index, event) ∷ []) in
+            IfOk result (λ status. IsKeyStatus (object_of self.old.kind) self.old.budget entries status) }
         ensures prepared { OnOk result (self.new ≡ record self.old { prepared = Some (index, event) }) }
         ensures err { OnErr result (self.new ≡ record self.old { prepared = None }) }
     {
@@ -134,8 +136,7 @@ impl<M: SeqObject> KeyLine<M> {
 
     /// What is known of the key. Takes no memory.
     pub fn status(&self) -> KeyStatus
-        ensures { let object = of_table M.State M.start_state M.apply_to in
-            IsKeyStatus object self.now.budget (entries_of self.now.events) result }
+        ensures { IsKeyStatus (object_of self.now.kind) self.now.budget (entries_of self.now.events) result }
     {
         self.standing.status()
     }

@@ -2,7 +2,7 @@
 ghost use Rattle.std.specs.Prelude.{◌≡◌, ℕ, List, [], ◌∷◌, ◌++◌, nat_eq, if◌then◌else◌, IfOk, OnOk};
 ghost use Rattle.std.specs.Ordering.{nat_cmp};
 ghost use Rattle.std.specs.BTreeMap.{get};
-ghost use Rattle.models.specs.Objects.{of_table};
+ghost use Rattle.models.specs.declared.kinds.ModelKind.{ModelKind};
 ghost use Rattle.history.specs.declared.events.Event.{Event};
 ghost use Rattle.history.specs.Events.{number_in};
 ghost use Rattle.history.specs.Rule.{IsHistory};
@@ -11,26 +11,25 @@ ghost use Rattle.checkpoints.specs.Standings.{IsAlive, IsStanding};
 
 use crate::standings::Standing;
 use crate::steps::step;
-use frontier::{Frontier, Step};
+use frontier::{AnyFrontier, Step};
 use history::{Body, Event, EventKind, Process};
-use models::SeqObject;
+use models::ModelKind;
 use std::alloc::{AllocError, Global};
 use std::collections::BTreeMap;
 
 /// The ends of the events so far, and for each process with an open operation the index of its invocation.
 #[derive(Drop)]
-pub(crate) struct Search<M: SeqObject> {
-    frontier: Frontier<M>,
+pub(crate) struct Search {
+    frontier: AnyFrontier,
     invocations: BTreeMap<u32, u32>,
 }
 
-impl<M: SeqObject> Search<M> {
+impl Search {
     /// The search in no events.
-    pub(crate) fn start(alloc: Global, budget: u32) -> Result<Self, AllocError>
-        ensures { let object = of_table M.State M.start_state M.apply_to in
-            IfOk result (λ search. IsSearch object budget [] search) }
+    pub(crate) fn start(alloc: Global, kind: ModelKind, budget: u32) -> Result<Self, AllocError>
+        ensures { IfOk result (λ search. IsSearch kind budget [] search) }
     {
-        let frontier = Frontier::start(alloc, budget)?;
+        let frontier = AnyFrontier::start(alloc, kind, budget)?;
         Ok(Search {
             frontier,
             invocations: BTreeMap::new(alloc),
@@ -39,9 +38,8 @@ impl<M: SeqObject> Search<M> {
 
     /// A search in the same events.
     pub(crate) fn copy(&self) -> Result<Self, AllocError>
-        ensures { let object = of_table M.State M.start_state M.apply_to in
-            (budget : ℕ) (events : List (ℕ × Event)) → IsSearch object budget events self.now
-            → IfOk result (IsSearch object budget events) }
+        ensures { (kind : ModelKind) (budget : ℕ) (events : List (ℕ × Event)) → IsSearch kind budget events self.now
+            → IfOk result (IsSearch kind budget events) }
     {
         let frontier = self.frontier.copy()?;
         let invocations = self.invocations.clone()?;
@@ -52,11 +50,10 @@ impl<M: SeqObject> Search<M> {
     }
 
     /// How a key that is alive stands with one more event.
-    pub(crate) fn after(mut self, index: u32, event: &Event) -> Result<Standing<M>, AllocError>
-        ensures { let object = of_table M.State M.start_state M.apply_to in
-            (budget : ℕ) (events : List (ℕ × Event)) → IsSearch object budget events self
-            → IsAlive object budget events → IsHistory (events ++ (index, event.now) ∷ [])
-            → IfOk result (IsStanding object budget (events ++ (index, event.now) ∷ [])) }
+    pub(crate) fn after(mut self, index: u32, event: &Event) -> Result<Standing, AllocError>
+        ensures { (kind : ModelKind) (budget : ℕ) (events : List (ℕ × Event)) → IsSearch kind budget events self
+            → IsAlive kind budget events → IsHistory (events ++ (index, event.now) ∷ [])
+            → IfOk result (IsStanding kind budget (events ++ (index, event.now) ∷ [])) }
     {
         // A fault belongs to no operation, and by the process rule every completion finds an open one.
         let Body::Op(op) = &event.body else {

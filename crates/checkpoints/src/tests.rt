@@ -4,10 +4,10 @@ ghost use Rattle.std.specs.Prelude.{◌≡◌, None};
 use crate::line::KeyLine;
 use history::{Body, Event, EventKind, Fault, Process};
 use linspec::KeyStatus;
-use models::{Name, Op, Part, Register};
+use models::{ModelKind, Name, Op, Part};
 use std::test::Fail;
 
-fn event(process: u32, kind: EventKind, name: Name, part: Part) -> Event
+pub fn event(process: u32, kind: EventKind, name: Name, part: Part) -> Event
     ensures { result ≡ record {
       index = None;
       kind = kind;
@@ -47,7 +47,7 @@ fn read(process: u32, kind: EventKind, part: Part) -> Event
 
 #[test]
 fn write_then_read(rt: HostRuntime) -> Result<(), Fail> {
-    let mut line = KeyLine::<Register>::new(rt.alloc(), 4096)?;
+    let mut line = KeyLine::new(rt.alloc(), ModelKind::Register, 4096)?;
     line.push(0, write(0, EventKind::Invoke, 3))?;
     line.push(1, write(0, EventKind::Ok, 3))?;
     line.push(2, read(0, EventKind::Invoke, Part::Nil))?;
@@ -59,7 +59,7 @@ fn write_then_read(rt: HostRuntime) -> Result<(), Fail> {
 
 #[test]
 fn read_of_another_value(rt: HostRuntime) -> Result<(), Fail> {
-    let mut line = KeyLine::<Register>::new(rt.alloc(), 4096)?;
+    let mut line = KeyLine::new(rt.alloc(), ModelKind::Register, 4096)?;
     line.push(0, write(0, EventKind::Invoke, 3))?;
     line.push(1, write(0, EventKind::Ok, 3))?;
     line.push(2, read(0, EventKind::Invoke, Part::Nil))?;
@@ -75,7 +75,7 @@ fn read_of_another_value(rt: HostRuntime) -> Result<(), Fail> {
 // Just before the first ok there are two ends: the write has taken place or not.
 #[test]
 fn budget_one_blown_by_a_write(rt: HostRuntime) -> Result<(), Fail> {
-    let mut line = KeyLine::<Register>::new(rt.alloc(), 1)?;
+    let mut line = KeyLine::new(rt.alloc(), ModelKind::Register, 1)?;
     line.push(0, write(0, EventKind::Invoke, 3))?;
     assert!(rt; matches!(line.status(), KeyStatus::Alive));
     line.push(1, write(0, EventKind::Ok, 3))?;
@@ -89,7 +89,7 @@ fn budget_one_blown_by_a_write(rt: HostRuntime) -> Result<(), Fail> {
 // A read finds a write that is still open. The write may crash, but not fail.
 #[test]
 fn failed_write_was_read(rt: HostRuntime) -> Result<(), Fail> {
-    let mut line = KeyLine::<Register>::new(rt.alloc(), 4096)?;
+    let mut line = KeyLine::new(rt.alloc(), ModelKind::Register, 4096)?;
     line.push(0, write(0, EventKind::Invoke, 1))?;
     line.push(1, read(1, EventKind::Invoke, Part::Nil))?;
     line.push(2, read(1, EventKind::Ok, Part::Int(1)))?;
@@ -105,7 +105,7 @@ fn failed_write_was_read(rt: HostRuntime) -> Result<(), Fail> {
 
 #[test]
 fn fault_changes_nothing(rt: HostRuntime) -> Result<(), Fail> {
-    let mut line = KeyLine::<Register>::new(rt.alloc(), 4096)?;
+    let mut line = KeyLine::new(rt.alloc(), ModelKind::Register, 4096)?;
     let heal = Event {
         index: None,
         kind: EventKind::Info,

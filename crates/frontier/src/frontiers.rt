@@ -26,8 +26,9 @@ pub enum Step {
     Over,
 }
 
-/// All ends of the legal orders of one key's history, kept as its events come (Herlihy and Wing 1990, section 2.3;
-/// the search over sets of states is that of Lowe 2017). It does not keep the events.
+/// All ends of the legal orders of one key's history, kept as its events come (Herlihy and Wing 1990, section 2). It
+/// does not keep the events. An invocation finds at once what it may lead to; the just-in-time search of Lowe 2017,
+/// which waits for an ok, may take the place of this body without a change of the contract.
 #[derive(Drop)]
 pub struct Frontier<M: SeqObject> {
     alloc: Global,

@@ -2,4 +2,4 @@ use Rattle.checkpoints.proofs.Judging.{alive_at_first}
 use Rattle.checkpoints.proofs.standings.Standing.start.Goals as goal
 
 pub returns : goal.returns
-returns g c = (alive_at_first _ _, c.in_ok-search.ensures)
+returns c = (alive_at_first _ _, c.in_ok-search.ensures)
