@@ -1,17 +1,16 @@
 -- What is known of a history after its events
-use Rattle.std.proofs.Common.{◌≡◌, ℕ, Option, Some, None, unwrap_or, List, [], ◌∷◌, ◌++◌, length, refl, sym, ap, ◌∙◌, subst}
-use Rattle.std.specs.Option.{option_or}
+use Rattle.std.proofs.Common.{ℕ, unwrap_or, List, [], ◌∷◌}
 use Rattle.models.specs.declared.kinds.ModelKind.{ModelKind}
-use Rattle.models.specs.Objects.{object_of, register}
+use Rattle.models.specs.Objects.{object_of}
 use Rattle.history.specs.declared.events.Event.{Event}
 use Rattle.history.specs.Events.{Entry, marks, entries_of, indexed_from}
 use Rattle.history.specs.Rule.{IsHistory}
-use Rattle.history.specs.WellFormed.{IsHistoryOf, IsWellFormed, first_key, key_behind}
+use Rattle.history.specs.WellFormed.{IsHistoryOf, first_key}
 use Rattle.linspec.specs.WellFormed.{IsKeyed, AreWellFormed}
 use Rattle.linspec.specs.Verdicts.{IsKeyStatus, IsVerdict, IsRising, AreStatuses, IsJoin}
 use Rattle.linspec.specs.declared.verdicts.KeyStatus.{KeyStatus}
 use Rattle.linspec.specs.declared.verdicts.Verdict.{Verdict}
-use Rattle.harness.specs.Machine.{Machine, kind_of, IsVerdictOn}
+use Rattle.harness.specs.Machine.{IsVerdictOn}
 use Rattle.harness.proofs.OneKey.{one_status}
 use Rattle.harness.proofs.OfOneKey.{history_key}
 
@@ -25,11 +24,11 @@ pub record Laws : Type 0 where
       IsKeyed entries → AreWellFormed (marks entries) → IsRising entries → AreStatuses kinds budgets entries statuses → IsJoin statuses v → IsVerdict kinds budgets entries v
 
 -- the status of the one key gives the verdict
-pub verdict_on : Laws → (c budget : ℕ) (events : List Event) (status : KeyStatus) (v : Verdict) → IsHistoryOf c events
-    → IsKeyStatus register budget (entries_of (indexed_from 0 events)) status → IsJoin ((unwrap_or (first_key events) 0, status) ∷ []) v
-    → IsVerdictOn (record { concurrency = c; budget = budget; events = events }) v
-verdict_on laws c budget events status v may is joined =
+pub verdict_on : Laws → (c : ℕ) (kind : ModelKind) (budget : ℕ) (events : List Event) (status : KeyStatus) (v : Verdict) → IsHistoryOf c events
+    → IsKeyStatus (object_of kind) budget (entries_of (indexed_from 0 events)) status → IsJoin ((unwrap_or (first_key events) 0, status) ∷ []) v
+    → IsVerdictOn (record { concurrency = c; kind = kind; budget = budget; events = events }) v
+verdict_on laws c kind budget events status v may is joined =
     let h = laws.rule c events may in
-    laws.join kind_of (λ key. budget) (entries_of (indexed_from 0 events)) ((unwrap_or (first_key events) 0, status) ∷ []) v
+    laws.join (λ key. kind) (λ key. budget) (entries_of (indexed_from 0 events)) ((unwrap_or (first_key events) 0, status) ∷ []) v
     (laws.keyed _ h) (laws.well _ h) (laws.rising _ h)
-    (one_status kind_of (λ key. budget) (unwrap_or (first_key events) 0) (entries_of (indexed_from 0 events)) status (history_key c events may) is) joined
+    (one_status (λ key. kind) (λ key. budget) (unwrap_or (first_key events) 0) (entries_of (indexed_from 0 events)) status (history_key c events may) is) joined

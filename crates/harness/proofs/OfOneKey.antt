@@ -1,5 +1,5 @@
 -- At this stage a history has one key: each entry is of the key of its first operation
-use Rattle.std.proofs.Common.{◌≡◌, ℕ, ◌+◌, ⊎_elim, Option, Some, None, IfSome, unwrap_or, List, [], ◌∷◌, ◌++◌, length, refl, sym, ap, ◌∙◌, subst, append_assoc, arith}
+use Rattle.std.proofs.Common.{◌≡◌, ℕ, ◌+◌, ⊎_elim, Option, None, IfSome, unwrap_or, List, [], ◌∷◌, ◌++◌, length, refl, sym, ap, ◌∙◌, subst, append_assoc, arith}
 use Rattle.std.specs.Option.{option_or}
 use Rattle.std.specs.List.{Contains}
 use Rattle.std.proofs.lemmas.List.{append-nil}
@@ -10,7 +10,7 @@ use Rattle.history.specs.declared.events.EventKind.TheVariants.{Invoke, Ok, Fail
 use Rattle.history.specs.declared.events.Body.{Body}
 use Rattle.history.specs.declared.events.Body.TheVariants.{Op as AnOp, Fault as AFault}
 use Rattle.history.specs.declared.events.Event.{Event}
-use Rattle.history.specs.Events.{Mark, Entry, Act, act_in, act_of, key_in, key_of, process_of, marks_of, last_after, entries_from, entries_of, indexed_from}
+use Rattle.history.specs.Events.{Mark, Entry, act_in, act_of, key_in, key_of, process_of, marks_of, last_after, entries_from, entries_of, indexed_from}
 use Rattle.history.specs.WellFormed.{IsWellFormed, IsHistoryOf, SharesKey, first_key, key_behind}
 use Rattle.linspec.proofs.Lists.{Contains-nil, Contains-head, Contains-tail, Contains-cons_cases, snoc_cut}
 use Rattle.harness.proofs.OneKey.{AllOfKey}

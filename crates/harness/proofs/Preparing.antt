@@ -4,7 +4,8 @@ use Rattle.std.specs.Option.{option_or}
 use Rattle.std.specs.List.{Contains}
 use Rattle.std.proofs.lemmas.List.Elements.{Contains-append_right}
 use Rattle.std.specs.declared.alloc.AllocError.{AllocError}
-use Rattle.models.specs.Objects.{register}
+use Rattle.models.specs.declared.kinds.ModelKind.{ModelKind}
+use Rattle.models.specs.Objects.{object_of}
 use Rattle.history.specs.declared.events.Event.{Event}
 use Rattle.history.specs.Events.{entries_of, indexed_from}
 use Rattle.history.specs.Rule.{IsHistory}
@@ -16,7 +17,7 @@ use Rattle.linspec.specs.Verdicts.{IsKeyStatus, IsJoin}
 use Rattle.harness.specs.declared.core_object.Known.{Known}
 use Rattle.harness.specs.declared.core_object.Change.{Change}
 use Rattle.harness.specs.declared.core_object.Change.TheVariants.{Nothing, Append}
-use Rattle.harness.specs.Machine.{Machine, with_event, IsVerdictOn}
+use Rattle.harness.specs.Machine.{with_event}
 use Rattle.harness.specs.Kept.{machine_of, IsKnown, IsKept, Readies, Keeps}
 use Rattle.linspec.proofs.Lists.{Contains-nil, Contains-head}
 use Rattle.harness.proofs.OfOneKey.{indexed_from-push, first_key-push}
@@ -47,15 +48,15 @@ pub readies : (copy : Result Event AllocError) (event : Event) (history history'
     → IsWellFormed history.concurrency history.events event → IsHistoryOf history.concurrency (history.events ++ event ∷ [])
     → history' ≡ record history { prepared = Some event }
     → IfOk copy (λ x. line' ≡ record line { prepared = Some (index, x) })
-    → IfOk copy (λ x. IsKeyStatus register line.budget (entries_of (line.events ++ (index, x) ∷ [])) status)
+    → IfOk copy (λ x. IsKeyStatus (object_of line.kind) line.budget (entries_of (line.events ++ (index, x) ∷ [])) status)
     → Readies history history' line line' event status
 readies (Ok x) event history history' line line' index status is ok same at well after in_history in_line is_status = record {
   well_formed = well;
   in_history = in_history;
   in_line = in_line ∙ ap (λ (i : ℕ × Event). record line { prepared = Some i }) (ap (λ (i : ℕ). (i, x)) at ∙ ap (λ (e : Event). (length history.events, e)) is);
   after = after;
-  is_status = subst (λ (e : Event). IsKeyStatus register line.budget (entries_of (indexed_from 0 (history.events ++ e ∷ []))) status) is
-      (subst (λ (l : List (ℕ × Event)). IsKeyStatus register line.budget (entries_of l) status) (next_event history.events x index line.events same at) is_status);
+  is_status = subst (λ (e : Event). IsKeyStatus (object_of line.kind) line.budget (entries_of (indexed_from 0 (history.events ++ e ∷ []))) status) is
+      (subst (λ (l : List (ℕ × Event)). IsKeyStatus (object_of line.kind) line.budget (entries_of l) status) (next_event history.events x index line.events same at) is_status);
 }
 readies (Err e) event history history' line line' index status is ok same at well after in_history in_line is_status = cc
 
@@ -73,7 +74,7 @@ pub verdict_after : Laws → (history history' : Contents) (line line' : Line) (
     → IsJoin ((unwrap_or key 0, status) ∷ []) v → IsKnown (with_event event (machine_of history line)) (record { key = key; verdict = v })
 verdict_after laws history history' line line' known change event status key v kept readies is_key joined = (
   first ∙ sym is_key,
-  verdict_on laws history.concurrency line.budget (history.events ++ event ∷ []) status v readies.after readies.is_status
+  verdict_on laws history.concurrency line.kind line.budget (history.events ++ event ∷ []) status v readies.after readies.is_status
       (subst (λ (o : Option ℕ). IsJoin ((unwrap_or o 0, status) ∷ []) v) (is_key ∙ sym first) joined),
 )
   where
@@ -108,14 +109,14 @@ committed history history' line line' known next kept history_is line_is =
     line_now = subst (λ (o : Option (ℕ × Event)). IfSome o (λ change. line' ≡ record line { events = line.events ++ change ∷ []; prepared = None })) kept.readied.2 line_is
 
 -- what is kept at the opening
-pub opened : Laws → (c budget : ℕ) (history : Contents) (line : Line) (status : KeyStatus) (v : Verdict) → history ≡ no_events c → line ≡ record { budget = budget; events = []; prepared = None }
-    → IsKeyStatus register line.budget (entries_of line.events) status → IsJoin ((0, status) ∷ []) v → IsKept history line (record { key = None; verdict = v }) Nothing
-opened laws c budget history line status v history_is line_is is joined =
+pub opened : Laws → (c : ℕ) (kind : ModelKind) (budget : ℕ) (history : Contents) (line : Line) (status : KeyStatus) (v : Verdict) → history ≡ no_events c → line ≡ record { kind = kind; budget = budget; events = []; prepared = None }
+    → IsKeyStatus (object_of line.kind) line.budget (entries_of line.events) status → IsJoin ((0, status) ∷ []) v → IsKept history line (record { key = None; verdict = v }) Nothing
+opened laws c kind budget history line status v history_is line_is is joined =
     subst (λ (h : Contents). IsKept h line (record { key = None; verdict = v }) Nothing) (sym history_is)
     (subst (λ (l : Line). IsKept (no_events c) l (record { key = None; verdict = v }) Nothing) (sym line_is)
     (record {
       same_events = refl;
-      is_known = (refl, verdict_on laws c budget [] status v none (subst (λ (l : Line). IsKeyStatus register l.budget (entries_of l.events) status) line_is is) joined);
+      is_known = (refl, verdict_on laws c kind budget [] status v none (subst (λ (l : Line). IsKeyStatus (object_of l.kind) l.budget (entries_of l.events) status) line_is is) joined);
       readied = tt;
     }))
   where

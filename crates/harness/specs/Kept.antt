@@ -1,7 +1,7 @@
 -- What the one-thread object keeps true of its parts
-use Rattle.std.specs.Prelude.{◌≡◌, ℕ, Option, Some, None, unwrap_or, List, ◌∷◌, ◌++◌, [], length, option_map}
+use Rattle.std.specs.Prelude.{◌≡◌, ℕ, Option, Some, None, ◌∷◌, ◌++◌, [], length, option_map}
 use Rattle.history.specs.declared.events.Event.{Event}
-use Rattle.models.specs.Objects.{register}
+use Rattle.models.specs.Objects.{object_of}
 use Rattle.history.specs.Events.{entries_of, indexed_from}
 use Rattle.history.specs.WellFormed.{Contents, IsWellFormed, IsHistoryOf, first_key}
 use Rattle.checkpoints.specs.Lines.{Line}
@@ -14,7 +14,7 @@ use Rattle.harness.specs.Machine.{Machine, IsVerdictOn, with_event}
 
 -- the machine that a history and a line stand for
 abbrev pub machine_of : Contents → Line → Machine
-machine_of history line = record { concurrency = history.concurrency; budget = line.budget; events = history.events }
+machine_of history line = record { concurrency = history.concurrency; kind = line.kind; budget = line.budget; events = history.events }
 
 -- the machine that the change leads to
 abbrev pub next_of : Contents → Line → Change → Option Machine
@@ -43,7 +43,7 @@ pub record Readies (history history' : Contents) (line line' : Line) (event : Ev
   pub in_history : history' ≡ record history { prepared = Some event }
   pub in_line : line' ≡ record line { prepared = Some (length history.events, event) }
   pub after : IsHistoryOf history.concurrency (history.events ++ event ∷ [])
-  pub is_status : IsKeyStatus register line.budget (entries_of (indexed_from 0 (history.events ++ event ∷ []))) status
+  pub is_status : IsKeyStatus (object_of line.kind) line.budget (entries_of (indexed_from 0 (history.events ++ event ∷ []))) status
 
 -- the line is as it was, but for what is prepared
 abbrev pub KeepsLine : Line → Line → Type 0

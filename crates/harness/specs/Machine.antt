@@ -3,7 +3,6 @@ use Rattle.std.specs.Prelude.{◌≡◌, ℕ, ◌≤◌, List, [], ◌∷◌, �
 use Rattle.edn.specs.declared.refusals.Refusal.{Refusal}
 use Rattle.edn.specs.declared.refusals.Refusal.TheVariants.{BadBudget, BadConcurrency, NoMemory}
 use Rattle.models.specs.declared.kinds.ModelKind.{ModelKind}
-use Rattle.models.specs.declared.kinds.ModelKind.TheVariants.{Register}
 use Rattle.history.specs.declared.events.Event.{Event}
 use Rattle.history.specs.Events.{entries_of, indexed_from}
 use Rattle.history.specs.WellFormed.{IsWellFormed, IsConcurrency, Refuses}
@@ -15,19 +14,20 @@ use Rattle.harness.specs.declared.commands.Command.TheVariants.{Append, Verdict 
 use Rattle.harness.specs.declared.commands.Reply.{Reply}
 use Rattle.harness.specs.declared.commands.Reply.TheVariants.{Verdict as Says}
 
--- the history as it stands, its concurrency, and the budget of every key
+-- the history as it stands, its concurrency, and the kind and the budget of every key
 pub record Machine : Type 0 where
   pub concurrency : ℕ
+  pub kind : ModelKind
   pub budget : ℕ
   pub events : List Event
 
--- every key is a register at this stage
-abbrev pub kind_of : ℕ → ModelKind
-kind_of key = Register
+-- every key is an object of the machine's kind
+abbrev pub kind_of : Machine → ℕ → ModelKind
+kind_of m key = m.kind
 
 -- the verdict, from scratch, on the history as it stands
 abbrev pub IsVerdictOn : Machine → Verdict → Type 0
-IsVerdictOn m v = IsVerdict kind_of (λ key. m.budget) (entries_of (indexed_from 0 m.events)) v
+IsVerdictOn m v = IsVerdict (kind_of m) (λ key. m.budget) (entries_of (indexed_from 0 m.events)) v
 
 abbrev pub with_event : Event → Machine → Machine
 with_event event m = record m { events = m.events ++ event ∷ [] }
@@ -46,7 +46,7 @@ abbrev pub IsBudget : ℕ → Type 0
 IsBudget n = (1 ≤ n) × (n ≤ 65536)
 
 abbrev pub opening : Config → Machine
-opening config = record { concurrency = config.concurrency; budget = config.budget; events = [] }
+opening config = record { concurrency = config.concurrency; kind = config.kind; budget = config.budget; events = [] }
 
 -- why no object is opened: the budget is tested first
 abbrev pub MayNotOpen : Config → Refusal → Type 0

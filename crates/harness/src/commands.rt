@@ -1,6 +1,7 @@
 //! What the one-thread object is told, and what it says.
 use history::Event;
 use linspec::Verdict;
+use models::ModelKind;
 
 /// What the one-thread object is told.
 #[derive(Drop)]
@@ -23,6 +24,8 @@ pub enum Reply {
 pub struct Config {
     /// How many threads the history has, 1 to 64.
     pub concurrency: u32,
+    /// The kind of object that every key is.
+    pub kind: ModelKind,
     /// How many ends of a key may be possible just before an ok, 1 to 65,536.
     pub budget: u32,
 }

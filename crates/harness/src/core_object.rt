@@ -1,5 +1,6 @@
 //! The one-thread object.
-ghost use Rattle.std.specs.Prelude.{◌≡◌, ◌≢◌, None, Some, IfOk, IfErr, IfSome, IsSome, OnOk, OnErr, Ok, Err};
+ghost use Rattle.std.specs.Prelude.{◌≡◌, ◌≢◌, None, Some, IfOk, IfErr, IfSome, IsSome, IsOk, OnOk, OnErr, IsErrOf, Ok, Err};
+ghost use Rattle.history.specs.declared.events.Event.{Event};
 ghost use Rattle.history.specs.WellFormed.{IsConcurrency, IsWellFormed, MayRefuse};
 ghost use Rattle.harness.specs.Machine.{Machine, opening, at_rest, with_event, IsBudget, MayNotOpen, MayStep, IsVerdictOn};
 
@@ -13,7 +14,7 @@ use linspec::Verdict;
 use linspec::laws::history_law;
 use locality::join;
 use locality::laws::join_law;
-use models::{Key, Register};
+use models::Key;
 use std::alloc::Global;
 use std::marker::Model;
 
@@ -36,12 +37,12 @@ enum Change {
 }
 
 /// The one-thread object: a history, and the verdict on it as it stands. Linearizability is that of Herlihy and Wing
-/// (1990); every key is a register at this stage, and a history has one key.
+/// (1990). Every key is an object of the kind that it is opened with; at this stage a history has one key.
 #[derive(Drop)]
 pub struct Core {
     alloc: Global,
     history: History,
-    line: KeyLine<Register>,
+    line: KeyLine,
     known: Known,
     change: Change,
 }
@@ -76,7 +77,7 @@ impl Core {
         join_law();
         process_rule_law();
         let history = History::new(alloc, config.concurrency)?;
-        let line = KeyLine::new(alloc, config.budget)?;
+        let line = KeyLine::new(alloc, config.kind, config.budget)?;
         let known = Known {
             key: None,
             verdict: join(&[(0, line.status())]),
@@ -95,12 +96,17 @@ impl Core {
     ///
     /// # Errors
     /// The refusal of an event that is not well-formed, else [`Refusal::NoMemory`] where a growth was refused. Then
-    /// nothing is prepared.
+    /// nothing is prepared. [`Command::Verdict`] is never refused.
     pub fn prepare(&mut self, command: Command) -> Result<(Reply, Verdict), Refusal>
         ensures answered { IfOk result (λ answer. (next : Machine) × MayStep self.old.machine command (Ok answer.0) next
             × IsVerdictOn next answer.1 × (self.new ≡ record { machine = self.old.machine; next = Some next })) }
         ensures refused { IfErr result (λ why. why ≢ Refusal.NoMemory → MayStep self.old.machine command (Err why) self.old.machine) }
         ensures err { OnErr result (self.new ≡ at_rest self.old.machine) }
+        // The verdict takes no memory and is never refused.
+        ensures asked { command ≡ Command.Verdict → IsOk result }
+        // Want of memory is answered last.
+        ensures memory_last { IsErrOf result Refusal.NoMemory → (event : Event) × (command ≡ Command.Append event)
+            × IsWellFormed self.old.machine.concurrency self.old.machine.events event }
     {
         match command {
             Command::Append(event) => {
@@ -120,6 +126,7 @@ impl Core {
         ensures prepared { OnOk result (self.new ≡ record { machine = self.old.machine; next = Some (with_event event self.old.machine) }) }
         ensures verdict { IfOk result (IsVerdictOn (with_event event self.old.machine)) }
         ensures refused { IfErr result (MayRefuse self.old.machine.concurrency self.old.machine.events event) }
+        ensures memory_last { IsErrOf result Refusal.NoMemory → IsWellFormed self.old.machine.concurrency self.old.machine.events event }
         ensures err { OnErr result (self.new ≡ at_rest self.old.machine) }
     {
         self.change = Change::Nothing;
@@ -157,6 +164,11 @@ impl Core {
         ensures steps { result ≢ Err Refusal.NoMemory → MayStep self.old.machine command result self.new.machine }
         ensures no_memory { result ≡ Err Refusal.NoMemory → self.new.machine ≡ self.old.machine }
         ensures rests { self.new ≡ at_rest self.new.machine }
+        // The verdict takes no memory and is never refused.
+        ensures asked { command ≡ Command.Verdict → IsOk result }
+        // Want of memory is answered last.
+        ensures memory_last { IsErrOf result Refusal.NoMemory → (event : Event) × (command ≡ Command.Append event)
+            × IsWellFormed self.old.machine.concurrency self.old.machine.events event }
     {
         let (reply, _) = self.prepare(command)?;
         self.commit();

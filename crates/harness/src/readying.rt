@@ -1,9 +1,9 @@
 //! One event, prepared in the history and in the key's line.
-ghost use Rattle.std.specs.Prelude.{◌≡◌, ◌++◌, ◌∷◌, [], Some, IfOk, IfErr, IsOk, OnOk, OnErr};
-ghost use Rattle.models.specs.Objects.{register};
+ghost use Rattle.std.specs.Prelude.{◌≡◌, ◌++◌, ◌∷◌, [], Some, IfOk, IfErr, IsOk, OnOk, OnErr, IsErrOf};
+ghost use Rattle.models.specs.Objects.{object_of};
 ghost use Rattle.history.specs.Events.{entries_of, indexed_from};
 ghost use Rattle.history.specs.Rule.{IsHistory};
-ghost use Rattle.history.specs.WellFormed.{MayRefuse};
+ghost use Rattle.history.specs.WellFormed.{IsWellFormed, MayRefuse};
 ghost use Rattle.linspec.specs.Verdicts.{IsKeyStatus};
 ghost use Rattle.harness.specs.Kept.{Readies, Keeps, KeepsLine};
 
@@ -11,19 +11,19 @@ use checkpoints::KeyLine;
 use edn::Refusal;
 use history::{Event, History, process_rule_law};
 use linspec::KeyStatus;
-use models::Register;
 use std::alloc::AllocError;
 
 /// Prepares that an event comes next, and gives the status that it brings. The history tests the event before any want
 /// of memory is answered.
 pub(crate) fn ready(
     history: &mut History,
-    line: &mut KeyLine<Register>,
+    line: &mut KeyLine,
     event: Event,
 ) -> Result<KeyStatus, Refusal>
     requires { line.old.events ≡ indexed_from 0 history.old.events }
     ensures readied { IfOk result (Readies history.old history.new line.old line.new event) }
     ensures refused { IfErr result (MayRefuse history.old.concurrency history.old.events event) }
+    ensures memory_last { IsErrOf result Refusal.NoMemory → IsWellFormed history.old.concurrency history.old.events event }
     ensures kept { OnErr result (Keeps history.old history.new line.old line.new) }
 {
     process_rule_law();
@@ -37,14 +37,14 @@ pub(crate) fn ready(
 
 // Prepares the event in the line, where there was memory for it.
 fn ready_line(
-    line: &mut KeyLine<Register>,
+    line: &mut KeyLine,
     index: u32,
     copy: Result<Event, AllocError>,
 ) -> Result<KeyStatus, AllocError>
     requires { IfOk copy (λ event. IsHistory (line.old.events ++ (index, event) ∷ [])) }
     ensures prepared { OnOk result (IfOk copy (λ event. line.new ≡ record line.old { prepared = Some (index, event) })) }
     ensures status { IfOk result (λ status. IfOk copy (λ event.
-        IsKeyStatus register line.old.budget (entries_of (line.old.events ++ (index, event) ∷ [])) status)) }
+        IsKeyStatus (object_of line.old.kind) line.old.budget (entries_of (line.old.events ++ (index, event) ∷ [])) status)) }
     ensures copied { OnOk result (IsOk copy) }
     ensures kept { OnErr result (KeepsLine line.old line.new) }
 {

@@ -4,10 +4,12 @@ use crate::core_object::Core;
 use edn::Refusal;
 use history::{Body, Event, EventKind, Process};
 use linspec::Verdict;
-use models::{Name, Op, Part};
+use models::{ModelKind, Name, Op, Part};
+use std::test::Fail;
 
 const TWO: Config = Config {
     concurrency: 2,
+    kind: ModelKind::Register,
     budget: 4096,
 };
 
@@ -58,6 +60,7 @@ fn verdict_of_nothing(rt: HostRuntime) {
 fn write_and_read(rt: &HostRuntime, budget: u32, answer: Part) -> [Said; 4] {
     let config = Config {
         concurrency: 2,
+        kind: ModelKind::Register,
         budget,
     };
     let Ok(mut core) = Core::new(rt.alloc(), config) else {
@@ -184,11 +187,97 @@ fn refusals_in_order(rt: HostRuntime) {
     );
 }
 
+// Whether a core of this kind and budget, of two threads, answers each command so.
+fn answers(rt: &HostRuntime, kind: ModelKind, budget: u32, commands: Vec<(Command, Said)>) -> bool {
+    let config = Config {
+        concurrency: 2,
+        kind,
+        budget,
+    };
+    let Ok(mut core) = Core::new(rt.alloc(), config) else {
+        return false;
+    };
+    for (command, want) in commands {
+        if answer_of(core.step(command)) != want {
+            return false;
+        }
+    }
+    true
+}
+
+fn op(process: u32, kind: EventKind, name: Name, part: Part) -> Command {
+    Command::Append(event(process, kind, name, part))
+}
+
+#[test]
+fn mutex_held_twice(rt: HostRuntime) -> Result<(), Fail> {
+    let acquire = |process, kind| op(process, kind, Name::Acquire, Part::Nil);
+    let commands = vec![in rt.alloc();
+        (acquire(0, EventKind::Invoke), Said::Legal),
+        (acquire(0, EventKind::Ok), Said::Legal),
+        (acquire(1, EventKind::Invoke), Said::Legal),
+        (acquire(1, EventKind::Ok), Said::Illegal(7, 3)),
+    ]?;
+    assert!(rt; answers(&rt, ModelKind::Mutex, 4096, commands));
+    Ok(())
+}
+
+#[test]
+fn queue_blown_at_four(rt: HostRuntime) -> Result<(), Fail> {
+    for (budget, want) in [(4, Said::Unknown(7, 2)), (5, Said::Legal)] {
+        let enqueue = |process, kind, v| op(process, kind, Name::Enqueue, Part::Int(v));
+        let commands = vec![in rt.alloc();
+            (enqueue(0, EventKind::Invoke, 5), Said::Legal),
+            (enqueue(1, EventKind::Invoke, 6), Said::Legal),
+            (enqueue(0, EventKind::Ok, 5), want),
+        ]?;
+        assert!(rt;
+            answers(&rt, ModelKind::FifoQueue, budget, commands),
+            "at budget {budget}"
+        );
+    }
+    Ok(())
+}
+
+#[test]
+fn cas_is_of_a_cas_register_alone(rt: HostRuntime) -> Result<(), Fail> {
+    for (kind, want) in [
+        (ModelKind::CasRegister, Said::Legal),
+        (ModelKind::Register, Said::Illegal(7, 3)),
+    ] {
+        let commands = vec![in rt.alloc();
+            (write(0, EventKind::Invoke, 1), Said::Legal),
+            (write(0, EventKind::Ok, 1), Said::Legal),
+            (
+                op(0, EventKind::Invoke, Name::Cas, Part::Pair(1, 2)),
+                Said::Legal
+            ),
+            (op(0, EventKind::Ok, Name::Cas, Part::Pair(1, 2)), want),
+        ]?;
+        assert!(rt; answers(&rt, kind, 4096, commands), "of a {}", kind.name());
+    }
+    Ok(())
+}
+
+#[test]
+fn set_has_no_write(rt: HostRuntime) -> Result<(), Fail> {
+    let add = |kind| op(0, kind, Name::Add, Part::Int(2));
+    let commands = vec![in rt.alloc();
+        (add(EventKind::Invoke), Said::Legal),
+        (add(EventKind::Ok), Said::Legal),
+        (write(0, EventKind::Invoke, 2), Said::Legal),
+        (write(0, EventKind::Ok, 2), Said::Illegal(7, 3)),
+    ]?;
+    assert!(rt; answers(&rt, ModelKind::Set, 4096, commands));
+    Ok(())
+}
+
 #[test]
 fn openings(rt: HostRuntime) {
     for (concurrency, budget, why) in [(0, 0, 9), (65, 65_537, 9), (0, 1, 10), (65, 1, 10)] {
         let config = Config {
             concurrency,
+            kind: ModelKind::Register,
             budget,
         };
         let refused = match Core::new(rt.alloc(), config) {

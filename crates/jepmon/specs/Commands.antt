@@ -12,7 +12,7 @@ use Rattle.jepmon.specs.declared.commands.Asked.TheVariants.{Nothing, Append, Ve
 abbrev pub verdict_command : Value
 verdict_command = vector (more (keyword (codes "verdict")) none)
 
--- two elements or more, or one that is no command
+-- two elements or more, or one that is no command. For now a command is an event or [:verdict]
 abbrev pub IsNoCommand : Values → Type 0
 IsNoCommand none = ⊥
 IsNoCommand (more v none) = ((event : Event) → ¬ Spells v event) × ¬ (v ≡ verdict_command)

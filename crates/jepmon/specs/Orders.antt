@@ -1,5 +1,6 @@
 -- What the words of the command line ask for, and what the program ends with.
 use Rattle.std.specs.Prelude.{ℕ}
+use Rattle.models.specs.declared.kinds.ModelKind.TheVariants.{Register}
 use Rattle.harness.specs.declared.commands.Config.{Config}
 use Rattle.linspec.specs.declared.verdicts.Verdict.{Verdict}
 use Rattle.linspec.specs.declared.verdicts.Verdict.TheVariants.{Legal, Illegal, Unknown}
@@ -9,7 +10,7 @@ use Rattle.jepmon.specs.declared.orders.Order.{Order}
 use Rattle.jepmon.specs.declared.orders.Order.TheVariants.{Script}
 
 abbrev pub default_config : Config
-default_config = record { concurrency = 2; budget = 4096 }
+default_config = record { concurrency = 2; kind = Register; budget = 4096 }
 
 -- each number is within its limits
 abbrev pub HasLimits : Config → Type 0

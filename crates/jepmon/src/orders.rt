@@ -6,6 +6,7 @@ use clap::error::ErrorKind;
 use clap::{Arg, ArgMatches, Command};
 use edn::Refusal;
 use harness::Config;
+use models::{ModelKind, each_kind};
 use std::alloc::{AllocError, Global};
 
 /// What the words ask the program to do.
@@ -47,14 +48,26 @@ Exit status: 0 legal, 1 illegal, 2 unknown, 3 refused";
 
 const CONCURRENCY: &str = "Threads of the clients, 1 to 64; process P belongs to thread P mod N";
 
+// A text, and then the names of the kinds.
+macro_rules! with_names {
+    ($text:literal; $First:ident $first:literal, $($K:ident $name:literal),*) => {
+        concat!($text, $first $(, ", ", $name)*)
+    };
+}
+
+const MODEL: &str = each_kind!(with_names; "The object that every key is: ");
+
+const NO_MODEL: &str = each_kind!(with_names; "--model takes one of ");
+
 const BUDGET: &str = "Ends of one key that are kept apart, 1 to 65536; a key with more is unknown";
 
 /// The order that the words after the program's name give. Without words it is `script` with its defaults.
 ///
 /// # Errors
 ///
-/// `Help` where help is asked for. `Usage` for words that are none of the program's, and for a value that is no number.
-/// `Refused` for a number out of its limits: `BadBudget` first, then `BadConcurrency`; and where memory is refused.
+/// `Help` where help is asked for. `Usage` for words that are none of the program's, for a value that is no number, and
+/// for a model of another name. `Refused` for a number out of its limits: `BadBudget` first, then `BadConcurrency`; and
+/// where memory is refused.
 pub fn order_of(alloc: Global, words: &[String]) -> Result<Order, Stop>
     ensures defaults { length words.now ≡ 0 → result ≡ Ok (Order.Script default_config) }
     ensures within { IfOk result IsWithinLimits }
@@ -62,6 +75,7 @@ pub fn order_of(alloc: Global, words: &[String]) -> Result<Order, Stop>
     if words.is_empty() {
         return Ok(Order::Script(Config {
             concurrency: 2,
+            kind: ModelKind::Register,
             budget: 4096,
         }));
     }
@@ -79,7 +93,14 @@ pub fn order_of(alloc: Global, words: &[String]) -> Result<Order, Stop>
     let Some(concurrency) = number(options, "concurrency") else {
         return Err(usage(&mut command, "--concurrency takes a number, 1 to 64"));
     };
-    script_order(concurrency, budget)
+    let Some(kind) = options.get_str("model").and_then(ModelKind::of_name) else {
+        return Err(usage(&mut command, NO_MODEL));
+    };
+    script_order(Config {
+        concurrency,
+        kind,
+        budget,
+    })
 }
 
 /// Why there is no order of words that are no text.
@@ -90,22 +111,18 @@ pub fn no_text(alloc: Global) -> Stop {
     }
 }
 
-// The order of these numbers, where they are within their limits.
-fn script_order(concurrency: u32, budget: u32) -> Result<Order, Stop>
+// The order of this config, where its numbers are within their limits.
+fn script_order(config: Config) -> Result<Order, Stop>
     ensures within { IfOk result IsWithinLimits }
-    ensures ok { HasLimits (record { concurrency = concurrency; budget = budget })
-        → result ≡ Ok (Order.Script (record { concurrency = concurrency; budget = budget })) }
+    ensures ok { HasLimits config → result ≡ Ok (Order.Script config) }
 {
-    if budget < 1 || budget > 65_536 {
+    if config.budget < 1 || config.budget > 65_536 {
         return Err(Stop::Refused(Refusal::BadBudget));
     }
-    if concurrency < 1 || concurrency > 64 {
+    if config.concurrency < 1 || config.concurrency > 64 {
         return Err(Stop::Refused(Refusal::BadConcurrency));
     }
-    Ok(Order::Script(Config {
-        concurrency,
-        budget,
-    }))
+    Ok(Order::Script(config))
 }
 
 // The command line, with its help.
@@ -116,6 +133,11 @@ fn command_line<'a>(alloc: Global) -> Result<Command<'a>, AllocError> {
         .default_value("2")
         .allow_negative_numbers(true)
         .help(CONCURRENCY);
+    let model = Arg::new(alloc, "model")
+        .long("model")
+        .value_name("NAME")
+        .default_value("register")
+        .help(MODEL);
     let budget = Arg::new(alloc, "budget")
         .long("budget")
         .value_name("N")
@@ -127,6 +149,7 @@ fn command_line<'a>(alloc: Global) -> Result<Command<'a>, AllocError> {
         .long_about(SCRIPT_LONG)
         .after_help(SCRIPT_MORE)
         .arg(concurrency)?
+        .arg(model)?
         .arg(budget)?;
     Command::new(alloc, "jepmon")
         .no_binary_name(true)

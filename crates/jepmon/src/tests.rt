@@ -8,6 +8,7 @@ use crate::watched::{Failed, Watched};
 use edn::Refusal;
 use harness::Config;
 use linspec::Verdict;
+use models::ModelKind;
 use std::alloc::{AllocError, Global};
 use std::io;
 use std::io::{ErrorKind, Read, Write};
@@ -78,6 +79,7 @@ fn narrow_writer(alloc: Global, room: usize, fails: bool) -> Watched<Narrow>
 
 const DEFAULTS: Config = Config {
     concurrency: 2,
+    kind: ModelKind::Register,
     budget: 4096,
 };
 
@@ -162,6 +164,7 @@ fn refused_config(rt: HostRuntime) {
         let mut writer = narrow_writer(rt.alloc(), 99, false);
         let config = Config {
             concurrency,
+            kind: ModelKind::Register,
             budget,
         };
         let Err(refusal) = run_script(&rt, rt.alloc(), config, &mut reader, &mut writer) else {
@@ -213,7 +216,7 @@ fn replies_as_text(rt: HostRuntime) -> Result<(), AllocError> {
     Ok(())
 }
 
-// What the words give: an order's numbers, a refusal's number, `help` or `usage`.
+// What the words give: what an order says, a refusal's number, `help` or `usage`.
 fn given(alloc: Global, line: &str) -> Result<String, Fail> {
     let mut words = Vec::new(alloc);
     for word in line.split_whitespace() {
@@ -221,7 +224,12 @@ fn given(alloc: Global, line: &str) -> Result<String, Fail> {
     }
     Ok(match order_of(alloc, &words) {
         Ok(Order::Script(config)) => {
-            format!(in alloc; "{} {}", config.concurrency, config.budget)?
+            let Config {
+                concurrency,
+                kind,
+                budget,
+            } = config;
+            format!(in alloc; "{concurrency} {} {budget}", kind.name())?
         }
         Err(Stop::Refused(refusal)) => format!(in alloc; "refused {}", refusal.number())?,
         Err(Stop::Help(_)) => String::from_str(alloc, "help")?,
@@ -232,16 +240,27 @@ fn given(alloc: Global, line: &str) -> Result<String, Fail> {
 #[test]
 fn words_of_the_command_line(rt: HostRuntime) -> Result<(), Fail> {
     for (line, want) in [
-        ("", "2 4096"),
-        ("script", "2 4096"),
-        ("script --concurrency 64 --budget 65536", "64 65536"),
-        ("script --budget 1 --concurrency 1", "1 1"),
+        ("", "2 register 4096"),
+        ("script", "2 register 4096"),
+        (
+            "script --concurrency 64 --budget 65536",
+            "64 register 65536",
+        ),
+        ("script --budget 1 --concurrency 1", "1 register 1"),
+        ("script --model register", "2 register 4096"),
+        ("script --model cas-register", "2 cas-register 4096"),
+        ("script --model mutex", "2 mutex 4096"),
+        ("script --model fifo-queue", "2 fifo-queue 4096"),
+        ("script --model set --concurrency 3", "3 set 4096"),
         ("script --budget 0", "refused 9"),
         ("script --budget 65537", "refused 9"),
         ("script --concurrency 65", "refused 10"),
         ("script --concurrency -1", "refused 10"),
         ("script --concurrency 99999999999999999999", "refused 10"),
         ("script --budget many", "usage"),
+        ("script --model queue", "usage"),
+        ("script --model Mutex", "usage"),
+        ("script --model", "usage"),
         ("script --seed 1", "usage"),
         ("watch", "usage"),
         ("--help", "help"),

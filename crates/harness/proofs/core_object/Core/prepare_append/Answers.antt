@@ -1,4 +1,4 @@
-use Rattle.std.proofs.Common.{ℕ, List, [], ◌∷◌, subst}
+use Rattle.std.proofs.Common.{ℕ, [], ◌∷◌, subst}
 use Rattle.std.proofs.lemmas.Result.{err_from_is_err_and}
 use Rattle.history.specs.WellFormed.{MayRefuse}
 use Rattle.linspec.specs.Verdicts.{IsJoin}
