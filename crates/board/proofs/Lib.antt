@@ -1,4 +1,5 @@
 pub mod Adding
+pub mod Chain
 pub mod Prefixes
 pub mod Refusing
 pub mod Gathering

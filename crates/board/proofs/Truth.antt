@@ -1,5 +1,5 @@
 -- What a legal tape says of its last reply
-use Rattle.std.proofs.Common.{◌≡◌, ℕ, List, [], ◌∷◌, ◌++◌, ◌≢◌, ap, Option, Some, None, IsSome, IfSome, Result, Ok, Err, IfOk, OnOk, refl, sym, subst}
+use Rattle.std.proofs.Common.{◌≡◌, ℕ, List, [], ◌∷◌, ◌++◌, ◌≢◌, ap, Option, Some, None, IsSome, IfSome, Result, Ok, Err, IfOk, OnOk, sym, subst}
 use mathlib.Core.List.{IsPrefix}
 use Rattle.edn.specs.declared.refusals.Refusal.{Refusal}
 use Rattle.edn.specs.declared.refusals.Refusal.TheVariants.{NoMemory}

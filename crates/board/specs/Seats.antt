@@ -1,5 +1,5 @@
 -- New seats.
-use Rattle.std.specs.Prelude.{◌≡◌, ℕ, List, [], ◌∷◌, Some, slice_get}
+use Rattle.std.specs.Prelude.{◌≡◌, ℕ, List, Some, slice_get}
 use Rattle.board.specs.declared.entries.Sitting.{Sitting}
 use Rattle.board.specs.declared.entries.Entry.{Entry}
 

@@ -1,5 +1,5 @@
 -- Tapes: the opening, and then an entry for each call
-use Rattle.std.specs.Prelude.{◌≡◌, ℕ, ◌^◌, List, [], ◌∷◌, length}
+use Rattle.std.specs.Prelude.{◌≡◌, ◌≢◌, ◌^◌, List, [], ◌∷◌, length}
 use mathlib.Core.List.{IsPrefix}
 use Rattle.edn.specs.declared.refusals.Refusal.{Refusal}
 use Rattle.edn.specs.declared.refusals.Refusal.TheVariants.{TapeFull, NoMemory}
@@ -24,10 +24,10 @@ module _ {S C R : Type 0} (replies : S → C → R → S → Type 0) where
   IsLegalTape tape = (end : S) × Leads tape end
 
   -- why a call is no entry: the tape is full, and the seat has then seen all of it; or memory ran out, and the seat has
-  -- seen what it had
+  -- seen what it had, which was no full tape
   abbrev pub IsNoEntry : Refusal → List (Entry S C R) → List (Entry S C R) → Type 0
   IsNoEntry TapeFull before after = IsPrefix before after × (length after ≡ 2 ^ 32) × IsLegalTape after
-  IsNoEntry NoMemory before after = after ≡ before
+  IsNoEntry NoMemory before after = (after ≡ before) × (length before ≢ 2 ^ 32)
   IsNoEntry _ before after = ⊥
 
 -- the seat has seen the tape

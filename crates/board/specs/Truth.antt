@@ -1,5 +1,5 @@
 -- Tapes of the one-thread object, and the verdicts that they lead to
-use Rattle.std.specs.Prelude.{◌≡◌, ℕ, ◌≤◌, List, [], ◌∷◌, Result, Ok, Err}
+use Rattle.std.specs.Prelude.{ℕ, ◌≤◌, List, [], ◌∷◌, Result, Ok, Err}
 use Rattle.edn.specs.declared.refusals.Refusal.{Refusal}
 use Rattle.edn.specs.declared.refusals.Refusal.TheVariants.{NoSeat}
 use Rattle.harness.specs.declared.commands.Config.{Config}

@@ -44,8 +44,9 @@ impl Parts<Core> {
     /// # Errors
     /// [`Refusal::NoMemory`] where a growth was refused.
     pub fn open<B: Tag>(self) -> Result<(Board<B>, Vec<Seat<B>>), Refusal>
-        requires names { (self.seen.book ≡ B.book) × (self.ledger.name ≡ B.name) × (self.ledger.parts ≡ B.parts) }
-        ensures seats { IfOk result (λ r. length r.1.items ≡ self.seats) }
+        requires names { (self.word ≡ B.word) × (self.ledger.name ≡ B.name) × (self.ledger.parts ≡ B.parts) }
+        ensures opening { IfOk result (λ r. r.0 ≡ opening_tape self.object.machine) }
+        ensures seats { IfOk result (λ r. (length r.1.items ≡ self.seats) × (length r.1.items ≡ B.parts)) }
         ensures fresh { IfOk result (λ r. IsFresh (opening_tape self.object.machine) r.1.items) }
         ensures refused { IfErr result (λ why. why ≡ NoMemory) }
     {

@@ -1,10 +1,10 @@
 //! Calls and glances.
-ghost use Rattle.std.specs.Prelude.{◌≡◌, ◌+◌, ◌<◌, ◌++◌, ◌∷◌, [], List, length, IfOk, IfErr, OnOk, IfSome, IfNone};
+ghost use Rattle.std.specs.Prelude.{◌≡◌, ◌+◌, ◌<◌, ◌++◌, ◌∷◌, [], length, IfOk, IfErr, OnOk, IfSome, IfNone};
 ghost use Rattle.std.specs.List.{All, sum_by};
 ghost use mathlib.Core.List.{IsPrefix};
 ghost use Rattle.harness.specs.Machine.{Machine, MayStep, IsVerdictOn};
 ghost use Rattle.board.specs.declared.entries.Entry.TheVariants.{Call};
-ghost use Rattle.board.specs.Tape.{IsLegalTape, IsNoEntry};
+ghost use Rattle.board.specs.Tape.{IsLegalTape, IsNoEntry, HasSeen};
 ghost use Rattle.board.specs.Truth.{CoreTape, LeadsTo, IsTrueOn};
 
 use crate::seats::Seat;
@@ -26,7 +26,9 @@ pub type Answered<B> = Carried<Core, B>;
 /// What a glance shows: how many calls had been made, and the verdict after them.
 #[derive(Clone, Copy)]
 pub struct Glance {
+    /// How many calls had been made.
     pub commit: u64,
+    /// The verdict after them.
     pub verdict: Verdict,
 }
 
@@ -85,7 +87,7 @@ impl<B: Tag> Tie<Core, B> {
     /// has seen.
     pub fn glance(&self, seat: &mut Seat<B>) -> Option<Glance>
         ensures same { (seat.new.number ≡ seat.old.number) × (seat.new.count ≡ seat.old.count) }
-        ensures seen { IfSome result (λ g. IsPrefix seat.old.tape seat.new.tape) }
+        ensures seen { IfSome result (λ g. HasSeen seat.new seat.old.tape) }
         ensures commit { IfSome result (λ g. length seat.new.tape ≡ g.commit + 1) }
         ensures from_scratch { IfSome result (λ g. (end : Machine) × LeadsTo seat.new.tape end × IsVerdictOn end g.verdict) }
         ensures none { IfNone result (seat.new.tape ≡ seat.old.tape) }
@@ -98,10 +100,9 @@ impl<B: Tag> Tie<Core, B> {
     }
 
     /// The core, in the state after a legal tape that begins with all that these seats had seen. Where they are all
-    /// seats of the board, the tape has just their calls. It waits for glances, and for good where a seat of another
-    /// board had seen more.
+    /// seats of the board, the tape has just their calls. It waits for glances that are still inside the published copy.
     pub fn end<R: Wait>(self, rt: &R, seats: Vec<Seat<B>>) -> Core
-        ensures { (tape : CoreTape) × LeadsTo tape result.machine × All (λ seat. IsPrefix seat.tape tape) seats.items
+        ensures { (tape : CoreTape) × LeadsTo tape result.machine × IsPrefix self tape × All (λ seat. IsPrefix seat.tape tape) seats.items
             × (length seats.items ≡ B.parts → length tape ≡ sum_by (λ seat. seat.count) seats.items + 1) }
     {
         self.finish(rt, seats)

@@ -3,8 +3,7 @@ ghost use Rattle.std.specs.Prelude.{◌≡◌, ◌≢◌, Some, Err, IfOk, OnOk}
 ghost use Rattle.edn.specs.declared.refusals.Refusal.TheVariants.{NoMemory};
 ghost use Rattle.harness.specs.Machine.{MayStep, IsVerdictOn};
 
-use crate::one_thread::{OneThread, Replier};
-use crate::tape_rule::TapeOf;
+use crate::one_thread::OneThread;
 use edn::Refusal;
 use harness::{Command, Config, Core, Reply};
 use linspec::Verdict;
@@ -24,19 +23,6 @@ impl Model for CoreState {
     ghost view = { λ s. opening s.config };
 }
 
-/// What the core replies. A refusal is a reply too.
-pub struct CoreReplies;
-
-impl Replier for CoreReplies {
-    type State = CoreState;
-
-    type Command = Command;
-
-    type Reply = Result<Reply, Refusal>;
-
-    ghost replies = { MayStep };
-}
-
 impl OneThread for Core {
     type State = CoreState;
 
@@ -46,9 +32,9 @@ impl OneThread for Core {
 
     type Shown = Verdict;
 
-    type Tape = TapeOf<CoreReplies>;
-
     ghost state = { λ core. core.machine };
+
+    ghost replies = { MayStep };
 
     ghost shows = { IsVerdictOn };
 
@@ -68,6 +54,7 @@ impl OneThread for Core {
         }
     }
 
+    #[tactic(auto, using(crate::proofs::Truth::brought))]
     fn commit(&mut self) {
         Core::commit(self);
     }
@@ -82,20 +69,20 @@ fn refuse(core: &mut Core, why: Refusal) -> Result<(Result<Reply, Refusal>, Verd
     match why {
         Refusal::NoMemory => Err(AllocError),
         _ => {
-            let verdict = stay(core)?;
+            let verdict = stay(core);
             Ok((Err(why), verdict))
         }
     }
 }
 
-// Prepares that nothing changes, by the command that only asks.
-fn stay(core: &mut Core) -> Result<Verdict, AllocError>
+// Prepares that nothing changes, by the command that only asks, which is never refused.
+fn stay(core: &mut Core) -> Verdict
     ensures same { core.new.machine ≡ core.old.machine }
-    ensures ready { OnOk result (core.new.next ≡ Some core.old.machine) }
-    ensures verdict { IfOk result (IsVerdictOn core.old.machine) }
+    ensures ready { core.new.next ≡ Some core.old.machine }
+    ensures verdict { IsVerdictOn core.old.machine result }
 {
     match core.prepare(Command::Verdict) {
-        Ok((_reply, verdict)) => Ok(verdict),
-        Err(_why) => Err(AllocError),
+        Ok((_reply, verdict)) => verdict,
+        Err(_why) => unreachable!(),
     }
 }

@@ -1,19 +1,18 @@
 //! What the lock holds.
-ghost use Rattle.std.specs.Prelude.{◌≡◌, ◌+◌, ◌<◌, ◌^◌, ◌++◌, ◌∷◌, [], List, length, drop, Some, None, IfOk, IfErr, IsFalse};
+ghost use Rattle.std.specs.Prelude.{◌≡◌, ◌+◌, ◌<◌, ◌++◌, ◌∷◌, [], List, length, drop, Some, None, IfOk, IfErr, IsFalse};
 ghost use Rattle.std.specs.List.{All, sum_by};
 ghost use mathlib.Core.List.{IsPrefix};
-ghost use Rattle.board.specs.declared.entries.Entry.{Entry as AnEntry};
 ghost use Rattle.board.specs.declared.entries.Entry.TheVariants.{Call};
-ghost use Rattle.board.specs.Tape.{Leads, IsLegalTape, IsNoEntry};
-ghost use Rattle.board.specs.Rules.{entry_of};
+ghost use Rattle.board.specs.Tape.{Leads, IsNoEntry};
 
 use crate::entries::Asked;
-use crate::fronts::{AskedOf, Front, Head};
+use crate::fronts::{Front, Head};
 use crate::one_thread::OneThread;
 use crate::pages::Page;
 use crate::places::Place;
 use crate::sheets::{Again, Posts};
 use crate::tags::Tag;
+use crate::tips::Tip;
 use crossbeam_utils::rule::Unruled;
 use edn::{Gate, Refusal};
 use left_right::writer::Writer;
@@ -28,7 +27,7 @@ const MOST: u64 = (1 << 32) - 1;
 /// The object, the tape that led to it, and the published copy, which shows that tape. Contracts see the tape's lines.
 pub struct Desk<X: OneThread, B: Tag, T: Posts<Page<X, B>>> {
     pub(crate) object: X,
-    pub(crate) front: Front<X, B>,
+    pub(crate) tip: Tip<X, B>,
     // A call has it while it publishes.
     pub(crate) writer: Option<Writer<T, Page<X, B>, (), Unruled>>,
     pub(crate) book: Book<B>,
@@ -43,9 +42,9 @@ impl<X: OneThread, B: Tag, T: Posts<Page<X, B>>> Model for Desk<X, B, T> {
 
     ghost Value = { List (Entry X.State X.Command X.Reply) };
 
-    ghost view = { λ d. d.front };
+    ghost view = { λ d. d.tip };
 
-    ghost invariant = { λ d. Leads X.Tape.replies d.front (X.state d.object) × (length d.front ≡ d.book.total + 1) × (d.rest.parts ≡ 0) × (d.rest.amount ≡ 0) × MatchOption d.writer ⊥ (λ w. (T.posted w.desk.shown.value ≡ d.front) × (drop w.behind w.log.items ≡ [])) };
+    ghost invariant = { λ d. Leads X.replies d.tip (X.state d.object) × (length d.tip ≡ d.book.total + 1) × (d.rest.parts ≡ 0) × (d.rest.amount ≡ 0) × MatchOption d.writer ⊥ (λ w. (T.posted w.desk.shown.value ≡ d.tip) × (drop w.behind w.log.items ≡ [])) };
 }
 
 // Adds a page to what is to be published. It tries again where there is no memory.
@@ -85,27 +84,6 @@ fn show<G: Drop, T: Posts<G>, R: Wait>(
     }
 }
 
-// Adds the call to the tape. Under the lock the first turn does it.
-fn enter<X: OneThread, B: Tag, R: Wait>(
-    rt: &R,
-    head: &Head<X, B>,
-    front: Front<X, B>,
-    mine: &Front<X, B>,
-    asked: &AskedOf<X>,
-) -> Front<X, B>
-    requires room { length front < 2 ^ 32 }
-    requires legal { IsLegalTape X.Tape.replies (front ++ entry_of asked.now ∷ []) }
-    ensures { (result ≡ front ++ entry_of asked.now ∷ []) × IsPrefix mine.now front }
-{
-    let mut front = front;
-    for _ in rt.forever() {
-        if front.add(head, mine, asked) {
-            return front;
-        }
-    }
-    unreachable!()
-}
-
 fn put<D>(place: &mut Option<D>, new: D)
     requires { place.old ≡ None }
     ensures { place.new ≡ Some new }
@@ -140,21 +118,22 @@ impl<X: OneThread, B: Tag, T: Posts<Page<X, B>>> Desk<X, B, T> {
         requires { 0 < share.old.parts }
         ensures parts { share.new.parts ≡ share.old.parts }
         ensures done { IfOk result (λ reply. (self.new ≡ self.old ++ Call number command reply ∷ []) × IsPrefix mine.old self.old × (mine.new ≡ self.new) × (share.new.amount ≡ share.old.amount + 1)) }
-        ensures refused { IfErr result (λ e. (self.new ≡ self.old) × (share.new.amount ≡ share.old.amount) × IsNoEntry X.Tape.replies e mine.old mine.new) }
+        ensures refused { IfErr result (λ e. (self.new ≡ self.old) × (share.new.amount ≡ share.old.amount) × IsNoEntry X.replies e mine.old mine.new) }
     {
-        if self.front.count() >= MOST {
-            if self.front.covers(mine) {
-                *mine = self.front.again();
-            }
+        if self.tip.count() >= MOST {
+            self.tip.confirm(head, &self.object, mine);
+            *mine = self.tip.front();
             return Err(Refusal::TapeFull);
         }
         let said = Snapshot::of(&command);
         let Ok((reply, shown)) = self.object.prepare(command) else {
+            self.tip.confirm(head, &self.object, &*mine);
             return Err(Refusal::NoMemory);
         };
         let mut writer = self.writer.take().unwrap();
         if !repost(&mut writer) {
             put(&mut self.writer, writer);
+            self.tip.confirm(head, &self.object, &*mine);
             return Err(Refusal::NoMemory);
         }
         let asked = Asked {
@@ -162,40 +141,30 @@ impl<X: OneThread, B: Tag, T: Posts<Page<X, B>>> Desk<X, B, T> {
             command: said,
             reply: Snapshot::of(&reply),
         };
-        let front = enter(rt, head, self.front.again(), mine, &asked);
+        self.tip.add(head, &self.object, mine, asked);
         self.object.commit();
-        let page = Page::new(shown, front.again());
+        let page = Page::new(shown, self.tip.front());
         gate.begin(number);
         put(&mut self.writer, show(rt, writer, page));
         gate.end(number);
         self.book.add(share, 1);
-        *mine = front.again();
-        self.front = front;
+        *mine = self.tip.front();
         Ok(reply)
     }
 }
 
-// Sees that one tape begins with the other. Of two of one board it waits for good where that is longer.
-fn check<X: OneThread, B: Tag, R: Wait>(rt: &R, front: &Front<X, B>, mine: &Front<X, B>)
-    ensures { IsPrefix mine.now front.now }
-{
-    if front.covers(mine) {
-        return;
-    }
-    for _ in rt.forever() {}
-    unreachable!()
-}
-
 // Sees that the tape begins with what these seats have seen, and counts their calls.
-pub(crate) fn gather<X: OneThread, B: Tag, T: Posts<Page<X, B>>, R: Wait>(
-    rt: &R,
-    front: &Front<X, B>,
+pub(crate) fn gather<X: OneThread, B: Tag, T: Posts<Page<X, B>>>(
+    head: &Head<X, B>,
+    object: &X,
+    tip: &mut Tip<X, B>,
     book: &mut Book<B>,
     rest: Share<B>,
     seats: Vec<Place<X, B, T>>,
 )
     requires { (rest.parts ≡ 0) × (rest.amount ≡ 0) }
-    ensures begins { All (λ s. IsPrefix s.tape front.now) seats.items }
+    ensures same { tip.new ≡ tip.old }
+    ensures begins { All (λ s. IsPrefix s.tape tip.old) seats.items }
     ensures counts { length seats.items ≡ B.parts → book.old.total ≡ sum_by (λ s. s.count) seats.items }
 {
     let mut all = rest;
@@ -206,7 +175,7 @@ pub(crate) fn gather<X: OneThread, B: Tag, T: Posts<Page<X, B>>, R: Wait>(
             front: mine,
             share,
         } = seat;
-        check(rt, front, &mine);
+        tip.confirm(head, object, &mine);
         all.merge(share);
     }
     book.audit(&mut all);

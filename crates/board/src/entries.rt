@@ -10,7 +10,8 @@ pub enum Entry<S, C, R> {
     Call(u32, C, R),
 }
 
-/// What a call adds to the tape.
+/// What a call adds to the tape: the seat's number, and the command and the reply as they were, which exist in the proofs
+/// alone.
 #[derive(Drop)]
 pub struct Asked<C, R> {
     pub seat: u32,

@@ -8,6 +8,7 @@ pub mod core_machine;
 pub mod desks;
 pub mod entries;
 pub mod fronts;
+pub mod lines;
 pub mod one_thread;
 pub mod pages;
 pub mod parts;
@@ -15,10 +16,8 @@ pub mod places;
 pub mod seats;
 pub mod sheets;
 pub mod tags;
-pub mod tape_rule;
-#[cfg(test)]
-mod tests;
 pub mod ties;
+pub mod tips;
 
 pub use blanks::Blank;
 pub use calls::{Answered, Board, Glance};

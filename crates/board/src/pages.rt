@@ -24,23 +24,26 @@ impl<X: OneThread, B: Tag> Model for Page<X, B> {
 
     ghost view = { λ p. p.front };
 
-    ghost invariant = { λ p. (end : X.State) × Leads X.Tape.replies p.front end × X.shows end p.shown };
+    ghost invariant = { λ p. (end : X.State) × Leads X.replies p.front end × X.shows end p.shown };
 }
 
 impl<X: OneThread, B: Tag> Page<X, B> {
+    /// A page that shows this of the state that the tape leads to.
     pub fn new(shown: X::Shown, front: Front<X, B>) -> Page<X, B>
-        requires { (end : X.State) × Leads X.Tape.replies front end × X.shows end shown }
+        requires { (end : X.State) × Leads X.replies front end × X.shows end shown }
         ensures { result ≡ front }
     {
         Page { shown, front }
     }
 
+    /// What is shown.
     pub fn shown(&self) -> X::Shown
-        ensures { (end : X.State) × Leads X.Tape.replies self.now end × X.shows end result }
+        ensures { (end : X.State) × Leads X.replies self.now end × X.shows end result }
     {
         self.shown
     }
 
+    /// The tape, as far as it was when the page was made.
     pub fn front(&self) -> &Front<X, B>
         ensures { result.now ≡ self.now }
     {

@@ -1,37 +1,42 @@
 //! The parts of any object's board.
-ghost use Rattle.std.specs.Prelude.{◌≡◌, ◌+◌, ◌<◌, ◌≤◌, ◌^◌, ◌∷◌, [], ℕ, List, length, drop, Some, IfOk, slice_get, vec_capacity};
-ghost use Rattle.std.specs.List.{All};
+ghost use Rattle.std.specs.Prelude.{◌≡◌, ◌<◌, ◌≤◌, ◌∷◌, [], length, Some, IfOk, true, vec_capacity};
 ghost use Rattle.board.specs.declared.entries.Entry.TheVariants.{Opening as an_opening};
-ghost use Rattle.board.specs.declared.entries.Sitting.{Sitting as ASitting};
-ghost use Rattle.board.specs.Rules.{head_of};
+ghost use Rattle.logbook.specs.Pages.{may_write};
+ghost use Rattle.board.specs.Rules.{tape_of, next_of};
 ghost use Rattle.board.specs.Seats.{IsFresh};
 
 use crate::desks::Desk;
-use crate::fronts::{EntryOf, Front, Head, Opens};
+use crate::fronts::{Front, Head};
+use crate::lines::{Begun, Make, Nothing, OfferOf, Open, SeenOf, WordOf, new_cell};
 use crate::one_thread::OneThread;
 use crate::pages::Page;
 use crate::places::Place;
-use crate::sheets::{Again, Posts, Sheet};
+use crate::sheets::{Posts, Sheet};
 use crate::tags::Tag;
 use crate::ties::Tie;
+use crate::tips::Tip;
 use crossbeam_utils::rule::Unruled;
 use left_right::reader::Factory;
 use left_right::writer::Writer;
-use logbook::{Seen, Start, Word};
+use logbook::{Pen, Seen, Start, Word};
 use std::alloc::{AllocError, Global};
 use std::sync::ledger::Share;
 use std::sync::{Mutex, ledger};
 
-/// The object, an empty tape that opens on its state, and a ledger.
+/// A board before it has a name: the object, a tape without calls that opens on its state, with the right to go on, and a
+/// ledger with a share for each seat. It takes no memory before [`open`](Parts::open), and may be let go.
+#[derive(Drop)]
 pub struct Parts<X: OneThread> {
     pub object: X,
-    word: Word<EntryOf<X>, u64, X::Tape>,
-    pub seen: Seen<EntryOf<X>, u64, X::Tape>,
+    pub word: WordOf<X>,
+    seen: SeenOf<X>,
+    pen: Pen,
     pub ledger: ledger::Blank,
     pub seats: u32,
     alloc: Global,
-    ghost opens: { seen.log ≡ an_opening (X.state object) ∷ [] },
-    ghost head_is: { word ≡ head_of seen.book },
+    ghost opens: { tape_of word.key seen.log ≡ an_opening (X.state object) ∷ [] },
+    ghost head_is: { (word.tracked ≡ true) × (seen.book ≡ word.book) },
+    ghost goes_on: { (pen.book ≡ word.book) × (pen.nib.right ≡ may_write) × (next_of word.key seen.log ≡ Some pen.nib.key) },
     ghost shared: { (ledger.parts ≡ seats) × (0 < seats) × (seats ≤ 64) },
 }
 
@@ -40,12 +45,29 @@ impl<X: OneThread> Parts<X> {
         requires { (0 < seats) × (seats ≤ 64) }
         ensures { (result.object ≡ object) × (result.seats ≡ seats) }
     {
-        let (seen, mut pens) = Seen::open_row::<X, Opens>(&object, Start::alone(), 1);
-        let mut pen = pens.take();
+        let (mut seen, mut first, _second) = Seen::open(Start::alone(), 0, 0);
+        let ground: WordOf<X> = Word::tracked(0, &mut first);
+        let offer: OfferOf<X> = seen.plain::<Nothing, X, Make>(&object);
+        let (word, its_pen) = new_cell(&ground, &seen, offer);
+        let offer: OfferOf<X> = seen.plain::<Nothing, X, Make>(&object);
+        let (_word, next) = new_cell(&ground, &seen, offer);
+        let begun = Begun {
+            object,
+            word: its_pen,
+            next,
+        };
+        let mut offer: OfferOf<X> = seen.plain::<Nothing, _, Open>(&begun);
+        let Begun {
+            object,
+            word: mut its_pen,
+            next,
+        } = begun;
+        ground.compare_exchange::<Open, Nothing>(0, 0, &mut seen, &mut offer, &mut its_pen);
         Parts {
             object,
-            word: Word::tracked(0, &mut pen),
+            word,
             seen,
+            pen: next,
             ledger: ledger::Blank::new(u64::from(seats)),
             seats,
             alloc,
@@ -54,19 +76,23 @@ impl<X: OneThread> Parts<X> {
 
     // The tie and its places, numbered from 0, which have seen the opening.
     pub(crate) fn unfold<B: Tag>(self) -> Result<(Tie<X, B>, Vec<Place<X, B>>), AllocError>
-        requires names { (self.seen.book ≡ B.book) × (self.ledger.name ≡ B.name) × (self.ledger.parts ≡ B.parts) }
-        ensures { IfOk result (λ r. (length r.1.items ≡ self.seats) × IsFresh (an_opening (X.state self.object) ∷ []) r.1.items) }
+        requires names { (self.word ≡ B.word) × (self.ledger.name ≡ B.name) × (self.ledger.parts ≡ B.parts) }
+        ensures opening { IfOk result (λ r. r.0 ≡ an_opening (X.state self.object) ∷ []) }
+        ensures seats { IfOk result (λ r. (length r.1.items ≡ self.seats) × (length r.1.items ≡ B.parts)) }
+        ensures fresh { IfOk result (λ r. IsFresh (an_opening (X.state self.object) ∷ []) r.1.items) }
     {
         let Parts {
             object,
             word,
             seen,
+            pen,
             ledger,
             seats,
             alloc,
         } = self;
         let head = Head::new(word);
-        let front = Front::opened(seen);
+        let tip = Tip::opened(seen, pen);
+        let front = tip.front();
         let (book, mut rest) = ledger.open::<B>();
         let shown = object.show();
         let mut places = Vec::new(alloc);
@@ -80,9 +106,10 @@ impl<X: OneThread> Parts<X> {
         seat_all(writer.factory(), &front, &mut rest, seats, &mut places);
         let tie = Tie {
             head,
+            opening: front,
             lock: Mutex::new(Desk {
                 object,
-                front,
+                tip,
                 writer: Some(writer),
                 book,
                 rest,

@@ -1,8 +1,7 @@
 //! A seat of any object's board, and news.
 ghost use Rattle.std.specs.Prelude.{◌≡◌, ◌+◌, length, IfSome, IfNone};
 ghost use mathlib.Core.List.{IsPrefix};
-ghost use Rattle.board.specs.declared.entries.Sitting.{Sitting as ASitting};
-ghost use Rattle.board.specs.Tape.{Leads};
+ghost use Rattle.board.specs.Tape.{Leads, HasSeen};
 
 use crate::fronts::Front;
 use crate::one_thread::OneThread;
@@ -14,7 +13,8 @@ use left_right::reader::Reader;
 use std::marker::Model;
 use std::sync::ledger::Share;
 
-/// Who calls: a number, the tape that was seen, and how many calls were made. Contracts see these three.
+/// A seat of any object's board: its number, how many of its calls were answered, and the tape that it has seen. Contracts
+/// see these three.
 #[derive(Drop)]
 pub struct Place<X: OneThread, B: Tag, T: Posts<Page<X, B>> = Sheet<Page<X, B>>> {
     pub(crate) number: u32,
@@ -34,7 +34,8 @@ impl<X: OneThread, B: Tag, T: Posts<Page<X, B>>> Model for Place<X, B, T> {
     ghost invariant = { λ s. s.share.parts ≡ 1 };
 }
 
-/// What a seat had seen. Contracts see it as the tape.
+/// What a seat had seen, for other seats of the same board. Contracts see it as the tape. It has no more bytes than the
+/// number of its calls.
 #[derive(Drop)]
 pub struct Told<X: OneThread, B: Tag> {
     front: Front<X, B>,
@@ -49,7 +50,7 @@ impl<X: OneThread, B: Tag> Model for Told<X, B> {
     ghost view = { λ n. n.front };
 }
 
-/// What a look at the published copy shows.
+/// What a look at the published copy shows: the number of calls on the page, and what is shown of the state after them.
 #[derive(Drop)]
 pub struct Look<W> {
     pub commit: u64,
@@ -69,7 +70,7 @@ fn take_page<X: OneThread, B: Tag>(
     page: &Page<X, B>,
     front: &mut Front<X, B>,
 ) -> Option<Look<X::Shown>>
-    ensures some { IfSome result (λ g. IsPrefix front.old front.new × (length front.new ≡ g.commit + 1) × ((end : X.State) × Leads X.Tape.replies front.new end × X.shows end g.shown)) }
+    ensures some { IfSome result (λ g. IsPrefix front.old front.new × (length front.new ≡ g.commit + 1) × ((end : X.State) × Leads X.replies front.new end × X.shows end g.shown)) }
     ensures none { IfNone result (front.new ≡ front.old) }
 {
     if !page.front().covers(front) {
@@ -86,7 +87,7 @@ fn enter<X: OneThread, B: Tag, T: Posts<Page<X, B>>>(
     reader: Reader<T, (), Unruled>,
     front: &mut Front<X, B>,
 ) -> (Reader<T, (), Unruled>, Option<Look<X::Shown>>)
-    ensures some { IfSome result.1 (λ g. IsPrefix front.old front.new × (length front.new ≡ g.commit + 1) × ((end : X.State) × Leads X.Tape.replies front.new end × X.shows end g.shown)) }
+    ensures some { IfSome result.1 (λ g. IsPrefix front.old front.new × (length front.new ≡ g.commit + 1) × ((end : X.State) × Leads X.replies front.new end × X.shows end g.shown)) }
     ensures none { IfNone result.1 (front.new ≡ front.old) }
 {
     match reader.enter_as::<Unruled>() {
@@ -102,7 +103,7 @@ impl<X: OneThread, B: Tag, T: Posts<Page<X, B>>> Place<X, B, T> {
     // Looks at the published copy. It waits for nobody and takes no memory.
     pub(crate) fn look(&mut self) -> Option<Look<X::Shown>>
         ensures same { (self.new.number ≡ self.old.number) × (self.new.count ≡ self.old.count) }
-        ensures some { IfSome result (λ g. IsPrefix self.old.tape self.new.tape × (length self.new.tape ≡ g.commit + 1) × ((end : X.State) × Leads X.Tape.replies self.new.tape end × X.shows end g.shown)) }
+        ensures some { IfSome result (λ g. IsPrefix self.old.tape self.new.tape × (length self.new.tape ≡ g.commit + 1) × ((end : X.State) × Leads X.replies self.new.tape end × X.shows end g.shown)) }
         ensures none { IfNone result (self.new.tape ≡ self.old.tape) }
     {
         let reader = self.reader.take()?;
@@ -114,8 +115,8 @@ impl<X: OneThread, B: Tag, T: Posts<Page<X, B>>> Place<X, B, T> {
     /// From now on the seat has seen what the sender of the news had. It takes no memory and cannot fail.
     pub fn learn(&mut self, news: Told<X, B>)
         ensures same { (self.new.number ≡ self.old.number) × (self.new.count ≡ self.old.count) }
-        ensures mine { IsPrefix self.old.tape self.new.tape }
-        ensures theirs { IsPrefix news self.new.tape }
+        ensures mine { HasSeen self.new self.old.tape }
+        ensures theirs { HasSeen self.new news }
     {
         let Told { front } = news;
         self.front = self.front.longer(front);

@@ -6,5 +6,5 @@ use Rattle.board.proofs.desks.gather.Given as goal
 abbrev pub invariant-loop-seat : goal.invariant-loop-seat
 invariant-loop-seat g l =
     (goal.iterator-loop-seat g).can_next l.seat-iterator × (goal.iterator-loop-seat g).is_finite l.seat-iterator
-    × All (λ s. IsPrefix s.tape l.front) l.yielded × (l.all.parts ≡ length l.yielded) × (l.all.amount ≡ sum_by (λ s. s.count) l.yielded)
-    × (l.book.total ≡ l.fn.book.total)
+    × All (λ s. IsPrefix s.tape l.fn.tip) l.yielded × (l.all.parts ≡ length l.yielded) × (l.all.amount ≡ sum_by (λ s. s.count) l.yielded)
+    × (l.book.total ≡ l.fn.book.total) × (l.tip ≡ l.fn.tip)

@@ -1,4 +1,4 @@
-use Rattle.std.proofs.Common.{◌≡◌, ◌+◌, ◌++◌, ◌∷◌, [], length, refl, ap, sym, ◌∙◌, subst, arith, length-append}
+use Rattle.std.proofs.Common.{◌∷◌, [], length, refl, ap, sym, ◌∙◌, subst, arith, length-append}
 use Rattle.board.specs.declared.entries.Sitting.{Sitting}
 use Rattle.board.specs.Seats.{IsFresh}
 use Rattle.board.proofs.Seating.{fresh_on}

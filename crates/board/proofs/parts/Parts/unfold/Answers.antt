@@ -1,15 +1,26 @@
-use Rattle.std.proofs.Common.{◌≡◌, ◌+◌, ◌∷◌, [], length, refl, ap, sym, ◌∙◌, subst}
-use Rattle.board.specs.Tape.{Leads}
+use Rattle.std.proofs.Common.{◌≡◌, ◌∷◌, [], length, refl, ap, sym, ◌∙◌, subst}
+use Rattle.board.specs.Tape.{IsLegalTape}
+use Rattle.board.specs.Rules.{tape_of, next_of}
 use Rattle.board.specs.Seats.{IsFresh}
+use Rattle.board.specs.declared.entries.Entry.TheVariants.{Opening}
 use Rattle.board.proofs.parts.Parts.unfold.Goals as goal
 
-pub opened-front-requires : goal.opened-front-requires
-opened-front-requires g c =
+pub opened-tip-requires-clause-tape : goal.opened-tip-requires-clause-tape
+opened-tip-requires-clause-tape g c =
     let state = g.X.OneThread.state c.args.self.object in
-    let opens = c.args.self.opens in
-    (c.requires.names.0, ap length opens, (state, subst (λ l. Leads g.X.Tape.TapeRule.replies l state) (sym opens) refl))
+    let opens : tape_of g.B.Tag.word.key c.args.self.seen.log ≡ Opening state ∷ [] = ap (λ w. tape_of w.key c.args.self.seen.log) (sym c.requires.names.0) ∙ c.args.self.opens in
+    (ap length opens, subst (IsLegalTape g.X.OneThread.replies) (sym opens) (state, refl))
+
+pub opened-tip-requires-clause-pen : goal.opened-tip-requires-clause-pen
+opened-tip-requires-clause-pen g c =
+    let on = c.args.self.goes_on in
+    (on.1, ap (λ w. next_of w.key c.args.self.seen.log) (sym c.requires.names.0) ∙ on.2)
 
 pub returns : goal.returns
 returns g c =
-    let all = c.opened-front.ensures ∙ c.args.self.opens in
-    (c.seat_all.ensures.seats.0, subst (λ l. IsFresh l c.seat_all.new.places.items) all c.seat_all.ensures.seats.1)
+    let all = c.front-front.ensures ∙ (c.opened-tip.ensures ∙ (ap (λ w. tape_of w.key c.args.self.seen.log) (sym c.requires.names.0) ∙ c.args.self.opens)) in
+    let seats = c.seat_all.ensures.seats.0 in record {
+      opening = all;
+      seats = (seats, seats ∙ (sym c.args.self.shared.0 ∙ c.requires.names.2));
+      fresh = subst (λ l. IsFresh l c.seat_all.new.places.items) all c.seat_all.ensures.seats.1;
+    }

@@ -1,4 +1,4 @@
-use Rattle.std.proofs.Common.{◌≡◌, ◌+◌, ◌++◌, ◌∷◌, [], sym, ◌∙◌, ap, subst}
+use Rattle.std.proofs.Common.{◌≡◌, ◌+◌, ◌++◌, ◌∷◌, [], ◌∙◌, ap, subst}
 use mathlib.Core.List.{IsPrefix}
 use Rattle.board.specs.declared.entries.Entry.TheVariants.{Call}
 use Rattle.board.proofs.ties.Tie.carry_out.Goals as goal
