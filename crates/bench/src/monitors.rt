@@ -1,0 +1,46 @@
+//! What is timed: a monitor that many threads share.
+use board::{Board, Seat, Tag};
+use harness::{Command, Core};
+use std::sync::{Mutex, Wait};
+
+/// A monitor that many threads share, each by a seat of its own.
+pub trait Monitor {
+    type Seat;
+
+    /// Asks for the verdict that was last published, and says whether it came.
+    fn glance<R: Wait>(&self, rt: &R, seat: &mut Self::Seat) -> bool;
+
+    /// Carries out a command, and says whether it was answered.
+    fn call<R: Wait>(&self, rt: &R, seat: &mut Self::Seat, command: Command) -> bool;
+}
+
+impl<B: Tag> Monitor for Board<B> {
+    type Seat = Seat<B>;
+
+    fn glance<R: Wait>(&self, _rt: &R, seat: &mut Seat<B>) -> bool {
+        Board::glance(self, seat).is_some()
+    }
+
+    fn call<R: Wait>(&self, rt: &R, seat: &mut Seat<B>, command: Command) -> bool {
+        Board::call(self, rt, seat, command).is_ok()
+    }
+}
+
+/// The same core under a lock, with no published copy: a glance takes the lock.
+#[derive(Drop)]
+pub struct Locked {
+    pub core: Mutex<Core>,
+}
+
+impl Monitor for Locked {
+    type Seat = ();
+
+    fn glance<R: Wait>(&self, rt: &R, _seat: &mut ()) -> bool {
+        let _verdict = self.core.lock(rt).verdict();
+        true
+    }
+
+    fn call<R: Wait>(&self, rt: &R, _seat: &mut (), command: Command) -> bool {
+        self.core.lock(rt).step(command).is_ok()
+    }
+}

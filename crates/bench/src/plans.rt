@@ -1,0 +1,73 @@
+//! What a run does.
+use harness::Command;
+use history::{Body, Event, EventKind, Process};
+use models::{Name, Op, Part};
+use std::time::Duration;
+
+/// The commands that one thread gives without pause.
+#[derive(Clone, Copy)]
+pub enum Calls {
+    /// It asks for the verdict.
+    Verdicts,
+    /// It appends a write's invocation and its ok, in turn.
+    Writes,
+    /// It appends reads, while six writes of different values stay open: each event has some 200 ends.
+    Reads,
+}
+
+// How many writes stay open.
+const OPEN: u32 = 6;
+
+impl Calls {
+    /// The command that comes after so many others.
+    pub fn command(self, after: u64) -> Command {
+        match self {
+            Calls::Verdicts => Command::Verdict,
+            Calls::Writes => append(kind_of(after), 0, Name::Write, Part::Int(3)),
+            Calls::Reads if after < u64::from(OPEN) => {
+                let process = after as u32;
+                append(
+                    EventKind::Invoke,
+                    process,
+                    Name::Write,
+                    Part::Int(i64::from(process)),
+                )
+            }
+            Calls::Reads => append(kind_of(after), OPEN, Name::Read, Part::Nil),
+        }
+    }
+
+    /// Its name in a table.
+    pub fn name(self) -> &'static str {
+        match self {
+            Calls::Verdicts => "verdicts",
+            Calls::Writes => "writes",
+            Calls::Reads => "reads",
+        }
+    }
+}
+
+fn kind_of(after: u64) -> EventKind {
+    if after % 2 == 0 {
+        EventKind::Invoke
+    } else {
+        EventKind::Ok
+    }
+}
+
+fn append(kind: EventKind, process: u32, name: Name, part: Part) -> Command {
+    Command::Append(Event {
+        index: None,
+        kind,
+        process: Process::Client(process),
+        body: Body::Op(Op { name, key: 7, part }),
+    })
+}
+
+/// A run: how many threads glance, for how long, and what another thread calls meanwhile.
+#[derive(Clone, Copy)]
+pub struct Plan {
+    pub readers: u32,
+    pub length: Duration,
+    pub calls: Option<Calls>,
+}

@@ -1,0 +1,103 @@
+//! The two monitors that are compared.
+ghost use Rattle.std.specs.Prelude.{◌≡◌};
+
+use crate::monitors::{Locked, Monitor};
+use crate::plans::{Calls, Plan};
+use crate::runs::{Count, Done, count_calls, run_plan};
+use board::{Blank, Tag};
+use harness::{Config, Core};
+use std::alloc::Global;
+use std::marker::Brand;
+use std::rt::Clock;
+use std::sync::{Mutex, Wait};
+use std::thread::Threads;
+use std::time::Duration;
+
+/// How a core is opened here.
+pub const OPENED: Config = Config {
+    concurrency: 8,
+    budget: 4096,
+};
+
+/// A run on a board.
+pub fn on_board<R: Threads + Wait + Clock + Sync>(
+    rt: &R,
+    alloc: Global,
+    plan: Plan,
+) -> Option<Done> {
+    let blank = Blank::new(alloc, OPENED, plan.readers.saturating_add(1)).ok()?;
+    run_on::<Brand, R>(rt, alloc, blank, plan)
+}
+
+fn run_on<B: Tag + Send + Sync, R: Threads + Wait + Clock + Sync>(
+    rt: &R,
+    alloc: Global,
+    blank: Blank,
+    plan: Plan,
+) -> Option<Done>
+    requires names { (blank.seen.book ≡ B.book) × (blank.ledger.name ≡ B.name) × (blank.ledger.parts ≡ B.parts) }
+{
+    let (board, seats) = blank.open::<B>().ok()?;
+    let done = run_plan(rt, &board, seats, plan);
+    board.end(rt, Vec::new(alloc));
+    done
+}
+
+/// Calls alone, on a board.
+pub fn calls_on_board<R: Wait + Clock>(
+    rt: &R,
+    alloc: Global,
+    calls: Calls,
+    length: Duration,
+) -> Option<Count> {
+    let blank = Blank::new(alloc, OPENED, 1).ok()?;
+    call_on::<Brand, R>(rt, alloc, blank, calls, length)
+}
+
+fn call_on<B: Tag, R: Wait + Clock>(
+    rt: &R,
+    alloc: Global,
+    blank: Blank,
+    calls: Calls,
+    length: Duration,
+) -> Option<Count>
+    requires names { (blank.seen.book ≡ B.book) × (blank.ledger.name ≡ B.name) × (blank.ledger.parts ≡ B.parts) }
+{
+    let (board, mut seats) = blank.open::<B>().ok()?;
+    let count = match seats.first_mut() {
+        Some(seat) => count_calls(rt, &board, seat, calls, length),
+        None => None,
+    };
+    board.end(rt, Vec::new(alloc));
+    count
+}
+
+fn locked(alloc: Global) -> Option<Locked> {
+    Some(Locked {
+        core: Mutex::new(Core::new(alloc, OPENED).ok()?),
+    })
+}
+
+/// A run under a lock.
+pub fn under_lock<R: Threads + Wait + Clock + Sync>(
+    rt: &R,
+    alloc: Global,
+    plan: Plan,
+) -> Option<Done> {
+    let monitor = locked(alloc)?;
+    let mut seats = Vec::new(alloc);
+    for _ in 0..=plan.readers {
+        seats.push(()).ok()?;
+    }
+    run_plan(rt, &monitor, seats, plan)
+}
+
+/// Calls alone, under a lock.
+pub fn calls_under_lock<R: Wait + Clock>(
+    rt: &R,
+    alloc: Global,
+    calls: Calls,
+    length: Duration,
+) -> Option<Count> {
+    count_calls(rt, &locked(alloc)?, &mut (), calls, length)
+}

@@ -1,0 +1,134 @@
+//! Glances beside calls.
+ghost use Rattle.std.specs.Prelude.{◌≡◌};
+
+use crate::boards::{TURNS, blank, write_then_read_another};
+use crate::said::{Said, answer_of, seen_of};
+use board::{Blank, Board, Seat, Tag};
+use edn::Gate;
+use harness::Command;
+use std::marker::Brand;
+use std::process::Abort;
+use std::sync::Wait;
+use std::sync::atomic::{AtomicBool, Ordering};
+use std::thread;
+use std::thread::{Threads, join};
+
+/// A seat that learns nothing sees each call of another. So a glance that remembers what it showed, and never enters the
+/// published copy, fails here.
+#[test]
+fn glance_follows_each_call(rt: HostRuntime) {
+    follow::<Brand, _>(&rt, blank(&rt, rt.alloc(), 2));
+}
+
+fn follow<B: Tag, R: Wait + Abort>(rt: &R, blank: Blank)
+    requires names { (blank.word ≡ B.word) × (blank.ledger.name ≡ B.name) × (blank.ledger.parts ≡ B.parts) }
+    requires seats { blank.seats ≡ 2 }
+{
+    let Ok((board, mut seats)) = blank.open::<B>() else {
+        panic!(rt; "not opened")
+    };
+    let (left, right) = seats.as_mut_slice().split_at_mut(1);
+    let first = &mut left[0];
+    let second = &mut right[0];
+    for (line, said, shown) in [
+        (0, Said::Legal, Said::Legal),
+        (1, Said::Legal, Said::Legal),
+        (2, Said::Legal, Said::Legal),
+        (3, Said::Illegal(7, 3), Said::Illegal(7, 3)),
+        (4, Said::Refused(3), Said::Illegal(7, 3)),
+    ] {
+        let commit = u64::from(line) + 1;
+        let answer = answer_of(&board.call(rt, first, write_then_read_another(line)));
+        assert_eq!(rt; answer, (commit, said));
+        assert_eq!(rt; seen_of(board.glance(second)), Some((commit, shown)));
+    }
+    board.end(rt, seats);
+}
+
+// Holds a call under the lock until a glance was made, for so many turns.
+#[derive(Drop)]
+struct Meeting {
+    begun: AtomicBool,
+    glanced: AtomicBool,
+    met: AtomicBool,
+}
+
+// Whether the flag was set within the turns.
+fn comes(flag: &AtomicBool) -> bool {
+    for _ in 0..TURNS {
+        if flag.load(Ordering::SeqCst) {
+            return true;
+        }
+        thread::yield_now();
+    }
+    false
+}
+
+impl Gate for Meeting {
+    fn begin(&self, _place: u32) {
+        self.begun.store(true, Ordering::SeqCst);
+        self.met.store(comes(&self.glanced), Ordering::SeqCst);
+    }
+
+    fn end(&self, _place: u32) {}
+}
+
+// A glance made once the call has begun.
+fn glance_inside<B: Tag>(
+    board: &Board<B>,
+    mut seat: Seat<B>,
+    meeting: &Meeting,
+) -> (Seat<B>, Option<(u64, Said)>) {
+    if !comes(&meeting.begun) {
+        return (seat, None);
+    }
+    let seen = seen_of(board.glance(&mut seat));
+    meeting.glanced.store(true, Ordering::SeqCst);
+    (seat, seen)
+}
+
+fn call_held<B: Tag, R: Wait>(
+    rt: &R,
+    board: &Board<B>,
+    mut seat: Seat<B>,
+    meeting: &Meeting,
+) -> (Seat<B>, (u64, Said)) {
+    let answer = answer_of(&board.call_at(rt, &mut seat, Command::Verdict, meeting));
+    (seat, answer)
+}
+
+/// While a call holds the lock, before its entry is published, a glance in another thread answers. So a glance that tries
+/// the lock, and shows nothing where it is held, fails here.
+#[test]
+fn glance_answers_while_a_call_holds_the_lock(rt: HostRuntime) {
+    meet::<Brand, _>(&rt, blank(&rt, rt.alloc(), 2));
+}
+
+fn meet<B: Tag + Send + Sync, R: Threads + Wait + Abort + Sync>(rt: &R, blank: Blank)
+    requires names { (blank.word ≡ B.word) × (blank.ledger.name ≡ B.name) × (blank.ledger.parts ≡ B.parts) }
+    requires seats { blank.seats ≡ 2 }
+{
+    let meeting = Meeting {
+        begun: AtomicBool::new(false),
+        glanced: AtomicBool::new(false),
+        met: AtomicBool::new(false),
+    };
+    let Ok((board, mut seats)) = blank.open::<B>() else {
+        panic!(rt; "not opened")
+    };
+    let second = seats.pop().unwrap();
+    let first = seats.pop().unwrap();
+    let lent = &board;
+    let gate = &meeting;
+    let ((first, answer), (second, seen)) = join(
+        rt,
+        move || call_held(rt, lent, first, gate),
+        move || glance_inside(lent, second, gate),
+    );
+    let kept = seats.push(first).is_ok() && seats.push(second).is_ok();
+    board.end(rt, seats);
+    assert!(rt; kept);
+    assert!(rt; meeting.met.load(Ordering::SeqCst));
+    assert_eq!(rt; seen, Some((0, Said::Legal)));
+    assert_eq!(rt; answer, (1, Said::Legal));
+}
