@@ -1,5 +1,5 @@
 //! What the lock holds.
-ghost use Rattle.std.specs.Prelude.{◌≡◌, ◌+◌, ◌<◌, ◌++◌, ◌∷◌, [], List, length, drop, Some, None, IfOk, IfErr, IsFalse};
+ghost use Rattle.std.specs.Prelude.{◌≡◌, ◌+◌, ◌<◌, ◌++◌, ◌∷◌, [], List, length, Some, None, IfOk, IfErr};
 ghost use Rattle.std.specs.List.{All, sum_by};
 ghost use mathlib.Core.List.{IsPrefix};
 ghost use Rattle.board.specs.declared.entries.Entry.TheVariants.{Call};
@@ -10,7 +10,7 @@ use crate::fronts::{Front, Head};
 use crate::one_thread::OneThread;
 use crate::pages::Page;
 use crate::places::Place;
-use crate::sheets::{Again, Posts};
+use crate::sheets::Posts;
 use crate::tags::Tag;
 use crate::tips::Tip;
 use crossbeam_utils::rule::Unruled;
@@ -29,14 +29,14 @@ pub struct Desk<X: OneThread, B: Tag, T: Posts<Page<X, B>>> {
     pub(crate) object: X,
     pub(crate) tip: Tip<X, B>,
     // A call has it while it publishes.
-    pub(crate) writer: Option<Writer<T, Page<X, B>, (), Unruled>>,
+    pub(crate) writer: Option<Writer<T, (), (), Unruled>>,
     pub(crate) book: Book<B>,
     // It has no part.
     pub(crate) rest: Share<B>,
 }
 
 impl<X: OneThread, B: Tag, T: Posts<Page<X, B>>> Model for Desk<X, B, T> {
-    ghost use Rattle.std.specs.Prelude.{◌≡◌, ◌+◌, [], length, drop, List, MatchOption};
+    ghost use Rattle.std.specs.Prelude.{◌≡◌, ◌+◌, length, List, MatchOption};
     ghost use Rattle.board.specs.declared.entries.Entry.{Entry};
     ghost use Rattle.board.specs.Tape.{Leads};
 
@@ -44,44 +44,23 @@ impl<X: OneThread, B: Tag, T: Posts<Page<X, B>>> Model for Desk<X, B, T> {
 
     ghost view = { λ d. d.tip };
 
-    ghost invariant = { λ d. Leads X.replies d.tip (X.state d.object) × (length d.tip ≡ d.book.total + 1) × (d.rest.parts ≡ 0) × (d.rest.amount ≡ 0) × MatchOption d.writer ⊥ (λ w. (T.posted w.desk.shown.value ≡ d.tip) × (drop w.behind w.log.items ≡ [])) };
+    ghost invariant = { λ d. Leads X.replies d.tip (X.state d.object) × (length d.tip ≡ d.book.total + 1) × (d.rest.parts ≡ 0) × (d.rest.amount ≡ 0) × MatchOption d.writer ⊥ (λ w. T.posted w.desk.shown.value ≡ d.tip) };
 }
 
-// Adds a page to what is to be published. It tries again where there is no memory.
-fn post<G: Drop, T: Posts<G>, R: Wait>(
-    rt: &R,
-    writer: Writer<T, G, (), Unruled>,
-    page: G,
-) -> Writer<T, G, (), Unruled>
-    ensures desk { result.desk ≡ writer.desk }
-    ensures pending { drop result.behind result.log.items ≡ drop writer.behind writer.log.items ++ page ∷ [] }
-{
-    let mut writer = writer;
-    let mut page = page;
-    for _ in rt.forever() {
-        match writer.append(page) {
-            Ok(()) => return writer,
-            Err(back) => page = back,
-        }
-    }
-    unreachable!()
-}
-
-// Readers see the page from now on.
+// Readers see the page from now on. It waits for those that still read the copy that was shown before the last, takes no
+// memory and cannot fail.
 fn show<G: Drop, T: Posts<G>, R: Wait>(
     rt: &R,
-    writer: Writer<T, G, (), Unruled>,
+    writer: Writer<T, (), (), Unruled>,
     page: G,
-) -> Writer<T, G, (), Unruled>
-    ensures shown { T.posted result.desk.shown.value ≡ page }
-    ensures pending { drop result.behind result.log.items ≡ [] }
+) -> Writer<T, (), (), Unruled>
+    ensures { T.posted result.desk.shown.value ≡ page }
 {
-    let writer = post(rt, writer, page);
-    let (writer, done) = writer.publish_as::<Unruled, R>(rt);
-    match done {
-        Ok(()) => writer,
-        Err(_) => unreachable!(),
-    }
+    let mut writer = writer;
+    let (open, mut spare) = writer.desk.open(rt);
+    spare.put(page);
+    writer.desk = open.show_as::<Unruled>(spare);
+    writer
 }
 
 fn put<D>(place: &mut Option<D>, new: D)
@@ -92,15 +71,6 @@ fn put<D>(place: &mut Option<D>, new: D)
         None => {}
         Some(_old) => unreachable!(),
     }
-}
-
-// Readers see this page again at the next publishing, if nothing else is posted. So there is room for the one that is.
-fn repost<G: Again + Drop, T: Posts<G>>(writer: &mut Writer<T, G, (), Unruled>) -> bool
-    ensures desk { writer.new.desk ≡ writer.old.desk }
-    ensures pending { IsFalse result → drop writer.new.behind writer.new.log.items ≡ drop writer.old.behind writer.old.log.items }
-{
-    let same = writer.published().page().again();
-    writer.append(same).is_ok()
 }
 
 impl<X: OneThread, B: Tag, T: Posts<Page<X, B>>> Desk<X, B, T> {
@@ -130,12 +100,6 @@ impl<X: OneThread, B: Tag, T: Posts<Page<X, B>>> Desk<X, B, T> {
             self.tip.confirm(head, &self.object, &*mine);
             return Err(Refusal::NoMemory);
         };
-        let mut writer = self.writer.take().unwrap();
-        if !repost(&mut writer) {
-            put(&mut self.writer, writer);
-            self.tip.confirm(head, &self.object, &*mine);
-            return Err(Refusal::NoMemory);
-        }
         let asked = Asked {
             seat: number,
             command: said,
@@ -145,6 +109,7 @@ impl<X: OneThread, B: Tag, T: Posts<Page<X, B>>> Desk<X, B, T> {
         self.object.commit();
         let page = Page::new(shown, self.tip.front());
         gate.begin(number);
+        let writer = self.writer.take().unwrap();
         put(&mut self.writer, show(rt, writer, page));
         gate.end(number);
         self.book.add(share, 1);

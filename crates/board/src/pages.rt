@@ -4,7 +4,6 @@ ghost use Rattle.board.specs.Tape.{Leads};
 
 use crate::fronts::Front;
 use crate::one_thread::OneThread;
-use crate::sheets::Again;
 use crate::tags::Tag;
 use std::marker::Model;
 
@@ -48,14 +47,5 @@ impl<X: OneThread, B: Tag> Page<X, B> {
         ensures { result.now ≡ self.now }
     {
         &self.front
-    }
-}
-
-impl<X: OneThread, B: Tag> Again for Page<X, B> {
-    fn again(&self) -> Page<X, B> {
-        Page {
-            shown: self.shown,
-            front: self.front.again(),
-        }
     }
 }

@@ -97,7 +97,7 @@ impl<X: OneThread> Parts<X> {
         let shown = object.show();
         let mut places = Vec::new(alloc);
         places.reserve(seats as usize)?;
-        let writer: Writer<Sheet<Page<X, B>>, Page<X, B>, (), Unruled> = Writer::new(
+        let writer: Writer<Sheet<Page<X, B>>, (), (), Unruled> = Writer::new(
             alloc,
             Sheet::of(Page::new(shown, front.again())),
             Sheet::of(Page::new(shown, front.again())),

@@ -35,10 +35,10 @@ invariant_of-self-2 g c =
     let now : g.X.OneThread.promised c.prepare.new.self ≡ Some (g.X.OneThread.state c.commit.new.self) = c.commit.ensures in
     let kept = ready.2 in
     let there : ready.0 ≡ g.X.OneThread.state c.commit.new.self = cc (kept, now) in
-    let posted : g.T.Posts.posted c.show.result.desk.shown.value ≡ c.add.new.self = c.show.ensures.shown ∙ c.new-page.ensures ∙ c.front-2.ensures in (
+    let posted : g.T.Posts.posted c.show.result.desk.shown.value ≡ c.add.new.self = c.show.ensures ∙ c.new-page.ensures ∙ c.front-2.ensures in (
       subst (λ s. Leads replies c.add.new.self s) there (subst (λ t. Leads replies t ready.0) (sym here) leads),
       omega (arith, ap length here, length-append tape (Call c.args.number c.args.command c.in-Ok.reply ∷ []), c.self.invariant.1, c.add-2.ensures.total),
       c.self.invariant.2,
       c.self.invariant.3,
-      rw c.put-2.ensures (posted, c.show.ensures.pending),
+      rw c.put.ensures posted,
     )
