@@ -6,6 +6,7 @@ use crate::plans::{Calls, Plan};
 use crate::runs::{Count, Done, count_calls, run_plan};
 use board::{Blank, Tag};
 use harness::{Config, Core};
+use models::ModelKind;
 use std::alloc::Global;
 use std::marker::Brand;
 use std::rt::Clock;
@@ -16,6 +17,7 @@ use std::time::Duration;
 /// How a core is opened here.
 pub const OPENED: Config = Config {
     concurrency: 8,
+    kind: ModelKind::Register,
     budget: 4096,
 };
 
@@ -35,7 +37,7 @@ fn run_on<B: Tag + Send + Sync, R: Threads + Wait + Clock + Sync>(
     blank: Blank,
     plan: Plan,
 ) -> Option<Done>
-    requires names { (blank.seen.book ≡ B.book) × (blank.ledger.name ≡ B.name) × (blank.ledger.parts ≡ B.parts) }
+    requires names { (blank.word ≡ B.word) × (blank.ledger.name ≡ B.name) × (blank.ledger.parts ≡ B.parts) }
 {
     let (board, seats) = blank.open::<B>().ok()?;
     let done = run_plan(rt, &board, seats, plan);
@@ -61,7 +63,7 @@ fn call_on<B: Tag, R: Wait + Clock>(
     calls: Calls,
     length: Duration,
 ) -> Option<Count>
-    requires names { (blank.seen.book ≡ B.book) × (blank.ledger.name ≡ B.name) × (blank.ledger.parts ≡ B.parts) }
+    requires names { (blank.word ≡ B.word) × (blank.ledger.name ≡ B.name) × (blank.ledger.parts ≡ B.parts) }
 {
     let (board, mut seats) = blank.open::<B>().ok()?;
     let count = match seats.first_mut() {

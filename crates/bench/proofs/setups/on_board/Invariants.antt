@@ -1,7 +1,7 @@
 use Rattle.bench.proofs.setups.on_board.Given as goal
 
 abbrev pub ghosts-run_on-B-Tag : goal.ghosts-run_on-B-Tag
-ghosts-run_on-B-Tag g a = record { book = a.blank.seen.book }
+ghosts-run_on-B-Tag g a = record { word = a.blank.word }
 
 abbrev pub ghosts-run_on-B-Ledger : goal.ghosts-run_on-B-Ledger
 ghosts-run_on-B-Ledger g a = record { name = a.blank.ledger.name; parts = a.blank.ledger.parts }
