@@ -18,12 +18,12 @@ pub enum ModelKind {
     Set,
 }
 
-/// The list of the kinds: calls `callback!(args; KIND "name", ..)`. Each function that tells the kinds apart, here and in
-/// the crates above, is a macro called with this list. KIND is the kind's variant in each enum of kinds, and its
-/// [`SeqObject`](crate::SeqObject).
+/// The list of the kinds: `each_kind!(callback; args)` is `callback!(args; KIND "name", ..)`. KIND is the kind's variant in
+/// each enum that has one for each kind, and its [`SeqObject`](crate::SeqObject).
 ///
-/// A further kind is a line here, an implementation of `SeqObject`, a variant in each of these enums, and its table and
-/// name among the definitions.
+/// Each function that tells the kinds apart, here and in the crates above, is such a callback. So a further kind is a line
+/// here, an implementation of `SeqObject`, a variant in each of these enums, and its table and name among the definitions
+/// (with its case where a proof goes by kinds).
 #[macro_export]
 macro_rules! each_kind {
     ($callback:ident; $($args:tt)*) => {

@@ -21,11 +21,12 @@ pub enum Name {
     Add,
 }
 
-/// The list of the names: calls `callback!(args; NAME "text" PART HOW [PARTS], ..)`. PART is the variant of [`Part`] that
-/// an invocation carries, and PARTS are those that its ok may carry. HOW is `answers` where the ok says what was found,
-/// and `repeats` where it repeats what the invocation carries.
+/// The list of the names: `each_name!(callback; args)` is `callback!(args; NAME "text" PART HOW [PARTS], ..)`. PART is the
+/// variant of [`Part`] that an invocation carries, and PARTS are those that its ok may carry. HOW is `answers` where the ok
+/// says what was found, and `repeats` where it repeats what the invocation carries.
 ///
-/// A further name is a line here, a variant of [`Name`], and its text among the definitions.
+/// Each function that tells the names apart, here and in the crates above, is such a callback. So a further name is a line
+/// here, a variant of [`Name`], and its text among the definitions.
 #[macro_export]
 macro_rules! each_name {
     ($callback:ident; $($args:tt)*) => {

@@ -23,12 +23,12 @@ impl SeqObject for Register {
         None
     }
 
-    fn copy(alloc: Global, state: &Option<i64>) -> Result<Option<i64>, AllocError> {
+    fn copy(_alloc: Global, state: &Option<i64>) -> Result<Option<i64>, AllocError> {
         Ok(*state)
     }
 
     fn apply(
-        alloc: Global,
+        _alloc: Global,
         state: &Option<i64>,
         op: &Op,
     ) -> Result<Option<(Option<i64>, Found)>, AllocError> {

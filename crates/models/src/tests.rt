@@ -1,42 +1,150 @@
-//! Each table on a few values, each copy once with memory, and the names.
+//! Each table on a few values, by its own object and as a state of any kind; and copies, comparisons and names.
 use crate::{
     Answer, AnyState, CasRegister, FifoQueue, Found, Items, Members, ModelKind, Mutex, Name, Op,
     Part, Register, SeqObject, Set, fits,
 };
-use std::alloc::Global;
-use std::process::Abort;
+use std::alloc::{AllocError, Global};
 use std::test::Fail;
 
 fn op(name: Name, part: Part) -> Op {
     Op { name, key: 7, part }
 }
 
-// The set of 1, 3 and 9.
-fn three(rt: &HostRuntime) -> Result<Members, Fail> {
-    Ok(Members::new(rt.alloc()).with(9)?.with(1)?.with(3)?)
+// An operation, and what it finds where it takes place.
+type Step = (Op, Option<Found>);
+
+// Whether the operations find this, one after another from the start state on, and take place nowhere else.
+fn goes<M: SeqObject>(alloc: Global, steps: &[Step]) -> Result<bool, AllocError> {
+    let mut state = M::start(alloc);
+    for (op, want) in steps {
+        let copy = M::copy(alloc, &state)?;
+        if !M::same(&copy, &state) {
+            return Ok(false);
+        }
+        match (M::apply(alloc, &copy, op)?, want) {
+            (None, None) => {}
+            (Some((next, found)), Some(want)) => {
+                if !found.same(want) {
+                    return Ok(false);
+                }
+                state = next;
+            }
+            _ => return Ok(false),
+        }
+    }
+    Ok(true)
+}
+
+// The same of states of any kind.
+fn goes_by(kind: ModelKind, alloc: Global, steps: &[Step]) -> Result<bool, AllocError> {
+    let mut state = AnyState::start(alloc, kind);
+    for (op, want) in steps {
+        let copy = state.copy(alloc)?;
+        if !copy.same(&state) || !copy.kind().same(kind) {
+            return Ok(false);
+        }
+        match (copy.apply(alloc, op)?, want) {
+            (None, None) => {}
+            (Some((next, found)), Some(want)) => {
+                if !found.same(want) {
+                    return Ok(false);
+                }
+                state = next;
+            }
+            _ => return Ok(false),
+        }
+    }
+    Ok(true)
 }
 
 #[test]
-fn copies_are_equal(rt: HostRuntime) -> Result<(), Fail> {
-    let found = Found::Elements(three(&rt)?);
-    assert!(rt; found.copy()?.same(&found));
-    let answer = Answer::Many(three(&rt)?);
-    assert!(rt; fits(&found, &answer.copy()?));
-    let add = op(Name::Add, Part::Set(three(&rt)?));
-    let other = Answer::of_part(add.copy()?.part);
-    assert!(rt; fits(&found, &other));
-    assert!(rt; !fits(&Found::Elements(Members::new(rt.alloc())), &other));
+fn register_finds_the_last_write(rt: HostRuntime) -> Result<(), Fail> {
+    let steps = [
+        (op(Name::Read, Part::Nil), Some(Found::Reg(None))),
+        (op(Name::Write, Part::Int(1)), Some(Found::Unit)),
+        (op(Name::Write, Part::Int(3)), Some(Found::Unit)),
+        (op(Name::Cas, Part::Pair(3, 4)), None),
+        (op(Name::Read, Part::Nil), Some(Found::Reg(Some(3)))),
+    ];
+    assert!(rt; goes::<Register>(rt.alloc(), &steps)?);
+    assert!(rt; goes_by(ModelKind::Register, rt.alloc(), &steps)?);
     Ok(())
 }
 
 #[test]
-fn sets_are_ascending(rt: HostRuntime) -> Result<(), Fail> {
-    let ascending = Members::of_ascending([1, 3, 9].to_vec(rt.alloc())?);
-    let members = three(&rt)?;
-    assert_eq!(rt; members.as_slice(), [1, 3, 9].as_slice());
-    assert!(rt; members.same(&ascending));
-    assert!(rt; members.with(3)?.same(&ascending));
-    assert!(rt; members < members.with(10)?);
+fn cas_takes_place_from_its_first_value(rt: HostRuntime) -> Result<(), Fail> {
+    let steps = [
+        (op(Name::Cas, Part::Pair(1, 2)), None),
+        (op(Name::Write, Part::Int(1)), Some(Found::Unit)),
+        (op(Name::Cas, Part::Pair(1, 2)), Some(Found::Unit)),
+        (op(Name::Cas, Part::Pair(1, 2)), None),
+        (op(Name::Read, Part::Nil), Some(Found::Reg(Some(2)))),
+    ];
+    assert!(rt; goes::<CasRegister>(rt.alloc(), &steps)?);
+    assert!(rt; goes_by(ModelKind::CasRegister, rt.alloc(), &steps)?);
+    Ok(())
+}
+
+#[test]
+fn mutex_is_held_once(rt: HostRuntime) -> Result<(), Fail> {
+    let steps = [
+        (op(Name::Release, Part::Nil), None),
+        (op(Name::Acquire, Part::Nil), Some(Found::Unit)),
+        (op(Name::Acquire, Part::Nil), None),
+        (op(Name::Read, Part::Nil), None),
+        (op(Name::Release, Part::Nil), Some(Found::Unit)),
+        (op(Name::Acquire, Part::Nil), Some(Found::Unit)),
+    ];
+    assert!(rt; goes::<Mutex>(rt.alloc(), &steps)?);
+    assert!(rt; goes_by(ModelKind::Mutex, rt.alloc(), &steps)?);
+    Ok(())
+}
+
+#[test]
+fn queue_gives_back_in_order(rt: HostRuntime) -> Result<(), Fail> {
+    let steps = [
+        (op(Name::Dequeue, Part::Nil), None),
+        (op(Name::Enqueue, Part::Int(8)), Some(Found::Unit)),
+        (op(Name::Enqueue, Part::Int(5)), Some(Found::Unit)),
+        (op(Name::Dequeue, Part::Nil), Some(Found::Item(8))),
+        (op(Name::Dequeue, Part::Nil), Some(Found::Item(5))),
+        (op(Name::Dequeue, Part::Nil), None),
+    ];
+    assert!(rt; goes::<FifoQueue>(rt.alloc(), &steps)?);
+    assert!(rt; goes_by(ModelKind::FifoQueue, rt.alloc(), &steps)?);
+    Ok(())
+}
+
+// The set of 3 and 1.
+fn both(alloc: Global) -> Result<Members, AllocError> {
+    Members::new(alloc).with(3)?.with(1)
+}
+
+#[test]
+fn set_finds_its_members(rt: HostRuntime) -> Result<(), Fail> {
+    let none = Found::Elements(Members::new(rt.alloc()));
+    let members = Found::Elements(both(rt.alloc())?);
+    let steps = [
+        (op(Name::Read, Part::Nil), Some(none)),
+        (op(Name::Add, Part::Int(3)), Some(Found::Unit)),
+        (op(Name::Add, Part::Int(1)), Some(Found::Unit)),
+        (op(Name::Add, Part::Int(3)), Some(Found::Unit)),
+        (op(Name::Dequeue, Part::Nil), None),
+        (op(Name::Read, Part::Nil), Some(members)),
+    ];
+    assert!(rt; goes::<Set>(rt.alloc(), &steps)?);
+    assert!(rt; goes_by(ModelKind::Set, rt.alloc(), &steps)?);
+    Ok(())
+}
+
+#[test]
+fn members_are_ascending(rt: HostRuntime) -> Result<(), Fail> {
+    let members = both(rt.alloc())?;
+    assert_eq!(rt; members.as_slice(), [1, 3].as_slice());
+    assert!(rt; members.with(3)?.same(&members), "3 is there");
+    assert!(rt; members < members.with(9)?);
+    let one = Members::of_ascending(vec![in rt.alloc(); 3]?);
+    assert!(rt; Members::new(rt.alloc()).with(3)? == one);
     Ok(())
 }
 
@@ -45,177 +153,33 @@ fn items_keep_their_order(rt: HostRuntime) -> Result<(), Fail> {
     let items = Items::new(rt.alloc()).with(9)?.with(1)?;
     assert_eq!(rt; items.as_slice(), [9, 1].as_slice());
     assert!(rt; items.copy()? == items);
-    let others = Items::of_slice(rt.alloc(), &[9, 0])?;
-    assert!(rt; others < items);
+    assert!(rt; Items::of_slice(rt.alloc(), &[9, 0])? < items);
     Ok(())
 }
 
 #[test]
-fn read_of_nil_fits(rt: HostRuntime) -> Result<(), Fail> {
-    let read = op(Name::Read, Part::Nil);
-    let start = Register::start(rt.alloc());
-    let (_, found) = Register::apply(rt.alloc(), &start, &read)?.ok_or("a read")?;
-    assert!(rt; fits(&found, &Answer::Nothing));
-    assert!(rt; !fits(&found, &Answer::Number(3)));
-    let write = op(Name::Write, Part::Int(3));
-    let (state, _) = Register::apply(rt.alloc(), &start, &write)?.ok_or("a write")?;
-    let (_, found) = Register::apply(rt.alloc(), &state, &read)?.ok_or("a read")?;
-    assert!(rt; fits(&found, &Answer::Nothing));
-    assert!(rt; fits(&found, &Answer::Number(3)));
-    assert!(rt; !fits(&found, &Answer::Number(4)));
-    assert!(rt; Register::same(&Register::copy(rt.alloc(), &state)?, &state));
+fn copies_are_equal(rt: HostRuntime) -> Result<(), Fail> {
+    let found = Found::Elements(both(rt.alloc())?);
+    assert!(rt; found.copy()?.same(&found));
+    let answer = Answer::Many(both(rt.alloc())?);
+    assert!(rt; fits(&found, &answer.copy()?));
+    let read = op(Name::Read, Part::Set(both(rt.alloc())?));
+    assert!(rt; fits(&found, &Answer::of_part(read.copy()?.part)));
     Ok(())
 }
 
 #[test]
-fn cas_takes_place_from_its_first_value(rt: HostRuntime) -> Result<(), Fail> {
-    let cas = op(Name::Cas, Part::Pair(1, 2));
-    let start = CasRegister::start(rt.alloc());
-    assert!(rt;
-        CasRegister::apply(rt.alloc(), &start, &cas)?.is_none(),
-        "from nil"
-    );
-    let write = op(Name::Write, Part::Int(1));
-    let (one, _) = CasRegister::apply(rt.alloc(), &start, &write)?.ok_or("a write")?;
-    let (two, found) = CasRegister::apply(rt.alloc(), &one, &cas)?.ok_or("a cas")?;
-    assert_eq!(rt; two, Some(2));
-    assert!(rt; found.same(&Found::Unit));
-    assert!(rt;
-        CasRegister::apply(rt.alloc(), &two, &cas)?.is_none(),
-        "from 2"
-    );
-    assert!(rt;
-        Register::apply(rt.alloc(), &one, &cas)?.is_none(),
-        "a register has no cas"
-    );
-    let read = op(Name::Read, Part::Nil);
-    let (_, found) = CasRegister::apply(rt.alloc(), &two, &read)?.ok_or("a read")?;
-    assert!(rt; found.same(&Found::Reg(Some(2))));
-    assert_eq!(rt; CasRegister::copy(rt.alloc(), &two)?, Some(2));
-    Ok(())
-}
-
-#[test]
-fn mutex_is_held_once(rt: HostRuntime) -> Result<(), Fail> {
-    let acquire = op(Name::Acquire, Part::Nil);
-    let release = op(Name::Release, Part::Nil);
-    let free = Mutex::start(rt.alloc());
-    assert!(rt;
-        Mutex::apply(rt.alloc(), &free, &release)?.is_none(),
-        "of a free mutex"
-    );
-    let (held, _) = Mutex::apply(rt.alloc(), &free, &acquire)?.ok_or("an acquire")?;
-    assert!(rt;
-        Mutex::apply(rt.alloc(), &held, &acquire)?.is_none(),
-        "held twice"
-    );
-    let copy = Mutex::copy(rt.alloc(), &held)?;
-    let (after, found) = Mutex::apply(rt.alloc(), &copy, &release)?.ok_or("a release")?;
-    assert!(rt; Mutex::same(&after, &free));
-    assert!(rt; found.same(&Found::Unit));
-    Ok(())
-}
-
-#[test]
-fn queue_gives_back_in_order(rt: HostRuntime) -> Result<(), Fail> {
-    let dequeue = op(Name::Dequeue, Part::Nil);
-    let empty = FifoQueue::start(rt.alloc());
-    assert!(rt;
-        FifoQueue::apply(rt.alloc(), &empty, &dequeue)?.is_none(),
-        "of an empty queue"
-    );
-    let eight = op(Name::Enqueue, Part::Int(8));
-    let five = op(Name::Enqueue, Part::Int(5));
-    let (queue, _) = FifoQueue::apply(rt.alloc(), &empty, &eight)?.ok_or("an enqueue")?;
-    let (queue, found) = FifoQueue::apply(rt.alloc(), &queue, &five)?.ok_or("an enqueue")?;
-    assert!(rt; found.same(&Found::Unit));
-    let copy = FifoQueue::copy(rt.alloc(), &queue)?;
-    let (queue, found) = FifoQueue::apply(rt.alloc(), &copy, &dequeue)?.ok_or("a dequeue")?;
-    assert!(rt; found.same(&Found::Item(8)));
-    let (queue, found) = FifoQueue::apply(rt.alloc(), &queue, &dequeue)?.ok_or("a dequeue")?;
-    assert!(rt; found.same(&Found::Item(5)));
-    assert!(rt; FifoQueue::same(&queue, &empty));
-    Ok(())
-}
-
-#[test]
-fn set_finds_its_members_ascending(rt: HostRuntime) -> Result<(), Fail> {
-    let read = op(Name::Read, Part::Nil);
-    let start = Set::start(rt.alloc());
-    let (_, found) = Set::apply(rt.alloc(), &start, &read)?.ok_or("a read")?;
-    assert!(rt; !fits(&found, &Answer::Nothing), "a set is not nil");
-    let three = op(Name::Add, Part::Int(3));
-    let one = op(Name::Add, Part::Int(1));
-    let (set, _) = Set::apply(rt.alloc(), &start, &three)?.ok_or("an add")?;
-    let (set, _) = Set::apply(rt.alloc(), &set, &one)?.ok_or("an add")?;
-    let (set, _) = Set::apply(rt.alloc(), &set, &three)?.ok_or("an add")?;
-    let copy = Set::copy(rt.alloc(), &set)?;
-    let (after, found) = Set::apply(rt.alloc(), &copy, &read)?.ok_or("a read")?;
-    let both = Members::of_ascending([1, 3].to_vec(rt.alloc())?);
-    assert!(rt; Set::same(&after, &both));
-    assert!(rt; found.same(&Found::Elements(both)));
-    Ok(())
-}
-
-// The state that the operation leaves in the start state of this kind, if it finds this there.
-fn first_step(
-    rt: &impl Abort,
-    alloc: Global,
-    kind: ModelKind,
-    op: &Op,
-    found: &Found,
-) -> Result<AnyState, Fail> {
-    let start = AnyState::start(alloc, kind).copy(alloc)?;
-    let (after, what) = start.apply(alloc, op)?.ok_or("a step")?;
-    assert!(rt; after.kind().same(kind));
-    assert!(rt; what.same(found));
-    assert!(rt; after.copy(alloc)?.same(&after));
-    Ok(after)
-}
-
-#[test]
-fn any_state_steps_by_its_kind(rt: HostRuntime) -> Result<(), Fail> {
-    let read = op(Name::Read, Part::Nil);
-    let cas = op(Name::Cas, Part::Pair(3, 4));
-    let write = op(Name::Write, Part::Int(3));
-    let state = first_step(&rt, rt.alloc(), ModelKind::Register, &write, &Found::Unit)?;
-    assert!(rt; state.same(&AnyState::Register(Some(3))));
-    assert!(rt; state.apply(rt.alloc(), &cas)?.is_none());
-    let state = first_step(
-        &rt,
-        rt.alloc(),
-        ModelKind::CasRegister,
-        &write,
-        &Found::Unit,
-    )?;
-    assert!(rt;
-        !state.same(&AnyState::Register(Some(3))),
-        "of another kind"
-    );
-    let (state, _) = state.apply(rt.alloc(), &cas)?.ok_or("a cas")?;
-    assert!(rt; state.same(&AnyState::CasRegister(Some(4))));
-    let state = first_step(
-        &rt,
-        rt.alloc(),
-        ModelKind::Mutex,
-        &op(Name::Acquire, Part::Nil),
-        &Found::Unit,
-    )?;
-    assert!(rt; state.same(&AnyState::Mutex(true)));
-    assert!(rt; state.apply(rt.alloc(), &read)?.is_none());
-    let enqueue = op(Name::Enqueue, Part::Int(3));
-    let state = first_step(
-        &rt,
-        rt.alloc(),
-        ModelKind::FifoQueue,
-        &enqueue,
-        &Found::Unit,
-    )?;
-    assert!(rt; state.same(&AnyState::FifoQueue(Items::of_slice(rt.alloc(), &[3])?)));
+fn read_of_nil_fits(rt: HostRuntime) {
+    let nil = Found::Reg(None);
+    assert!(rt; fits(&nil, &Answer::Nothing));
+    assert!(rt; !fits(&nil, &Answer::Number(3)));
+    let three = Found::Reg(Some(3));
+    assert!(rt; fits(&three, &Answer::Nothing));
+    assert!(rt; fits(&three, &Answer::Number(3)));
+    assert!(rt; !fits(&three, &Answer::Number(4)));
     let none = Found::Elements(Members::new(rt.alloc()));
-    let state = first_step(&rt, rt.alloc(), ModelKind::Set, &read, &none)?;
-    assert!(rt; state.same(&AnyState::Set(Members::new(rt.alloc()))));
-    Ok(())
+    assert!(rt; !fits(&none, &Answer::Nothing), "a set is not nil");
+    assert!(rt; !fits(&Found::Item(3), &Answer::Nothing), "nor an item");
 }
 
 #[test]
