@@ -7,3 +7,4 @@ pub mod Refusing
 pub mod Replicas
 pub mod Values
 pub mod OneEvent
+pub mod OneRefusal

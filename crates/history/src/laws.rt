@@ -2,6 +2,7 @@
 ghost use Rattle.std.specs.Prelude.{◌≡◌, ℕ, List};
 ghost use Rattle.edn.specs.Value.{Value};
 ghost use Rattle.history.specs.Spelling.{Spells};
+ghost use Rattle.edn.specs.declared.refusals.Refusal.{Refusal};
 ghost use Rattle.edn.specs.declared.refusals.Refusal.TheVariants.{Busy, WrongProcess, NotOpen, Mismatch};
 ghost use Rattle.models.specs.declared.operation.Part.TheVariants.{Nil};
 ghost use Rattle.history.specs.declared.events.EventKind.TheVariants.{Invoke, Ok};
@@ -34,4 +35,12 @@ pub fn process_rule_law()
 /// An element spells at most one event.
 pub fn one_event()
     ensures { (v : Value) (e f : Event) → Spells v e → Spells v f → e ≡ f }
+{}
+
+/// An event is refused for one reason at most, and a well-formed one for none.
+pub fn one_refusal()
+    ensures refusal { (c : ℕ) (events : List Event) (e : Event) (why other : Refusal) →
+        Refuses c events e why → Refuses c events e other → why ≡ other }
+    ensures taken { (c : ℕ) (events : List Event) (e : Event) (why : Refusal) →
+        IsWellFormed c events e → ¬ Refuses c events e why }
 {}

@@ -15,5 +15,7 @@ mod tests;
 pub use events::{Body, Event, EventKind, Fault, Process};
 pub use groups::Groups;
 pub use histories::History;
-pub use laws::{crashed_process_is_replaced, one_event, process_rule_law, refusals_in_order};
+pub use laws::{
+    crashed_process_is_replaced, one_event, one_refusal, process_rule_law, refusals_in_order,
+};
 pub use reading::from_edn;
