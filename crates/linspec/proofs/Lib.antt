@@ -17,6 +17,7 @@ pub mod Enqueues
 pub mod LegalOrders
 pub mod RegisterReads
 pub mod OneAnswer
+pub mod Places
 pub mod OtherObjects
 pub mod Questions
 pub mod EventMarks

@@ -3,7 +3,7 @@ ghost use Rattle.std.specs.Prelude.{◌≡◌, ◌≢◌, ◌↔◌, ℕ, pos, L
 ghost use Rattle.models.specs.declared.kinds.ModelKind.{ModelKind};
 ghost use Rattle.models.specs.Objects.{object_of, register, cas_register, mutex, fifo_queue};
 ghost use Rattle.history.specs.declared.events.Event.{Event};
-ghost use Rattle.history.specs.Events.{Entry, IsFront, entries_of, marks, of_key};
+ghost use Rattle.history.specs.Events.{Entry, IsFront, entries_of, indexed_from, marks, of_key};
 ghost use Rattle.history.specs.Rule.{IsHistory};
 ghost use Rattle.linspec.specs.WellFormed.{IsKeyed, AreWellFormed};
 ghost use Rattle.linspec.specs.Orders.{IsLinearizable};
@@ -43,6 +43,11 @@ pub fn history_law()
     ensures keyed { (events : List (ℕ × Event)) → IsHistory events → IsKeyed (entries_of events) }
     ensures well { (events : List (ℕ × Event)) → IsHistory events → AreWellFormed (marks (entries_of events)) }
     ensures rising { (events : List (ℕ × Event)) → IsHistory events → IsRising (entries_of events) }
+{}
+
+/// In a whole history, whose events are indexed by their places, the indices of the entries rise.
+pub fn places_rise()
+    ensures { (events : List Event) → IsRising (entries_of (indexed_from 0 events)) }
 {}
 
 /// A read after a write of 3 may answer 3 and no other value; before it has answered, nothing is wrong yet.
