@@ -4,6 +4,7 @@
 pub mod commands;
 pub mod core_object;
 mod keys;
+pub mod laws;
 mod readying;
 
 pub use commands::{Command, Config, Reply};
