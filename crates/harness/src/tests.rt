@@ -291,3 +291,55 @@ fn openings(rt: HostRuntime) {
         );
     }
 }
+
+// What a command would be answered by, were it committed, and the verdict then.
+fn prepared(core: &mut Core, command: Command) -> (Said, Said) {
+    match core.prepare(command) {
+        Ok((reply, verdict)) => (answer_of(Ok(reply)), answer_of(Ok(Reply::Verdict(verdict)))),
+        Err(why) => (
+            Said::Refused(why.number()),
+            answer_of(Ok(Reply::Verdict(core.verdict()))),
+        ),
+    }
+}
+
+// What is prepared changes nothing until it is committed, and the next command takes its place.
+#[test]
+fn prepared_commands(rt: HostRuntime) {
+    let Ok(mut core) = Core::new(rt.alloc(), TWO) else {
+        panic!(rt; "not opened")
+    };
+    for command in [
+        write(0, EventKind::Invoke, 3),
+        write(0, EventKind::Ok, 3),
+        read(0, EventKind::Invoke, Part::Nil),
+    ] {
+        assert_eq!(rt; answer_of(core.step(command)), Said::Legal);
+    }
+    let bad = Said::Illegal(7, 3);
+    let other = prepared(&mut core, read(0, EventKind::Ok, Part::Int(4)));
+    assert_eq!(rt; other, (bad, bad));
+    let twice = prepared(&mut core, read(0, EventKind::Invoke, Part::Nil));
+    assert_eq!(rt; twice, (Said::Refused(1), Said::Legal));
+    let asked = prepared(&mut core, Command::Verdict);
+    assert_eq!(rt; asked, (Said::Legal, Said::Legal));
+    assert_eq!(rt;
+        answer_of(core.step(read(0, EventKind::Ok, Part::Int(4)))),
+        bad
+    );
+    assert_eq!(rt; answer_of(core.step(Command::Verdict)), bad);
+}
+
+// A prepared command, once committed, brings what it was answered by.
+#[test]
+fn committed_command(rt: HostRuntime) {
+    let Ok(mut core) = Core::new(rt.alloc(), TWO) else {
+        panic!(rt; "not opened")
+    };
+    match core.prepare(write(0, EventKind::Invoke, 3)) {
+        Ok(_answer) => core.commit(),
+        Err(_why) => panic!(rt; "refused"),
+    }
+    let again = prepared(&mut core, write(0, EventKind::Invoke, 3));
+    assert_eq!(rt; again, (Said::Refused(1), Said::Legal));
+}

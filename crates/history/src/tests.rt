@@ -196,3 +196,28 @@ fn faults_are_copied_and_counted(rt: HostRuntime) -> Result<(), Fail> {
     assert_eq!(rt; groups.groups().len(), 2);
     Ok(())
 }
+
+// A prepared event is none of the events until it is committed; the next one takes its place, and where that is refused
+// none is prepared.
+#[test]
+fn prepared_events(rt: HostRuntime) -> Result<(), Fail> {
+    let mut history = History::new(rt.alloc(), 1)?;
+    history.prepare(write(EventKind::Invoke, 0, 3))?;
+    assert_eq!(rt;
+        history.prepare(write(EventKind::Ok, 0, 3)),
+        Err(Refusal::NotOpen)
+    );
+    history.prepare(write(EventKind::Invoke, 0, 4))?;
+    assert!(rt; history.is_empty());
+    assert_eq!(rt; history.open_at(0), None);
+    history.commit();
+    assert_eq!(rt; history.len(), 1);
+    assert_eq!(rt; history.open_at(0), Some(0));
+    assert_eq!(rt;
+        history.prepare(write(EventKind::Ok, 0, 3)),
+        Err(Refusal::Mismatch)
+    );
+    history.push(write(EventKind::Ok, 0, 4))?;
+    assert_eq!(rt; history.open_at(0), None);
+    Ok(())
+}

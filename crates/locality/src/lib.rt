@@ -3,5 +3,7 @@
 
 pub mod joining;
 pub mod laws;
+#[cfg(test)]
+mod tests;
 
 pub use joining::join;

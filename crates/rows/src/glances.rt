@@ -45,12 +45,37 @@ fn follow<B: Tag, R: Wait + Abort>(rt: &R, blank: Blank)
     board.end(rt, seats);
 }
 
-// Holds a call under the lock until a glance was made, for so many turns.
+// A moment of a call, which lasts until a glance was made, for so many turns.
 #[derive(Drop)]
-struct Meeting {
-    begun: AtomicBool,
+struct Moment {
+    come: AtomicBool,
     glanced: AtomicBool,
     met: AtomicBool,
+}
+
+impl Moment {
+    fn new() -> Moment {
+        Moment {
+            come: AtomicBool::new(false),
+            glanced: AtomicBool::new(false),
+            met: AtomicBool::new(false),
+        }
+    }
+
+    fn hold(&self) {
+        self.come.store(true, Ordering::SeqCst);
+        self.met.store(comes(&self.glanced), Ordering::SeqCst);
+    }
+
+    // What a glance shows in this moment.
+    fn glance<B: Tag>(&self, board: &Board<B>, seat: &mut Seat<B>) -> Option<(u64, Said)> {
+        if !comes(&self.come) {
+            return None;
+        }
+        let seen = seen_of(board.glance(seat));
+        self.glanced.store(true, Ordering::SeqCst);
+        seen
+    }
 }
 
 // Whether the flag was set within the turns.
@@ -64,27 +89,34 @@ fn comes(flag: &AtomicBool) -> bool {
     false
 }
 
-impl Gate for Meeting {
-    fn begin(&self, _place: u32) {
-        self.begun.store(true, Ordering::SeqCst);
-        self.met.store(comes(&self.glanced), Ordering::SeqCst);
-    }
-
-    fn end(&self, _place: u32) {}
+// Holds a call under the lock before it publishes, and once more after that.
+#[derive(Drop)]
+struct Meeting {
+    before: Moment,
+    after: Moment,
 }
 
-// A glance made once the call has begun.
+impl Gate for Meeting {
+    fn begin(&self, _place: u32) {
+        self.before.hold();
+    }
+
+    fn end(&self, _place: u32) {
+        self.after.hold();
+    }
+}
+
+type Seen = [Option<(u64, Said)>; 2];
+
+// A glance before the call publishes, and one after that.
 fn glance_inside<B: Tag>(
     board: &Board<B>,
     mut seat: Seat<B>,
     meeting: &Meeting,
-) -> (Seat<B>, Option<(u64, Said)>) {
-    if !comes(&meeting.begun) {
-        return (seat, None);
-    }
-    let seen = seen_of(board.glance(&mut seat));
-    meeting.glanced.store(true, Ordering::SeqCst);
-    (seat, seen)
+) -> (Seat<B>, Seen) {
+    let before = meeting.before.glance(board, &mut seat);
+    let after = meeting.after.glance(board, &mut seat);
+    (seat, [before, after])
 }
 
 fn call_held<B: Tag, R: Wait>(
@@ -97,8 +129,8 @@ fn call_held<B: Tag, R: Wait>(
     (seat, answer)
 }
 
-/// While a call holds the lock, before its entry is published, a glance in another thread answers. So a glance that tries
-/// the lock, and shows nothing where it is held, fails here.
+/// While a call holds the lock, a glance in another thread answers: before the entry is published with what stood before
+/// it, and then with the entry. So a glance that tries the lock, and shows nothing where it is held, fails here.
 #[test]
 fn glance_answers_while_a_call_holds_the_lock(rt: HostRuntime) {
     meet::<Brand, _>(&rt, blank(&rt, rt.alloc(), 2));
@@ -109,9 +141,8 @@ fn meet<B: Tag + Send + Sync, R: Threads + Wait + Abort + Sync>(rt: &R, blank: B
     requires seats { blank.seats ≡ 2 }
 {
     let meeting = Meeting {
-        begun: AtomicBool::new(false),
-        glanced: AtomicBool::new(false),
-        met: AtomicBool::new(false),
+        before: Moment::new(),
+        after: Moment::new(),
     };
     let Ok((board, mut seats)) = blank.open::<B>() else {
         panic!(rt; "not opened")
@@ -128,7 +159,8 @@ fn meet<B: Tag + Send + Sync, R: Threads + Wait + Abort + Sync>(rt: &R, blank: B
     let kept = seats.push(first).is_ok() && seats.push(second).is_ok();
     board.end(rt, seats);
     assert!(rt; kept);
-    assert!(rt; meeting.met.load(Ordering::SeqCst));
-    assert_eq!(rt; seen, Some((0, Said::Legal)));
+    assert!(rt; meeting.before.met.load(Ordering::SeqCst));
+    assert!(rt; meeting.after.met.load(Ordering::SeqCst));
+    assert_eq!(rt; seen, [Some((0, Said::Legal)), Some((1, Said::Legal))]);
     assert_eq!(rt; answer, (1, Said::Legal));
 }
