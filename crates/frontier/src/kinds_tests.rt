@@ -4,55 +4,77 @@ use models::{Answer, Members, ModelKind, Name, Op, Part};
 use std::alloc::{AllocError, Global};
 use std::test::Fail;
 
-fn op(name: Name, part: Part) -> Op {
-    Op { name, key: 7, part }
+/// What happens to an operation.
+#[derive(Drop)]
+enum Move {
+    Invokes(Name, Part),
+    Returns(Answer),
+    Fails,
+    Crashes,
 }
 
-/// The operation is invoked and returns with this answer at once.
-fn at_once(
-    frontier: &mut AnyFrontier,
-    id: u32,
-    name: Name,
-    part: Part,
-    answer: Answer,
-) -> Result<Step, AllocError> {
-    frontier.invoke(id, op(name, part))?;
-    frontier.ok(id, &answer)
+// What the frontier says of it. An invocation or a crash never kills.
+fn says(frontier: &mut AnyFrontier, id: u32, what: Move) -> Result<Step, AllocError> {
+    match what {
+        Move::Invokes(name, part) => {
+            let op = Op { name, key: 7, part };
+            frontier.invoke(id, op)?;
+            Ok(Step::Alive)
+        }
+        Move::Returns(answer) => frontier.ok(id, &answer),
+        Move::Fails => frontier.fail(id),
+        Move::Crashes => {
+            frontier.crash(id)?;
+            Ok(Step::Alive)
+        }
+    }
 }
 
-/// As [`at_once`], of an operation with no part and no answer.
-fn bare(frontier: &mut AnyFrontier, id: u32, name: Name) -> Result<Step, AllocError> {
-    at_once(frontier, id, name, Part::Nil, Answer::Nothing)
+// A list of what happens to operations by their ids, and what is said of each.
+type Rows = Vec<(u32, Move, Step)>;
+
+// Whether a new frontier says so, and a copy of it made before each row too.
+fn goes(alloc: Global, kind: ModelKind, budget: u32, rows: Rows) -> Result<bool, AllocError> {
+    let mut frontier = AnyFrontier::start(alloc, kind, budget)?;
+    for (id, what, want) in rows {
+        let mut copy = frontier.copy()?;
+        if says(&mut copy, id, what)? != want {
+            return Ok(false);
+        }
+        frontier = copy;
+    }
+    Ok(true)
 }
 
-/// As [`at_once`], of an operation whose part is a number, which it answers.
-fn with_number(
-    frontier: &mut AnyFrontier,
-    id: u32,
-    name: Name,
-    value: i64,
-) -> Result<Step, AllocError> {
-    at_once(frontier, id, name, Part::Int(value), Answer::Number(value))
+// An operation that has a number, and one that has none, is invoked.
+fn with(name: Name, value: i64) -> Move {
+    Move::Invokes(name, Part::Int(value))
 }
 
-/// As [`at_once`], of an operation with no part that answers a number.
-fn finding(
-    frontier: &mut AnyFrontier,
-    id: u32,
-    name: Name,
-    value: i64,
-) -> Result<Step, AllocError> {
-    at_once(frontier, id, name, Part::Nil, Answer::Number(value))
+fn bare(name: Name) -> Move {
+    Move::Invokes(name, Part::Nil)
+}
+
+fn number(value: i64) -> Move {
+    Move::Returns(Answer::Number(value))
+}
+
+fn nothing() -> Move {
+    Move::Returns(Answer::Nothing)
 }
 
 #[test]
 fn write_then_read(rt: HostRuntime) -> Result<(), Fail> {
     for kind in [ModelKind::Register, ModelKind::CasRegister] {
-        let mut frontier = AnyFrontier::start(rt.alloc(), kind, 4096)?;
-        assert_eq!(rt; with_number(&mut frontier, 0, Name::Write, 3)?, Step::Alive);
-        let mut other = frontier.copy()?;
-        assert_eq!(rt; finding(&mut frontier, 2, Name::Read, 3)?, Step::Alive);
-        assert_eq!(rt; finding(&mut other, 2, Name::Read, 4)?, Step::Dead);
+        for (value, step) in [(3, Step::Alive), (4, Step::Dead)] {
+            let rows = vec![in rt.alloc();
+                (0, with(Name::Write, 3), Step::Alive),
+                (0, number(3), Step::Alive),
+                (2, bare(Name::Read), Step::Alive),
+                (2, number(value), step),
+            ]?;
+            assert!(rt; goes(rt.alloc(), kind, 4096, rows)?, "a read of {value}");
+        }
     }
     Ok(())
 }
@@ -65,10 +87,17 @@ fn model_changes(rt: HostRuntime) -> Result<(), Fail> {
         (ModelKind::CasRegister, 1, Step::Alive),
         (ModelKind::CasRegister, 3, Step::Dead),
     ] {
-        let mut frontier = AnyFrontier::start(rt.alloc(), kind, 4096)?;
-        assert_eq!(rt; with_number(&mut frontier, 0, Name::Write, 1)?, Step::Alive);
-        let (part, answer) = (Part::Pair(from, 2), Answer::Numbers(from, 2));
-        assert_eq!(rt; at_once(&mut frontier, 2, Name::Cas, part, answer)?, step);
+        let rows = vec![in rt.alloc();
+            (0, with(Name::Write, 1), Step::Alive),
+            (0, number(1), Step::Alive),
+            (
+                2,
+                Move::Invokes(Name::Cas, Part::Pair(from, 2)),
+                Step::Alive
+            ),
+            (2, Move::Returns(Answer::Numbers(from, 2)), step),
+        ]?;
+        assert!(rt; goes(rt.alloc(), kind, 4096, rows)?, "from {from}");
     }
     Ok(())
 }
@@ -77,133 +106,225 @@ fn model_changes(rt: HostRuntime) -> Result<(), Fail> {
 #[test]
 fn open_cas_may_take_place(rt: HostRuntime) -> Result<(), Fail> {
     for (value, failed) in [(1, Step::Alive), (2, Step::Dead)] {
-        let mut frontier = AnyFrontier::start(rt.alloc(), ModelKind::CasRegister, 4096)?;
-        let _ = with_number(&mut frontier, 0, Name::Write, 1)?;
-        frontier.invoke(2, op(Name::Cas, Part::Pair(1, 2)))?;
-        assert_eq!(rt; finding(&mut frontier, 3, Name::Read, value)?, Step::Alive);
-        assert_eq!(rt; frontier.fail(2)?, failed, "a read of {value}");
+        let rows = vec![in rt.alloc();
+            (0, with(Name::Write, 1), Step::Alive),
+            (0, number(1), Step::Alive),
+            (2, Move::Invokes(Name::Cas, Part::Pair(1, 2)), Step::Alive),
+            (3, bare(Name::Read), Step::Alive),
+            (3, number(value), Step::Alive),
+            (2, Move::Fails, failed),
+        ]?;
+        assert!(rt;
+            goes(rt.alloc(), ModelKind::CasRegister, 4096, rows)?,
+            "a read of {value}"
+        );
     }
     Ok(())
 }
 
 #[test]
 fn mutex_held_twice(rt: HostRuntime) -> Result<(), Fail> {
-    let mut frontier = AnyFrontier::start(rt.alloc(), ModelKind::Mutex, 4096)?;
-    assert_eq!(rt; bare(&mut frontier, 0, Name::Acquire)?, Step::Alive);
-    let mut released = frontier.copy()?;
-    assert_eq!(rt; bare(&mut frontier, 2, Name::Acquire)?, Step::Dead);
-    assert_eq!(rt; bare(&mut released, 2, Name::Release)?, Step::Alive);
-    assert_eq!(rt; bare(&mut released, 4, Name::Acquire)?, Step::Alive);
-    Ok(())
-}
-
-// An acquire that failed did not take place, and the mutex is free; one that crashed may hold it.
-#[test]
-fn failed_acquire(rt: HostRuntime) -> Result<(), Fail> {
-    let mut frontier = AnyFrontier::start(rt.alloc(), ModelKind::Mutex, 4096)?;
-    frontier.invoke(0, op(Name::Acquire, Part::Nil))?;
-    let mut crashed = frontier.copy()?;
-    assert_eq!(rt; frontier.fail(0)?, Step::Alive);
-    assert_eq!(rt; bare(&mut frontier.copy()?, 2, Name::Release)?, Step::Dead);
-    assert_eq!(rt; bare(&mut frontier, 2, Name::Acquire)?, Step::Alive);
-    crashed.crash(0)?;
-    assert_eq!(rt; bare(&mut crashed.copy()?, 2, Name::Acquire)?, Step::Alive);
-    assert_eq!(rt; bare(&mut crashed, 2, Name::Release)?, Step::Alive);
-    assert_eq!(rt; bare(&mut crashed, 4, Name::Release)?, Step::Dead);
-    Ok(())
-}
-
-// Just before the ok there are five ends: no enqueue, either alone, and both in either order.
-#[test]
-fn five_ends(rt: HostRuntime) -> Result<(), Fail> {
-    for (budget, step) in [(5, Step::Alive), (4, Step::Over)] {
-        let mut frontier = AnyFrontier::start(rt.alloc(), ModelKind::FifoQueue, budget)?;
-        frontier.invoke(0, op(Name::Enqueue, Part::Int(5)))?;
-        frontier.invoke(1, op(Name::Enqueue, Part::Int(6)))?;
-        assert_eq!(rt;
-            frontier.ok(0, &Answer::Number(5))?,
-            step,
-            "budget {budget}"
+    for (name, step) in [(Name::Acquire, Step::Dead), (Name::Release, Step::Alive)] {
+        let rows = vec![in rt.alloc();
+            (0, bare(Name::Acquire), Step::Alive),
+            (0, nothing(), Step::Alive),
+            (2, bare(name), Step::Alive),
+            (2, nothing(), step),
+            (4, bare(Name::Acquire), Step::Alive),
+            (4, nothing(), step),
+        ]?;
+        assert!(rt;
+            goes(rt.alloc(), ModelKind::Mutex, 4096, rows)?,
+            "{}",
+            name.text()
         );
     }
     Ok(())
 }
 
+// An acquire that failed did not take place, and the mutex is free.
+#[test]
+fn failed_acquire(rt: HostRuntime) -> Result<(), Fail> {
+    for (name, step) in [(Name::Acquire, Step::Alive), (Name::Release, Step::Dead)] {
+        let rows = vec![in rt.alloc();
+            (0, bare(Name::Acquire), Step::Alive),
+            (0, Move::Fails, Step::Alive),
+            (2, bare(name), Step::Alive),
+            (2, nothing(), step),
+        ]?;
+        assert!(rt;
+            goes(rt.alloc(), ModelKind::Mutex, 4096, rows)?,
+            "{}",
+            name.text()
+        );
+    }
+    Ok(())
+}
+
+// An acquire that crashed may hold the mutex or not, until a release shows that it did.
+#[test]
+fn crashed_acquire(rt: HostRuntime) -> Result<(), Fail> {
+    for (name, step) in [(Name::Acquire, Step::Alive), (Name::Release, Step::Dead)] {
+        let rows = vec![in rt.alloc();
+            (0, bare(Name::Acquire), Step::Alive),
+            (0, Move::Crashes, Step::Alive),
+            (2, bare(Name::Release), Step::Alive),
+            (2, nothing(), Step::Alive),
+            (4, bare(name), Step::Alive),
+            (4, nothing(), step),
+        ]?;
+        assert!(rt;
+            goes(rt.alloc(), ModelKind::Mutex, 4096, rows)?,
+            "{}",
+            name.text()
+        );
+    }
+    Ok(())
+}
+
+// Just before the ok there are five ends: no enqueue, either alone, and both in either order. Where that is over the
+// budget the frontier is as it was: the other enqueue may still fail, and then there are fewer.
+#[test]
+fn five_ends(rt: HostRuntime) -> Result<(), Fail> {
+    for (budget, step) in [(5, Step::Alive), (4, Step::Over)] {
+        let rows = vec![in rt.alloc();
+            (0, with(Name::Enqueue, 5), Step::Alive),
+            (1, with(Name::Enqueue, 6), Step::Alive),
+            (0, number(5), step),
+        ]?;
+        assert!(rt;
+            goes(rt.alloc(), ModelKind::FifoQueue, budget, rows)?,
+            "budget {budget}"
+        );
+    }
+    let rows = vec![in rt.alloc();
+        (0, with(Name::Enqueue, 5), Step::Alive),
+        (1, with(Name::Enqueue, 6), Step::Alive),
+        (0, number(5), Step::Over),
+        (0, number(5), Step::Over),
+        (1, Move::Fails, Step::Alive),
+        (0, number(5), Step::Alive),
+    ]?;
+    assert!(rt; goes(rt.alloc(), ModelKind::FifoQueue, 4, rows)?);
+    Ok(())
+}
+
 #[test]
 fn dequeues_in_order(rt: HostRuntime) -> Result<(), Fail> {
-    let mut frontier = AnyFrontier::start(rt.alloc(), ModelKind::FifoQueue, 4096)?;
-    assert_eq!(rt;
-        with_number(&mut frontier, 0, Name::Enqueue, 5)?,
-        Step::Alive
-    );
-    assert_eq!(rt;
-        with_number(&mut frontier, 2, Name::Enqueue, 6)?,
-        Step::Alive
-    );
-    assert_eq!(rt;
-        finding(&mut frontier.copy()?, 4, Name::Dequeue, 6)?,
-        Step::Dead
-    );
-    assert_eq!(rt; finding(&mut frontier, 4, Name::Dequeue, 5)?, Step::Alive);
-    assert_eq!(rt; finding(&mut frontier, 6, Name::Dequeue, 6)?, Step::Alive);
-    assert_eq!(rt; finding(&mut frontier, 8, Name::Dequeue, 6)?, Step::Dead);
+    for (first, second, steps) in [
+        (5, 6, [Step::Alive, Step::Alive]),
+        (5, 5, [Step::Alive, Step::Dead]),
+        (6, 5, [Step::Dead, Step::Dead]),
+    ] {
+        let rows = vec![in rt.alloc();
+            (0, with(Name::Enqueue, 5), Step::Alive),
+            (0, number(5), Step::Alive),
+            (2, with(Name::Enqueue, 6), Step::Alive),
+            (2, number(6), Step::Alive),
+            (4, bare(Name::Dequeue), Step::Alive),
+            (4, number(first), steps[0]),
+            (6, bare(Name::Dequeue), Step::Alive),
+            (6, number(second), steps[1]),
+        ]?;
+        assert!(rt;
+            goes(rt.alloc(), ModelKind::FifoQueue, 4096, rows)?,
+            "{first}, {second}"
+        );
+    }
     Ok(())
 }
 
 // An enqueue that crashed may take place at any later moment, once.
 #[test]
 fn crashed_enqueue_takes_place_later(rt: HostRuntime) -> Result<(), Fail> {
-    let mut frontier = AnyFrontier::start(rt.alloc(), ModelKind::FifoQueue, 4096)?;
-    frontier.invoke(0, op(Name::Enqueue, Part::Int(5)))?;
-    frontier.crash(0)?;
-    assert_eq!(rt;
-        with_number(&mut frontier, 2, Name::Enqueue, 6)?,
-        Step::Alive
-    );
-    let mut never = frontier.copy()?;
-    for (id, value, step) in [(4, 6, Step::Alive), (6, 5, Step::Alive), (8, 5, Step::Dead)] {
-        assert_eq!(rt;
-            finding(&mut frontier, id, Name::Dequeue, value)?,
-            step,
-            "at {id}"
-        );
-    }
-    for (id, value, step) in [(4, 6, Step::Alive), (6, 6, Step::Dead)] {
-        assert_eq!(rt;
-            finding(&mut never, id, Name::Dequeue, value)?,
-            step,
-            "at {id}"
+    for (second, third, steps) in [
+        (5, 5, [Step::Alive, Step::Dead]),
+        (6, 5, [Step::Dead, Step::Dead]),
+    ] {
+        let rows = vec![in rt.alloc();
+            (0, with(Name::Enqueue, 5), Step::Alive),
+            (0, Move::Crashes, Step::Alive),
+            (2, with(Name::Enqueue, 6), Step::Alive),
+            (2, number(6), Step::Alive),
+            (4, bare(Name::Dequeue), Step::Alive),
+            (4, number(6), Step::Alive),
+            (6, bare(Name::Dequeue), Step::Alive),
+            (6, number(second), steps[0]),
+            (8, bare(Name::Dequeue), Step::Alive),
+            (8, number(third), steps[1]),
+        ]?;
+        assert!(rt;
+            goes(rt.alloc(), ModelKind::FifoQueue, 4096, rows)?,
+            "{second}, {third}"
         );
     }
     Ok(())
 }
 
-fn members(alloc: Global, values: &[i64]) -> Result<Answer, AllocError> {
+fn members(alloc: Global, values: &[i64]) -> Result<Move, AllocError> {
     let mut members = Members::new(alloc);
     for value in values {
         members = members.with(*value)?;
     }
-    Ok(Answer::Many(members))
+    Ok(Move::Returns(Answer::Many(members)))
 }
 
-// The second add is open: a first read may find it, and a later one may not miss it then.
+// The second add is open: a first read may find it or not, and once it is found a later one may not miss it.
 #[test]
 fn set_members(rt: HostRuntime) -> Result<(), Fail> {
-    let mut frontier = AnyFrontier::start(rt.alloc(), ModelKind::Set, 4096)?;
-    assert_eq!(rt; with_number(&mut frontier, 0, Name::Add, 2)?, Step::Alive);
-    frontier.invoke(2, op(Name::Add, Part::Int(1)))?;
-    let mut missed = frontier.copy()?;
-    for (read, values, step) in [
-        (3, [2, 1].as_slice(), Step::Alive),
-        (5, [2].as_slice(), Step::Dead),
+    for (found, later, failed) in [
+        ([2, 1].as_slice(), Step::Dead, Step::Dead),
+        ([2].as_slice(), Step::Alive, Step::Alive),
     ] {
-        let answer = members(rt.alloc(), values)?;
-        let found = at_once(&mut frontier, read, Name::Read, Part::Nil, answer)?;
-        assert_eq!(rt; found, step, "at {read}");
+        let rows = vec![in rt.alloc();
+            (0, with(Name::Add, 2), Step::Alive),
+            (0, number(2), Step::Alive),
+            (2, with(Name::Add, 1), Step::Alive),
+            (3, bare(Name::Read), Step::Alive),
+            (3, members(rt.alloc(), found)?, Step::Alive),
+            (5, bare(Name::Read), Step::Alive),
+            (5, members(rt.alloc(), &[2])?, later),
+            (2, Move::Fails, failed),
+        ]?;
+        assert!(rt; goes(rt.alloc(), ModelKind::Set, 4096, rows)?);
     }
-    let answer = members(rt.alloc(), &[2])?;
-    let found = at_once(&mut missed, 3, Name::Read, Part::Nil, answer)?;
-    assert_eq!(rt; found, Step::Alive);
-    assert_eq!(rt; missed.fail(2)?, Step::Alive);
+    Ok(())
+}
+
+// A read may find a write that is still open; the write may then return or crash, and not fail.
+#[test]
+fn failed_write_was_read(rt: HostRuntime) -> Result<(), Fail> {
+    for (last, step) in [
+        (number(1), Step::Alive),
+        (Move::Crashes, Step::Alive),
+        (Move::Fails, Step::Dead),
+    ] {
+        let rows = vec![in rt.alloc();
+            (0, with(Name::Write, 1), Step::Alive),
+            (1, bare(Name::Read), Step::Alive),
+            (1, number(1), Step::Alive),
+            (0, last, step),
+        ]?;
+        assert!(rt; goes(rt.alloc(), ModelKind::Register, 4096, rows)?);
+    }
+    Ok(())
+}
+
+// A write of 2 has crashed after a write of 1: a read may find either, and after 2 none finds 1.
+#[test]
+fn crashed_write_takes_place_later(rt: HostRuntime) -> Result<(), Fail> {
+    for (first, second, step) in [(1, 2, Step::Alive), (2, 1, Step::Dead)] {
+        let rows = vec![in rt.alloc();
+            (0, with(Name::Write, 1), Step::Alive),
+            (0, number(1), Step::Alive),
+            (2, with(Name::Write, 2), Step::Alive),
+            (2, Move::Crashes, Step::Alive),
+            (4, bare(Name::Read), Step::Alive),
+            (4, number(first), Step::Alive),
+            (6, bare(Name::Read), Step::Alive),
+            (6, number(second), step),
+        ]?;
+        assert!(rt; goes(rt.alloc(), ModelKind::Register, 4096, rows)?);
+    }
     Ok(())
 }
