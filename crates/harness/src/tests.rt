@@ -2,16 +2,12 @@
 use crate::commands::{Command, Config, Reply};
 use crate::core_object::Core;
 use edn::Refusal;
+use history::EventKind::{Fail as Failed, Info, Invoke, Ok as Done};
 use history::{Body, Event, EventKind, Process};
 use linspec::Verdict;
-use models::{ModelKind, Name, Op, Part};
+use models::{Members, ModelKind, Name, Op, Part};
+use std::alloc::{AllocError, Global};
 use std::test::Fail;
-
-const TWO: Config = Config {
-    concurrency: 2,
-    kind: ModelKind::Register,
-    budget: 4096,
-};
 
 fn event(process: u32, kind: EventKind, name: Name, part: Part) -> Event {
     Event {
@@ -22,12 +18,16 @@ fn event(process: u32, kind: EventKind, name: Name, part: Part) -> Event {
     }
 }
 
+fn op(process: u32, kind: EventKind, name: Name, part: Part) -> Command {
+    Command::Append(event(process, kind, name, part))
+}
+
 fn write(process: u32, kind: EventKind, value: i64) -> Command {
-    Command::Append(event(process, kind, Name::Write, Part::Int(value)))
+    op(process, kind, Name::Write, Part::Int(value))
 }
 
 fn read(process: u32, kind: EventKind, part: Part) -> Command {
-    Command::Append(event(process, kind, Name::Read, part))
+    op(process, kind, Name::Read, part)
 }
 
 // What a command is answered by, as plain data.
@@ -39,236 +39,275 @@ enum Said {
     Refused(u8),
 }
 
+fn plain_of(verdict: Verdict) -> Said {
+    match verdict {
+        Verdict::Legal => Said::Legal,
+        Verdict::Illegal { key, index } => Said::Illegal(key, index),
+        Verdict::Unknown { key, index } => Said::Unknown(key, index),
+    }
+}
+
 fn answer_of(answer: Result<Reply, Refusal>) -> Said {
     match answer {
-        Ok(Reply::Verdict(Verdict::Legal)) => Said::Legal,
-        Ok(Reply::Verdict(Verdict::Illegal { key, index })) => Said::Illegal(key, index),
-        Ok(Reply::Verdict(Verdict::Unknown { key, index })) => Said::Unknown(key, index),
+        Ok(Reply::Verdict(verdict)) => plain_of(verdict),
         Err(why) => Said::Refused(why.number()),
     }
 }
 
-#[test]
-fn verdict_of_nothing(rt: HostRuntime) {
-    let Ok(mut core) = Core::new(rt.alloc(), TWO) else {
-        panic!(rt; "not opened")
-    };
-    assert_eq!(rt; answer_of(core.step(Command::Verdict)), Said::Legal);
-}
+// A list of commands, and how each is answered.
+type Rows = Vec<(Command, Said)>;
 
-// Opens a core, writes 3, and reads it with this answer: the answers to the four events.
-fn write_and_read(rt: &HostRuntime, budget: u32, answer: Part) -> [Said; 4] {
-    let config = Config {
-        concurrency: 2,
-        kind: ModelKind::Register,
-        budget,
-    };
-    let Ok(mut core) = Core::new(rt.alloc(), config) else {
-        return [Said::Refused(0); 4];
-    };
-    let first = answer_of(core.step(write(0, EventKind::Invoke, 3)));
-    let second = answer_of(core.step(write(0, EventKind::Ok, 3)));
-    let third = answer_of(core.step(read(0, EventKind::Invoke, Part::Nil)));
-    let fourth = answer_of(core.step(read(0, EventKind::Ok, answer)));
-    [first, second, third, fourth]
-}
-
-#[test]
-fn write_then_read(rt: HostRuntime) {
-    assert_eq!(rt; write_and_read(&rt, 4096, Part::Int(3)), [Said::Legal; 4]);
-}
-
-#[test]
-fn read_of_another_value(rt: HostRuntime) {
-    let want = [Said::Legal, Said::Legal, Said::Legal, Said::Illegal(7, 3)];
-    assert_eq!(rt; write_and_read(&rt, 4096, Part::Int(4)), want);
-}
-
-#[test]
-fn read_of_nil_fits(rt: HostRuntime) {
-    assert_eq!(rt; write_and_read(&rt, 4096, Part::Nil), [Said::Legal; 4]);
-}
-
-#[test]
-fn budget_one_blown_by_a_write(rt: HostRuntime) {
-    let blown = Said::Unknown(7, 1);
-    assert_eq!(rt;
-        write_and_read(&rt, 1, Part::Int(3)),
-        [Said::Legal, blown, blown, blown]
-    );
-}
-
-#[test]
-fn failed_write_was_read(rt: HostRuntime) {
-    let Ok(mut core) = Core::new(rt.alloc(), TWO) else {
-        panic!(rt; "not opened")
-    };
-    assert_eq!(rt;
-        answer_of(core.step(write(0, EventKind::Invoke, 1))),
-        Said::Legal
-    );
-    assert_eq!(rt;
-        answer_of(core.step(read(1, EventKind::Invoke, Part::Nil))),
-        Said::Legal
-    );
-    assert_eq!(rt;
-        answer_of(core.step(read(1, EventKind::Ok, Part::Int(1)))),
-        Said::Legal
-    );
-    assert_eq!(rt;
-        answer_of(core.step(write(0, EventKind::Fail, 1))),
-        Said::Illegal(7, 3)
-    );
-}
-
-#[test]
-fn crashed_process_is_replaced(rt: HostRuntime) {
-    let Ok(mut core) = Core::new(rt.alloc(), TWO) else {
-        panic!(rt; "not opened")
-    };
-    assert_eq!(rt;
-        answer_of(core.step(write(0, EventKind::Invoke, 2))),
-        Said::Legal
-    );
-    assert_eq!(rt;
-        answer_of(core.step(write(0, EventKind::Info, 2))),
-        Said::Legal
-    );
-    assert_eq!(rt;
-        answer_of(core.step(read(1, EventKind::Invoke, Part::Nil))),
-        Said::Legal
-    );
-    assert_eq!(rt;
-        answer_of(core.step(read(1, EventKind::Ok, Part::Int(2)))),
-        Said::Legal
-    );
-    assert_eq!(rt;
-        answer_of(core.step(write(0, EventKind::Invoke, 9))),
-        Said::Refused(2)
-    );
-    assert_eq!(rt;
-        answer_of(core.step(write(2, EventKind::Invoke, 9))),
-        Said::Legal
-    );
-    assert_eq!(rt;
-        answer_of(core.step(write(2, EventKind::Invoke, 9))),
-        Said::Refused(1)
-    );
-}
-
-#[test]
-fn refusals_in_order(rt: HostRuntime) {
-    let Ok(mut core) = Core::new(rt.alloc(), TWO) else {
-        panic!(rt; "not opened")
-    };
-    let mut nothing_written = event(0, EventKind::Invoke, Name::Write, Part::Nil);
-    nothing_written.index = Some(5);
-    assert_eq!(rt;
-        answer_of(core.step(Command::Append(nothing_written))),
-        Said::Refused(5)
-    );
-    let mut too_late = event(0, EventKind::Invoke, Name::Write, Part::Int(3));
-    too_late.index = Some(5);
-    assert_eq!(rt;
-        answer_of(core.step(Command::Append(too_late))),
-        Said::Refused(6)
-    );
-    assert_eq!(rt;
-        answer_of(core.step(write(0, EventKind::Invoke, 3))),
-        Said::Legal
-    );
-    assert_eq!(rt;
-        answer_of(core.step(write(0, EventKind::Ok, 4))),
-        Said::Refused(4)
-    );
-    assert_eq!(rt;
-        answer_of(core.step(write(1, EventKind::Ok, 3))),
-        Said::Refused(3)
-    );
-}
-
-// Whether a core of this kind and budget, of two threads, answers each command so.
-fn answers(rt: &HostRuntime, kind: ModelKind, budget: u32, commands: Vec<(Command, Said)>) -> bool {
+// Whether a core of two threads, of this kind and budget, answers so.
+fn answers(alloc: Global, kind: ModelKind, budget: u32, rows: Rows) -> Result<bool, Refusal> {
     let config = Config {
         concurrency: 2,
         kind,
         budget,
     };
-    let Ok(mut core) = Core::new(rt.alloc(), config) else {
-        return false;
-    };
-    for (command, want) in commands {
+    let mut core = Core::new(alloc, config)?;
+    for (command, want) in rows {
         if answer_of(core.step(command)) != want {
-            return false;
+            return Ok(false);
         }
     }
-    true
-}
-
-fn op(process: u32, kind: EventKind, name: Name, part: Part) -> Command {
-    Command::Append(event(process, kind, name, part))
+    Ok(true)
 }
 
 #[test]
-fn mutex_held_twice(rt: HostRuntime) -> Result<(), Fail> {
-    let acquire = |process, kind| op(process, kind, Name::Acquire, Part::Nil);
-    let commands = vec![in rt.alloc();
-        (acquire(0, EventKind::Invoke), Said::Legal),
-        (acquire(0, EventKind::Ok), Said::Legal),
-        (acquire(1, EventKind::Invoke), Said::Legal),
-        (acquire(1, EventKind::Ok), Said::Illegal(7, 3)),
-    ]?;
-    assert!(rt; answers(&rt, ModelKind::Mutex, 4096, commands));
+fn verdict_of_nothing(rt: HostRuntime) -> Result<(), Fail> {
+    let rows = vec![in rt.alloc(); (Command::Verdict, Said::Legal)]?;
+    assert!(rt; answers(rt.alloc(), ModelKind::Register, 4096, rows)?);
+    Ok(())
+}
+
+// An answer of nil fits whatever a register finds.
+#[test]
+fn write_then_read(rt: HostRuntime) -> Result<(), Fail> {
+    for (part, said) in [
+        (Part::Int(3), Said::Legal),
+        (Part::Nil, Said::Legal),
+        (Part::Int(4), Said::Illegal(7, 3)),
+    ] {
+        let rows = vec![in rt.alloc();
+            (write(0, Invoke, 3), Said::Legal),
+            (write(0, Done, 3), Said::Legal),
+            (read(0, Invoke, Part::Nil), Said::Legal),
+            (read(0, Done, part), said),
+            (Command::Verdict, said),
+        ]?;
+        assert!(rt; answers(rt.alloc(), ModelKind::Register, 4096, rows)?);
+    }
     Ok(())
 }
 
 #[test]
-fn queue_blown_at_four(rt: HostRuntime) -> Result<(), Fail> {
-    for (budget, want) in [(4, Said::Unknown(7, 2)), (5, Said::Legal)] {
-        let enqueue = |process, kind, v| op(process, kind, Name::Enqueue, Part::Int(v));
-        let commands = vec![in rt.alloc();
-            (enqueue(0, EventKind::Invoke, 5), Said::Legal),
-            (enqueue(1, EventKind::Invoke, 6), Said::Legal),
-            (enqueue(0, EventKind::Ok, 5), want),
+fn budget_one_blown_by_a_write(rt: HostRuntime) -> Result<(), Fail> {
+    let blown = Said::Unknown(7, 1);
+    let rows = vec![in rt.alloc();
+        (write(0, Invoke, 3), Said::Legal),
+        (write(0, Done, 3), blown),
+        (read(0, Invoke, Part::Nil), blown),
+        (read(0, Done, Part::Int(4)), blown),
+    ]?;
+    assert!(rt; answers(rt.alloc(), ModelKind::Register, 1, rows)?);
+    Ok(())
+}
+
+#[test]
+fn failed_write_was_read(rt: HostRuntime) -> Result<(), Fail> {
+    for (kind, said) in [(Failed, Said::Illegal(7, 3)), (Info, Said::Legal)] {
+        let rows = vec![in rt.alloc();
+            (write(0, Invoke, 1), Said::Legal),
+            (read(1, Invoke, Part::Nil), Said::Legal),
+            (read(1, Done, Part::Int(1)), Said::Legal),
+            (write(0, kind, 1), said),
         ]?;
-        assert!(rt;
-            answers(&rt, ModelKind::FifoQueue, budget, commands),
-            "at budget {budget}"
-        );
+        assert!(rt; answers(rt.alloc(), ModelKind::Register, 4096, rows)?);
+    }
+    Ok(())
+}
+
+#[test]
+fn crashed_process_is_replaced(rt: HostRuntime) -> Result<(), Fail> {
+    let rows = vec![in rt.alloc();
+        (write(0, Invoke, 2), Said::Legal),
+        (write(0, Info, 2), Said::Legal),
+        (read(1, Invoke, Part::Nil), Said::Legal),
+        (read(1, Done, Part::Int(2)), Said::Legal),
+        (write(0, Invoke, 9), Said::Refused(2)),
+        (write(2, Invoke, 9), Said::Legal),
+        (write(2, Invoke, 9), Said::Refused(1)),
+    ]?;
+    assert!(rt; answers(rt.alloc(), ModelKind::Register, 4096, rows)?);
+    Ok(())
+}
+
+// The value is tested before the index, and both before the process.
+#[test]
+fn refusals_in_order(rt: HostRuntime) -> Result<(), Fail> {
+    let at_five = |part| Event {
+        index: Some(5),
+        ..event(0, Invoke, Name::Write, part)
+    };
+    let rows = vec![in rt.alloc();
+        (Command::Append(at_five(Part::Nil)), Said::Refused(5)),
+        (Command::Append(at_five(Part::Int(3))), Said::Refused(6)),
+        (write(0, Invoke, 3), Said::Legal),
+        (write(0, Done, 4), Said::Refused(4)),
+        (write(1, Done, 3), Said::Refused(3)),
+    ]?;
+    assert!(rt; answers(rt.alloc(), ModelKind::Register, 4096, rows)?);
+    Ok(())
+}
+
+#[test]
+fn mutex_held_twice(rt: HostRuntime) -> Result<(), Fail> {
+    let rows = vec![in rt.alloc();
+        (op(0, Invoke, Name::Acquire, Part::Nil), Said::Legal),
+        (op(0, Done, Name::Acquire, Part::Nil), Said::Legal),
+        (op(1, Invoke, Name::Acquire, Part::Nil), Said::Legal),
+        (op(1, Done, Name::Acquire, Part::Nil), Said::Illegal(7, 3)),
+    ]?;
+    assert!(rt; answers(rt.alloc(), ModelKind::Mutex, 4096, rows)?);
+    Ok(())
+}
+
+// A failed acquire did not take place, so there is nothing to release; one that crashed may have taken place.
+#[test]
+fn release_after_an_acquire(rt: HostRuntime) -> Result<(), Fail> {
+    for (kind, said) in [(Failed, Said::Illegal(7, 3)), (Info, Said::Legal)] {
+        let rows = vec![in rt.alloc();
+            (op(0, Invoke, Name::Acquire, Part::Nil), Said::Legal),
+            (op(0, kind, Name::Acquire, Part::Nil), Said::Legal),
+            (op(1, Invoke, Name::Release, Part::Nil), Said::Legal),
+            (op(1, Done, Name::Release, Part::Nil), said),
+        ]?;
+        assert!(rt; answers(rt.alloc(), ModelKind::Mutex, 4096, rows)?);
+    }
+    Ok(())
+}
+
+// Just before the ok there are five ends: no enqueue, either alone, and both in either order.
+#[test]
+fn queue_blown_at_four(rt: HostRuntime) -> Result<(), Fail> {
+    for (budget, said) in [(4, Said::Unknown(7, 2)), (5, Said::Legal)] {
+        let rows = vec![in rt.alloc();
+            (op(0, Invoke, Name::Enqueue, Part::Int(5)), Said::Legal),
+            (op(1, Invoke, Name::Enqueue, Part::Int(6)), Said::Legal),
+            (op(0, Done, Name::Enqueue, Part::Int(5)), said),
+        ]?;
+        assert!(rt; answers(rt.alloc(), ModelKind::FifoQueue, budget, rows)?);
+    }
+    Ok(())
+}
+
+// A dequeue finds the enqueue that has crashed, and nothing else.
+#[test]
+fn crashed_enqueue_takes_place_later(rt: HostRuntime) -> Result<(), Fail> {
+    for (value, said) in [(5, Said::Legal), (6, Said::Illegal(7, 3))] {
+        let rows = vec![in rt.alloc();
+            (op(0, Invoke, Name::Enqueue, Part::Int(5)), Said::Legal),
+            (op(0, Info, Name::Enqueue, Part::Int(5)), Said::Legal),
+            (op(1, Invoke, Name::Dequeue, Part::Nil), Said::Legal),
+            (op(1, Done, Name::Dequeue, Part::Int(value)), said),
+        ]?;
+        assert!(rt; answers(rt.alloc(), ModelKind::FifoQueue, 4096, rows)?);
     }
     Ok(())
 }
 
 #[test]
 fn cas_is_of_a_cas_register_alone(rt: HostRuntime) -> Result<(), Fail> {
-    for (kind, want) in [
+    for (kind, said) in [
         (ModelKind::CasRegister, Said::Legal),
         (ModelKind::Register, Said::Illegal(7, 3)),
     ] {
-        let commands = vec![in rt.alloc();
-            (write(0, EventKind::Invoke, 1), Said::Legal),
-            (write(0, EventKind::Ok, 1), Said::Legal),
-            (
-                op(0, EventKind::Invoke, Name::Cas, Part::Pair(1, 2)),
-                Said::Legal
-            ),
-            (op(0, EventKind::Ok, Name::Cas, Part::Pair(1, 2)), want),
+        let rows = vec![in rt.alloc();
+            (write(0, Invoke, 1), Said::Legal),
+            (write(0, Done, 1), Said::Legal),
+            (op(0, Invoke, Name::Cas, Part::Pair(1, 2)), Said::Legal),
+            (op(0, Done, Name::Cas, Part::Pair(1, 2)), said),
         ]?;
-        assert!(rt; answers(&rt, kind, 4096, commands), "of a {}", kind.name());
+        assert!(rt; answers(rt.alloc(), kind, 4096, rows)?);
+    }
+    Ok(())
+}
+
+fn members(alloc: Global, values: &[i64]) -> Result<Part, AllocError> {
+    let mut members = Members::new(alloc);
+    for value in values {
+        members = members.with(*value)?;
+    }
+    Ok(Part::Set(members))
+}
+
+// The add of 2 has returned, and that of 1 is open: a read finds 2 and perhaps 1, and nothing else.
+#[test]
+fn set_finds_its_members(rt: HostRuntime) -> Result<(), Fail> {
+    for (found, said) in [
+        ([2].as_slice(), Said::Legal),
+        ([1, 2].as_slice(), Said::Legal),
+        ([1].as_slice(), Said::Illegal(7, 4)),
+        ([1, 2, 3].as_slice(), Said::Illegal(7, 4)),
+    ] {
+        let rows = vec![in rt.alloc();
+            (op(0, Invoke, Name::Add, Part::Int(2)), Said::Legal),
+            (op(0, Done, Name::Add, Part::Int(2)), Said::Legal),
+            (op(1, Invoke, Name::Add, Part::Int(1)), Said::Legal),
+            (read(0, Invoke, Part::Nil), Said::Legal),
+            (read(0, Done, members(rt.alloc(), found)?), said),
+        ]?;
+        assert!(rt; answers(rt.alloc(), ModelKind::Set, 4096, rows)?);
     }
     Ok(())
 }
 
 #[test]
 fn set_has_no_write(rt: HostRuntime) -> Result<(), Fail> {
-    let add = |kind| op(0, kind, Name::Add, Part::Int(2));
-    let commands = vec![in rt.alloc();
-        (add(EventKind::Invoke), Said::Legal),
-        (add(EventKind::Ok), Said::Legal),
-        (write(0, EventKind::Invoke, 2), Said::Legal),
-        (write(0, EventKind::Ok, 2), Said::Illegal(7, 3)),
+    let rows = vec![in rt.alloc();
+        (op(0, Invoke, Name::Add, Part::Int(2)), Said::Legal),
+        (op(0, Done, Name::Add, Part::Int(2)), Said::Legal),
+        (write(0, Invoke, 2), Said::Legal),
+        (write(0, Done, 2), Said::Illegal(7, 3)),
     ]?;
-    assert!(rt; answers(&rt, ModelKind::Set, 4096, commands));
+    assert!(rt; answers(rt.alloc(), ModelKind::Set, 4096, rows)?);
+    Ok(())
+}
+
+// What a command is answered by where it is prepared alone, and the verdict that its commit would bring.
+fn prepared(core: &mut Core, command: Command) -> (Said, Option<Said>) {
+    match core.prepare(command) {
+        Ok((reply, verdict)) => (answer_of(Ok(reply)), Some(plain_of(verdict))),
+        Err(why) => (Said::Refused(why.number()), None),
+    }
+}
+
+// What is prepared changes nothing until it is committed, and the next command takes its place.
+fn prepares_and_commits(core: &mut Core) -> bool {
+    let written = prepared(core, write(0, Invoke, 3)) == (Said::Legal, Some(Said::Legal));
+    let refused = prepared(core, write(0, Done, 3)) == (Said::Refused(3), None);
+    let asked = prepared(core, Command::Verdict) == (Said::Legal, Some(Said::Legal));
+    match core.prepare(write(0, Invoke, 4)) {
+        Ok(_answer) => core.commit(),
+        Err(_why) => return false,
+    }
+    let other = prepared(core, write(0, Done, 3)) == (Said::Refused(4), None);
+    written && refused && asked && other
+}
+
+#[test]
+fn prepared_commands(rt: HostRuntime) -> Result<(), Fail> {
+    let config = Config {
+        concurrency: 1,
+        kind: ModelKind::Register,
+        budget: 1,
+    };
+    let mut core = Core::new(rt.alloc(), config)?;
+    assert!(rt; prepares_and_commits(&mut core));
+    let blown = Said::Unknown(7, 1);
+    let done = prepared(&mut core, write(0, Done, 4));
+    assert_eq!(rt; done, (blown, Some(blown)));
+    assert_eq!(rt; plain_of(core.verdict()), Said::Legal, "not committed");
     Ok(())
 }
 
@@ -290,56 +329,4 @@ fn openings(rt: HostRuntime) {
             "at {concurrency} threads and budget {budget}"
         );
     }
-}
-
-// What a command would be answered by, were it committed, and the verdict then.
-fn prepared(core: &mut Core, command: Command) -> (Said, Said) {
-    match core.prepare(command) {
-        Ok((reply, verdict)) => (answer_of(Ok(reply)), answer_of(Ok(Reply::Verdict(verdict)))),
-        Err(why) => (
-            Said::Refused(why.number()),
-            answer_of(Ok(Reply::Verdict(core.verdict()))),
-        ),
-    }
-}
-
-// What is prepared changes nothing until it is committed, and the next command takes its place.
-#[test]
-fn prepared_commands(rt: HostRuntime) {
-    let Ok(mut core) = Core::new(rt.alloc(), TWO) else {
-        panic!(rt; "not opened")
-    };
-    for command in [
-        write(0, EventKind::Invoke, 3),
-        write(0, EventKind::Ok, 3),
-        read(0, EventKind::Invoke, Part::Nil),
-    ] {
-        assert_eq!(rt; answer_of(core.step(command)), Said::Legal);
-    }
-    let bad = Said::Illegal(7, 3);
-    let other = prepared(&mut core, read(0, EventKind::Ok, Part::Int(4)));
-    assert_eq!(rt; other, (bad, bad));
-    let twice = prepared(&mut core, read(0, EventKind::Invoke, Part::Nil));
-    assert_eq!(rt; twice, (Said::Refused(1), Said::Legal));
-    let asked = prepared(&mut core, Command::Verdict);
-    assert_eq!(rt; asked, (Said::Legal, Said::Legal));
-    assert_eq!(rt;
-        answer_of(core.step(read(0, EventKind::Ok, Part::Int(4)))),
-        bad
-    );
-    assert_eq!(rt; answer_of(core.step(Command::Verdict)), bad);
-}
-
-// A prepared command, once committed, brings what it was answered by.
-#[test]
-fn committed_command(rt: HostRuntime) {
-    let Ok(mut core) = Core::new(rt.alloc(), TWO) else {
-        panic!(rt; "not opened")
-    };
-    match core.prepare(write(0, EventKind::Invoke, 3)) {
-        Ok(_answer) => core.commit(),
-        Err(_why) => panic!(rt; "refused"),
-    }
-    let again = prepared(&mut core, write(0, EventKind::Invoke, 3));
-    assert_eq!(rt; again, (Said::Refused(1), Said::Legal));
 }
