@@ -10,6 +10,4 @@ mod steps;
 pub use line::KeyLine;
 
 #[cfg(test)]
-mod kinds_tests;
-#[cfg(test)]
 mod tests;
