@@ -2,22 +2,22 @@
 //! was last published that takes no lock.
 #![tactic(auto)]
 
-pub mod blanks;
-pub mod calls;
-pub mod core_machine;
-pub mod desks;
-pub mod entries;
-pub mod fronts;
-pub mod lines;
-pub mod one_thread;
-pub mod pages;
-pub mod parts;
-pub mod places;
-pub mod seats;
-pub mod sheets;
-pub mod tags;
-pub mod ties;
-pub mod tips;
+mod blanks;
+mod calls;
+mod core_machine;
+mod desks;
+mod entries;
+mod fronts;
+mod lines;
+mod one_thread;
+mod pages;
+mod parts;
+mod places;
+mod seats;
+mod sheets;
+mod tags;
+mod ties;
+mod tips;
 
 pub use blanks::Blank;
 pub use calls::{Answered, Board, Glance};
