@@ -123,7 +123,7 @@ impl<X: OneThread, B: Tag, T: Posts<Page<X, B>>> Place<X, B, T> {
     }
 
     /// What the seat has seen, for others. It takes no memory and cannot fail.
-    pub fn news(&self) -> Told<X, B>
+    pub(crate) fn news(&self) -> Told<X, B>
         ensures { result ≡ self.now.tape }
     {
         Told {

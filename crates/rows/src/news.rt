@@ -44,8 +44,9 @@ fn tell<B: Tag, R: Wait + Abort>(rt: &R, blank: Blank)
     }
     let (answer, news) = tell_of_call(rt, &board, first, 3);
     let own = seen_of(board.glance(first));
-    let before = second.news();
-    second.learn(news.unwrap_or(before));
+    if let Some(news) = news {
+        second.learn(news);
+    }
     let other = seen_of(board.glance(second));
     board.end(rt, seats);
     assert_eq!(rt; answer, (4, Said::Illegal(7, 3)));
