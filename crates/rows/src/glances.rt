@@ -9,7 +9,7 @@ use harness::Command;
 use std::marker::Brand;
 use std::process::Abort;
 use std::sync::Wait;
-use std::sync::atomic::{AtomicBool, Ordering};
+use std::sync::atomic::{AtomicBool, AtomicU32, Ordering};
 use std::thread;
 use std::thread::{Threads, join};
 
@@ -45,9 +45,10 @@ fn follow<B: Tag, R: Wait + Abort>(rt: &R, blank: Blank)
     board.end(rt, seats);
 }
 
-// A moment of a call, which lasts until a glance was made, for so many turns.
+// A moment of a call of the seat with this number, which lasts until a glance was made, for so many turns.
 #[derive(Drop)]
 struct Moment {
+    number: AtomicU32,
     come: AtomicBool,
     glanced: AtomicBool,
     met: AtomicBool,
@@ -56,15 +57,22 @@ struct Moment {
 impl Moment {
     fn new() -> Moment {
         Moment {
+            number: AtomicU32::new(99),
             come: AtomicBool::new(false),
             glanced: AtomicBool::new(false),
             met: AtomicBool::new(false),
         }
     }
 
-    fn hold(&self) {
+    fn hold(&self, number: u32) {
+        self.number.store(number, Ordering::SeqCst);
         self.come.store(true, Ordering::SeqCst);
         self.met.store(comes(&self.glanced), Ordering::SeqCst);
+    }
+
+    // Whether a glance was made in this moment of a call of that seat.
+    fn was_met(&self, number: u32) -> bool {
+        self.met.load(Ordering::SeqCst) && self.number.load(Ordering::SeqCst) == number
     }
 
     // What a glance shows in this moment.
@@ -97,26 +105,26 @@ struct Meeting {
 }
 
 impl Gate for Meeting {
-    fn begin(&self, _place: u32) {
-        self.before.hold();
+    fn begin(&self, place: u32) {
+        self.before.hold(place);
     }
 
-    fn end(&self, _place: u32) {
-        self.after.hold();
+    fn end(&self, place: u32) {
+        self.after.hold(place);
     }
 }
 
-type Seen = [Option<(u64, Said)>; 2];
+type Seen = Option<(u64, Said)>;
 
 // A glance before the call publishes, and one after that.
 fn glance_inside<B: Tag>(
     board: &Board<B>,
     mut seat: Seat<B>,
     meeting: &Meeting,
-) -> (Seat<B>, Seen) {
+) -> (Seat<B>, (Seen, Seen)) {
     let before = meeting.before.glance(board, &mut seat);
     let after = meeting.after.glance(board, &mut seat);
-    (seat, [before, after])
+    (seat, (before, after))
 }
 
 fn call_held<B: Tag, R: Wait>(
@@ -130,7 +138,7 @@ fn call_held<B: Tag, R: Wait>(
 }
 
 /// While a call holds the lock, a glance in another thread answers: before the entry is published with what stood before
-/// it, and then with the entry. So a glance that tries the lock, and shows nothing where it is held, fails here.
+/// it, and then with the entry. The gate is told the seat's number. So a glance that tries the lock, and shows nothing where it is held, fails here.
 #[test]
 fn glance_answers_while_a_call_holds_the_lock(rt: HostRuntime) {
     meet::<Brand, _>(&rt, blank(&rt, rt.alloc(), 2));
@@ -147,20 +155,21 @@ fn meet<B: Tag + Send + Sync, R: Threads + Wait + Abort + Sync>(rt: &R, blank: B
     let Ok((board, mut seats)) = blank.open::<B>() else {
         panic!(rt; "not opened")
     };
-    let second = seats.pop().unwrap();
-    let first = seats.pop().unwrap();
+    let caller = seats.pop().unwrap();
+    let other = seats.pop().unwrap();
     let lent = &board;
     let gate = &meeting;
-    let ((first, answer), (second, seen)) = join(
+    let ((caller, answer), (other, (before, after))) = join(
         rt,
-        move || call_held(rt, lent, first, gate),
-        move || glance_inside(lent, second, gate),
+        move || call_held(rt, lent, caller, gate),
+        move || glance_inside(lent, other, gate),
     );
-    let kept = seats.push(first).is_ok() && seats.push(second).is_ok();
+    let kept = seats.push(other).is_ok() && seats.push(caller).is_ok();
     board.end(rt, seats);
     assert!(rt; kept);
-    assert!(rt; meeting.before.met.load(Ordering::SeqCst));
-    assert!(rt; meeting.after.met.load(Ordering::SeqCst));
-    assert_eq!(rt; seen, [Some((0, Said::Legal)), Some((1, Said::Legal))]);
+    assert!(rt; meeting.before.was_met(1));
+    assert!(rt; meeting.after.was_met(1));
+    assert_eq!(rt; before, Some((0, Said::Legal)));
+    assert_eq!(rt; after, Some((1, Said::Legal)));
     assert_eq!(rt; answer, (1, Said::Legal));
 }

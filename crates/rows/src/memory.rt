@@ -2,20 +2,21 @@
 ghost use Rattle.std.specs.Prelude.{◌≡◌};
 
 use crate::boards::{blank, write_then_read_another};
-use crate::said::{Said, answer_of};
+use crate::said::{Said, answer_of, seen_of};
 use board::{Blank, Board, Seat, Tag};
 use std::marker::Brand;
 use std::process::Abort;
 use std::sync::Wait;
 
-/// A call that wants memory is no entry: the same call again is the next commit. The test meets it where it is run with
-/// one allocation that fails.
+/// A call that wants memory is no entry: a glance shows what stood before it, and the same call again is the next commit.
+/// The test meets it where it is run with one allocation that fails.
 #[test]
 fn want_of_memory_is_no_entry(rt: HostRuntime) {
     call_again::<Brand, _>(&rt, blank(&rt, rt.alloc(), 1));
 }
 
-// The answer to this line, at the second try where the first wanted memory.
+// The answer to this line, at the second try where the first wanted memory and published nothing. Before it there were as
+// many calls as the line's number, and all was legal up to line 3.
 fn call_twice<B: Tag, R: Wait>(
     rt: &R,
     board: &Board<B>,
@@ -25,6 +26,13 @@ fn call_twice<B: Tag, R: Wait>(
     let answer = answer_of(&board.call(rt, seat, write_then_read_another(line)));
     match answer {
         (0, Said::Refused(13)) => {
+            let before = match line {
+                0..4 => Said::Legal,
+                _ => Said::Illegal(7, 3),
+            };
+            if seen_of(board.glance(seat)) != Some((u64::from(line), before)) {
+                return answer;
+            }
             answer_of(&board.call(rt, seat, write_then_read_another(line)))
         }
         answer => answer,
