@@ -99,6 +99,14 @@ def run_failing_writer():
     return [] if got == (3, b"refused 21 WriteFailed\n") else [f"it ended with {got!r}"]
 
 
+def run_no_text():
+    """A word that is no UTF-8 is a usage fault: status 3, and nothing on standard output."""
+    ran = subprocess.run([str(PROGRAM), b"script", b"\xff"], stdin=subprocess.DEVNULL, stdout=subprocess.PIPE,
+                         stderr=subprocess.PIPE, timeout=60)
+    got = (ran.returncode, ran.stdout, ran.stderr.split(b"\n")[0])
+    return [] if got == (3, b"", b"error: the words are no UTF-8") else [f"it ended with {got!r}"]
+
+
 def run_start():
     """Starting the program costs milliseconds: the best of five starts takes less than 200."""
     best = min(start_time() for _ in range(5))
@@ -114,7 +122,8 @@ def start_time():
 def main():
     cases = [(c.name, lambda c=c: run_case(c)) for c in sorted((TOP / "tests" / "cases").iterdir()) if c.is_dir()]
     cases += [("replies_are_live", run_live), ("starts_in_milliseconds", run_start),
-              ("failing_reader", run_failing_reader), ("failing_writer", run_failing_writer)]
+              ("failing_reader", run_failing_reader), ("failing_writer", run_failing_writer),
+              ("words_that_are_no_text", run_no_text)]
     failed = 0
     for name, run in cases:
         try:

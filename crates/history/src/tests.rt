@@ -193,7 +193,11 @@ fn faults_are_copied_and_counted(rt: HostRuntime) -> Result<(), Fail> {
     else {
         return Err(Fail::new("the first event is the partition"));
     };
-    assert_eq!(rt; groups.groups().len(), 2);
+    let [first, second] = groups.groups() else {
+        return Err(Fail::new("there are two groups"));
+    };
+    assert_eq!(rt; first.as_slice(), [0].as_slice());
+    assert_eq!(rt; second.as_slice(), [1, 2].as_slice());
     Ok(())
 }
 

@@ -182,6 +182,21 @@ fn read_of_nil_fits(rt: HostRuntime) {
     assert!(rt; !fits(&Found::Item(3), &Answer::Nothing), "nor an item");
 }
 
+// What finds nothing agrees with every answer; a register is no set, and a set no other set.
+#[test]
+fn answers_fit_what_was_found(rt: HostRuntime) -> Result<(), Fail> {
+    for answer in [Answer::Nothing, Answer::Number(3), Answer::Numbers(1, 2)] {
+        assert!(rt; fits(&Found::Unit, &answer));
+    }
+    let members = Answer::Many(both(rt.alloc())?);
+    assert!(rt; fits(&Found::Unit, &members));
+    assert!(rt; !fits(&Found::Reg(Some(3)), &members));
+    assert!(rt; !fits(&Found::Elements(Members::new(rt.alloc())), &members));
+    assert!(rt; fits(&Found::Item(3), &Answer::Number(3)));
+    assert!(rt; !fits(&Found::Item(3), &Answer::Number(4)));
+    Ok(())
+}
+
 #[test]
 fn kinds_have_names(rt: HostRuntime) -> Result<(), Fail> {
     let kinds = [
