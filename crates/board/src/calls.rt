@@ -83,7 +83,7 @@ impl<B: Tag> Tie<Core, B> {
     }
 
     /// Looks at what was last published. It takes no lock and no memory, and waits for nobody. `None` changes nothing;
-    /// it comes where the seat got no place among the readers, or where what is published is older than what the seat
+    /// it comes where the seat cannot enter the published copy, or where what is published is older than what the seat
     /// has seen.
     pub fn glance(&self, seat: &mut Seat<B>) -> Option<Glance>
         ensures same { (seat.new.number ≡ seat.old.number) × (seat.new.count ≡ seat.old.count) }

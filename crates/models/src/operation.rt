@@ -26,7 +26,7 @@ pub enum Name {
 /// says what was found, and `repeats` where it repeats what the invocation carries.
 ///
 /// Each function that tells the names apart, here and in the crates above, is such a callback. So a further name is a line
-/// here, a variant of [`Name`], and its text among the definitions.
+/// here, a variant of [`Name`], and its cases among the definitions: its text, what it does to an object, and its parts.
 #[macro_export]
 macro_rules! each_name {
     ($callback:ident; $($args:tt)*) => {
