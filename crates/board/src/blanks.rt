@@ -1,8 +1,8 @@
 //! A board before it has a name.
-ghost use Rattle.std.specs.Prelude.{◌≡◌, ◌≤◌, length, IfOk, IfErr, OnOk};
+ghost use Rattle.std.specs.Prelude.{◌≡◌, ◌⊎◌, ◌≤◌, length, IfOk, IfErr, OnOk};
 ghost use Rattle.history.specs.WellFormed.{IsConcurrency};
 ghost use Rattle.harness.specs.Machine.{at_rest, opening, IsBudget};
-ghost use Rattle.edn.specs.declared.refusals.Refusal.TheVariants.{NoMemory};
+ghost use Rattle.edn.specs.declared.refusals.Refusal.TheVariants.{NoMemory, NoSeat};
 ghost use Rattle.board.specs.Seats.{IsFresh};
 ghost use Rattle.board.specs.Truth.{MayNotBegin, opening_tape};
 
@@ -42,14 +42,15 @@ impl Parts<Core> {
     /// function generic over the tag, and that one with std's `Brand`.
     ///
     /// # Errors
-    /// [`Refusal::NoMemory`] where a growth was refused.
+    /// [`Refusal::NoMemory`] where a growth was refused, [`Refusal::NoSeat`] where the published copy gave a seat no place
+    /// to read from.
     pub fn open<B: Tag>(self) -> Result<(Board<B>, Vec<Seat<B>>), Refusal>
         requires names { (self.word ≡ B.word) × (self.ledger.name ≡ B.name) × (self.ledger.parts ≡ B.parts) }
         ensures opening { IfOk result (λ r. r.0 ≡ opening_tape self.object.machine) }
         ensures seats { IfOk result (λ r. (length r.1.items ≡ self.seats) × (length r.1.items ≡ B.parts)) }
         ensures fresh { IfOk result (λ r. IsFresh (opening_tape self.object.machine) r.1.items) }
-        ensures refused { IfErr result (λ why. why ≡ NoMemory) }
+        ensures refused { IfErr result (λ why. (why ≡ NoMemory) ⊎ (why ≡ NoSeat)) }
     {
-        Ok(self.unfold::<B>()?)
+        self.unfold::<B>()
     }
 }

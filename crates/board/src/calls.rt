@@ -1,5 +1,5 @@
 //! Calls and glances.
-ghost use Rattle.std.specs.Prelude.{◌≡◌, ◌+◌, ◌<◌, ◌++◌, ◌∷◌, [], length, IfOk, IfErr, OnOk, IfSome, IfNone};
+ghost use Rattle.std.specs.Prelude.{◌≡◌, ◌+◌, ◌<◌, ◌++◌, ◌∷◌, [], length, IfOk, IfErr, OnOk, IfSome, IsSome};
 ghost use Rattle.std.specs.List.{All, sum_by};
 ghost use mathlib.Core.List.{IsPrefix};
 ghost use Rattle.harness.specs.Machine.{Machine, MayStep, IsVerdictOn};
@@ -82,17 +82,16 @@ impl<B: Tag> Tie<Core, B> {
         self.carry_out(rt, gate, seat, command)
     }
 
-    /// Looks at what was last published. It takes no lock and no memory, and waits for nobody. `None` changes nothing;
-    /// it comes where the seat cannot enter the published copy, or where what is published is older than what the seat
-    /// has seen.
+    /// Looks at what was last published, and shows the newest verdict that the seat has then seen: that of a tape which
+    /// begins with all that it had seen. It is never `None`. It takes no lock and no memory, and waits for nobody.
     pub fn glance(&self, seat: &mut Seat<B>) -> Option<Glance>
         ensures same { (seat.new.number ≡ seat.old.number) × (seat.new.count ≡ seat.old.count) }
-        ensures seen { IfSome result (λ g. HasSeen seat.new seat.old.tape) }
+        ensures shows { IsSome result }
+        ensures seen { HasSeen seat.new seat.old.tape }
         ensures commit { IfSome result (λ g. length seat.new.tape ≡ g.commit + 1) }
         ensures from_scratch { IfSome result (λ g. (end : Machine) × LeadsTo seat.new.tape end × IsVerdictOn end g.verdict) }
-        ensures none { IfNone result (seat.new.tape ≡ seat.old.tape) }
     {
-        let look = seat.look()?;
+        let look = seat.look();
         Some(Glance {
             commit: look.commit,
             verdict: look.shown,

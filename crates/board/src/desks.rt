@@ -6,7 +6,7 @@ ghost use Rattle.board.specs.declared.entries.Entry.TheVariants.{Call};
 ghost use Rattle.board.specs.Tape.{Leads, IsNoEntry};
 
 use crate::entries::Asked;
-use crate::fronts::{Front, Head};
+use crate::fronts::Head;
 use crate::one_thread::OneThread;
 use crate::pages::Page;
 use crate::places::Place;
@@ -81,7 +81,7 @@ impl<X: OneThread, B: Tag, T: Posts<Page<X, B>>> Desk<X, B, T> {
         gate: &G,
         head: &Head<X, B>,
         number: u32,
-        mine: &mut Front<X, B>,
+        mine: &mut Page<X, B>,
         share: &mut Share<B>,
         command: X::Command,
     ) -> Result<X::Reply, Refusal>
@@ -91,13 +91,13 @@ impl<X: OneThread, B: Tag, T: Posts<Page<X, B>>> Desk<X, B, T> {
         ensures refused { IfErr result (λ e. (self.new ≡ self.old) × (share.new.amount ≡ share.old.amount) × IsNoEntry X.replies e mine.old mine.new) }
     {
         if self.tip.count() >= MOST {
-            self.tip.confirm(head, &self.object, mine);
-            *mine = self.tip.front();
+            self.tip.confirm(head, &self.object, mine.front());
+            *mine = Page::new(self.object.show(), self.tip.front());
             return Err(Refusal::TapeFull);
         }
         let said = Snapshot::of(&command);
         let Ok((reply, shown)) = self.object.prepare(command) else {
-            self.tip.confirm(head, &self.object, &*mine);
+            self.tip.confirm(head, &self.object, mine.front());
             return Err(Refusal::NoMemory);
         };
         let asked = Asked {
@@ -105,15 +105,17 @@ impl<X: OneThread, B: Tag, T: Posts<Page<X, B>>> Desk<X, B, T> {
             command: said,
             reply: Snapshot::of(&reply),
         };
-        self.tip.add(head, &self.object, mine, asked);
+        self.tip.add(head, &self.object, mine.front(), asked);
         self.object.commit();
-        let page = Page::new(shown, self.tip.front());
+        let tape = self.tip.front();
+        let page = Page::new(shown, tape);
         gate.begin(number);
         let writer = self.writer.take().unwrap();
-        put(&mut self.writer, show(rt, writer, page));
+        let writer = show(rt, writer, page.again());
+        put(&mut self.writer, writer);
         gate.end(number);
         self.book.add(share, 1);
-        *mine = self.tip.front();
+        *mine = page;
         Ok(reply)
     }
 }
@@ -137,10 +139,10 @@ pub(crate) fn gather<X: OneThread, B: Tag, T: Posts<Page<X, B>>>(
         let Place {
             number: _,
             reader: _reader,
-            front: mine,
+            page: mine,
             share,
         } = seat;
-        tip.confirm(head, object, &mine);
+        tip.confirm(head, object, mine.front());
         all.merge(share);
     }
     book.audit(&mut all);

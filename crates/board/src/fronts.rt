@@ -94,15 +94,4 @@ impl<X: OneThread, B: Tag> Front<X, B> {
         }
         true
     }
-
-    /// The longer of two, which the other begins.
-    pub fn longer(&self, other: Front<X, B>) -> Front<X, B>
-        ensures this { IsPrefix self.now result }
-        ensures that { IsPrefix other result }
-    {
-        if self.covers(&other) {
-            return self.again();
-        }
-        other
-    }
 }

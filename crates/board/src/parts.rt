@@ -1,12 +1,13 @@
 //! The parts of any object's board.
-ghost use Rattle.std.specs.Prelude.{◌≡◌, ◌<◌, ◌≤◌, ◌∷◌, [], length, Some, IfOk, true, vec_capacity};
+ghost use Rattle.std.specs.Prelude.{◌≡◌, ◌⊎◌, ◌<◌, ◌≤◌, ◌∷◌, [], length, Some, IfOk, IfErr, OnOk, true, vec_capacity};
+ghost use Rattle.edn.specs.declared.refusals.Refusal.TheVariants.{NoMemory, NoSeat};
 ghost use Rattle.board.specs.declared.entries.Entry.TheVariants.{Opening as an_opening};
 ghost use Rattle.logbook.specs.Pages.{may_write};
 ghost use Rattle.board.specs.Rules.{tape_of, next_of};
 ghost use Rattle.board.specs.Seats.{IsFresh};
 
 use crate::desks::Desk;
-use crate::fronts::{Front, Head};
+use crate::fronts::Head;
 use crate::lines::{Begun, Make, Nothing, OfferOf, Open, SeenOf, WordOf, new_cell};
 use crate::one_thread::OneThread;
 use crate::pages::Page;
@@ -16,10 +17,12 @@ use crate::tags::Tag;
 use crate::ties::Tie;
 use crate::tips::Tip;
 use crossbeam_utils::rule::Unruled;
+use edn::Refusal;
 use left_right::reader::Factory;
 use left_right::writer::Writer;
 use logbook::{Pen, Seen, Start, Word};
-use std::alloc::{AllocError, Global};
+use std::alloc::Global;
+use std::mem::ManuallyDrop;
 use std::sync::ledger::Share;
 use std::sync::{Mutex, ledger};
 
@@ -75,11 +78,12 @@ impl<X: OneThread> Parts<X> {
     }
 
     // The tie and its places, numbered from 0, which have seen the opening.
-    pub(crate) fn unfold<B: Tag>(self) -> Result<(Tie<X, B>, Vec<Place<X, B>>), AllocError>
+    pub(crate) fn unfold<B: Tag>(self) -> Result<(Tie<X, B>, Vec<Place<X, B>>), Refusal>
         requires names { (self.word ≡ B.word) × (self.ledger.name ≡ B.name) × (self.ledger.parts ≡ B.parts) }
         ensures opening { IfOk result (λ r. r.0 ≡ an_opening (X.state self.object) ∷ []) }
         ensures seats { IfOk result (λ r. (length r.1.items ≡ self.seats) × (length r.1.items ≡ B.parts)) }
         ensures fresh { IfOk result (λ r. IsFresh (an_opening (X.state self.object) ∷ []) r.1.items) }
+        ensures refused { IfErr result (λ why. (why ≡ NoMemory) ⊎ (why ≡ NoSeat)) }
     {
         let Parts {
             object,
@@ -94,16 +98,20 @@ impl<X: OneThread> Parts<X> {
         let tip = Tip::opened(seen, pen);
         let front = tip.front();
         let (book, mut rest) = ledger.open::<B>();
-        let shown = object.show();
+        let first = tip.front();
+        let page = Page::new(object.show(), first);
         let mut places = Vec::new(alloc);
         places.reserve(seats as usize)?;
         let writer: Writer<Sheet<Page<X, B>>, (), (), Unruled> = Writer::new(
             alloc,
-            Sheet::of(Page::new(shown, front.again())),
-            Sheet::of(Page::new(shown, front.again())),
+            Sheet::of(page.again()),
+            Sheet::of(page.again()),
             seats as usize,
         )?;
-        seat_all(writer.factory(), &front, &mut rest, seats, &mut places);
+        if let Err(why) = seat_all(writer.factory(), &page, &mut rest, seats, &mut places) {
+            leak(writer);
+            return Err(why);
+        }
         let tie = Tie {
             head,
             opening: front,
@@ -119,26 +127,36 @@ impl<X: OneThread> Parts<X> {
     }
 }
 
-// Fills the seats. One for which there is no reader's place sees nothing by a glance.
+// Lets a writer go that nobody reads from. Its end would wait for readers; so its memory stays taken.
+fn leak<W>(writer: W) {
+    let _leaked = unsafe { ManuallyDrop::new_unchecked(writer) };
+}
+
+// Fills the seats, each with a reader's place.
 fn seat_all<X: OneThread, B: Tag, T: Posts<Page<X, B>>>(
     factory: &Factory<T, (), Unruled>,
-    front: &Front<X, B>,
+    page: &Page<X, B>,
     rest: &mut Share<B>,
     seats: u32,
     places: &mut Vec<Place<X, B, T>>,
-)
+) -> Result<(), Refusal>
     requires room { (places.old.items ≡ []) × (seats ≤ 64) × (seats ≤ vec_capacity places.old) }
     requires share { (rest.old.parts ≡ seats) × (rest.old.amount ≡ 0) }
-    ensures seats { (length places.new.items ≡ seats) × IsFresh front.now places.new.items }
-    ensures share { (rest.new.parts ≡ 0) × (rest.new.amount ≡ 0) }
+    ensures seats { OnOk result ((length places.new.items ≡ seats) × IsFresh page.now places.new.items) }
+    ensures share { OnOk result ((rest.new.parts ≡ 0) × (rest.new.amount ≡ 0)) }
+    ensures refused { IfErr result (λ why. why ≡ NoSeat) }
 {
     for number in 0..seats {
+        let Ok(reader) = factory.reader() else {
+            return Err(Refusal::NoSeat);
+        };
         let share = rest.split_off(1, 0);
         places.push_reserved(Place {
             number,
-            reader: factory.reader().ok(),
-            front: front.again(),
+            reader: Some(reader),
+            page: page.again(),
             share,
         });
     }
+    Ok(())
 }

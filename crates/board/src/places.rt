@@ -1,11 +1,10 @@
 //! A seat of any object's board, and news.
-ghost use Rattle.std.specs.Prelude.{◌≡◌, ◌+◌, length, IfSome, IfNone};
+ghost use Rattle.std.specs.Prelude.{◌≡◌, ◌+◌, length};
 ghost use mathlib.Core.List.{IsPrefix};
 ghost use Rattle.board.specs.Tape.{Leads, HasSeen};
 
-use crate::fronts::Front;
 use crate::one_thread::OneThread;
-use crate::pages::Page;
+use crate::pages::{Look, Page};
 use crate::sheets::{Posts, Sheet};
 use crate::tags::Tag;
 use crossbeam_utils::rule::Unruled;
@@ -18,27 +17,29 @@ use std::sync::ledger::Share;
 #[derive(Drop)]
 pub struct Place<X: OneThread, B: Tag, T: Posts<Page<X, B>> = Sheet<Page<X, B>>> {
     pub(crate) number: u32,
+    // A glance has it while it looks.
     pub(crate) reader: Option<Reader<T, (), Unruled>>,
-    pub(crate) front: Front<X, B>,
+    // The newest page that it has seen.
+    pub(crate) page: Page<X, B>,
     pub(crate) share: Share<B>,
 }
 
 impl<X: OneThread, B: Tag, T: Posts<Page<X, B>>> Model for Place<X, B, T> {
-    ghost use Rattle.std.specs.Prelude.{◌≡◌};
+    ghost use Rattle.std.specs.Prelude.{◌≡◌, IsSome};
     ghost use Rattle.board.specs.declared.entries.Sitting.{Sitting};
 
     ghost Value = { Sitting X.State X.Command X.Reply };
 
-    ghost view = { λ s. record { number = s.number; count = s.share.amount; tape = s.front } };
+    ghost view = { λ s. record { number = s.number; count = s.share.amount; tape = s.page } };
 
-    ghost invariant = { λ s. s.share.parts ≡ 1 };
+    ghost invariant = { λ s. (s.share.parts ≡ 1) × IsSome s.reader };
 }
 
 /// What a seat had seen, for other seats of the same board. Contracts see it as the tape. It has no more bytes than the
-/// number of its calls.
+/// number of its calls and what is shown after them.
 #[derive(Drop)]
 pub struct Told<X: OneThread, B: Tag> {
-    front: Front<X, B>,
+    page: Page<X, B>,
 }
 
 impl<X: OneThread, B: Tag> Model for Told<X, B> {
@@ -47,69 +48,36 @@ impl<X: OneThread, B: Tag> Model for Told<X, B> {
 
     ghost Value = { List (Entry X.State X.Command X.Reply) };
 
-    ghost view = { λ n. n.front };
+    ghost view = { λ n. n.page };
 }
 
-/// What a look at the published copy shows: the number of calls on the page, and what is shown of the state after them.
-#[derive(Drop)]
-pub struct Look<W> {
-    pub commit: u64,
-    pub shown: W,
-}
-
-impl<X: OneThread, B: Tag> Told<X, B> {
-    pub(crate) fn new(front: Front<X, B>) -> Told<X, B>
-        ensures { result ≡ front }
-    {
-        Told { front }
-    }
-}
-
-// Takes what the page has, where that is no shorter than what was seen.
-fn take_page<X: OneThread, B: Tag>(
-    page: &Page<X, B>,
-    front: &mut Front<X, B>,
-) -> Option<Look<X::Shown>>
-    ensures some { IfSome result (λ g. IsPrefix front.old front.new × (length front.new ≡ g.commit + 1) × ((end : X.State) × Leads X.replies front.new end × X.shows end g.shown)) }
-    ensures none { IfNone result (front.new ≡ front.old) }
-{
-    if !page.front().covers(front) {
-        return None;
-    }
-    *front = page.front().again();
-    Some(Look {
-        commit: front.count(),
-        shown: page.shown(),
-    })
-}
-
+// Enters the published copy, and takes its page, where that goes on with the one at hand.
 fn enter<X: OneThread, B: Tag, T: Posts<Page<X, B>>>(
     reader: Reader<T, (), Unruled>,
-    front: &mut Front<X, B>,
-) -> (Reader<T, (), Unruled>, Option<Look<X::Shown>>)
-    ensures some { IfSome result.1 (λ g. IsPrefix front.old front.new × (length front.new ≡ g.commit + 1) × ((end : X.State) × Leads X.replies front.new end × X.shows end g.shown)) }
-    ensures none { IfNone result.1 (front.new ≡ front.old) }
+    page: &mut Page<X, B>,
+) -> Reader<T, (), Unruled>
+    ensures { IsPrefix page.old page.new }
 {
     match reader.enter_as::<Unruled>() {
         Ok(reading) => {
-            let found = take_page(reading.get().page(), front);
-            (reading.leave(), found)
+            page.follow(reading.get().page());
+            reading.leave()
         }
-        Err(reader) => (reader, None),
+        Err(reader) => reader,
     }
 }
 
 impl<X: OneThread, B: Tag, T: Posts<Page<X, B>>> Place<X, B, T> {
-    // Looks at the published copy. It waits for nobody and takes no memory.
-    pub(crate) fn look(&mut self) -> Option<Look<X::Shown>>
+    // Looks at the published copy, and shows the newest page that it has then seen. It waits for nobody and takes no memory.
+    pub(crate) fn look(&mut self) -> Look<X::Shown>
         ensures same { (self.new.number ≡ self.old.number) × (self.new.count ≡ self.old.count) }
-        ensures some { IfSome result (λ g. IsPrefix self.old.tape self.new.tape × (length self.new.tape ≡ g.commit + 1) × ((end : X.State) × Leads X.replies self.new.tape end × X.shows end g.shown)) }
-        ensures none { IfNone result (self.new.tape ≡ self.old.tape) }
+        ensures seen { HasSeen self.new self.old.tape }
+        ensures commit { length self.new.tape ≡ result.commit + 1 }
+        ensures shown { (end : X.State) × Leads X.replies self.new.tape end × X.shows end result.shown }
     {
-        let reader = self.reader.take()?;
-        let (reader, found) = enter(reader, &mut self.front);
-        self.reader = Some(reader);
-        found
+        let reader = self.reader.take().unwrap();
+        self.reader = Some(enter(reader, &mut self.page));
+        self.page.look()
     }
 
     /// From now on the seat has seen what the sender of the news had. It takes no memory and cannot fail.
@@ -118,8 +86,7 @@ impl<X: OneThread, B: Tag, T: Posts<Page<X, B>>> Place<X, B, T> {
         ensures mine { HasSeen self.new self.old.tape }
         ensures theirs { HasSeen self.new news }
     {
-        let Told { front } = news;
-        self.front = self.front.longer(front);
+        self.page.follow(&news.page);
     }
 
     /// What the seat has seen, for others. It takes no memory and cannot fail.
@@ -127,7 +94,7 @@ impl<X: OneThread, B: Tag, T: Posts<Page<X, B>>> Place<X, B, T> {
         ensures { result ≡ self.now.tape }
     {
         Told {
-            front: self.front.again(),
+            page: self.page.again(),
         }
     }
 }

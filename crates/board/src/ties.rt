@@ -69,7 +69,7 @@ impl<X: OneThread, B: Tag, T: Posts<Page<X, B>>> Tie<X, B, T> {
             gate,
             &self.head,
             seat.number,
-            &mut seat.front,
+            &mut seat.page,
             &mut seat.share,
             command,
         );
@@ -77,7 +77,7 @@ impl<X: OneThread, B: Tag, T: Posts<Page<X, B>>> Tie<X, B, T> {
         let reply = reply?;
         Ok(Carried {
             reply,
-            commit: seat.front.count(),
+            commit: seat.page.front().count(),
             news: seat.news(),
         })
     }

@@ -15,8 +15,8 @@ loop-seat-preserved g c =
     let front = c.args.tip.now in
     let done = c.loop-seat.yielded in
     let x = c.in-Some.seat in
-    let mine : IsPrefix x.tape front = subst (λ l. IsPrefix x.tape l) inv.6 (subst (λ s. IsPrefix s.tape c.loop-seat.tip) is c.confirm.ensures.begins) in
-    let parts = c.seat.invariant in
+    let mine : IsPrefix x.tape front = subst (λ l. IsPrefix x.tape l) inv.6 (subst (λ s. IsPrefix s.tape c.loop-seat.tip) is (subst (λ l. IsPrefix l c.loop-seat.tip) c.front.ensures c.confirm.ensures.begins)) in
+    let parts = c.seat.invariant.0 in
     let count : c.seat.inside.share.amount ≡ x.count = ap (λ s. s.count) is in (
       tt,
       tt,
@@ -34,8 +34,8 @@ loop-seat-preserved-in-Some g c =
     let front = c.args.tip.now in
     let done = c.loop-seat.yielded in
     let x = c.in-Some.seat in
-    let mine : IsPrefix x.tape front = subst (λ l. IsPrefix x.tape l) inv.6 (subst (λ s. IsPrefix s.tape c.loop-seat.tip) is c.confirm.ensures.begins) in
-    let parts = c.seat.invariant in
+    let mine : IsPrefix x.tape front = subst (λ l. IsPrefix x.tape l) inv.6 (subst (λ s. IsPrefix s.tape c.loop-seat.tip) is (subst (λ l. IsPrefix l c.loop-seat.tip) c.front.ensures c.confirm.ensures.begins)) in
+    let parts = c.seat.invariant.0 in
     let count : c.seat.inside.share.amount ≡ x.count = ap (λ s. s.count) is in (
       tt,
       tt,

@@ -16,11 +16,7 @@ opened-tip-requires-clause-pen g c =
     let on = c.args.self.goes_on in
     (on.1, ap (λ w. next_of w.key c.args.self.seen.log) (sym c.requires.names.0) ∙ on.2)
 
-pub returns : goal.returns
-returns g c =
-    let all = c.front-front.ensures ∙ (c.opened-tip.ensures ∙ (ap (λ w. tape_of w.key c.args.self.seen.log) (sym c.requires.names.0) ∙ c.args.self.opens)) in
-    let seats = c.seat_all.ensures.seats.0 in record {
-      opening = all;
-      seats = (seats, seats ∙ (sym c.args.self.shared.0 ∙ c.requires.names.2));
-      fresh = subst (λ l. IsFresh l c.seat_all.new.places.items) all c.seat_all.ensures.seats.1;
-    }
+pub returns-clause-fresh : goal.returns-clause-fresh
+returns-clause-fresh g c =
+    let all = c.new-page.ensures ∙ c.front-first.ensures ∙ (c.opened-tip.ensures ∙ (ap (λ w. tape_of w.key c.args.self.seen.log) (sym c.requires.names.0) ∙ c.args.self.opens)) in
+    subst (λ l. IsFresh l c.seat_all.new.places.items) all c.in_default.ensures.seats.1
