@@ -1,7 +1,8 @@
 #!/usr/bin/env python3
 """Times a glance and a call from inside, by the program `bench`: on a board, and under a plain lock.
 
-Prints the median of several runs for each number of threads that glance, and for what another thread calls meanwhile.
+Prints the median of several runs for each number of threads that glance, and for what another thread calls meanwhile; then
+that of a call alone, which asks for the verdict, on boards of so many seats.
 """
 import pathlib
 import statistics
@@ -12,7 +13,10 @@ PROGRAM = pathlib.Path(__file__).resolve().parent.parent / "crates" / "bench" / 
 
 
 def run(milliseconds):
-    """The figures of one run, in nanoseconds, by readers and calls: a glance and a call on a board, then under a lock."""
+    """The figures of one run, in nanoseconds: a glance and a call on a board, then under a lock.
+
+    They are by the number of readers and the calls beside them, or by `seats` and their number.
+    """
     text = subprocess.run([str(PROGRAM), "glance", str(milliseconds)], capture_output=True, text=True, check=True).stdout
     figures = {}
     for line in text.splitlines():
@@ -32,8 +36,16 @@ def main():
     print("| Threads that glance | One more thread calls | Glance, board | Glance, lock | Call, board | Call, lock |")
     print("|---|---|---|---|---|---|")
     for readers, calls in every[0]:
+        if readers == "seats":
+            continue
         board_glance, board_call, lock_glance, lock_call = (median([run[readers, calls][i] for run in every]) for i in range(4))
         print(f"| {readers} | {calls} | {board_glance} | {lock_glance} | {board_call} | {lock_call} |")
+    print()
+    print("| Seats | Call, board |")
+    print("|---|---|")
+    for readers, seats in every[0]:
+        if readers == "seats":
+            print(f"| {seats} | {median([run[readers, seats][1] for run in every])} |")
 
 
 if __name__ == "__main__":

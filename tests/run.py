@@ -5,12 +5,17 @@ A case is a folder of tests/cases: args (one word a line), stdin, stdout (the by
 left out), and for what goes to standard error a file stderr (each of its lines must be among those that came; with no
 such file nothing may come). In place of stdin a case may have stdin.py, which prints it.
 The live cases are a session through two pipes: a line is sent only when the reply to the one before has come.
+With words, it runs the cases of these names alone.
 """
 import os
 import pathlib
+import resource
 import select
+import socket
+import struct
 import subprocess
 import sys
+import tempfile
 import time
 
 TOP = pathlib.Path(__file__).resolve().parent.parent
@@ -64,15 +69,20 @@ def run_live():
     case = TOP / "tests" / "cases" / "write_then_read"
     faults = []
     process = subprocess.Popen([str(PROGRAM)] + words(case), stdin=subprocess.PIPE, stdout=subprocess.PIPE)
-    for line, want in zip(read(case / "stdin").splitlines(True), read(case / "stdout").splitlines(True)):
-        got = ask(process, line)
-        if got != want:
-            faults.append(f"{line!r} was answered by {got!r} in place of {want!r}")
-    process.stdin.close()
-    if process.stdout.read():
-        faults.append("more came at the end")
-    if process.wait(timeout=10) != 0:
-        faults.append("status was not 0")
+    try:
+        for line, want in zip(read(case / "stdin").splitlines(True), read(case / "stdout").splitlines(True)):
+            got = ask(process, line)
+            if got != want:
+                faults.append(f"{line!r} was answered by {got!r} in place of {want!r}")
+                return faults
+        process.stdin.close()
+        if process.stdout.read():
+            faults.append("more came at the end")
+        if process.wait(timeout=10) != 0:
+            faults.append("status was not 0")
+    finally:
+        process.kill()
+        process.wait()
     return faults
 
 
@@ -99,6 +109,84 @@ def run_failing_writer():
     return [] if got == (3, b"refused 21 WriteFailed\n") else [f"it ended with {got!r}"]
 
 
+def run_narrow_writer():
+    """Standard output that takes ten bytes and then fails: a beginning of the replies, refused 21, status 3."""
+    with tempfile.TemporaryFile() as narrow:
+        with open(TOP / "tests" / "cases" / "write_then_read" / "stdin", "rb") as given:
+            ran = subprocess.run([str(PROGRAM), "script"], stdin=given, stdout=narrow, stderr=subprocess.PIPE, timeout=60,
+                                 restore_signals=False,
+                                 preexec_fn=lambda: resource.setrlimit(resource.RLIMIT_FSIZE, (10, 10)))
+        narrow.seek(0)
+        got = (ran.returncode, narrow.read(), ran.stderr)
+    return [] if got == (3, b"legal\nlega", b"refused 21 WriteFailed\n") else [f"it ended with {got!r}"]
+
+
+def run_broken_reader():
+    """Standard input that breaks off within the third line: the replies to two lines, refused 20, status 3."""
+    with socket.create_server(("127.0.0.1", 0)) as server:
+        client = socket.create_connection(server.getsockname())
+        given, _ = server.accept()
+    with given:
+        process = subprocess.Popen([str(PROGRAM), "script"], stdin=given, stdout=subprocess.PIPE, stderr=subprocess.PIPE)
+    with client:
+        client.sendall(b"[:verdict]\n[:verdict]\n[:verd")
+        replies = process.stdout.readline() + process.stdout.readline()
+        client.setsockopt(socket.SOL_SOCKET, socket.SO_LINGER, struct.pack("ii", 1, 0))
+    more, errors = process.communicate(timeout=10)
+    got = (process.returncode, replies + more, errors)
+    return [] if got == (3, b"legal\nlegal\n", b"refused 20 ReadFailed\n") else [f"it ended with {got!r}"]
+
+
+def run_any_cutting():
+    """The replies are the same where the input comes byte by byte."""
+    text = b"[:verdict]\n\n; none\n{:type :invoke\n[:verdict] 1\n[:verdict]"
+    want = b"legal\nrefused 11 Unreadable 0\nrefused 5 BadValue\nlegal\n"
+    faults = []
+    for pause in (None, 0.001):
+        process = subprocess.Popen([str(PROGRAM)], stdin=subprocess.PIPE, stdout=subprocess.PIPE, bufsize=0)
+        for piece in [text] if pause is None else [text[i:i + 1] for i in range(len(text))]:
+            process.stdin.write(piece)
+            time.sleep(pause or 0)
+        got = process.communicate(timeout=10)[0]
+        if got != want or process.returncode != 0:
+            faults.append(f"with pauses of {pause} s it wrote {got!r} and ended with {process.returncode}")
+    return faults
+
+
+# Words of the command line, the processes that invoke a read, the replies, the status, and how standard error begins.
+WORDS = [
+    ("script --concurrency 64 --budget 65536", (63, 64), b"legal\nrefused 2 WrongProcess\n", 0, b""),
+    ("script --budget 1 --concurrency 1", (0, 1), b"legal\nrefused 2 WrongProcess\n", 0, b""),
+    ("script --model set --concurrency 3", (2, 3), b"legal\nrefused 2 WrongProcess\n", 0, b""),
+    ("script --concurrency -1", (), b"", 3, b"refused 10 BadConcurrency\n"),
+    ("script --concurrency 99999999999999999999", (), b"", 3, b"refused 10 BadConcurrency\n"),
+    ("script --concurrency 0 --budget 0", (), b"", 3, b"refused 9 BadBudget\n"),
+    ("script --budget many", (), b"", 3, b"error: --budget takes a number, 1 to 65536\n"),
+    ("script --model Mutex", (), b"", 3, b"error: --model takes one of "),
+    ("script --model", (), b"", 3, b"error: "),
+    ("script --seed 1", (), b"", 3, b"error: "),
+    ("watch", (), b"", 3, b"error: "),
+]
+
+
+def run_words():
+    """Which words give which order, or which refusal or usage fault. Help goes to standard output, status 0."""
+    faults = []
+    for words, processes, want, status, errors in WORDS:
+        given = "".join(f"{{:type :invoke, :process {p}, :f :read, :value [7 nil]}}\n" for p in processes).encode()
+        ran = subprocess.run([str(PROGRAM)] + words.split(), input=given, stdout=subprocess.PIPE,
+                             stderr=subprocess.PIPE, timeout=60)
+        begins = ran.stderr.startswith(errors) if errors else not ran.stderr
+        if (ran.stdout, ran.returncode) != (want, status) or not begins:
+            faults.append(f"{words!r} ended with {(ran.returncode, ran.stdout, ran.stderr[:200])!r}")
+    for words in ("--help", "script --help"):
+        ran = subprocess.run([str(PROGRAM)] + words.split(), stdin=subprocess.DEVNULL, stdout=subprocess.PIPE,
+                             stderr=subprocess.PIPE, timeout=60)
+        if ran.returncode != 0 or b"script" not in ran.stdout or ran.stderr:
+            faults.append(f"{words!r} ended with {(ran.returncode, ran.stdout[:200], ran.stderr[:200])!r}")
+    return faults
+
+
 def run_no_text():
     """A word that is no UTF-8 is a usage fault: status 3, and nothing on standard output."""
     ran = subprocess.run([str(PROGRAM), b"script", b"\xff"], stdin=subprocess.DEVNULL, stdout=subprocess.PIPE,
@@ -119,11 +207,27 @@ def start_time():
     return time.monotonic() - begin
 
 
-def main():
+def all_cases():
+    """Each case by its name."""
     cases = [(c.name, lambda c=c: run_case(c)) for c in sorted((TOP / "tests" / "cases").iterdir()) if c.is_dir()]
     cases += [("replies_are_live", run_live), ("starts_in_milliseconds", run_start),
-              ("failing_reader", run_failing_reader), ("failing_writer", run_failing_writer),
+              ("any_cutting", run_any_cutting), ("failing_reader", run_failing_reader),
+              ("reader_breaks_off", run_broken_reader), ("failing_writer", run_failing_writer),
+              ("writer_takes_ten_bytes", run_narrow_writer), ("words_of_the_command_line", run_words),
               ("words_that_are_no_text", run_no_text)]
+    return cases
+
+
+def main(names):
+    """Runs the cases of these names, or all where none is named."""
+    cases = all_cases()
+    unknown = sorted(set(names) - {name for name, _ in cases})
+    if unknown:
+        print(f"there is no case {', '.join(unknown)}", file=sys.stderr)
+        print(f"0 passed, {len(unknown)} failed")
+        return 1
+    if names:
+        cases = [case for case in cases if case[0] in names]
     failed = 0
     for name, run in cases:
         try:
@@ -139,4 +243,4 @@ def main():
 
 
 if __name__ == "__main__":
-    sys.exit(main())
+    sys.exit(main(sys.argv[1:]))

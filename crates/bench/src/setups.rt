@@ -37,7 +37,8 @@ fn run_on<B: Tag + Send + Sync, R: Threads + Wait + Clock + Sync>(
     blank: Blank,
     plan: Plan,
 ) -> Option<Done>
-    requires names { (blank.word ≡ B.word) × (blank.ledger.name ≡ B.name) × (blank.ledger.parts ≡ B.parts) }
+    requires names { (blank.word ≡ B.word) × (blank.ledger.name ≡ B.name)
+        × (blank.ledger.parts ≡ B.parts) }
 {
     let (board, seats) = blank.open::<B>().ok()?;
     let done = run_plan(rt, &board, seats, plan);
@@ -45,14 +46,15 @@ fn run_on<B: Tag + Send + Sync, R: Threads + Wait + Clock + Sync>(
     done
 }
 
-/// Calls alone, on a board.
+/// Calls alone, by one seat of a board that has so many.
 pub fn calls_on_board<R: Wait + Clock>(
     rt: &R,
     alloc: Global,
+    seats: u32,
     calls: Calls,
     length: Duration,
 ) -> Option<Count> {
-    let blank = Blank::new(alloc, OPENED, 1).ok()?;
+    let blank = Blank::new(alloc, OPENED, seats).ok()?;
     call_on::<Brand, R>(rt, alloc, blank, calls, length)
 }
 
@@ -63,7 +65,8 @@ fn call_on<B: Tag, R: Wait + Clock>(
     calls: Calls,
     length: Duration,
 ) -> Option<Count>
-    requires names { (blank.word ≡ B.word) × (blank.ledger.name ≡ B.name) × (blank.ledger.parts ≡ B.parts) }
+    requires names { (blank.word ≡ B.word) × (blank.ledger.name ≡ B.name)
+        × (blank.ledger.parts ≡ B.parts) }
 {
     let (board, mut seats) = blank.open::<B>().ok()?;
     let count = match seats.first_mut() {

@@ -28,16 +28,21 @@ impl Display for Mean {
     }
 }
 
-/// Prints the mean times of glances and of calls, on a board and under a lock. Each run lasts so long.
+/// Prints the mean times of glances and of calls, on a board and under a lock, and of calls on boards of more seats. Each run
+/// lasts so long.
 pub fn print_table<R: Threads + Wait + Clock + Print + Sync>(
     rt: &R,
     alloc: Global,
     length: Duration,
 ) -> io::Result<()> {
     for calls in KINDS {
-        let board = Mean(calls_on_board(rt, alloc, calls, length));
+        let board = Mean(calls_on_board(rt, alloc, 1, calls, length));
         let lock = Mean(calls_under_lock(rt, alloc, calls, length));
         println!(rt; "0 {} board - {board} lock - {lock}", calls.name())?;
+    }
+    for seats in [1u32, 8, 64] {
+        let board = Mean(calls_on_board(rt, alloc, seats, Calls::Verdicts, length));
+        println!(rt; "seats {seats} board - {board} lock - -")?;
     }
     for readers in [1u32, 2, 4] {
         print_run(rt, alloc, readers, length, None)?;

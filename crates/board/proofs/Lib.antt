@@ -1,7 +1,9 @@
 pub mod Adding
-pub mod Chain
+pub mod Answering
+pub mod TapeSteps
 pub mod Prefixes
+pub mod Publishing
 pub mod Refusing
 pub mod Gathering
 pub mod Seating
-pub mod Truth
+pub mod CoreTruth

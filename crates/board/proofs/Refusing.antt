@@ -1,10 +1,10 @@
 -- What refuses the object refuses the board
 use Rattle.std.proofs.Common.{ℕ}
-use Rattle.edn.specs.declared.refusals.Refusal.{Refusal}
-use Rattle.edn.specs.declared.refusals.Refusal.TheVariants.{Busy, WrongProcess, NotOpen, Mismatch, BadValue, BadIndex, HistoryFull, NoSuchIndex, BadBudget, BadConcurrency, Unreadable, TapeFull, NoMemory, Idle, NotServed, AlreadyServed, Stale, NoSuchReplica, NoSeat, ReadFailed, WriteFailed, TooLong}
-use Rattle.harness.specs.declared.commands.Config.{Config}
+use Rattle.edn.specs.declared.refusal.Refusal.{Refusal}
+use Rattle.edn.specs.declared.refusal.Refusal.TheVariants.{Busy, WrongProcess, NotOpen, Mismatch, BadValue, BadIndex, HistoryFull, NoSuchIndex, BadBudget, BadConcurrency, Unreadable, TapeFull, NoMemory, Idle, NotServed, AlreadyServed, Stale, NoSuchReplica, NoSeat, ReadFailed, WriteFailed, TooLong}
+use Rattle.harness.specs.declared.command.Config.{Config}
 use Rattle.harness.specs.Machine.{MayNotOpen}
-use Rattle.board.specs.Truth.{MayNotBegin}
+use Rattle.board.specs.CoreTape.{MayNotBegin}
 
 pub not_begin : (config : Config) (seats : ℕ) (why : Refusal) → MayNotOpen config why → MayNotBegin config seats why
 not_begin config seats Busy given = given

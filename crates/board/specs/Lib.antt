@@ -1,4 +1,4 @@
-pub mod Rules
 pub mod Tape
-pub mod Truth
-pub mod Seats
+pub mod Seat
+pub mod CoreTape
+pub mod TapeRule

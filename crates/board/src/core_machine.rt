@@ -1,7 +1,8 @@
 //! The monitor's core as an object that a board keeps.
-ghost use Rattle.std.specs.Prelude.{◌≡◌, ◌≢◌, Some, Err, IfOk, OnOk};
-ghost use Rattle.edn.specs.declared.refusals.Refusal.TheVariants.{NoMemory};
+ghost use Rattle.std.specs.Prelude.{◌≡◌, ◌≢◌, Some, Err, IfOk, OnOk, OnErr};
+ghost use Rattle.edn.specs.declared.refusal.Refusal.TheVariants.{NoMemory};
 ghost use Rattle.harness.specs.Machine.{MayStep, IsVerdictOn};
+ghost use Rattle.board.specs.CoreTape.{MayWantMemory};
 
 use crate::one_thread::OneThread;
 use edn::Refusal;
@@ -30,17 +31,19 @@ impl OneThread for Core {
 
     type Reply = Result<Reply, Refusal>;
 
-    type Shown = Verdict;
+    type Summary = Verdict;
 
     ghost state = { λ core. core.machine };
 
     ghost replies = { MayStep };
 
-    ghost shows = { IsVerdictOn };
+    ghost summarizes = { IsVerdictOn };
+
+    ghost may_want = { MayWantMemory };
 
     ghost promised = { λ core. core.next };
 
-    fn show(&self) -> Verdict {
+    fn summary(&self) -> Verdict {
         self.verdict()
     }
 
@@ -54,17 +57,19 @@ impl OneThread for Core {
         }
     }
 
-    #[tactic(auto, using(crate::proofs::Truth::brought))]
+    #[tactic(auto, using(crate::proofs::CoreTruth::brought))]
     fn commit(&mut self) {
         Core::commit(self);
     }
 }
 
-// A refusal is an entry that changes nothing. Want of memory is none.
+// A refused command is still an entry, which changes nothing. Want of memory makes none.
 fn refuse(core: &mut Core, why: Refusal) -> Result<(Result<Reply, Refusal>, Verdict), AllocError>
     ensures same { core.new.machine ≡ core.old.machine }
     ensures entry { OnOk result (why ≢ NoMemory) }
-    ensures ready { IfOk result (λ r. (r.0 ≡ Err why) × (core.new.next ≡ Some core.old.machine) × IsVerdictOn core.old.machine r.1) }
+    ensures memory { OnErr result (why ≡ NoMemory) }
+    ensures ready { IfOk result (λ r. (r.0 ≡ Err why) × (core.new.next ≡ Some core.old.machine)
+        × IsVerdictOn core.old.machine r.1) }
 {
     match why {
         Refusal::NoMemory => Err(AllocError),

@@ -2,24 +2,18 @@
 //! was last published that takes no lock.
 #![tactic(auto)]
 
-mod blanks;
-mod calls;
+mod blank;
+mod board;
+mod core_board;
 mod core_machine;
-mod desks;
-mod entries;
-mod fronts;
-mod lines;
+pub mod laws;
+mod locked;
 mod one_thread;
-mod pages;
-mod parts;
-mod places;
-mod seats;
-mod sheets;
-mod tags;
-mod ties;
-mod tips;
+mod published;
+mod seat;
+mod tag;
+mod tape;
+mod tape_rule;
 
-pub use blanks::Blank;
-pub use calls::{Answered, Board, Glance};
-pub use seats::{News, Seat};
-pub use tags::Tag;
+pub use core_board::{Answered, Blank, Board, Glance, News, Seat};
+pub use tag::Tag;

@@ -1,5 +1,5 @@
 //! The one-thread object.
-ghost use Rattle.std.specs.Prelude.{◌≡◌, Option, Some, IfOk, IsSome};
+ghost use Rattle.std.specs.Prelude.{◌≡◌, Option, Some, IfOk, OnErr, IsSome};
 
 use std::alloc::AllocError;
 
@@ -14,8 +14,8 @@ pub trait OneThread: Drop {
     /// What it says. A refusal may be a reply.
     type Reply: Drop;
 
-    /// What readers are shown.
-    type Shown: Copy;
+    /// What readers are shown of a state.
+    type Summary: Copy;
 
     ghost state: { Self → Self.State };
 
@@ -23,19 +23,28 @@ pub trait OneThread: Drop {
     ghost replies: { Self.State → Self.Command → Self.Reply → Self.State → Type 0 };
 
     // Readers may be shown this in that state.
-    ghost shows: { Self.State → Self.Shown → Type 0 };
+    ghost summarizes: { Self.State → Self.Summary → Type 0 };
+
+    // In that state the command may want memory.
+    ghost may_want: { Self.State → Self.Command → Type 0 };
 
     // The state that `commit` will bring, where a command is prepared.
     ghost promised: { Self → Option Self.State };
 
     /// What readers may be shown now. It takes no memory.
-    fn show(&self) -> Self::Shown
-        ensures { shows (state self.now) result };
+    fn summary(&self) -> Self::Summary
+        ensures { summarizes (state self.now) result };
 
-    /// Prepares a command, and gives its reply and what is to be shown after it.
-    fn prepare(&mut self, command: Self::Command) -> Result<(Self::Reply, Self::Shown), AllocError>
+    /// Prepares a command, and gives its reply and the summary of the state that `commit` will bring.
+    fn prepare(
+        &mut self,
+        command: Self::Command,
+    ) -> Result<(Self::Reply, Self::Summary), AllocError>
         ensures same { state self.new ≡ state self.old }
-        ensures ready { IfOk result (λ r. (s : Self.State) × replies (state self.old) command r.0 s × (promised self.new ≡ Some s) × shows s r.1) };
+        ensures ready { IfOk result (λ r. (next : Self.State)
+            × replies (state self.old) command r.0 next × (promised self.new ≡ Some next)
+            × summarizes next r.1) }
+        ensures memory { OnErr result (may_want (state self.old) command) };
 
     /// Carries out what is prepared. It cannot fail.
     fn commit(&mut self)

@@ -8,7 +8,7 @@ use Rattle.models.specs.declared.finding.Answer.{Answer}
 use Rattle.models.specs.Objects.{Object}
 use Rattle.history.specs.Events.{Mark, Entry, marks, IsFront}
 use Rattle.history.specs.Events.Mark.{Invoked, Returned, Crashed}
-use Rattle.linspec.specs.WellFormed.{IsNew, AreWellFormed}
+use Rattle.linspec.specs.MarkRule.{IsNew, AreWellFormed}
 use Rattle.linspec.specs.Orders.{IsLinearizable}
 use Rattle.linspec.specs.Ends.{End, IsEnd, HasMoreThan, IsBlownAt, IsBlownIndex, IsWithinBudget}
 use Rattle.linspec.specs.Verdicts.{EndsShortestBadFront, EveryFrontIsLinearizable, IsRising}
@@ -169,17 +169,3 @@ module _ (o : Object) (budget : ℕ) (entries : List Entry) (e : Entry) where
           (front_cases entries e front is);
     },
   )
-
--- an invocation and an info leave every legal order legal
-pub IsLinearizable-invoked : (o : Object) (marks : List Mark) (id : ℕ) (op : Op) → IsNew marks id → IsLinearizable o marks → IsLinearizable o (marks ++ Invoked id op ∷ [])
-IsLinearizable-invoked o marks id op new h = (
-  h.0,
-  h.1,
-  IsLegalOrder-more o marks (Invoked id op) h.0 h.1 h.2
-      (λ x p k e. (let same : id ≡ x.id = cc in new (Invoked x.id x.op) (h.2.invoked x k) (sym same)))
-      (λ x k e. cc) (λ i a e. cc) (λ x a k e. cc),
-)
-
-pub IsLinearizable-crashed : (o : Object) (marks : List Mark) (id : ℕ) → IsLinearizable o marks → IsLinearizable o (marks ++ Crashed id ∷ [])
-IsLinearizable-crashed o marks id h =
-    (h.0, h.1, IsLegalOrder-more o marks (Crashed id) h.0 h.1 h.2 (λ x p k e. cc) (λ x k e. cc) (λ i a e. cc) (λ x a k e. cc))

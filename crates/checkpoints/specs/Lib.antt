@@ -1,4 +1,4 @@
-pub mod Steps
-pub mod Searches
-pub mod Standings
-pub mod Lines
+pub mod LiveKey
+pub mod KeyState
+pub mod KeyLineView
+pub mod SoundLine

@@ -1,13 +1,8 @@
 //! The line of one key: its events, and what is known of the key while they come.
 #![tactic(auto)]
 
-pub mod laws;
-mod line;
-mod searches;
-mod standings;
-mod steps;
+mod key_line;
+mod key_state;
+mod live_key;
 
-pub use line::KeyLine;
-
-#[cfg(test)]
-mod tests;
+pub use key_line::KeyLine;

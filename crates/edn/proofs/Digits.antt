@@ -6,7 +6,7 @@ use Rattle.std.specs.Char.{digit_value}
 use Rattle.std.proofs.lemmas.Bool.Decides.{nat_tests}
 use Rattle.std.proofs.lemmas.Int.Digits.{digits_value_push}
 use Rattle.edn.specs.Bytes.{is_digit, IsNumeral}
-use Rattle.edn.specs.Longest.{AddsDigit, IsNumeralOf, IsLongest, HasNone}
+use Rattle.edn.specs.Longest.{AddsDigit, TakesDigit, IsNumeralOf, IsLongest, HasNone}
 
 pub digit_bounds : (b : ℕ) → IsTrue (is_digit b) → (48 ≤ b) × (b ≤ 57)
 digit_bounds b h = (grind (arith, nat_tests), grind (arith, nat_tests))
@@ -104,7 +104,7 @@ too_large most front more b value w i s =
 
 -- no digit more can be added
 abbrev pub Stops : ℕ → ℕ → List ℕ → Type 0
-Stops most value rest = (b n : ℕ) (t : List ℕ) → rest ≡ b ∷ t → AddsDigit value b n → n ≤ most → ⊥
+Stops most value rest = (n : ℕ) (t : List ℕ) → TakesDigit most value rest n t → ⊥
 
 longest_here : (most : ℕ) (text : List ℕ) (value : ℕ) (rest : List ℕ) → (h : DigitsSoFar most text value rest) → Stops most value rest →
     (a z : List ℕ) (w : ℕ) → IsNumeralOf most a w → text ≡ a ++ z → length h.front < length a → ⊥
@@ -113,7 +113,7 @@ longest_here most text value rest h stop a z w i e l =
     let whole : IsNumeral (h.front ++ p.0 ∷ p.2) = subst IsNumeral p.4 i.0 in
     let d = digit_at h.front p.2 p.0 whole in
     let v = ap (digits_value 10) p.4 in
-    stop p.0 _ p.1 p.3 (d, refl) (too_large most h.front p.2 p.0 value h.writes d (omega (arith, v, i.1, i.2)))
+    stop _ p.1 (p.0, p.3, (d, refl), too_large most h.front p.2 p.0 value h.writes d (omega (arith, v, i.1, i.2)))
 
 pub longest_found : (most : ℕ) (text : List ℕ) (value : ℕ) (rest : List ℕ) → DigitsSoFar most text value rest → Stops most value rest → IsLongest (IsNumeralOf most) text value rest
 longest_found most text value rest h stop = record {
@@ -145,7 +145,7 @@ pub none_found : (most : ℕ) (text : List ℕ) → Stops most 0 text → HasNon
 none_found most text stop [] z w i e = absurd i.0
 none_found most text stop (x ∷ a) z w i e =
     let d = digit_at [] a x i.0 in
-    stop x _ (a ++ z) e (d, refl) (too_large most [] a x 0 refl d (omega (arith, i.1, i.2)))
+    stop _ (a ++ z) (x, e, (d, refl), too_large most [] a x 0 refl d (omega (arith, i.1, i.2)))
 
 -- whether a digit more has room
 pub room : (value most digit : ℕ) → digit ≤ most → value ≤ (most - digit) / 10 → 10 * value + digit ≤ most

@@ -1,12 +1,16 @@
 -- Fronts of a text, seen from where the reader stands
 use Rattle.std.proofs.Common.{◌≡◌, ℕ, zero, suc, ◌+◌, ◌-◌, ◌<◌, ◌≤◌, Bool, true, false, List, [], ◌∷◌, ◌++◌, length, ◌⊎◌, inl, inr, refl, sym, ap, ◌∙◌, subst, arith, append_assoc, append-nil, length-append}
 use Rattle.edn.specs.Value.{Value, Values, none, more}
-use Rattle.edn.specs.Bytes.{is_white, IsAtom, IsToken, MayFollowAtom}
-use Rattle.edn.specs.Text.{SkipsLine, SkipsGap, Reads, ReadsAll, IsText, IsFront, IsLongestFront}
+use Rattle.edn.specs.Bytes.{is_white, IsAtom, MayFollowAtom}
+use Rattle.edn.specs.Reading.{IsToken}
+use Rattle.edn.specs.Text.{SkipsLine, SkipsGap, ReadsString, Reads, ReadsAll, IsText, IsFront, IsLongestFront}
 use Rattle.std.proofs.Common.{take}
+use Rattle.edn.specs.Bytes.{SpellsByte}
+use Rattle.edn.specs.Bytes.SpellsByte.{itself, escaped}
+use Rattle.edn.specs.Text.ReadsString.{closing, one_byte}
 use Rattle.edn.specs.Text.SkipsLine.{at_end, at_line_feed, over}
 use Rattle.edn.specs.Text.SkipsGap.{no_gap, white, comment, discard}
-use Rattle.edn.specs.Text.Reads.{atom, in_brackets, in_braces}
+use Rattle.edn.specs.Text.Reads.{atom, in_quotes, in_brackets, in_braces, in_hash_braces}
 use Rattle.edn.specs.Text.ReadsAll.{no_more, one_more}
 use Rattle.edn.proofs.Resume.{Owes, moved, white_off, comment_off, discard_on, discard_off}
 use Rattle.edn.proofs.Unique.{one_read, one_gap, reads_stop, reads_open}
@@ -30,6 +34,17 @@ follow_less : (r z : List ℕ) → MayFollowAtom (r ++ z) → MayFollowAtom r
 follow_less [] z f = tt
 follow_less (b ∷ r) z f = f
 
+byte_less : {t u : List ℕ} {b : ℕ} (r z : List ℕ) → u ≡ r ++ z → SpellsByte t b u → (s : List ℕ) × (t ≡ s ++ z) × SpellsByte s b r
+byte_less {b = b} r z e (itself p q) = (b ∷ r, ap (λ y. b ∷ y) e, itself p q)
+byte_less r z e (escaped {e = l} i) = (92 ∷ l ∷ r, ap (λ y. 92 ∷ l ∷ y) e, escaped i)
+
+string_less : {t s u : List ℕ} (r z : List ℕ) → u ≡ r ++ z → ReadsString t s u → (c : List ℕ) × (t ≡ c ++ z) × ReadsString c s r
+string_less r z e closing = (34 ∷ r, ap (λ y. 34 ∷ y) e, closing)
+string_less r z e (one_byte i h) =
+    let k = string_less r z e h in
+    let m = byte_less k.0 z k.1 i in
+    (m.0, m.1, one_byte m.2 k.2)
+
 mutual
   pub gap_less : {d : ℕ} {t u : List ℕ} (r z : List ℕ) → u ≡ r ++ z → SkipsGap d t u → (s : List ℕ) × (t ≡ s ++ z) × SkipsGap d s r
   gap_less r z e no_gap = (r, e, no_gap)
@@ -46,6 +61,8 @@ mutual
 
   pub reads_less : {d : ℕ} {t u : List ℕ} {v : Value} (r z : List ℕ) → u ≡ r ++ z → Reads d t v u → (s : List ℕ) × (t ≡ s ++ z) × Reads d s v r
   reads_less r z e (atom {a = a} i f g) = (a ++ r, g ∙ ap (λ y. a ++ y) e ∙ sym (append_assoc a r z), atom i (follow_less r z (subst MayFollowAtom e f)) refl)
+  reads_less r z e (in_quotes h u) = let k = string_less r z e h in (34 ∷ k.0, ap (λ y. 34 ∷ y) k.1, in_quotes k.2 u)
+  reads_less r z e (in_hash_braces m h x) = let k = list_less (125 ∷ r) z (ap (λ y. 125 ∷ y) e) h in (35 ∷ 123 ∷ k.0, ap (λ y. 35 ∷ 123 ∷ y) k.1, in_hash_braces m k.2 x)
   reads_less r z e (in_brackets m h) = let k = list_less (93 ∷ r) z (ap (λ y. 93 ∷ y) e) h in (91 ∷ k.0, ap (λ y. 91 ∷ y) k.1, in_brackets m k.2)
   reads_less r z e (in_braces m h x) = let k = list_less (125 ∷ r) z (ap (λ y. 125 ∷ y) e) h in (123 ∷ k.0, ap (λ y. 123 ∷ y) k.1, in_braces m k.2 x)
 
@@ -233,6 +250,8 @@ atom_front {t} {w} {a} z (atom {a = b} i f e) j g =
     let h = token_front a z b w (atom_token j) f (sym g ∙ e) in
     let n = ap length e ∙ length-append b w in
     omega arith
+atom_front z (in_quotes h u) j g = absurd (no_atom 34 _ _ refl j g)
+atom_front z (in_hash_braces m h x) j g = absurd (no_atom 35 _ _ refl j g)
 atom_front z (in_brackets m h) j g = absurd (no_atom 91 _ _ refl j g)
 atom_front z (in_braces m h x) j g = absurd (no_atom 123 _ _ refl j g)
 

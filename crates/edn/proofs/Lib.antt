@@ -1,4 +1,5 @@
 pub mod Spellings
+pub mod Strings
 pub mod Unique
 pub mod Resume
 pub mod Beginnings
@@ -8,7 +9,9 @@ pub mod Longest
 pub mod Equivalence
 pub mod Matching
 pub mod PairMatching
-pub mod Distinct
+pub mod Pairing
+pub mod Repeats
+pub mod Scalars
 pub mod Deciding
 pub mod Views
 pub mod Extend

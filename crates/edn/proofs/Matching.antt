@@ -4,7 +4,7 @@ use Rattle.std.proofs.lemmas.List.{take_more}
 use Rattle.edn.specs.Value.{Value, Values, none, more, joined, TakesOut, Same, SameInOrder, SameMembers}
 use Rattle.edn.specs.Counts.{CountsSame, HasSame}
 use Rattle.edn.specs.View.{value_of, values_of}
-use Rattle.edn.specs.declared.elements.Edn.{Edn}
+use Rattle.edn.specs.declared.value.Edn.{Edn}
 use Rattle.edn.proofs.Equivalence.{same_sym, same_trans}
 
 -- how many of the values are the same as z

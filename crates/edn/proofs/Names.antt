@@ -8,7 +8,7 @@ use Rattle.std.specs.List.{AllByRecursion}
 use Rattle.edn.specs.Value.{keyword}
 use Rattle.edn.specs.Bytes.IsAtom.{named}
 use Rattle.edn.specs.Bytes.{is_one_of, is_digit, IsAtom, is_letter, goes_on, IsKeywordText}
-use Rattle.edn.specs.Longest.{IsName, IsLongest, HasNone}
+use Rattle.edn.specs.Longest.{IsName, GoesOn, IsLongest, HasNone}
 use Rattle.edn.proofs.Digits.{goes_past}
 
 -- a name so far, and what follows it
@@ -44,7 +44,7 @@ name_at [] more b f h = absurd f
 name_at (c ∷ front) more b f h = at front more b h.1
 
 -- the name ends where no byte goes on with it
-pub name_found : (text rest name left : List ℕ) → NameSoFar text rest → ((b : ℕ) (t : List ℕ) → rest ≡ b ∷ t → IsTrue (goes_on b) → ⊥) →
+pub name_found : (text rest name left : List ℕ) → NameSoFar text rest → ((t : List ℕ) → ¬ GoesOn rest t) →
     name ≡ take (length text - length rest) text → left ≡ drop (length text - length rest) text → IsLongest IsName text name left
 name_found text rest name left h stop e f = record {
   front = h.front;
@@ -74,7 +74,7 @@ name_found text rest name left h stop e f = record {
     longer : (a z : List ℕ) → IsKeywordText a → text ≡ a ++ z → length h.front < length a → ⊥
     longer a z i g l =
         let p = goes_past h.front rest a z (sym h.cut ∙ g) l in
-        stop p.0 p.1 p.3 (name_at h.front p.2 p.0 h.shape (subst IsKeywordText p.4 i))
+        stop p.1 (p.0, p.3, name_at h.front p.2 p.0 h.shape (subst IsKeywordText p.4 i))
 
     not_more : (m n : ℕ) → (n < m → ⊥) → m ≤ n
     not_more m n p = grind arith

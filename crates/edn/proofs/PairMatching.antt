@@ -4,7 +4,7 @@ use Rattle.std.proofs.lemmas.List.{take_more}
 use Rattle.edn.specs.Value.{Value, Pairs, no_pairs, pair, TakesPairOut, Same, SamePairs}
 use Rattle.edn.specs.Counts.{CountsSamePair, HasSamePair}
 use Rattle.edn.specs.View.{value_of, entries_of}
-use Rattle.edn.specs.declared.elements.Edn.{Edn}
+use Rattle.edn.specs.declared.value.Edn.{Edn}
 use Rattle.edn.proofs.Equivalence.{same_sym, same_trans}
 
 abbrev pub Both : Value → Value → Value → Value → Type 0

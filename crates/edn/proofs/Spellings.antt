@@ -3,8 +3,9 @@ use Rattle.std.proofs.Common.{◌≡◌, ℕ, ◌≤◌, Bool, true, false, IsTr
 use Rattle.std.specs.Prelude.{◌||◌, ◌&&◌, ◌==◌}
 use Rattle.std.specs.List.{AllByRecursion}
 use Rattle.edn.specs.Value.{Value}
-use Rattle.edn.specs.Bytes.{is_one_of, is_white, ends_atom, is_digit, is_letter, goes_on, MayFollowAtom, IsNumeral, IsKeywordText, IsAtom, IsToken, closes}
-use Rattle.edn.specs.Bytes.IsAtom.{spelled_nil, plain, plus, minus, named}
+use Rattle.edn.specs.Bytes.{is_one_of, is_white, ends_atom, is_digit, is_letter, goes_on, MayFollowAtom, IsNumeral, IsKeywordText, IsAtom}
+use Rattle.edn.specs.Reading.{IsToken, closes}
+use Rattle.edn.specs.Bytes.IsAtom.{spelled_nil, spelled_true, spelled_false, plain, plus, minus, named}
 
 pub by_test : (P : ℕ → Bool) (b x : ℕ) → P x ≡ false → P b ≡ true → (c : Bool) → (b == x) ≡ c → c ≡ false
 by_test P b x off on false e = refl
@@ -54,6 +55,8 @@ keyword_token (b ∷ bs) h = (is_letter_token b h.0, rest_token bs h.1)
 
 pub atom_token : {a : List ℕ} {v : Value} → IsAtom a v → IsToken a
 atom_token spelled_nil = (refl, (refl, (refl, tt)))
+atom_token spelled_true = (refl, (refl, (refl, (refl, tt))))
+atom_token spelled_false = (refl, (refl, (refl, (refl, (refl, tt)))))
 atom_token (plain {ds} n s) = numeral_token ds n
 atom_token (plus {ds} n s) = (refl, numeral_token ds n)
 atom_token (minus {ds} n s) = (refl, numeral_token ds n)
@@ -83,8 +86,14 @@ no_sign d ds (inr h) = (omega arith, omega arith)
 -- an atom has one value
 pub one_value : {a : List ℕ} {v w : Value} → IsAtom a v → IsAtom a w → v ≡ w
 one_value spelled_nil spelled_nil = refl
+one_value spelled_true spelled_true = refl
+one_value spelled_false spelled_false = refl
 one_value spelled_nil (plain n s) = absurd (let h = no_sign _ _ n in omega (arith, h.1))
+one_value spelled_true (plain n s) = absurd (let h = no_sign _ _ n in omega (arith, h.1))
+one_value spelled_false (plain n s) = absurd (let h = no_sign _ _ n in omega (arith, h.1))
 one_value (plain n s) spelled_nil = absurd (let h = no_sign _ _ n in omega (arith, h.1))
+one_value (plain n s) spelled_true = absurd (let h = no_sign _ _ n in omega (arith, h.1))
+one_value (plain n s) spelled_false = absurd (let h = no_sign _ _ n in omega (arith, h.1))
 one_value (plain n s) (plain m u) = refl
 one_value (plain n s) (plus m u) = absurd (let h = no_sign _ _ n in omega (arith, h.0))
 one_value (plain n s) (minus m u) = absurd (let h = no_sign _ _ n in omega (arith, h.0))
@@ -96,14 +105,14 @@ one_value (minus n s) (minus m u) = refl
 one_value (named k) (plain m u) = absurd (let h = no_sign _ _ m in omega (arith, h.1))
 one_value (named k) (named j) = refl
 
--- n, a digit, + - :
+-- n, t, f, a digit, + - :
 abbrev pub starts_atom : ℕ → Bool
-starts_atom b = is_one_of (110 ∷ 43 ∷ 45 ∷ 58 ∷ []) b || is_digit b
+starts_atom b = is_one_of (110 ∷ 116 ∷ 102 ∷ 43 ∷ 45 ∷ 58 ∷ []) b || is_digit b
 
 digit_starts : (b : ℕ) → 48 ≤ b → b ≤ 57 → starts_atom b ≡ true
 digit_starts b low high =
     let d : is_digit b ≡ true = grind arith in
-    or_true (is_one_of (110 ∷ 43 ∷ 45 ∷ 58 ∷ []) b) (is_digit b) d
+    or_true (is_one_of (110 ∷ 116 ∷ 102 ∷ 43 ∷ 45 ∷ 58 ∷ []) b) (is_digit b) d
   where
     or_true : (p q : Bool) → q ≡ true → (p || q) ≡ true
     or_true true q e = refl
@@ -115,6 +124,8 @@ numeral_starts (d ∷ ds) h = let k = no_sign d ds h in (d, ds, refl, digit_star
 
 pub atom_starts : {a : List ℕ} {v : Value} → IsAtom a v → (b : ℕ) × (bs : List ℕ) × (a ≡ b ∷ bs) × (starts_atom b ≡ true)
 atom_starts spelled_nil = (_, _, refl, refl)
+atom_starts spelled_true = (_, _, refl, refl)
+atom_starts spelled_false = (_, _, refl, refl)
 atom_starts (plain {ds} n s) = numeral_starts ds n
 atom_starts (plus {ds} n s) = (_, _, refl, refl)
 atom_starts (minus {ds} n s) = (_, _, refl, refl)

@@ -1,11 +1,15 @@
 -- One reading
 use Rattle.std.proofs.Common.{◌≡◌, ℕ, true, false, IsTrue, List, ◌∷◌, ◌++◌, refl, sym, ap, ap₂, ◌∙◌, subst}
-use Rattle.edn.specs.Value.{Value, vector, pairs, Values, more, Pairs, no_pairs, pair, in_text}
-use Rattle.edn.specs.Bytes.{is_white, IsAtom, closes}
-use Rattle.edn.specs.Text.{SkipsLine, SkipsGap, Reads, ReadsAll, IsText}
+use Rattle.edn.specs.Value.{Value, text, vector, pairs, members, Values, more, Pairs, no_pairs, pair, in_text}
+use Rattle.edn.specs.Bytes.{is_white, IsAtom, IsEscape, SpellsByte}
+use Rattle.edn.specs.Reading.{closes}
+use Rattle.edn.specs.Text.{SkipsLine, SkipsGap, ReadsString, Reads, ReadsAll, IsText}
+use Rattle.edn.specs.Bytes.IsEscape.{tab, carriage_return, line_feed, backslash, quote}
+use Rattle.edn.specs.Bytes.SpellsByte.{itself, escaped}
+use Rattle.edn.specs.Text.ReadsString.{closing, one_byte}
 use Rattle.edn.specs.Text.SkipsLine.{at_end, at_line_feed, over}
 use Rattle.edn.specs.Text.SkipsGap.{no_gap, white, comment, discard}
-use Rattle.edn.specs.Text.Reads.{atom, in_brackets, in_braces}
+use Rattle.edn.specs.Text.Reads.{atom, in_quotes, in_brackets, in_braces, in_hash_braces}
 use Rattle.edn.specs.Text.ReadsAll.{no_more, one_more}
 use Rattle.edn.proofs.Spellings.{atom_token, one_token, one_value, atom_starts, no_atom, begins_gap, not_gap, closed_no_gap, atom_no_closer}
 
@@ -16,6 +20,32 @@ one_line at_line_feed at_line_feed = refl
 one_line at_line_feed (over n s) = absurd (n refl)
 one_line (over n s) at_line_feed = absurd (n refl)
 one_line (over n s) (over m q) = one_line s q
+
+-- a string ends at one place, and spells one list of bytes
+one_escape : {e a b : ℕ} → IsEscape e a → IsEscape e b → a ≡ b
+one_escape tab tab = refl
+one_escape carriage_return carriage_return = refl
+one_escape line_feed line_feed = refl
+one_escape backslash backslash = refl
+one_escape quote quote = refl
+
+pub one_spelled : {t u v : List ℕ} {a b : ℕ} → SpellsByte t a u → SpellsByte t b v → (a ≡ b) × (u ≡ v)
+one_spelled (itself p q) (itself r s) = (refl, refl)
+one_spelled (itself p q) (escaped e) = absurd (q refl)
+one_spelled (escaped e) (itself p q) = absurd (q refl)
+one_spelled (escaped e) (escaped f) = (one_escape e f, refl)
+
+pub no_spelled_quote : {t u : List ℕ} {b : ℕ} → SpellsByte (34 ∷ t) b u → ⊥
+no_spelled_quote (itself p q) = p refl
+
+pub one_string : {t r z s w : List ℕ} → ReadsString t s r → ReadsString t w z → (s ≡ w) × (r ≡ z)
+one_string closing closing = (refl, refl)
+one_string closing (one_byte i h) = absurd (no_spelled_quote i)
+one_string (one_byte i h) closing = absurd (no_spelled_quote i)
+one_string {z = z} (one_byte i h) (one_byte {s = y} j k) =
+    let same = one_spelled i j in
+    let others = one_string h (subst (λ x. ReadsString x y z) (sym same.1) k) in
+    (ap₂ (λ b s. b ∷ s) same.0 others.0, others.1)
 
 -- the values of two lists of pairs
 pub one_pairs : (ps qs : Pairs) → in_text ps ≡ in_text qs → ps ≡ qs
@@ -35,8 +65,10 @@ reads_stop (atom {r} i f e) =
     let s = atom_starts i in
     let whole = e ∙ ap (λ x. x ++ r) s.2 in
     ap begins_gap whole ∙ not_gap s.0 (s.1 ++ r) s.3
+reads_stop (in_quotes s u) = refl
 reads_stop (in_brackets m rs) = refl
 reads_stop (in_braces m rs di) = refl
+reads_stop (in_hash_braces m rs di) = refl
 
 -- nor where a list ends
 pub reads_open : {d : ℕ} {t r : List ℕ} {v : Value} → Reads d t v r → closes t ≡ false
@@ -44,8 +76,10 @@ reads_open (atom {r} i f e) =
     let s = atom_starts i in
     let whole = e ∙ ap (λ x. x ++ r) s.2 in
     ap closes whole ∙ atom_no_closer s.0 s.3
+reads_open (in_quotes s u) = refl
 reads_open (in_brackets m rs) = refl
 reads_open (in_braces m rs di) = refl
+reads_open (in_hash_braces m rs di) = refl
 
 pub white_gap : (b : ℕ) (t : List ℕ) → IsTrue (is_white b) → begins_gap (b ∷ t) ≡ false → ⊥
 white_gap b t w s = cc
@@ -74,6 +108,14 @@ mutual
   one_read (atom {r = r} {a = a} {v = v} i f e) (atom {r = s} {a = b} {v = w} j g k) =
       let same = one_token a b r s (atom_token i) (atom_token j) f g (sym e ∙ k) in
       (one_value i (subst (λ x. IsAtom x w) (sym same.0) j), same.1)
+  one_read (atom i f e) (in_quotes s u) = absurd (no_atom 34 _ _ refl i e)
+  one_read (atom i f e) (in_hash_braces m h x) = absurd (no_atom 35 _ _ refl i e)
+  one_read (in_quotes s u) (atom i f e) = absurd (no_atom 34 _ _ refl i e)
+  one_read (in_quotes s u) (in_quotes z w) = let same = one_string s z in (ap text same.0, same.1)
+  one_read (in_hash_braces m h x) (atom i f e) = absurd (no_atom 35 _ _ refl i e)
+  one_read (in_hash_braces m h x) (in_hash_braces n k y) =
+      let same = one_list h k refl refl in
+      (ap members same.0, cc (same.1))
   one_read (atom i f e) (in_brackets m h) = absurd (no_atom 91 _ _ refl i e)
   one_read (atom i f e) (in_braces m h x) = absurd (no_atom 123 _ _ refl i e)
   one_read (in_brackets m h) (atom i f e) = absurd (no_atom 91 _ _ refl i e)

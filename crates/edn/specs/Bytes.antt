@@ -1,8 +1,8 @@
--- Kinds of bytes, and the atoms
+-- Promise: kinds of bytes, and the atoms
 use Rattle.std.specs.Prelude.{◌≡◌, ℕ, ◌<◌, ◌≤◌, ◌^◌, ◌⊎◌, Bool, ◌||◌, ◌&&◌, ◌==◌, nat_le, true, false, IsTrue, List, [], ◌∷◌, pos, neg_ℤ}
 use Rattle.std.specs.List.{AllByRecursion}
 use Rattle.std.specs.Str.Parse.{digits_value}
-use Rattle.edn.specs.Value.{Value, nil, int, keyword}
+use Rattle.edn.specs.Value.{Value, nil, bool, int, keyword}
 
 abbrev pub is_one_of : List ℕ → ℕ → Bool
 is_one_of [] b = false
@@ -41,20 +41,27 @@ abbrev pub IsKeywordText : List ℕ → Type 0
 IsKeywordText [] = ⊥
 IsKeywordText (b ∷ bs) = IsTrue (is_letter b) × AllByRecursion (λ c. IsTrue (goes_on c)) bs
 
--- the bytes are an atom of this value: nil; a numeral that fits 64 bits with its sign, alone or after + or -; a keyword
--- after its colon. For now there are no booleans
+-- the bytes are an atom of this value: nil, true, false; a numeral that fits 64 bits with its sign, alone or after + or
+-- -; a keyword after its colon
 pub data IsAtom : List ℕ → Value → Type 0 where
   spelled_nil : IsAtom (110 ∷ 105 ∷ 108 ∷ []) nil
+  spelled_true : IsAtom (116 ∷ 114 ∷ 117 ∷ 101 ∷ []) (bool true)
+  spelled_false : IsAtom (102 ∷ 97 ∷ 108 ∷ 115 ∷ 101 ∷ []) (bool false)
   plain : {ds : List ℕ} → IsNumeral ds → digits_value 10 ds < 2 ^ 63 → IsAtom ds (int (pos (digits_value 10 ds)))
   plus : {ds : List ℕ} → IsNumeral ds → digits_value 10 ds < 2 ^ 63 → IsAtom (43 ∷ ds) (int (pos (digits_value 10 ds)))
   minus : {ds : List ℕ} → IsNumeral ds → digits_value 10 ds ≤ 2 ^ 63 → IsAtom (45 ∷ ds) (int (neg_ℤ (pos (digits_value 10 ds))))
   named : {bs : List ℕ} → IsKeywordText bs → IsAtom (58 ∷ bs) (keyword bs)
 
--- no byte ends an atom
-abbrev pub IsToken : List ℕ → Type 0
-IsToken = AllByRecursion (λ b. ends_atom b ≡ false)
+-- the letter that stands behind a backslash, and the byte that the two spell: \t \r \n \\ \"
+pub data IsEscape : ℕ → ℕ → Type 0 where
+  tab : IsEscape 116 9
+  carriage_return : IsEscape 114 13
+  line_feed : IsEscape 110 10
+  backslash : IsEscape 92 92
+  quote : IsEscape 34 34
 
--- the end of the text, ] or }
-abbrev pub closes : List ℕ → Bool
-closes [] = true
-closes (b ∷ t) = is_one_of (93 ∷ 125 ∷ []) b
+-- the inside of a string begins with a spelling of this byte, and the rest follows it: every byte but a quote (34) and a
+-- backslash (92) spells itself, and a backslash begins an escape
+pub data SpellsByte : List ℕ → ℕ → List ℕ → Type 0 where
+  itself : {b : ℕ} {t : List ℕ} → ¬ (b ≡ 34) → ¬ (b ≡ 92) → SpellsByte (b ∷ t) b t
+  escaped : {e b : ℕ} {t : List ℕ} → IsEscape e b → SpellsByte (92 ∷ e ∷ t) b t

@@ -1,4 +1,4 @@
--- How many values are the same as one: words of the functions behind `same`, which no public clause cites
+-- Invariant: how many values are the same as one, for the functions behind `same`
 use Rattle.std.specs.Prelude.{◌≡◌, ℕ, ◌+◌, ◌⊎◌}
 use Rattle.edn.specs.Value.{Value, Values, none, more, Pairs, no_pairs, pair, Same}
 

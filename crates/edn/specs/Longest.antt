@@ -1,7 +1,9 @@
--- The longest spelling at the front of a text: words of the functions behind `read_all`, which no public clause cites
-use Rattle.std.specs.Prelude.{◌≡◌, ℕ, ◌+◌, ◌-◌, ◌*◌, ◌≤◌, IsTrue, List, ◌++◌, length}
+-- Invariant: the longest spelling at the front of a text, for the functions behind `read_all`
+use Rattle.std.specs.Prelude.{◌≡◌, ℕ, ◌+◌, ◌-◌, ◌*◌, ◌≤◌, ◌⊎◌, true, false, IsTrue, List, [], ◌∷◌, ◌++◌, length}
 use Rattle.std.specs.Str.Parse.{digits_value}
-use Rattle.edn.specs.Bytes.{is_digit, IsNumeral, IsKeywordText}
+use Rattle.edn.specs.Value.{Value, nil, bool, int, keyword}
+use Rattle.edn.specs.Bytes.{is_digit, goes_on, IsNumeral, IsKeywordText}
+use Rattle.edn.specs.declared.atom.Atom.{Atom}
 
 -- digits that write n, which is at most `most`
 abbrev pub IsNumeralOf : ℕ → List ℕ → ℕ → Type 0
@@ -11,9 +13,27 @@ IsNumeralOf most ds n = IsNumeral ds × (digits_value 10 ds ≡ n) × (n ≤ mos
 abbrev pub AddsDigit : ℕ → ℕ → ℕ → Type 0
 AddsDigit value b n = IsTrue (is_digit b) × (n ≡ 10 * value + (b - 48))
 
+-- n, which is at most `most`, is the value with the first digit of the text written behind it, and rest follows
+abbrev pub TakesDigit : ℕ → ℕ → List ℕ → ℕ → List ℕ → Type 0
+TakesDigit most value text n rest = (b : ℕ) × (text ≡ b ∷ rest) × AddsDigit value b n × (n ≤ most)
+
+-- the text, with the plus at its front taken off
+abbrev pub TakesOffPlus : List ℕ → List ℕ → Type 0
+TakesOffPlus text digits = (text ≡ 43 ∷ digits) ⊎ ((digits ≡ text) × ((t : List ℕ) → text ≡ 43 ∷ t → ⊥))
+
+-- the first byte of the text goes on with a name, and rest follows it
+abbrev pub GoesOn : List ℕ → List ℕ → Type 0
+GoesOn text rest = (b : ℕ) × (text ≡ b ∷ rest) × IsTrue (goes_on b)
+
 -- the name of a keyword, as it stands in its text
 abbrev pub IsName : List ℕ → List ℕ → Type 0
 IsName bs name = IsKeywordText bs × (name ≡ bs)
+
+-- nil, true or false
+pub data IsWord : List ℕ → Value → Type 0 where
+  nil_word : IsWord (110 ∷ 105 ∷ 108 ∷ []) nil
+  true_word : IsWord (116 ∷ 114 ∷ 117 ∷ 101 ∷ []) (bool true)
+  false_word : IsWord (102 ∷ 97 ∷ 108 ∷ 115 ∷ 101 ∷ []) (bool false)
 
 -- the text begins with a spelling of v, rest follows it, and no longer front is a spelling
 pub record IsLongest {V : Type 0} (IsSpelling : List ℕ → V → Type 0) (text : List ℕ) (v : V) (rest : List ℕ) : Type 0 where
@@ -25,3 +45,10 @@ pub record IsLongest {V : Type 0} (IsSpelling : List ℕ → V → Type 0) (text
 -- no front of the text is a spelling
 abbrev pub HasNone : {V : Type 0} (IsSpelling : List ℕ → V → Type 0) → List ℕ → Type 0
 HasNone {V} IsSpelling text = (a z : List ℕ) (w : V) → IsSpelling a w → text ≡ a ++ z → ⊥
+
+-- the value of an atom that was found
+abbrev pub atom_value : Atom → Value
+atom_value Atom.Nil = nil
+atom_value (Atom.Bool b) = bool b
+atom_value (Atom.Int z) = int z
+atom_value (Atom.Keyword name) = keyword name.now

@@ -1,9 +1,9 @@
--- Refusals: their numbers, their names, and why nothing was read
+-- Promise: refusals, their numbers, their names, and why nothing was read
 use Rattle.std.specs.Prelude.{ℕ, List, codes}
 use Rattle.edn.specs.Value.{Values}
 use Rattle.edn.specs.Text.{IsText, IsLongestFront}
-use Rattle.edn.specs.declared.refusals.Refusal.{Refusal}
-use Rattle.edn.specs.declared.refusals.Refusal.TheVariants.{Busy, WrongProcess, NotOpen, Mismatch, BadValue, BadIndex, HistoryFull, NoSuchIndex, BadBudget, BadConcurrency, Unreadable, TapeFull, NoMemory, Idle, NotServed, AlreadyServed, Stale, NoSuchReplica, NoSeat, ReadFailed, WriteFailed, TooLong}
+use Rattle.edn.specs.declared.refusal.Refusal.{Refusal}
+use Rattle.edn.specs.declared.refusal.Refusal.TheVariants.{Busy, WrongProcess, NotOpen, Mismatch, BadValue, BadIndex, HistoryFull, NoSuchIndex, BadBudget, BadConcurrency, Unreadable, TapeFull, NoMemory, Idle, NotServed, AlreadyServed, Stale, NoSuchReplica, NoSeat, ReadFailed, WriteFailed, TooLong}
 
 abbrev pub number_of : Refusal → ℕ
 number_of Busy = 1

@@ -1,15 +1,20 @@
--- The grammar of texts. Each relation is between a text and what is left of it: `Reads open text value rest` says
+-- Promise: the grammar of texts. Each relation is between a text and what is left of it: `Reads open text value rest` says
 -- that the text begins with an element of this value, and that rest follows it, while so many collections are open.
 -- So what may follow an atom, and where the text ends, are facts of rest.
-use Rattle.std.specs.Prelude.{◌≡◌, ℕ, ◌+◌, ◌<◌, ◌≤◌, IsTrue, List, [], ◌∷◌, ◌++◌, length, take}
-use Rattle.edn.specs.Value.{Value, vector, pairs, Values, none, more, Pairs, in_text, keys, AreDistinct}
-use Rattle.edn.specs.Bytes.{is_white, MayFollowAtom, IsAtom}
+use Rattle.std.specs.Prelude.{◌≡◌, ℕ, ◌+◌, ◌<◌, ◌≤◌, IsTrue, IsUtf8, List, [], ◌∷◌, ◌++◌, length, take}
+use Rattle.edn.specs.Value.{Value, text, vector, pairs, members, Values, none, more, Pairs, in_text, keys, AreDistinct}
+use Rattle.edn.specs.Bytes.{is_white, MayFollowAtom, IsAtom, SpellsByte}
 
 -- up to, and not with, the next line feed (10) or the end of the text
 pub data SkipsLine : List ℕ → List ℕ → Type 0 where
   at_end : SkipsLine [] []
   at_line_feed : {t : List ℕ} → SkipsLine (10 ∷ t) (10 ∷ t)
   over : {b : ℕ} {t r : List ℕ} → ¬ (b ≡ 10) → SkipsLine t r → SkipsLine (b ∷ t) r
+
+-- what stands behind the opening quote of a string, up to the closing quote, and the bytes that it spells
+pub data ReadsString : List ℕ → List ℕ → List ℕ → Type 0 where
+  closing : {r : List ℕ} → ReadsString (34 ∷ r) [] r
+  one_byte : {b : ℕ} {t u s r : List ℕ} → SpellsByte t b u → ReadsString u s r → ReadsString t (b ∷ s) r
 
 mutual
   -- white space, comments (; is 59) and discards (#_ is 35 95), in any order and number
@@ -19,11 +24,14 @@ mutual
     comment : {d : ℕ} {t u r : List ℕ} → SkipsLine t u → SkipsGap d u r → SkipsGap d (59 ∷ t) r
     discard : {d : ℕ} {t u w r : List ℕ} {v : Value} → SkipsGap d t u → Reads d u v w → SkipsGap d w r → SkipsGap d (35 ∷ 95 ∷ t) r
 
-  -- one element: an atom, a vector in [ ] (91 93), or a map in { } (123 125). For now there are no strings and no sets
+  -- one element: an atom; a string in quotes, whose bytes are UTF-8; a vector in [ ] (91 93); a map in { } (123 125),
+  -- whose keys are distinct; a set in #{ } (35 before 123), whose members are
   pub data Reads : ℕ → List ℕ → Value → List ℕ → Type 0 where
     atom : {d : ℕ} {t r a : List ℕ} {v : Value} → IsAtom a v → MayFollowAtom r → t ≡ a ++ r → Reads d t v r
+    in_quotes : {d : ℕ} {t s r : List ℕ} → ReadsString t s r → IsUtf8 s → Reads d (34 ∷ t) (text s) r
     in_brackets : {d : ℕ} {t r : List ℕ} {vs : Values} → d < 32 → ReadsAll (d + 1) t vs (93 ∷ r) → Reads d (91 ∷ t) (vector vs) r
     in_braces : {d : ℕ} {t r : List ℕ} {ps : Pairs} → d < 32 → ReadsAll (d + 1) t (in_text ps) (125 ∷ r) → AreDistinct (keys ps) → Reads d (123 ∷ t) (pairs ps) r
+    in_hash_braces : {d : ℕ} {t r : List ℕ} {vs : Values} → d < 32 → ReadsAll (d + 1) t vs (125 ∷ r) → AreDistinct vs → Reads d (35 ∷ 123 ∷ t) (members vs) r
 
   -- the inside of a collection: a gap, then elements, each followed by a gap
   pub data ReadsAll : ℕ → List ℕ → Values → List ℕ → Type 0 where

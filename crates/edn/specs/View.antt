@@ -1,9 +1,10 @@
--- The data that an `Edn` stands for
-use Rattle.std.specs.Prelude.{List, [], ◌∷◌, map, string_bytes}
+-- Promise: the data that an `Edn` stands for
+use Rattle.std.specs.Prelude.{Option, option_map, List, [], ◌∷◌, map, string_bytes}
+use Rattle.std.specs.Option.{option_copied}
+use Rattle.std.specs.Borrow.{Bor}
 use Rattle.edn.specs.Value.{Value, nil, bool, int, text, keyword, vector, pairs, members, Values, none, more, Pairs, no_pairs, pair}
-use Rattle.edn.specs.declared.elements.Edn.{Edn, fold-Edn}
-use Rattle.edn.specs.declared.elements.Edn.TheOpen.{Edn-F}
-use Rattle.edn.specs.declared.atoms.Atom.{Atom}
+use Rattle.edn.specs.declared.value.Edn.{Edn, fold-Edn}
+use Rattle.edn.specs.declared.value.Edn.TheOpen.{Edn-F}
 
 abbrev pub list_of : List Value → Values
 list_of [] = none
@@ -33,8 +34,6 @@ values_of vs = list_of (map value_of vs)
 abbrev pub entries_of : List (Edn × Edn) → Pairs
 entries_of ps = pairs_of (map (λ p. (value_of p.0, value_of p.1)) ps)
 
--- the value of an atom that was found
-abbrev pub atom_value : Atom → Value
-atom_value Atom.Nil = nil
-atom_value (Atom.Int z) = int z
-atom_value (Atom.Keyword name) = keyword name.now
+-- the value of the element that was found, if one was
+abbrev pub found_value : Option (Bor Edn) → Option Value
+found_value found = option_map value_of (option_copied found)

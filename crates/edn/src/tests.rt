@@ -10,9 +10,7 @@ fn element(rt: &HostRuntime, text: &[u8]) -> Result<Edn, Fail> {
 fn integers(rt: &HostRuntime, text: &[u8]) -> Result<Vec<i64>, Fail> {
     let mut integers = Vec::new(rt.alloc());
     for element in read_all(rt.alloc(), text)? {
-        if let Edn::Int(n) = element {
-            integers.push(n)?;
-        }
+        integers.push(element.as_int().ok_or("no integer")?)?;
     }
     Ok(integers)
 }
@@ -37,9 +35,12 @@ fn unreadable_places(rt: HostRuntime) -> Result<(), Fail> {
     assert_eq!(rt; place_of_refusal(&rt, b"-9223372036854775809")?, 19);
     assert_eq!(rt; place_of_refusal(&rt, b"{:type :invoke")?, 0);
     assert_eq!(rt; place_of_refusal(&rt, b"{:type :invoke} {")?, 16);
-    assert_eq!(rt; place_of_refusal(&rt, b"nil true fals")?, 4);
+    assert_eq!(rt; place_of_refusal(&rt, b"nil true fals")?, 9);
     assert_eq!(rt; place_of_refusal(&rt, b"12a")?, 2);
     assert_eq!(rt; place_of_refusal(&rt, b"#_ 12a")?, 5);
+    assert_eq!(rt; place_of_refusal(&rt, b"\"a\\q\"")?, 0);
+    assert_eq!(rt; place_of_refusal(&rt, b"1 \"\xff\"")?, 2);
+    assert_eq!(rt; place_of_refusal(&rt, b"#{1 2 [] [] }")?, 0);
     assert_eq!(rt; place_of_refusal(&rt, TOO_DEEP)?, 0);
     Ok(())
 }
@@ -56,17 +57,42 @@ fn elements_of_texts(rt: HostRuntime) -> Result<(), Fail> {
     );
     assert_eq!(rt; read_all(rt.alloc(), b"")?.len(), 0);
     assert_eq!(rt; read_all(rt.alloc(), b"#_ #_ 1 2")?.len(), 0);
+    assert_eq!(rt; read_all(rt.alloc(), b"nil true\"\"#{}:a")?.len(), 5);
     assert_eq!(rt; read_all(rt.alloc(), DEEPEST)?.len(), 1);
     Ok(())
 }
 
 #[test]
+fn strings_of_texts(rt: HostRuntime) -> Result<(), Fail> {
+    let spelled = element(&rt, b"\"\\t\\\"\\\\\xc3\xa9;\"")?;
+    let Edn::Str(string) = spelled else {
+        return Err("no string".into());
+    };
+    assert_eq!(rt; string.as_str(), "\t\"\\é;");
+    Ok(())
+}
+
+#[test]
 fn order_does_not_matter(rt: HostRuntime) -> Result<(), Fail> {
-    let map = element(&rt, b"{:a 1, [nil {}] {:b 2 :c 3}}")?;
-    let turned = element(&rt, b"{[nil {}] {:c 3 :b 2} :a 1}")?;
-    let other = element(&rt, b"{[nil {}] {:c 3 :b 3} :a 1}")?;
+    let map = element(&rt, b"{:a 1, [nil #{1 2}] {:b 2 :c 3}}")?;
+    let turned = element(&rt, b"{[nil #{2 1}] {:c 3 :b 2} :a 1}")?;
+    let other = element(&rt, b"{[nil #{2 1}] {:c 3 :b 3} :a 1}")?;
     assert!(rt; same(&map, &turned));
     assert!(rt; !same(&map, &other));
+    Ok(())
+}
+
+#[test]
+fn parts_of_elements(rt: HostRuntime) -> Result<(), Fail> {
+    let map = element(&rt, b"{:a [1 :b nil]}")?;
+    assert!(rt; map.get("b").is_none());
+    let a = map.get("a").ok_or("no value")?;
+    let [number, name, nothing] = a.as_slice().ok_or("no vector")? else {
+        return Err("not three".into());
+    };
+    assert_eq!(rt; number.as_int(), Some(1));
+    assert_eq!(rt; name.as_keyword().ok_or("no keyword")?, "b");
+    assert!(rt; nothing.is_nil());
     Ok(())
 }
 

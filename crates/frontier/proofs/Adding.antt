@@ -7,7 +7,7 @@ use Rattle.std.proofs.lemmas.List.Elements.{Contains-append_left, Contains-push,
 use Rattle.history.specs.Events.{IsFront}
 use Rattle.linspec.proofs.Filters.{from_map}
 use Rattle.linspec.proofs.Lists.{Contains-nil, Contains-cons_cases, Pairwise-append}
-use Rattle.frontier.specs.Steps.{Along, Adds}
+use Rattle.frontier.specs.EndSteps.{Along, Adds}
 
 -- fronts
 pub IsFront-itself : {X : Type 0} (xs : List X) → IsFront xs xs

@@ -15,7 +15,7 @@ use Rattle.history.specs.Events.Mark.{Invoked, Returned, Failed, Crashed}
 use Rattle.linspec.specs.Operations.{IsOpen}
 use Rattle.linspec.specs.Orders.{Taken, IsLinearizable}
 use Rattle.linspec.specs.Ends.{End, Leaves, IsEnd, HasMoreThan}
-use Rattle.linspec.specs.WellFormed.{IsNew}
+use Rattle.linspec.specs.MarkRule.{IsNew}
 use Rattle.linspec.proofs.Lists.{Contains-nil, Contains-head, Contains-cons_cases}
 use Rattle.linspec.proofs.Filters.{from_filter, to_filter, filter-yes, filter-no, Pairwise-filter}
 use Rattle.linspec.proofs.Fates.{end_is}
@@ -23,10 +23,14 @@ use Rattle.linspec.proofs.Completions.{ok_after, ok_before, fail_after, fail_bef
 use Rattle.linspec.proofs.Reach.{invoke_after}
 use Rattle.linspec.proofs.Counts.{more_ends}
 use Rattle.linspec.proofs.Fronts.{IsLinearizable-end}
-use Rattle.frontier.specs.declared.ends.Kept.{Kept}
-use Rattle.frontier.specs.Standing.{AreTheEnds, AreTheCalls, end_kept, pending_in, crashed_in}
-use Rattle.frontier.specs.Steps.{Settles, Crashes, after_crash, is_in, Along, Adds}
+use Rattle.frontier.specs.declared.kept_end.KeptEnd.{KeptEnd}
+use Rattle.frontier.specs.declared.frontier.Step.{Step}
+use Rattle.frontier.specs.declared.frontier.Step.TheVariants.{Alive, Dead, Over}
+use Rattle.frontier.specs.KeptEnds.{ArePending, end_kept, pending_in, crashed_in}
+use Rattle.frontier.specs.Meaning.{Blows, IsStep}
+use Rattle.frontier.specs.EndSteps.{Settles, Crashes, after_crash, is_in, Along, Adds}
 use Rattle.frontier.proofs.Changes.{same_parts}
+use Rattle.frontier.proofs.TheEnds.{AreTheEnds}
 
 none_from : {X : Type 0} (r : Option X) → is_some r ≡ false → r ≡ None
 none_from None e = refl
@@ -128,19 +132,8 @@ ends_at_start o = record {
     only [] e v = end_is o [] [] (record { state = o.start; pending = finmap.empty; crashed = finset.empty }) e v.legal.run start_leaves v
     only (x ∷ order) e v = absurd (Contains-nil _ (v.legal.invoked x (Contains-head x order)))
 
-pub calls_at_start : AreTheCalls [] []
+pub calls_at_start : ArePending [] []
 calls_at_start c = ((λ h. absurd (Contains-nil c h)), (λ p. absurd (Contains-nil _ p.0.invoked)))
-
--- neither an invocation nor an info kills
-pub linearizable_after_invoke : (o : Object) (marks : List Mark) (id : ℕ) (op : Op) → IsNew marks id → IsLinearizable o marks → IsLinearizable o (marks ++ Invoked id op ∷ [])
-linearizable_after_invoke o marks id op new h =
-    let e = (IsLinearizable-end o marks).0 h in
-    (IsLinearizable-end o (marks ++ Invoked id op ∷ [])).1 (e.0, invoke_after o marks id op new e.0 [] e.0 e.1 refl)
-
-pub linearizable_after_crash : (o : Object) (marks : List Mark) (id : ℕ) → IsOpen marks id → IsLinearizable o marks → IsLinearizable o (marks ++ Crashed id ∷ [])
-linearizable_after_crash o marks id is_open h =
-    let e = (IsLinearizable-end o marks).0 h in
-    (IsLinearizable-end o (marks ++ Crashed id ∷ [])).1 (after_crash e.0 id, info_after o marks id is_open e.0 e.1)
 
 -- in the words of the code: the ends as they are kept, and their number
 map-filter : {X Y : Type 0} (f : X → Y) (p : Y → Bool) (xs : List X) → map f (filter (λ x. p (f x)) xs) ≡ filter p (map f xs)
@@ -151,35 +144,33 @@ map-filter f p (x ∷ xs) =
     (λ t. ap (map f) (filter-no (λ x. p (f x)) x xs t) ∙ map-filter f p xs ∙ sym (filter-no p (f x) (map f xs) t))
     (cases_Bool (p (f x)))
 
-pub kept_after_fail : (o : Object) (items left : List (Kept o.State)) (marks : List Mark) (id : ℕ) → AreTheEnds o (map end_kept items) marks → IsOpen marks id
+pub kept_after_fail : (o : Object) (items left : List (KeptEnd o.State)) (marks : List Mark) (id : ℕ) → AreTheEnds o (map end_kept items) marks → IsOpen marks id
     → left ≡ filter (λ k. not (is_in (end_kept k) id false)) items → AreTheEnds o (map end_kept left) (marks ++ Failed id ∷ [])
 kept_after_fail o items left marks id are is_open is =
     subst (λ l. AreTheEnds o l (marks ++ Failed id ∷ [])) (sym (ap (map end_kept) is ∙ map-filter end_kept (λ e. not (is_in e id false)) items))
     (ends_after_fail o (map end_kept items) marks are id is_open)
 
-pub kept_at_start : (o : Object) (items : List (Kept o.State)) (k : Kept o.State) → items ≡ k ∷ [] → k.state ≡ o.start → k.pending.items ≡ [] → k.crashed.items ≡ [] → AreTheEnds o (map end_kept items) []
+pub kept_at_start : (o : Object) (items : List (KeptEnd o.State)) (k : KeptEnd o.State) → items ≡ k ∷ [] → k.state ≡ o.start → k.pending.items ≡ [] → k.crashed.items ≡ [] → AreTheEnds o (map end_kept items) []
 kept_at_start o items k is a b c =
     subst (λ l. AreTheEnds o l []) (sym (ap (map end_kept) is ∙ ap (λ e. e ∷ []) (same_parts (end_kept k) (record { state = o.start; pending = finmap.empty; crashed = finset.empty }) a (ap pending_in b) (ap crashed_in c))))
     (ends_at_start o)
 
-module _ (o : Object) (items : List (Kept o.State)) (n : ℕ) (long : n ≡ length items) (marks : List Mark) (are : AreTheEnds o (map end_kept items) marks) where
+module _ (o : Object) (items : List (KeptEnd o.State)) (n : ℕ) (long : n ≡ length items) (marks : List Mark) (are : AreTheEnds o (map end_kept items) marks) where
   many : length (map (end_kept {S = o.State}) items) ≡ n
   many = length-map items (end_kept {S = o.State}) ∙ sym long
-
-  pub alive_iff : (A : Type 0) → A ↔ (n ≢ 0) → A ↔ IsLinearizable o marks
-  alive_iff A is = (
-    (λ a. some_left o (map end_kept items) marks are (λ e. is.0 a (sym many ∙ e))),
-    (λ h. is.1 (λ e. none_left o (map end_kept items) marks are (many ∙ e) h)),
-  )
-
-  pub dead_iff : (A : Type 0) → A ↔ (n ≡ 0) → A ↔ (¬ IsLinearizable o marks)
-  dead_iff A is = (
-    (λ a. none_left o (map end_kept items) marks are (many ∙ is.0 a)),
-    (λ h. ⊎_elim is.1 (λ some. absurd (h (some_left o (map end_kept items) marks are (λ e. some (sym many ∙ e))))) (cases_eq n 0)),
-  )
 
   pub over_by : (budget : ℕ) → budget < n → HasMoreThan o marks budget
   over_by budget lt = (how_many o (map end_kept items) marks are budget).1 (let m : length (map (end_kept {S = o.State}) items) ≡ n = many in omega arith)
 
   pub not_over_by : (budget : ℕ) → n ≤ budget → ¬ HasMoreThan o marks budget
   not_over_by budget le h = let lt : budget < length (map (end_kept {S = o.State}) items) = (how_many o (map end_kept items) marks are budget).0 h in let m : length (map (end_kept {S = o.State}) items) ≡ n = many in omega arith
+
+-- the answer by the number of ends that are left
+module _ (o : Object) (items : List (KeptEnd o.State)) (n : ℕ) (long : n ≡ length items) (marks : List Mark) (mark : Mark) (are : AreTheEnds o (map end_kept items) (marks ++ mark ∷ [])) where
+  left : length (map (end_kept {S = o.State}) items) ≡ n
+  left = length-map items (end_kept {S = o.State}) ∙ sym long
+
+  pub step_by : (budget : ℕ) → ¬ Blows o budget marks mark → (step : Step) → ((step ≡ Alive) ↔ (n ≢ 0)) → ((step ≡ Dead) ↔ (n ≡ 0)) → step ≢ Over → IsStep o budget marks mark step
+  step_by budget none Alive alive dead not_over = (none, some_left o (map end_kept items) (marks ++ mark ∷ []) are (λ e. alive.0 refl (sym left ∙ e)))
+  step_by budget none Dead alive dead not_over = (none, none_left o (map end_kept items) (marks ++ mark ∷ []) are (left ∙ dead.0 refl))
+  step_by budget none Over alive dead not_over = absurd (not_over refl)

@@ -10,21 +10,22 @@ use Rattle.history.specs.Events.{Mark}
 use Rattle.history.specs.Events.Mark.{Invoked, Crashed}
 use Rattle.linspec.specs.Orders.{Taken, Pairwise}
 use Rattle.linspec.specs.Ends.{End, Leaves, IsEnd}
-use Rattle.linspec.specs.WellFormed.{IsNew}
+use Rattle.linspec.specs.MarkRule.{IsNew}
 use Rattle.linspec.proofs.Lists.{Contains-nil, Contains-cons_cases, Pairwise-right}
 use Rattle.linspec.proofs.Filters.{to_map, from_map}
 use Rattle.linspec.proofs.Reach.{Extends, Reaches, leaves_more, invoke_after, invoke_before}
 use Rattle.linspec.proofs.Counts.{no_longer_than}
-use Rattle.frontier.specs.declared.calls.Call.{Call}
-use Rattle.frontier.specs.Standing.{IsPending, AreTheEnds, AreTheCalls}
-use Rattle.frontier.specs.Steps.{is_in, with_call, TakesLast, Next, ReachesIn, Reached, Adds}
+use Rattle.frontier.specs.declared.pending_op.PendingOp.{PendingOp}
+use Rattle.frontier.specs.KeptEnds.{IsPending, ArePending}
+use Rattle.frontier.specs.EndSteps.{is_in, with_call, TakesLast, Next, ReachesIn, Reached, Adds}
+use Rattle.frontier.proofs.TheEnds.{AreTheEnds}
 
 none_from : {X : Type 0} (r : Option X) → is_some r ≡ false → r ≡ None
 none_from None e = refl
 none_from (Some x) e = absurd (true≢false e)
 
 -- to take one call last is to extend by a pending operation
-module _ (o : Object) (calls : List Call) (marks : List Mark) (are : AreTheCalls calls marks) where
+module _ (o : Object) (calls : List PendingOp) (marks : List Mark) (are : ArePending calls marks) where
   made_by : (e f : End o.State) (x : Taken) (b : Bool) → is_in e x.id b ≡ false → f ≡ with_call e x.id b x.found f.state → (IsTrue b ↔ Contains marks (Crashed x.id)) → IsPending marks x.id x.op
       → o.Steps e.state x.op x.found f.state → Extends o marks e x f
   made_by e f x true not_in made is p step = record {
@@ -44,25 +45,25 @@ module _ (o : Object) (calls : List Call) (marks : List Mark) (are : AreTheCalls
 
   extends_by : (e f : End o.State) → Next o calls e f → (x : Taken) × Extends o marks e x f
   extends_by e f n =
-      let c : Call = n.0 in
+      let c : PendingOp = n.0 in
       let t : TakesLast o e c f = n.2 in
       let p = (are c).0 n.1 in
       let x : Taken = record { id = c.id; op = c.op; found = t.found } in
       (x, made_by e f x c.crashed t.not_in t.made p.1 p.0 t.step)
 
-  pub call_of : (e f : End o.State) (x : Taken) → Extends o marks e x f → (c : Call) × Contains calls c × TakesLast o e c f × (c.id ≡ x.id)
+  pub call_of : (e f : End o.State) (x : Taken) → Extends o marks e x f → (c : PendingOp) × Contains calls c × TakesLast o e c f × (c.id ≡ x.id)
   call_of e f x h =
       let p : IsPending marks x.id x.op = record { invoked = h.invoked; not_returned = h.not_returned; not_failed = h.not_failed } in
       ⊎_elim
       (λ m.
-      let c : Call = record { id = x.id; op = x.op; crashed = false } in (
+      let c : PendingOp = record { id = x.id; op = x.op; crashed = false } in (
         c,
         (are c).1 (p, ((λ t. absurd (true≢false (sym t))), (λ k. absurd (m.0 k)))),
         record { not_in = ap is_some m.1; found = x.found; step = h.step; made = m.2 },
         refl,
       ))
       (λ m.
-      let c : Call = record { id = x.id; op = x.op; crashed = true } in (
+      let c : PendingOp = record { id = x.id; op = x.op; crashed = true } in (
         c,
         (are c).1 (p, ((λ t. m.0), (λ k. refl))),
         record { not_in = m.1; found = x.found; step = h.step; made = m.2 },
@@ -95,11 +96,11 @@ module _ (o : Object) (calls : List Call) (marks : List Mark) (are : AreTheCalls
   ids_once [] once = tt
   ids_once (x ∷ xs) once = ((λ i h e. let y = from_map (λ (x : Taken). x.id) xs i h in once.0 y.0 y.1 (e ∙ sym y.2)), ids_once xs once.1)
 
-  ids_there : (xs : List Taken) (e f : End o.State) → Reaches o marks e xs f → (i : ℕ) → Contains (map (λ (x : Taken). x.id) xs) i → Contains (map (λ (c : Call). c.id) calls) i
+  ids_there : (xs : List Taken) (e f : End o.State) → Reaches o marks e xs f → (i : ℕ) → Contains (map (λ (x : Taken). x.id) xs) i → Contains (map (λ (c : PendingOp). c.id) calls) i
   ids_there [] e f r i h = absurd (Contains-nil i h)
   ids_there (x ∷ xs) e f r i h =
       ⊎_elim
-      (λ is. let c = call_of e r.0 x r.1 in subst (Contains (map (λ (c : Call). c.id) calls)) (c.3 ∙ is) (to_map (λ (c : Call). c.id) calls c.0 c.1))
+      (λ is. let c = call_of e r.0 x r.1 in subst (Contains (map (λ (c : PendingOp). c.id) calls)) (c.3 ∙ is) (to_map (λ (c : PendingOp). c.id) calls c.0 c.1))
       (λ k. ids_there xs r.0 f r.2 i k)
       (Contains-cons_cases x.id (map (λ (x : Taken). x.id) xs) i h)
 
@@ -108,13 +109,13 @@ module _ (o : Object) (calls : List Call) (marks : List Mark) (are : AreTheCalls
   no_more xs order e f v r =
       let w : Leaves o marks (order ++ xs) f = reach_leaves xs order e f v r in
       let once = ids_once xs (Pairwise-right (λ x y. x.id ≢ y.id) order xs w.legal.once) in
-      let le : length (map (λ (x : Taken). x.id) xs) ≤ length (map (λ (c : Call). c.id) calls) = no_longer_than _ _ once (ids_there xs e f r) in
+      let le : length (map (λ (x : Taken). x.id) xs) ≤ length (map (λ (c : PendingOp). c.id) calls) = no_longer_than _ _ once (ids_there xs e f r) in
       let a : length (map (λ (x : Taken). x.id) xs) ≡ length xs = length-map xs (λ (x : Taken). x.id) in
-      let b : length (map (λ (c : Call). c.id) calls) ≡ length calls = length-map calls (λ (c : Call). c.id) in
+      let b : length (map (λ (c : PendingOp). c.id) calls) ≡ length calls = length-map calls (λ (c : PendingOp). c.id) in
       omega arith
 
-module _ (o : Object) (ends : List (End o.State)) (calls : List Call) (marks : List Mark) (id : ℕ) (op : Op) (new : IsNew marks id) (are_ends : AreTheEnds o ends marks)
-    (are_calls : AreTheCalls calls (marks ++ Invoked id op ∷ [])) where
+module _ (o : Object) (ends : List (End o.State)) (calls : List PendingOp) (marks : List Mark) (id : ℕ) (op : Op) (new : IsNew marks id) (are_ends : AreTheEnds o ends marks)
+    (are_calls : ArePending calls (marks ++ Invoked id op ∷ [])) where
   still_end : (e : End o.State) → IsEnd o marks e → IsEnd o (marks ++ Invoked id op ∷ []) e
   still_end e end = invoke_after o marks id op new e [] e end refl
 

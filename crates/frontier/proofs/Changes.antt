@@ -10,8 +10,8 @@ use Rattle.models.specs.declared.finding.Found.{Found}
 use Rattle.linspec.specs.Ends.{End}
 use Rattle.linspec.proofs.FinLaws.{get-insert_same, get-insert_other, get-remove_same, get-remove_other}
 use Rattle.linspec.proofs.Filters.{filter-yes, filter-no}
-use Rattle.frontier.specs.Standing.{pending_in, found_at, crashed_in}
-use Rattle.frontier.specs.Steps.{settled, after_crash, crashed_if, is_in, with_call}
+use Rattle.frontier.specs.KeptEnds.{pending_in, found_at, crashed_in}
+use Rattle.frontier.specs.EndSteps.{settled, after_crash, crashed_if, is_in, with_call}
 
 pub same_parts : {S : Type 0} (e f : End S) → e.state ≡ f.state → e.pending ≡ f.pending → e.crashed ≡ f.crashed → e ≡ f
 same_parts e f a b c = λ i. record { state = a i; pending = b i; crashed = c i }

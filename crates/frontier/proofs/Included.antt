@@ -10,7 +10,7 @@ use Rattle.std.proofs.lemmas.List.Elements.{All-contains, Contains-get_or}
 use Rattle.models.specs.declared.finding.Found.{Found}
 use Rattle.linspec.proofs.FinLaws.{get-insert_same, get-insert_other, contains-insert_same, contains-insert_other}
 use Rattle.linspec.proofs.Lists.{Contains-head, Contains-tail, Contains-nil, Contains-cons_cases}
-use Rattle.frontier.specs.Standing.{pending_in, found_at, crashed_in, has_crashed}
+use Rattle.frontier.specs.KeptEnds.{pending_in, found_at, crashed_in, has_crashed}
 
 All-by_contains : {X : Type 0} (P : X → Type 0) (xs : List X) → ((x : X) → Contains xs x → P x) → All P xs
 All-by_contains P xs h k d l = h _ (Contains-get_or xs k d l)

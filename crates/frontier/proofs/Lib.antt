@@ -1,3 +1,4 @@
+pub mod TheEnds
 pub mod Included
 pub mod Adding
 pub mod Changes

@@ -7,8 +7,8 @@ use Rattle.std.proofs.lemmas.List.Elements.{Contains-append_right, Contains-appe
 use Rattle.models.specs.Objects.{Object}
 use Rattle.history.specs.Events.{IsFront}
 use Rattle.linspec.specs.Ends.{End}
-use Rattle.frontier.specs.declared.calls.Call.{Call}
-use Rattle.frontier.specs.Steps.{Along, Adds, Next, Reached, ReachesIn}
+use Rattle.frontier.specs.declared.pending_op.PendingOp.{PendingOp}
+use Rattle.frontier.specs.EndSteps.{Along, Adds, Next, Reached, ReachesIn}
 use Rattle.frontier.proofs.Adding.{Adds-change, Adds-more, Adds-skip, Adds-more_from}
 
 -- one call more: what it leads to is added, if there is something
@@ -61,7 +61,7 @@ pub length-front : {X : Type 0} (old new : List X) → IsFront old new → lengt
 length-front old new front = let e = ap length (sym front.1) in let l = length-append old front.0 in omega arith
 
 -- one round more
-module _ (o : Object) (calls : List Call) (start old new : List (End o.State)) (i from : ℕ) (adds : Adds (Reached o calls i start) start old)
+module _ (o : Object) (calls : List PendingOp) (start old new : List (End o.State)) (i from : ℕ) (adds : Adds (Reached o calls i start) start old)
     (done : (y : End o.State) → Along (Next o calls) (take from old) y → Contains old y) (round : Adds (Along (Next o calls) (drop from old)) old new) where
   pub closed : (y : End o.State) → Along (Next o calls) old y → Contains new y
   closed y h =
@@ -103,7 +103,7 @@ module _ (o : Object) (calls : List Call) (start old new : List (End o.State)) (
   }
 
 -- before the first round
-pub no_round : (o : Object) (calls : List Call) (start : List (End o.State)) → Adds (Reached o calls zero start) start start
+pub no_round : (o : Object) (calls : List PendingOp) (start : List (End o.State)) → Adds (Reached o calls zero start) start start
 no_round o calls start = record { each = λ y. ((λ h. inl h), (λ h. ⊎_elim (λ k. k) (λ r. at_start r.0 r.2.0 y r.1 r.2.1 r.2.2) h)); once = λ h. h }
   where
     at_start : (m : ℕ) (e y : End o.State) → m ≤ zero → Contains start e → ReachesIn o calls m e y → Contains start y

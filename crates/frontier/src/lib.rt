@@ -1,16 +1,12 @@
 //! All ends of one key's history, kept as its events come.
 #![tactic(auto)]
 
-mod calls;
-mod closing;
+pub mod any_frontier;
 mod ends;
-mod events;
-pub mod frontiers;
-pub mod kinds;
-#[cfg(test)]
-mod kinds_tests;
-#[cfg(test)]
-mod tests;
+mod extend;
+pub mod frontier;
+mod kept_end;
+mod pending_op;
 
-pub use frontiers::{Frontier, Step};
-pub use kinds::AnyFrontier;
+pub use any_frontier::AnyFrontier;
+pub use frontier::{Frontier, Step};

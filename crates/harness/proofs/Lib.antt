@@ -1,5 +1,5 @@
 pub mod OneKey
 pub mod OneStep
 pub mod OfOneKey
-pub mod Known
-pub mod Preparing
+pub mod Judged
+pub mod Changes

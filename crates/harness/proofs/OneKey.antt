@@ -2,11 +2,11 @@
 use Rattle.std.proofs.Common.{◌≡◌, ℕ, ⊎_elim, List, [], ◌∷◌, refl, sym, ap, ◌∙◌, subst, nat_eq}
 use Rattle.std.specs.List.{Contains}
 use Rattle.std.proofs.lemmas.Bool.{eq-eqb}
-use Rattle.models.specs.declared.kinds.ModelKind.{ModelKind}
+use Rattle.models.specs.declared.model_kind.ModelKind.{ModelKind}
 use Rattle.models.specs.Objects.{object_of}
 use Rattle.history.specs.Events.{Entry, of_key}
 use Rattle.linspec.specs.Verdicts.{IsKeyStatus, AreStatuses}
-use Rattle.linspec.specs.declared.verdicts.KeyStatus.{KeyStatus}
+use Rattle.linspec.specs.declared.verdict.KeyStatus.{KeyStatus}
 use Rattle.linspec.proofs.Filters.{filter-yes}
 use Rattle.linspec.proofs.Lists.{Contains-nil, Contains-head, Contains-tail, Contains-cons_cases}
 

@@ -1,16 +1,16 @@
 -- a command has one outcome, and leads to one machine
 use Rattle.std.proofs.Common.{◌≡◌, Result, Ok, Err, sym, ap, ◌∙◌, subst}
-use Rattle.edn.specs.declared.refusals.Refusal.{Refusal}
+use Rattle.edn.specs.declared.refusal.Refusal.{Refusal}
 use Rattle.history.specs.Events.{entries_of, indexed_from}
 use Rattle.history.proofs.OneRefusal.{refusal_one, well_formed_stands}
-use Rattle.linspec.specs.declared.verdicts.Verdict.{Verdict}
+use Rattle.linspec.specs.declared.verdict.Verdict.{Verdict}
 use Rattle.linspec.proofs.OneAnswer.{one_verdict}
 use Rattle.linspec.proofs.Places.{rising_places}
 use Rattle.harness.specs.Machine.{Machine, kind_of, IsVerdictOn, MayStep}
-use Rattle.harness.specs.declared.commands.Command.{Command}
-use Rattle.harness.specs.declared.commands.Command.TheVariants.{Append, Verdict as Ask}
-use Rattle.harness.specs.declared.commands.Reply.{Reply}
-use Rattle.harness.specs.declared.commands.Reply.TheVariants.{Verdict as Says}
+use Rattle.harness.specs.declared.command.Command.{Command}
+use Rattle.harness.specs.declared.command.Command.TheVariants.{Append, Verdict as Ask}
+use Rattle.harness.specs.declared.command.Reply.{Reply}
+use Rattle.harness.specs.declared.command.Reply.TheVariants.{Verdict as Says}
 
 -- a machine has one verdict
 verdict_one : (m : Machine) (v w : Verdict) → IsVerdictOn m v → IsVerdictOn m w → v ≡ w

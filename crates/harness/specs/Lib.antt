@@ -1,2 +1,3 @@
+pub mod Limits
 pub mod Machine
-pub mod Kept
+pub mod CoreInvariant

@@ -1,18 +1,18 @@
--- The one-thread object: its state, and what each command may answer (this project's own)
-use Rattle.std.specs.Prelude.{◌≡◌, ℕ, ◌≤◌, List, [], ◌∷◌, ◌++◌, Option, None, Result, Ok, Err}
-use Rattle.edn.specs.declared.refusals.Refusal.{Refusal}
-use Rattle.edn.specs.declared.refusals.Refusal.TheVariants.{BadBudget, BadConcurrency, NoMemory}
-use Rattle.models.specs.declared.kinds.ModelKind.{ModelKind}
-use Rattle.history.specs.declared.events.Event.{Event}
+-- Promise: the one-thread object: its state, and what each command may answer (this project's own)
+use Rattle.std.specs.Prelude.{◌≡◌, ℕ, ◌≤◌, List, [], ◌∷◌, ◌++◌, Option, Some, None, Result, Ok, Err}
+use Rattle.edn.specs.declared.refusal.Refusal.{Refusal}
+use Rattle.edn.specs.declared.refusal.Refusal.TheVariants.{BadBudget, BadConcurrency, NoMemory}
+use Rattle.models.specs.declared.model_kind.ModelKind.{ModelKind}
+use Rattle.history.specs.declared.event.Event.{Event}
 use Rattle.history.specs.Events.{entries_of, indexed_from}
-use Rattle.history.specs.WellFormed.{IsWellFormed, IsConcurrency, Refuses}
-use Rattle.linspec.specs.declared.verdicts.Verdict.{Verdict}
+use Rattle.history.specs.WellFormed.{IsWellFormed, IsConcurrency, Refuses, MayRefuse}
+use Rattle.linspec.specs.declared.verdict.Verdict.{Verdict}
 use Rattle.linspec.specs.Verdicts.{IsVerdict}
-use Rattle.harness.specs.declared.commands.Config.{Config}
-use Rattle.harness.specs.declared.commands.Command.{Command}
-use Rattle.harness.specs.declared.commands.Command.TheVariants.{Append, Verdict as Ask}
-use Rattle.harness.specs.declared.commands.Reply.{Reply}
-use Rattle.harness.specs.declared.commands.Reply.TheVariants.{Verdict as Says}
+use Rattle.harness.specs.declared.command.Config.{Config}
+use Rattle.harness.specs.declared.command.Command.{Command}
+use Rattle.harness.specs.declared.command.Command.TheVariants.{Append, Verdict as Ask}
+use Rattle.harness.specs.declared.command.Reply.{Reply}
+use Rattle.harness.specs.declared.command.Reply.TheVariants.{Verdict as Says}
 
 -- the history as it stands, its concurrency, and the kind and the budget of every key
 pub record Machine : Type 0 where
@@ -31,6 +31,13 @@ IsVerdictOn m v = IsVerdict (kind_of m) (λ key. m.budget) (entries_of (indexed_
 
 abbrev pub with_event : Event → Machine → Machine
 with_event event m = record m { events = m.events ++ event ∷ [] }
+
+-- the event may come next, or may be refused for this
+abbrev pub Admits : Machine → Event → Type 0
+Admits m event = IsWellFormed m.concurrency m.events event
+
+abbrev pub MayDecline : Machine → Event → Refusal → Type 0
+MayDecline m event why = MayRefuse m.concurrency m.events event why
 
 -- the command may be answered so, which leads from the old machine to the new. A refusal changes nothing
 abbrev pub MayStep : Machine → Command → Result Reply Refusal → Machine → Type 0
@@ -56,9 +63,12 @@ MayNotOpen config NoMemory = IsBudget config.budget × IsConcurrency config.conc
 MayNotOpen config _ = ⊥
 
 -- What a caller sees: the machine, and the machine that a prepared command leads to
-pub record Standing : Type 0 where
+pub record CoreView : Type 0 where
   pub machine : Machine
   pub next : Option Machine
 
-abbrev pub at_rest : Machine → Standing
+abbrev pub at_rest : Machine → CoreView
 at_rest m = record { machine = m; next = None }
+
+abbrev pub with_next : Machine → Machine → CoreView
+with_next m next = record { machine = m; next = Some next }

@@ -1,12 +1,12 @@
 //! The one-thread object.
 ghost use Rattle.std.specs.Prelude.{◌≡◌, ◌≢◌, None, Some, IfOk, IfErr, IfSome, IsSome, IsOk, OnOk, OnErr, IsErrOf, Ok, Err};
-ghost use Rattle.history.specs.declared.events.Event.{Event};
-ghost use Rattle.history.specs.WellFormed.{IsConcurrency, IsWellFormed, MayRefuse};
-ghost use Rattle.harness.specs.Machine.{Machine, opening, at_rest, with_event, IsBudget, MayNotOpen, MayStep, IsVerdictOn};
+ghost use Rattle.history.specs.declared.event.Event.{Event};
+ghost use Rattle.history.specs.Events.{key_of};
+ghost use Rattle.history.specs.WellFormed.{IsConcurrency};
+ghost use Rattle.harness.specs.Machine.{Machine, Admits, MayDecline, opening, at_rest, with_next, with_event, IsBudget, MayNotOpen, MayStep, IsVerdictOn};
 
-use crate::commands::{Command, Config, Reply};
-use crate::keys::key_after;
-use crate::readying::ready;
+use crate::command::{Command, Config, Reply};
+use crate::preparing::prepare_event;
 use checkpoints::KeyLine;
 use edn::Refusal;
 use history::{Event, History, process_rule_law};
@@ -18,12 +18,9 @@ use models::Key;
 use std::alloc::Global;
 use std::marker::Model;
 
-/// The greatest budget.
-const MOST_ENDS: u32 = 65_536;
-
-/// What is known of a history: its key, if an operation was invoked, and the verdict.
+/// What is judged of a history: its key, if an operation was invoked, and the verdict.
 #[derive(Clone, Copy)]
-struct Known {
+struct Judged {
     key: Option<Key>,
     verdict: Verdict,
 }
@@ -33,7 +30,8 @@ struct Known {
 enum Change {
     Nothing,
     Same,
-    Append(Known),
+    Fault,
+    Append(Judged),
 }
 
 /// The one-thread object: a history, and the verdict on it as it stands. Linearizability is that of Herlihy and Wing
@@ -43,20 +41,23 @@ pub struct Core {
     alloc: Global,
     history: History,
     line: KeyLine,
-    known: Known,
+    judged: Judged,
     change: Change,
 }
 
 impl Model for Core {
-    ghost use Rattle.harness.specs.Machine.{Standing};
+    ghost use Rattle.harness.specs.Machine.{CoreView};
 
-    ghost Value = { Standing };
+    ghost Value = { CoreView };
 
-    ghost use Rattle.harness.specs.Kept.{machine_of, next_of, IsKept};
+    ghost use Rattle.harness.specs.CoreInvariant.{machine_of, next_of, IsSoundCore};
 
-    ghost view = { λ a. record { machine = machine_of a.history a.line; next = next_of a.history a.line a.change } };
+    ghost view = { λ a. record {
+      machine = machine_of a.history a.line;
+      next = next_of a.history a.line a.change;
+    } };
 
-    ghost invariant = { λ a. IsKept a.history a.line a.known a.change };
+    ghost invariant = { λ a. IsSoundCore a.history a.line a.judged a.change };
 }
 
 impl Core {
@@ -66,19 +67,17 @@ impl Core {
     /// [`Refusal::BadBudget`] where the budget is not 1 to 65,536, else [`Refusal::BadConcurrency`] where the
     /// concurrency is not 1 to 64, else [`Refusal::NoMemory`] where a growth was refused.
     pub fn new(alloc: Global, config: Config) -> Result<Core, Refusal>
-        ensures limits { IfOk result (λ core. IsBudget config.budget × IsConcurrency config.concurrency) }
+        ensures limits { OnOk result (IsBudget config.budget × IsConcurrency config.concurrency) }
         ensures opened { IfOk result (λ core. core ≡ at_rest (opening config)) }
         ensures refused { IfErr result (MayNotOpen config) }
     {
-        if config.budget < 1 || config.budget > MOST_ENDS {
-            return Err(Refusal::BadBudget);
-        }
+        config.check()?;
         history_law();
         join_law();
         process_rule_law();
         let history = History::new(alloc, config.concurrency)?;
         let line = KeyLine::new(alloc, config.kind, config.budget)?;
-        let known = Known {
+        let judged = Judged {
             key: None,
             verdict: join(&[(0, line.status())]),
         };
@@ -86,7 +85,7 @@ impl Core {
             alloc,
             history,
             line,
-            known,
+            judged,
             change: Change::Nothing,
         })
     }
@@ -98,15 +97,18 @@ impl Core {
     /// The refusal of an event that is not well-formed, else [`Refusal::NoMemory`] where a growth was refused. Then
     /// nothing is prepared. [`Command::Verdict`] is never refused.
     pub fn prepare(&mut self, command: Command) -> Result<(Reply, Verdict), Refusal>
-        ensures answered { IfOk result (λ answer. (next : Machine) × MayStep self.old.machine command (Ok answer.0) next
-            × IsVerdictOn next answer.1 × (self.new ≡ record { machine = self.old.machine; next = Some next })) }
-        ensures refused { IfErr result (λ why. why ≢ Refusal.NoMemory → MayStep self.old.machine command (Err why) self.old.machine) }
+        ensures answered { IfOk result (λ answer. (next : Machine)
+            × MayStep self.old.machine command (Ok answer.0) next
+            × IsVerdictOn next answer.1
+            × (self.new ≡ with_next self.old.machine next)) }
+        ensures refused { IfErr result (λ why. why ≢ Refusal.NoMemory →
+            MayStep self.old.machine command (Err why) self.old.machine) }
         ensures err { OnErr result (self.new ≡ at_rest self.old.machine) }
         // The verdict takes no memory and is never refused.
         ensures asked { command ≡ Command.Verdict → IsOk result }
         // Want of memory is answered last.
-        ensures memory_last { IsErrOf result Refusal.NoMemory → (event : Event) × (command ≡ Command.Append event)
-            × IsWellFormed self.old.machine.concurrency self.old.machine.events event }
+        ensures memory_last { IsErrOf result Refusal.NoMemory →
+            (event : Event) × (command ≡ Command.Append event) × Admits self.old.machine event }
     {
         match command {
             Command::Append(event) => {
@@ -115,29 +117,50 @@ impl Core {
             }
             Command::Verdict => {
                 self.change = Change::Same;
-                Ok((Reply::Verdict(self.known.verdict), self.known.verdict))
+                Ok((Reply::Verdict(self.judged.verdict), self.judged.verdict))
             }
         }
     }
 
     // Prepares that an event comes next.
     fn prepare_append(&mut self, event: Event) -> Result<Verdict, Refusal>
-        ensures well_formed { OnOk result (IsWellFormed self.old.machine.concurrency self.old.machine.events event) }
-        ensures prepared { OnOk result (self.new ≡ record { machine = self.old.machine; next = Some (with_event event self.old.machine) }) }
+        ensures well_formed { OnOk result (Admits self.old.machine event) }
+        ensures prepared { OnOk result
+            (self.new ≡ with_next self.old.machine (with_event event self.old.machine)) }
         ensures verdict { IfOk result (IsVerdictOn (with_event event self.old.machine)) }
-        ensures refused { IfErr result (MayRefuse self.old.machine.concurrency self.old.machine.events event) }
-        ensures memory_last { IsErrOf result Refusal.NoMemory → IsWellFormed self.old.machine.concurrency self.old.machine.events event }
+        ensures refused { IfErr result (MayDecline self.old.machine event) }
+        ensures memory_last { IsErrOf result Refusal.NoMemory → Admits self.old.machine event }
         ensures err { OnErr result (self.new ≡ at_rest self.old.machine) }
     {
         self.change = Change::Nothing;
+        let Some(added) = event.key() else {
+            return self.prepare_fault(event);
+        };
         history_law();
         join_law();
         process_rule_law();
-        let key = key_after(self.known.key, &event.body);
-        let status = ready(&mut self.history, &mut self.line, event)?;
+        let key = self.judged.key.or(Some(added));
+        let status = prepare_event(&mut self.history, &mut self.line, event)?;
         let verdict = join(&[(key.unwrap_or(0), status)]);
-        self.change = Change::Append(Known { key, verdict });
+        self.change = Change::Append(Judged { key, verdict });
         Ok(verdict)
+    }
+
+    // Prepares that an event comes next that speaks of no operation: no line sees it, and the verdict stays.
+    fn prepare_fault(&mut self, event: Event) -> Result<Verdict, Refusal>
+        requires { key_of event ≡ None }
+        ensures well_formed { OnOk result (Admits self.old.machine event) }
+        ensures prepared { OnOk result
+            (self.new ≡ with_next self.old.machine (with_event event self.old.machine)) }
+        ensures verdict { IfOk result (IsVerdictOn (with_event event self.old.machine)) }
+        ensures refused { IfErr result (MayDecline self.old.machine event) }
+        ensures memory_last { IsErrOf result Refusal.NoMemory → Admits self.old.machine event }
+        ensures err { OnErr result (self.new ≡ at_rest self.old.machine) }
+    {
+        self.change = Change::Nothing;
+        self.history.prepare(event)?;
+        self.change = Change::Fault;
+        Ok(self.judged.verdict)
     }
 
     /// Carries out what is prepared. It takes no memory and cannot fail.
@@ -146,10 +169,14 @@ impl Core {
         ensures { IfSome self.old.next (λ next. self.new ≡ at_rest next) }
     {
         match self.change {
-            Change::Append(known) => {
+            Change::Append(judged) => {
                 self.history.commit();
                 self.line.commit();
-                self.known = known;
+                self.judged = judged;
+                self.change = Change::Nothing;
+            }
+            Change::Fault => {
+                self.history.commit();
                 self.change = Change::Nothing;
             }
             _ => self.change = Change::Nothing,
@@ -161,14 +188,15 @@ impl Core {
     /// # Errors
     /// Those of [`prepare`](Core::prepare); the machine then stays as it was.
     pub fn step(&mut self, command: Command) -> Result<Reply, Refusal>
-        ensures steps { result ≢ Err Refusal.NoMemory → MayStep self.old.machine command result self.new.machine }
+        ensures steps { result ≢ Err Refusal.NoMemory →
+            MayStep self.old.machine command result self.new.machine }
         ensures no_memory { result ≡ Err Refusal.NoMemory → self.new.machine ≡ self.old.machine }
         ensures rests { self.new ≡ at_rest self.new.machine }
         // The verdict takes no memory and is never refused.
         ensures asked { command ≡ Command.Verdict → IsOk result }
         // Want of memory is answered last.
-        ensures memory_last { IsErrOf result Refusal.NoMemory → (event : Event) × (command ≡ Command.Append event)
-            × IsWellFormed self.old.machine.concurrency self.old.machine.events event }
+        ensures memory_last { IsErrOf result Refusal.NoMemory →
+            (event : Event) × (command ≡ Command.Append event) × Admits self.old.machine event }
     {
         let (reply, _) = self.prepare(command)?;
         self.commit();
@@ -179,6 +207,6 @@ impl Core {
     pub fn verdict(&self) -> Verdict
         ensures { IsVerdictOn self.now.machine result }
     {
-        self.known.verdict
+        self.judged.verdict
     }
 }

@@ -1,14 +1,10 @@
 //! The one-thread object: commands in, verdicts out.
 #![tactic(auto)]
 
-pub mod commands;
+pub mod command;
 pub mod core_object;
-mod keys;
 pub mod laws;
-mod readying;
+mod preparing;
 
-pub use commands::{Command, Config, Reply};
+pub use command::{Command, Config, Reply};
 pub use core_object::Core;
-
-#[cfg(test)]
-mod tests;

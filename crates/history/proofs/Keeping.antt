@@ -4,15 +4,15 @@ use Rattle.std.proofs.lemmas.Bool.{cases_eq, eq-eqb, ne_eqb}
 use Rattle.std.proofs.lemmas.List.Sums.{count_by-le-length}
 use Rattle.std.proofs.Math.Nat.{add-mul-mod_self_left, add-mod_right, mod-eq_of_lt, mul-le-mul_left}
 use Rattle.models.specs.declared.operation.Op.{Op}
-use Rattle.history.specs.declared.events.EventKind.{EventKind}
-use Rattle.history.specs.declared.events.EventKind.TheVariants.{Invoke, Ok, Fail, Info}
-use Rattle.history.specs.declared.events.Process.TheVariants.{Client, Nemesis}
-use Rattle.history.specs.declared.events.Body.{Body}
-use Rattle.history.specs.declared.events.Body.TheVariants.{Op as AnOp}
-use Rattle.history.specs.declared.events.Event.{Event}
+use Rattle.history.specs.declared.event.EventKind.{EventKind}
+use Rattle.history.specs.declared.event.EventKind.TheVariants.{Invoke, Ok, Fail, Info}
+use Rattle.history.specs.declared.event.Process.TheVariants.{Client, Nemesis}
+use Rattle.history.specs.declared.event.Body.{Body}
+use Rattle.history.specs.declared.event.Body.TheVariants.{Op as AnOp}
+use Rattle.history.specs.declared.event.Event.{Event}
 use Rattle.history.specs.declared.rows.Row.{Row}
 use Rattle.history.specs.WellFormed.{thread_of, crashes, current_of, is_client, open_of, IsCurrent, IsWellFormed}
-use Rattle.history.specs.Kept.{row_of, row_after}
+use Rattle.history.specs.HistoryInvariant.{row_of, row_after}
 use Rattle.history.proofs.Appending.{open_of-own, open_of-other, current_of-same, current_of-crashed}
 
 -- the thread of a thread's current process

@@ -6,16 +6,17 @@ use Rattle.std.proofs.lemmas.Option.{same_Some, slice_get-get_or, get_or_from_sl
 use Rattle.std.proofs.lemmas.List.{take_at, length-set, get_or-set_same, get_or-set_other}
 use Rattle.std.proofs.Math.Nat.{mod-lt, mul-le-mul_left}
 use Rattle.models.specs.declared.operation.Op.{Op}
-use Rattle.history.specs.declared.events.EventKind.{EventKind}
-use Rattle.history.specs.declared.events.EventKind.TheVariants.{Info}
-use Rattle.history.specs.declared.events.Process.{Process}
-use Rattle.history.specs.declared.events.Process.TheVariants.{Client, Nemesis}
-use Rattle.history.specs.declared.events.Body.{Body}
-use Rattle.history.specs.declared.events.Body.TheVariants.{Op as AnOp, Fault as AFault}
-use Rattle.history.specs.declared.events.Event.{Event}
+use Rattle.history.specs.declared.event.EventKind.{EventKind}
+use Rattle.history.specs.declared.event.EventKind.TheVariants.{Info}
+use Rattle.history.specs.declared.event.Process.{Process}
+use Rattle.history.specs.declared.event.Process.TheVariants.{Client, Nemesis}
+use Rattle.history.specs.declared.event.Body.{Body}
+use Rattle.history.specs.declared.event.Body.TheVariants.{Op as AnOp, Fault as AFault}
+use Rattle.history.specs.declared.event.Event.{Event}
 use Rattle.history.specs.declared.rows.Row.{Row}
-use Rattle.history.specs.WellFormed.{thread_of, current_of, key_behind, IsConcurrency, IsWellFormed, IsHistoryOf}
-use Rattle.history.specs.Kept.{row_of, row_after, MovesOn, IsKept}
+use Rattle.history.specs.Events.{key_of}
+use Rattle.history.specs.WellFormed.{thread_of, current_of, IsConcurrency, IsWellFormed, IsHistoryOf}
+use Rattle.history.specs.HistoryInvariant.{row_of, row_after, MovesOn, IsSoundHistory}
 use Rattle.history.proofs.Appending.{first_key-push}
 use Rattle.history.proofs.Keeping.{OpenIsCurrent, by_client, by_nemesis, current_of-le, own_row_after, other_row_after, nemesis_row_after, client_keeps_current, nemesis_keeps_current}
 
@@ -92,8 +93,8 @@ rows_len c n kind (Client p) rows rows' moves = ap length moves.2 ∙ length-set
 rows_len c n kind Nemesis rows rows' moves = ap length moves
 
 -- one more event
-pub kept_after : (c : ℕ) (events : List Event) (rows rows' : List Row) (key : Option ℕ) (e : Event) → IsKept c events rows key → IsWellFormed c events e → MovesOn (length rows) (length events) e.kind e.process rows rows'
-    → IsKept c (events ++ e ∷ []) rows' (option_or key (key_behind e.body None))
+pub kept_after : (c : ℕ) (events : List Event) (rows rows' : List Row) (key : Option ℕ) (e : Event) → IsSoundHistory c events rows key → IsWellFormed c events e → MovesOn (length rows) (length events) e.kind e.process rows rows'
+    → IsSoundHistory c (events ++ e ∷ []) rows' (option_or key (key_of e))
 kept_after c events rows rows' key e kept well moves = record {
   concurrency = kept.concurrency;
   history = history-push c events e kept.history well;
@@ -101,7 +102,7 @@ kept_after c events rows rows' key e kept well moves = record {
   open_is_current = after.0;
   threads = rows_len c (length events) e.kind e.process rows rows' on ∙ kept.threads;
   rows_are = after.1;
-  key_is = ap (λ k. option_or k (key_behind e.body None)) kept.key_is ∙ sym (first_key-push events e);
+  key_is = ap (λ k. option_or k (key_of e)) kept.key_is ∙ sym (first_key-push events e);
 }
   where
     on : MovesOn c (length events) e.kind e.process rows rows'
@@ -111,7 +112,7 @@ kept_after c events rows rows' key e kept well moves = record {
     after = step c events e.index e.kind e.process e.body rows rows' (let limits : IsConcurrency c = kept.concurrency in omega arith) kept.open_is_current kept.rows_are well on
 
 -- no event
-pub kept_at_first : (c : ℕ) (rows : List Row) → IsConcurrency c → length rows ≡ c → RowsAre c [] rows → IsKept c [] rows None
+pub kept_at_first : (c : ℕ) (rows : List Row) → IsConcurrency c → length rows ≡ c → RowsAre c [] rows → IsSoundHistory c [] rows None
 kept_at_first c rows limits len are = record {
   concurrency = limits;
   history = history-nil c;
@@ -123,7 +124,7 @@ kept_at_first c rows limits len are = record {
 }
 
 -- the numbers of processes stay far below 2^32
-pub processes_fit : (c : ℕ) (events : List Event) (rows : List Row) (key : Option ℕ) → IsKept c events rows key → All (λ row. row.process + length rows < 2 ^ 32) rows
+pub processes_fit : (c : ℕ) (events : List Event) (rows : List Row) (key : Option ℕ) → IsSoundHistory c events rows key → All (λ row. row.process + length rows < 2 ^ 32) rows
 processes_fit c events rows key kept k d h =
     (let limits : IsConcurrency c = kept.concurrency in
     let threads : length rows ≡ c = kept.threads in
@@ -139,11 +140,11 @@ pub written_back : (n : ℕ) (new old : List Row) → length new ≡ length old 
 written_back n new old same whole = (let len : length new ≡ n = omega arith in take_at new (drop (length new) old) n len)
 
 -- a prepared event, appended
-pub committed : (c : ℕ) (events events' : List Event) (rows old rows' : List Row) (key key' : Option ℕ) (n len : ℕ) (e : Event) → IsKept c events rows key → IsWellFormed c events e → n ≡ length events → old ≡ rows → len ≡ length rows
-    → MovesOn (length old) n e.kind e.process old rows' → events' ≡ events ++ e ∷ [] → key' ≡ option_or key (key_behind e.body None) → IsKept c events' (take len (rows' ++ drop (length rows') rows)) key'
+pub committed : (c : ℕ) (events events' : List Event) (rows old rows' : List Row) (key key' : Option ℕ) (n len : ℕ) (e : Event) → IsSoundHistory c events rows key → IsWellFormed c events e → n ≡ length events → old ≡ rows → len ≡ length rows
+    → MovesOn (length old) n e.kind e.process old rows' → events' ≡ events ++ e ∷ [] → key' ≡ option_or key (key_of e) → IsSoundHistory c events' (take len (rows' ++ drop (length rows') rows)) key'
 committed c events events' rows old rows' key key' n len e kept well index same whole moves more first =
-    subst (λ l. IsKept c events' l key') (sym (written_back len rows' rows (rows_len (length rows) (length events) e.kind e.process rows rows' on) whole))
-    (subst (λ k. IsKept c events' rows' k) (sym first) (subst (λ l. IsKept c l rows' (option_or key (key_behind e.body None))) (sym more) (kept_after c events rows rows' key e kept well on)))
+    subst (λ l. IsSoundHistory c events' l key') (sym (written_back len rows' rows (rows_len (length rows) (length events) e.kind e.process rows rows' on) whole))
+    (subst (λ k. IsSoundHistory c events' rows' k) (sym first) (subst (λ l. IsSoundHistory c l rows' (option_or key (key_of e))) (sym more) (kept_after c events rows rows' key e kept well on)))
   where
     on : MovesOn (length rows) (length events) e.kind e.process rows rows'
     on = subst (λ k. MovesOn (length rows) k e.kind e.process rows rows') index (subst (λ l. MovesOn (length l) n e.kind e.process l rows') same moves)

@@ -8,3 +8,4 @@ pub mod Replicas
 pub mod Values
 pub mod OneEvent
 pub mod OneRefusal
+pub mod OpEvents

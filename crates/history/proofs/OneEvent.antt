@@ -8,14 +8,14 @@ use Rattle.models.specs.declared.operation.Name.TheVariants.{Read, Write, Cas, A
 use Rattle.models.specs.declared.operation.Part.{Part}
 use Rattle.models.specs.declared.operation.Part.TheVariants.{Nil, Int, Pair, Set}
 use Rattle.models.specs.declared.operation.Op.{Op}
-use Rattle.models.specs.Texts.{text_of}
-use Rattle.history.specs.declared.events.EventKind.{EventKind}
-use Rattle.history.specs.declared.events.EventKind.TheVariants.{Invoke, Ok}
-use Rattle.history.specs.declared.events.Process.{Process}
-use Rattle.history.specs.declared.events.Process.TheVariants.{Client, Nemesis}
-use Rattle.history.specs.declared.events.Body.{Body}
-use Rattle.history.specs.declared.events.Body.TheVariants.{Op as AnOp, Fault as AFault}
-use Rattle.history.specs.declared.events.Event.{Event}
+use Rattle.models.specs.Names.{text_of}
+use Rattle.history.specs.declared.event.EventKind.{EventKind}
+use Rattle.history.specs.declared.event.EventKind.TheVariants.{Invoke, Ok}
+use Rattle.history.specs.declared.event.Process.{Process}
+use Rattle.history.specs.declared.event.Process.TheVariants.{Client, Nemesis}
+use Rattle.history.specs.declared.event.Body.{Body}
+use Rattle.history.specs.declared.event.Body.TheVariants.{Op as AnOp, Fault as AFault}
+use Rattle.history.specs.declared.event.Event.{Event}
 use Rattle.history.specs.Spelling.{IsNumber, SpellsIndex, SpellsKind, SpellsProcess, SpellsName, SpellsPart, SpellsBody, PairsSpell, Spells, value_at}
 
 one_number : (m : ℕ) (v : Value) (n k : ℕ) → IsNumber m v n → IsNumber m v k → n ≡ k
@@ -96,37 +96,33 @@ op_same n m k j x y a b d =
     ap (λ (w : Name). let op : Op = record { name = w; key = k; part = x } in op) a ∙ ap (λ (w : ℕ). let op : Op = record { name = m; key = w; part = x } in op) b
     ∙ ap (λ (w : Part). let op : Op = record { name = m; key = j; part = w } in op) d
 
-one_body : (kind : EventKind) (f v : Value) (x y : Body) → SpellsBody kind f v x → SpellsBody kind f v y → x ≡ y
-one_body kind f v (AnOp x) (AnOp y) a b =
+one_body : (f v : Value) (x y : Body) → SpellsBody f v x → SpellsBody f v y → x ≡ y
+one_body f v (AnOp x) (AnOp y) a b =
     (let names : x.name ≡ y.name = one_name f x.name y.name a.0 b.0 in
     let both : vector (more a.1.0 (more a.1.1 none)) ≡ vector (more b.1.0 (more b.1.1 none)) = sym a.1.2 ∙ b.1.2 in
     let keys : a.1.0 ≡ b.1.0 = cc in
     let parts : a.1.1 ≡ b.1.1 = cc in
     let other : SpellsPart a.1.1 y.part = subst (λ w. SpellsPart w y.part) (sym parts) b.1.4 in
     ap AnOp (op_same x.name y.name x.key y.key x.part y.part names (one_number (2 ^ 16) a.1.0 x.key y.key a.1.3 (subst (λ w. IsNumber (2 ^ 16) w y.key) (sym keys) b.1.3)) (one_part a.1.1 x.part y.part a.1.4 other)))
-one_body kind f v (AnOp x) (AFault fault) a b = absurd b
-one_body kind f v (AFault fault) y a b = absurd a
+one_body f v (AnOp x) (AFault fault) a b = absurd b
+one_body f v (AFault fault) y a b = absurd a
 
 at_one : {X : Type 0} (P : Value → X → Type 0) → ((v : Value) (x y : X) → P v x → P v y → x ≡ y) → (o : Option Value) (x y : X) → IsSomeAnd o (λ v. P v x) → IsSomeAnd o (λ v. P v y) → x ≡ y
 at_one P one (Some v) x y a b = one v x y a b
 at_one P one None x y a b = absurd a
 
-at_two : (kind : EventKind) (f v : Option Value) (x y : Body) → IsSomeAnd f (λ g. IsSomeAnd v (λ w. SpellsBody kind g w x)) → IsSomeAnd f (λ g. IsSomeAnd v (λ w. SpellsBody kind g w y)) → x ≡ y
-at_two kind (Some g) (Some w) x y a b = one_body kind g w x y a b
-at_two kind (Some g) None x y a b = absurd a
-at_two kind None v x y a b = absurd a
+at_two : (f v : Option Value) (x y : Body) → IsSomeAnd f (λ g. IsSomeAnd v (λ w. SpellsBody g w x)) → IsSomeAnd f (λ g. IsSomeAnd v (λ w. SpellsBody g w y)) → x ≡ y
+at_two (Some g) (Some w) x y a b = one_body g w x y a b
+at_two (Some g) None x y a b = absurd a
+at_two None v x y a b = absurd a
 
 pairs_spell_one : (ps : Pairs) (e f : Event) → PairsSpell ps e → PairsSpell ps f → e ≡ f
 pairs_spell_one ps e f a b =
-    ap (λ (w : Option ℕ). let g : Event = record { index = w; kind = e.kind; process = e.process; body = e.body } in g) (one_index (value_at (codes "index") ps) e.index f.index a.0 b.0)
-    ∙ ap (λ (w : EventKind). let g : Event = record { index = f.index; kind = w; process = e.process; body = e.body } in g) kinds
-    ∙ ap (λ (w : Process). let g : Event = record { index = f.index; kind = f.kind; process = w; body = e.body } in g) (at_one SpellsProcess one_process (value_at (codes "process") ps) e.process f.process a.2 b.2)
+    ap (λ (w : Option ℕ). let g : Event = record { index = w; kind = e.kind; process = e.process; body = e.body } in g) (one_index (value_at (codes "index") ps) e.index f.index a.index b.index)
+    ∙ ap (λ (w : EventKind). let g : Event = record { index = f.index; kind = w; process = e.process; body = e.body } in g) (at_one SpellsKind one_kind (value_at (codes "type") ps) e.kind f.kind a.kind b.kind)
+    ∙ ap (λ (w : Process). let g : Event = record { index = f.index; kind = f.kind; process = w; body = e.body } in g) (at_one SpellsProcess one_process (value_at (codes "process") ps) e.process f.process a.process b.process)
     ∙ ap (λ (w : Body). let g : Event = record { index = f.index; kind = f.kind; process = f.process; body = w } in g)
-    (at_two e.kind (value_at (codes "f") ps) (value_at (codes "value") ps) e.body f.body a.3
-    (subst (λ k. IsSomeAnd (value_at (codes "f") ps) (λ g. IsSomeAnd (value_at (codes "value") ps) (λ w. SpellsBody k g w f.body))) (sym kinds) b.3))
-  where
-    kinds : e.kind ≡ f.kind
-    kinds = at_one SpellsKind one_kind (value_at (codes "type") ps) e.kind f.kind a.1 b.1
+    (at_two (value_at (codes "f") ps) (value_at (codes "value") ps) e.body f.body a.body b.body)
 
 pub spell_one : (v : Value) (e f : Event) → Spells v e → Spells v f → e ≡ f
 spell_one v e f a b =

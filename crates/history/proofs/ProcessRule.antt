@@ -2,15 +2,15 @@
 use Rattle.std.proofs.Common.{◌≡◌, ℕ, ◌+◌, cond, nat_eq, Option, Some, None, List, [], ◌∷◌, ◌++◌, length, option_map, refl, sym, ap, ◌∙◌, subst, append_assoc, length-append, ⊎_elim, arith}
 use Rattle.std.proofs.lemmas.Bool.{cases_eq, eq-eqb, ne_eqb}
 use Rattle.models.specs.declared.operation.Op.{Op}
-use Rattle.history.specs.declared.events.EventKind.{EventKind}
-use Rattle.history.specs.declared.events.EventKind.TheVariants.{Invoke, Ok, Fail, Info}
-use Rattle.history.specs.declared.events.Process.{Process}
-use Rattle.history.specs.declared.events.Process.TheVariants.{Client, Nemesis}
-use Rattle.history.specs.declared.events.Body.{Body}
-use Rattle.history.specs.declared.events.Body.TheVariants.{Op as AnOp, Fault as AFault}
-use Rattle.history.specs.declared.events.Event.{Event}
-use Rattle.history.specs.Events.{act_in, act_of, key_in, key_of, number_in, process_of, indexed_from}
-use Rattle.history.specs.Rule.{MayCome, busy_after, MayComeFrom, IsHistory}
+use Rattle.history.specs.declared.event.EventKind.{EventKind}
+use Rattle.history.specs.declared.event.EventKind.TheVariants.{Invoke, Ok, Fail, Info}
+use Rattle.history.specs.declared.event.Process.{Process}
+use Rattle.history.specs.declared.event.Process.TheVariants.{Client, Nemesis}
+use Rattle.history.specs.declared.event.Body.{Body}
+use Rattle.history.specs.declared.event.Body.TheVariants.{Op as AnOp, Fault as AFault}
+use Rattle.history.specs.declared.event.Event.{Event}
+use Rattle.history.specs.Events.{op_event_in, op_event, indexed_from}
+use Rattle.history.specs.ProcessRule.{MayCome, busy_after, MayComeFrom, IsHistory}
 use Rattle.history.specs.WellFormed.{is_client, open_of, IsWellFormed, IsHistoryOf}
 use Rattle.history.proofs.Appending.{open_of-own, open_of-other}
 
@@ -22,7 +22,7 @@ abbrev Agrees : (ℕ → Option ℕ) → List Event → Type 0
 Agrees busy events = (p : ℕ) → busy p ≡ open_key events p
 
 may_come : (c : ℕ) (before : List Event) (index : Option ℕ) (kind : EventKind) (process : Process) (body : Body) (busy : ℕ → Option ℕ) → Agrees busy before
-    → IsWellFormed c before (record { index = index; kind = kind; process = process; body = body }) → MayCome busy (number_in process) (key_in body) (act_in kind body)
+    → IsWellFormed c before (record { index = index; kind = kind; process = process; body = body }) → MayCome busy (op_event_in kind process body)
 may_come c before index Invoke (Client p) (AnOp op) busy agree well = (agree p ∙ ap (option_map (λ (x : ℕ × Op). x.1.key)) well.3.1, refl)
 may_come c before index Ok (Client p) (AnOp op) busy agree well = agree p ∙ ap (option_map (λ (x : ℕ × Op). x.1.key)) well.3.2 ∙ ap Some (sym well.3.3.1)
 may_come c before index Fail (Client p) (AnOp op) busy agree well = agree p ∙ ap (option_map (λ (x : ℕ × Op). x.1.key)) well.3.2 ∙ ap Some (sym well.3.3.1)
@@ -42,7 +42,7 @@ after_client before e p now busy agree is new q =
 
 after : (c : ℕ) (before : List Event) (index : Option ℕ) (kind : EventKind) (process : Process) (body : Body) (busy : ℕ → Option ℕ) → Agrees busy before
     → IsWellFormed c before (record { index = index; kind = kind; process = process; body = body })
-    → Agrees (busy_after busy (number_in process) (key_in body) (act_in kind body)) (before ++ record { index = index; kind = kind; process = process; body = body } ∷ [])
+    → Agrees (busy_after busy (op_event_in kind process body)) (before ++ record { index = index; kind = kind; process = process; body = body } ∷ [])
 after c before index Invoke (Client p) (AnOp op) busy agree well =
     after_client before (record { index = index; kind = Invoke; process = Client p; body = AnOp op }) p (Some op.key) busy agree refl
     (ap (option_map (λ (x : ℕ × Op). x.1.key)) (open_of-own before (record { index = index; kind = Invoke; process = Client p; body = AnOp op }) p (eq-eqb p p refl)))
@@ -65,7 +65,7 @@ come_from c before (e ∷ events) n busy len agree h =
     (let well = h before events e refl in (
       omega arith,
       may_come c before e.index e.kind e.process e.body busy agree well,
-      come_from c (before ++ e ∷ []) events (n + 1) (busy_after busy (process_of e) (key_of e) (act_of e)) (let more : length (before ++ e ∷ []) ≡ length before + 1 = length-append before (e ∷ []) in omega arith)
+      come_from c (before ++ e ∷ []) events (n + 1) (busy_after busy (op_event e)) (let more : length (before ++ e ∷ []) ≡ length before + 1 = length-append before (e ∷ []) in omega arith)
           (after c before e.index e.kind e.process e.body busy agree well) (subst (IsHistoryOf c) (sym (append_assoc before (e ∷ []) events)) h),
     ))
 

@@ -3,7 +3,7 @@ use Rattle.std.proofs.Common.{◌≡◌, ◌≢◌, ℕ, ℤ, ◌+◌, ◌<◌, 
 use Rattle.std.proofs.lemmas.List.{drop_more, drop_all}
 use Rattle.edn.specs.Value.{Value, nil, int, vector, pairs, none, more}
 use Rattle.edn.specs.View.{value_of, values_of, entries_of}
-use Rattle.edn.specs.declared.elements.Edn.{Edn, Map, the_lemmas}
+use Rattle.edn.specs.declared.value.Edn.{Edn, Map, the_lemmas}
 use Rattle.models.specs.declared.operation.Part.{Part}
 use Rattle.models.specs.declared.operation.Part.TheVariants.{Nil, Int, Pair, Set}
 use Rattle.history.specs.Spelling.{is_keyword, value_at, int_in, two_in, SpellsPart}

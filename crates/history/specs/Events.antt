@@ -1,26 +1,24 @@
--- What events say of operations. An operation is named by the index of its invocation, and a completion is of its
+-- Promise: what events say of operations. An operation is named by the index of its invocation, and a completion is of its
 -- process's last invocation (the Jepsen documentation)
-use Rattle.std.specs.Prelude.{◌≡◌, ℕ, ◌+◌, List, [], ◌∷◌, ◌++◌, nat_eq, if◌then◌else◌, map}
+use Rattle.std.specs.Prelude.{◌≡◌, ℕ, ◌+◌, List, [], ◌∷◌, ◌++◌, nat_eq, if◌then◌else◌, Bool, false, Option, Some, None, is_some, option_map, map}
 use Rattle.std.specs.List.{filter}
 use Rattle.models.specs.declared.operation.Op.{Op}
 use Rattle.models.specs.declared.finding.Answer.{Answer}
 use Rattle.models.specs.Objects.{answer_of}
-use Rattle.history.specs.declared.events.EventKind.{EventKind}
-use Rattle.history.specs.declared.events.EventKind.TheVariants.{Invoke, Ok, Fail, Info}
-use Rattle.history.specs.declared.events.Process.{Process}
-use Rattle.history.specs.declared.events.Process.TheVariants.{Client, Nemesis}
-use Rattle.history.specs.declared.events.Body.{Body}
-use Rattle.history.specs.declared.events.Body.TheVariants.{Op as AnOp, Fault as AFault}
-use Rattle.history.specs.declared.events.Event.{Event}
+use Rattle.history.specs.declared.event.EventKind.{EventKind}
+use Rattle.history.specs.declared.event.EventKind.TheVariants.{Invoke, Ok, Fail, Info}
+use Rattle.history.specs.declared.event.Process.{Process}
+use Rattle.history.specs.declared.event.Process.TheVariants.{Client, Nemesis}
+use Rattle.history.specs.declared.event.Body.{Body}
+use Rattle.history.specs.declared.event.Body.TheVariants.{Op as AnOp, Fault as AFault}
+use Rattle.history.specs.declared.event.Event.{Event}
 
--- what an event says: an operation is invoked, has returned with an answer, has failed, has crashed; or a fault
--- strikes, which belongs to no operation
+-- what happens to an operation: it is invoked, has returned with an answer, has failed, has crashed
 pub data Act : Type 0 where
   Invokes : Op → Act
   Returns : Answer → Act
   Fails : Act
   Crashes : Act
-  Strikes : Act
 
 abbrev pub act_by : EventKind → Op → Act
 act_by Invoke op = Invokes op
@@ -28,28 +26,22 @@ act_by Ok op = Returns (answer_of op.part)
 act_by Fail op = Fails
 act_by Info op = Crashes
 
-abbrev pub act_in : EventKind → Body → Act
-act_in kind (AnOp op) = act_by kind op
-act_in kind (AFault fault) = Strikes
+-- what an event says of an operation: its process, its key, and what happens to it
+pub record OpEvent : Type 0 where
+  pub process : ℕ
+  pub key : ℕ
+  pub act : Act
 
-abbrev pub act_of : Event → Act
-act_of e = act_in e.kind e.body
+-- only a client's event speaks of an operation. A fault of the nemesis speaks of none, and has no key
+abbrev pub op_event_in : EventKind → Process → Body → Option OpEvent
+op_event_in kind (Client p) (AnOp op) = Some (record { process = p; key = op.key; act = act_by kind op })
+op_event_in kind _ _ = None
 
--- the key of an event's operation; no fault has one
-abbrev pub key_in : Body → ℕ
-key_in (AnOp op) = op.key
-key_in (AFault fault) = 0
+abbrev pub op_event : Event → Option OpEvent
+op_event e = op_event_in e.kind e.process e.body
 
-abbrev pub key_of : Event → ℕ
-key_of e = key_in e.body
-
--- the number of an event's process; the nemesis has none
-abbrev pub number_in : Process → ℕ
-number_in (Client p) = p
-number_in Nemesis = 0
-
-abbrev pub process_of : Event → ℕ
-process_of e = number_in e.process
+abbrev pub key_of : Event → Option ℕ
+key_of e = option_map (λ o. o.key) (op_event e)
 
 -- what happens to an operation
 pub data Mark : Type 0 where
@@ -64,24 +56,33 @@ pub record Entry : Type 0 where
   pub key : ℕ
   pub mark : Mark
 
--- the mark that an event makes, where the last invocation of each process is known. A fault makes none
-abbrev pub marks_of : ℕ → (ℕ → ℕ) → ℕ → ℕ → Act → List Entry
-marks_of i last process key (Invokes op) = record { index = i; key = key; mark = Invoked i op } ∷ []
-marks_of i last process key (Returns answer) = record { index = i; key = key; mark = Returned (last process) answer } ∷ []
-marks_of i last process key Fails = record { index = i; key = key; mark = Failed (last process) } ∷ []
-marks_of i last process key Crashes = record { index = i; key = key; mark = Crashed (last process) } ∷ []
-marks_of i last process key Strikes = []
+-- the mark that an act makes at index i, where last is the last invocation of its process
+abbrev pub mark_by_act : ℕ → ℕ → Act → Mark
+mark_by_act i last (Invokes op) = Invoked i op
+mark_by_act i last (Returns answer) = Returned last answer
+mark_by_act i last Fails = Failed last
+mark_by_act i last Crashes = Crashed last
+
+-- the entry that an event makes, where the last invocation of each process is known
+abbrev pub entry_by : ℕ → (ℕ → ℕ) → OpEvent → Entry
+entry_by i last e = record { index = i; key = e.key; mark = mark_by_act i (last e.process) e.act }
+
+abbrev pub entries_by : ℕ → (ℕ → ℕ) → Option OpEvent → List Entry
+entries_by i last None = []
+entries_by i last (Some e) = entry_by i last e ∷ []
 
 -- the last invocation of each process, after an event
-abbrev pub last_after : ℕ → (ℕ → ℕ) → ℕ → Act → ℕ → ℕ
-last_after i last process (Invokes op) p = if nat_eq p process then i else last p
-last_after i last process _ p = last p
+abbrev pub last_by : ℕ → (ℕ → ℕ) → ℕ → Act → ℕ → ℕ
+last_by i last process (Invokes op) p = if nat_eq p process then i else last p
+last_by i last process _ p = last p
+
+abbrev pub last_after : ℕ → (ℕ → ℕ) → Option OpEvent → ℕ → ℕ
+last_after i last None = last
+last_after i last (Some e) = last_by i last e.process e.act
 
 abbrev pub entries_from : (ℕ → ℕ) → List (ℕ × Event) → List Entry
 entries_from last [] = []
-entries_from last (x ∷ events) =
-    marks_of x.0 last (process_of x.1) (key_of x.1) (act_of x.1)
-    ++ entries_from (last_after x.0 last (process_of x.1) (act_of x.1)) events
+entries_from last (x ∷ events) = entries_by x.0 last (op_event x.1) ++ entries_from (last_after x.0 last (op_event x.1)) events
 
 -- the entries of events with their indices, in order
 abbrev pub entries_of : List (ℕ × Event) → List Entry
@@ -95,6 +96,21 @@ indexed_from i (e ∷ events) = (i, e) ∷ indexed_from (i + 1) events
 -- the entries of a key, whose indices stay
 abbrev pub of_key : ℕ → List Entry → List Entry
 of_key key entries = filter (λ e. nat_eq e.key key) entries
+
+-- the events of a key, whose indices stay. A fault is no event of any key
+abbrev pub is_of_key : ℕ → Option OpEvent → Bool
+is_of_key key None = false
+is_of_key key (Some e) = nat_eq e.key key
+
+abbrev pub is_event_of : ℕ → Event → Bool
+is_event_of key e = is_of_key key (op_event e)
+
+abbrev pub events_of_key : ℕ → List (ℕ × Event) → List (ℕ × Event)
+events_of_key key events = filter (λ x. is_event_of key x.1) events
+
+-- the events that speak of an operation
+abbrev pub op_events : List (ℕ × Event) → List (ℕ × Event)
+op_events events = filter (λ x. is_some (op_event x.1)) events
 
 abbrev pub marks : List Entry → List Mark
 marks entries = map (λ e. e.mark) entries

@@ -1,14 +1,14 @@
--- Histories that show what the definitions say
+-- Promise: histories that show what the definitions say
 use Rattle.std.specs.Prelude.{ℕ, pos, None, List, [], ◌∷◌}
 use Rattle.models.specs.declared.operation.Name.TheVariants.{Read, Write}
 use Rattle.models.specs.declared.operation.Part.{Part}
 use Rattle.models.specs.declared.operation.Part.TheVariants.{Int}
 use Rattle.models.specs.declared.operation.Op.{Op}
-use Rattle.history.specs.declared.events.EventKind.{EventKind}
-use Rattle.history.specs.declared.events.EventKind.TheVariants.{Invoke, Info}
-use Rattle.history.specs.declared.events.Process.TheVariants.{Client}
-use Rattle.history.specs.declared.events.Body.TheVariants.{Op as AnOp}
-use Rattle.history.specs.declared.events.Event.{Event}
+use Rattle.history.specs.declared.event.EventKind.{EventKind}
+use Rattle.history.specs.declared.event.EventKind.TheVariants.{Invoke, Info}
+use Rattle.history.specs.declared.event.Process.TheVariants.{Client}
+use Rattle.history.specs.declared.event.Body.TheVariants.{Op as AnOp}
+use Rattle.history.specs.declared.event.Event.{Event}
 
 abbrev pub write : ℕ → Op
 write v = record { name = Write; key = 7; part = Int (pos v) }

@@ -1,4 +1,4 @@
--- The numbers of replicas
+-- Promise: the numbers of replicas
 use Rattle.std.specs.Prelude.{◌≡◌, ℕ, ◌≤◌, Bool, false, ◌==◌, if◌then◌else◌, List, length, slice_index_or, All, count_by}
 use Rattle.std.specs.List.{concat}
 

@@ -1,21 +1,21 @@
--- The events that elements of a text spell (the Jepsen documentation; the table of parts is this project's own)
+-- Promise: the events that elements of a text spell (the Jepsen documentation; the table of parts is this project's own)
 use Rattle.std.specs.Prelude.{◌≡◌, ℕ, ◌<◌, ◌^◌, ℤ, pos, Bool, false, Option, Some, None, IsSomeAnd, List, codes, if◌then◌else◌}
 use Rattle.std.specs.Str.{bytes_eq}
 use Rattle.edn.specs.Value.{Value, int, keyword, nil, vector, pairs, none, more, Pairs, no_pairs, pair}
-use Rattle.edn.specs.declared.refusals.Refusal.{Refusal}
-use Rattle.edn.specs.declared.refusals.Refusal.TheVariants.{BadValue, NoMemory}
+use Rattle.edn.specs.declared.refusal.Refusal.{Refusal}
+use Rattle.edn.specs.declared.refusal.Refusal.TheVariants.{BadValue, NoMemory}
 use Rattle.models.specs.declared.operation.Name.{Name}
 use Rattle.models.specs.declared.operation.Part.{Part}
 use Rattle.models.specs.declared.operation.Part.TheVariants.{Nil, Int, Pair, Set}
-use Rattle.models.specs.Texts.{text_of}
-use Rattle.history.specs.declared.events.EventKind.{EventKind}
-use Rattle.history.specs.declared.events.EventKind.TheVariants.{Invoke, Ok}
-use Rattle.history.specs.declared.events.Process.{Process}
-use Rattle.history.specs.declared.events.Process.TheVariants.{Client, Nemesis}
-use Rattle.history.specs.declared.events.Body.{Body}
-use Rattle.history.specs.declared.events.Body.TheVariants.{Op as AnOp, Fault as AFault}
-use Rattle.history.specs.declared.events.Event.{Event}
-use Rattle.history.specs.WellFormed.{IsPartOf}
+use Rattle.models.specs.Names.{text_of}
+use Rattle.history.specs.declared.event.EventKind.{EventKind}
+use Rattle.history.specs.declared.event.EventKind.TheVariants.{Invoke, Ok}
+use Rattle.history.specs.declared.event.Process.{Process}
+use Rattle.history.specs.declared.event.Process.TheVariants.{Client, Nemesis}
+use Rattle.history.specs.declared.event.Body.{Body}
+use Rattle.history.specs.declared.event.Body.TheVariants.{Op as AnOp, Fault as AFault}
+use Rattle.history.specs.declared.event.Event.{Event}
+use Rattle.history.specs.WellFormed.{IsInTables}
 
 -- the element is the keyword of this name
 abbrev pub is_keyword : List ℕ → Value → Bool
@@ -59,21 +59,23 @@ SpellsPart v (Int a) = v ≡ int a
 SpellsPart v (Pair a b) = v ≡ vector (more (int a) (more (int b) none))
 SpellsPart v (Set members) = ⊥
 
--- a name, and a value [key part], where the key is 0 to 65,535 and the part is one of the table
-abbrev pub SpellsBody : EventKind → Value → Value → Body → Type 0
-SpellsBody kind f v (AnOp op) =
-    SpellsName f op.name
-    × ((key : Value) × (part : Value) × (v ≡ vector (more key (more part none))) × IsNumber (2 ^ 16) key op.key × SpellsPart part op.part)
-    × IsPartOf kind op.name op.part
-SpellsBody kind f v (AFault fault) = ⊥
+-- a vector [key part], where the key is 0 to 65,535
+abbrev pub SpellsKeyed : Value → ℕ → Part → Type 0
+SpellsKeyed v key part =
+    (k : Value) × (p : Value) × (v ≡ vector (more k (more p none))) × IsNumber (2 ^ 16) k key × SpellsPart p part
 
--- the pairs of a map spell the event. Other keys say nothing
-abbrev pub PairsSpell : Pairs → Event → Type 0
-PairsSpell ps e =
-    SpellsIndex (value_at (codes "index") ps) e.index
-    × IsSomeAnd (value_at (codes "type") ps) (λ v. SpellsKind v e.kind)
-    × IsSomeAnd (value_at (codes "process") ps) (λ v. SpellsProcess v e.process)
-    × IsSomeAnd (value_at (codes "f") ps) (λ f. IsSomeAnd (value_at (codes "value") ps) (λ v. SpellsBody e.kind f v e.body))
+-- :f and :value spell an operation. For now they spell no fault
+abbrev pub SpellsBody : Value → Value → Body → Type 0
+SpellsBody f v (AnOp op) = SpellsName f op.name × SpellsKeyed v op.key op.part
+SpellsBody f v (AFault fault) = ⊥
+
+-- the pairs of a map spell the event, whose kind, process and body go together as the tables say. Other keys say nothing
+pub record PairsSpell (ps : Pairs) (e : Event) : Type 0 where
+  pub index : SpellsIndex (value_at (codes "index") ps) e.index
+  pub kind : IsSomeAnd (value_at (codes "type") ps) (λ v. SpellsKind v e.kind)
+  pub process : IsSomeAnd (value_at (codes "process") ps) (λ v. SpellsProcess v e.process)
+  pub body : IsSomeAnd (value_at (codes "f") ps) (λ f. IsSomeAnd (value_at (codes "value") ps) (λ v. SpellsBody f v e.body))
+  pub in_tables : IsInTables e.kind e.process e.body
 
 -- the element spells the event
 abbrev pub Spells : Value → Event → Type 0

@@ -1,4 +1,4 @@
--- Which event may follow which. Processes and threads are those of the Jepsen documentation; the tables, the limits
+-- Promise: which event may follow which. Processes and threads are those of the Jepsen documentation; the tables, the limits
 -- and the order of the tests are this project's own. c is the concurrency, and an event's index is its place
 use Rattle.std.specs.Prelude.{◌≡◌, ℕ, ◌+◌, ◌*◌, ◌%◌, ◌^◌, ◌<◌, ◌≤◌, Bool, true, false, ◌&&◌, ◌==◌, if◌then◌else◌, Option, Some, None, IsSome, IfSome, option_map, option_and_then, List, [], ◌∷◌, ◌++◌, length, count_by}
 use Rattle.std.specs.Option.{option_or}
@@ -7,18 +7,19 @@ use Rattle.models.specs.declared.operation.Name.TheVariants.{Read, Write, Cas, A
 use Rattle.models.specs.declared.operation.Part.{Part}
 use Rattle.models.specs.declared.operation.Part.TheVariants.{Nil, Int, Pair}
 use Rattle.models.specs.declared.operation.Op.{Op}
-use Rattle.edn.specs.declared.refusals.Refusal.{Refusal}
-use Rattle.edn.specs.declared.refusals.Refusal.TheVariants.{Busy, WrongProcess, NotOpen, Mismatch, BadValue, BadIndex, HistoryFull, BadConcurrency, NoMemory}
+use Rattle.edn.specs.declared.refusal.Refusal.{Refusal}
+use Rattle.edn.specs.declared.refusal.Refusal.TheVariants.{Busy, WrongProcess, NotOpen, Mismatch, BadValue, BadIndex, HistoryFull, BadConcurrency, NoMemory}
+use Rattle.history.specs.Events.{key_of}
 use Rattle.history.specs.Replicas.{IsReplica, AreGroups}
-use Rattle.history.specs.declared.events.EventKind.{EventKind}
-use Rattle.history.specs.declared.events.EventKind.TheVariants.{Invoke, Ok, Info}
-use Rattle.history.specs.declared.events.Process.{Process}
-use Rattle.history.specs.declared.events.Process.TheVariants.{Client, Nemesis}
-use Rattle.history.specs.declared.events.Fault.{Fault}
-use Rattle.history.specs.declared.events.Fault.TheVariants.{Partition, Heal, Pause, Resume, Crash, Restart, LoseReplies}
-use Rattle.history.specs.declared.events.Body.{Body}
-use Rattle.history.specs.declared.events.Body.TheVariants.{Op as AnOp, Fault as AFault}
-use Rattle.history.specs.declared.events.Event.{Event}
+use Rattle.history.specs.declared.event.EventKind.{EventKind}
+use Rattle.history.specs.declared.event.EventKind.TheVariants.{Invoke, Ok, Info}
+use Rattle.history.specs.declared.event.Process.{Process}
+use Rattle.history.specs.declared.event.Process.TheVariants.{Client, Nemesis}
+use Rattle.history.specs.declared.event.Fault.{Fault}
+use Rattle.history.specs.declared.event.Fault.TheVariants.{Partition, Heal, Pause, Resume, Crash, Restart, LoseReplies}
+use Rattle.history.specs.declared.event.Body.{Body}
+use Rattle.history.specs.declared.event.Body.TheVariants.{Op as AnOp, Fault as AFault}
+use Rattle.history.specs.declared.event.Event.{Event}
 
 -- Processes and threads
 
@@ -47,12 +48,12 @@ is_client p (Client q) = p == q
 is_client p Nemesis = false
 
 -- the last event of a process, with its index, which counts from n on
-abbrev pub last_from : ℕ → List Event → ℕ → Option (ℕ × Event)
-last_from n [] p = None
-last_from n (e ∷ events) p = option_or (last_from (n + 1) events p) (if is_client p e.process then Some (n, e) else None)
+abbrev pub last_event_from : ℕ → List Event → ℕ → Option (ℕ × Event)
+last_event_from n [] p = None
+last_event_from n (e ∷ events) p = option_or (last_event_from (n + 1) events p) (if is_client p e.process then Some (n, e) else None)
 
-abbrev pub last_of : List Event → ℕ → Option (ℕ × Event)
-last_of events p = last_from 0 events p
+abbrev pub last_event_of : List Event → ℕ → Option (ℕ × Event)
+last_event_of events p = last_event_from 0 events p
 
 -- the operation that an invocation invokes
 abbrev pub invoked_in : EventKind → Body → Option Op
@@ -64,7 +65,7 @@ invoked_at last = option_map (λ op. (last.0, op)) (invoked_in last.1.kind last.
 
 -- the open operation of a process, with the index of its invocation: its last event is that invocation
 abbrev pub open_of : List Event → ℕ → Option (ℕ × Op)
-open_of events p = option_and_then invoked_at (last_of events p)
+open_of events p = option_and_then invoked_at (last_event_of events p)
 
 -- the index of a thread's open invocation
 abbrev pub open_index : ℕ → List Event → ℕ → Option ℕ
@@ -112,26 +113,21 @@ IsInTables kind (Client p) (AnOp op) = IsPartOf kind op.name op.part
 IsInTables Info Nemesis (AFault fault) = IsFault fault
 IsInTables _ _ _ = ⊥
 
-abbrev pub key_behind : Body → Option ℕ → Option ℕ
-key_behind (AnOp op) rest = Some op.key
-key_behind (AFault fault) rest = rest
-
 -- the key of the first operation
 abbrev pub first_key : List Event → Option ℕ
 first_key [] = None
-first_key (e ∷ events) = key_behind e.body (first_key events)
+first_key (e ∷ events) = option_or (key_of e) (first_key events)
 
--- the event's operation has the key of the first one
-abbrev pub SharesKey : List Event → Body → Type 0
-SharesKey events (AnOp op) = IfSome (first_key events) (λ key. op.key ≡ key)
-SharesKey events (AFault fault) = Unit {0}
+-- an operation of this key has the key of the first one
+abbrev pub SharesKey : List Event → Option ℕ → Type 0
+SharesKey events key = IfSome key (λ k. IfSome (first_key events) (λ first. k ≡ first))
 
 -- The tests of an event
 
 abbrev pub IsValue : List Event → Event → Type 0
 IsValue events e =
     IsInTables e.kind e.process e.body
-    × SharesKey events e.body  -- for now a history has one key
+    × SharesKey events (key_of e)  -- for now a history has one key
 
 -- a stated index is the length
 abbrev pub IsIndex : List Event → Option ℕ → Type 0
@@ -206,19 +202,33 @@ abbrev pub IsHistoryOf : ℕ → List Event → Type 0
 IsHistoryOf c events = (before after : List Event) (e : Event) → events ≡ before ++ e ∷ after → IsWellFormed c before e
 
 -- what a history holds
-pub record Contents : Type 0 where
+pub record HistoryView : Type 0 where
   pub concurrency : ℕ
   pub events : List Event
   pub prepared : Option Event
 
+-- the history takes the event
+abbrev pub Admits : HistoryView → Event → Type 0
+Admits history e = IsWellFormed history.concurrency history.events e
+
+-- the history with nothing prepared, with this event prepared, and with it as the last of its events
+abbrev pub idle : HistoryView → HistoryView
+idle history = record history { prepared = None }
+
+abbrev pub with_prepared : Event → HistoryView → HistoryView
+with_prepared e history = record history { prepared = Some e }
+
+abbrev pub with_last : Event → HistoryView → HistoryView
+with_last e history = record history { events = history.events ++ e ∷ []; prepared = None }
+
 abbrev pub IsConcurrency : ℕ → Type 0
 IsConcurrency c = (1 ≤ c) × (c ≤ 64)
 
-abbrev pub no_events : ℕ → Contents
+abbrev pub no_events : ℕ → HistoryView
 no_events c = record { concurrency = c; events = []; prepared = None }
 
 -- why no history is opened for the concurrency
-abbrev pub MayNotOpen : ℕ → Refusal → Type 0
-MayNotOpen c BadConcurrency = ¬ IsConcurrency c
-MayNotOpen c NoMemory = IsConcurrency c
-MayNotOpen c _ = ⊥
+abbrev pub MayNotStart : ℕ → Refusal → Type 0
+MayNotStart c BadConcurrency = ¬ IsConcurrency c
+MayNotStart c NoMemory = IsConcurrency c
+MayNotStart c _ = ⊥

@@ -3,7 +3,7 @@ ghost use Rattle.std.specs.Prelude.{◌≡◌, ◌↔◌, ◌^◌, ℕ, IsTrue, 
 ghost use Rattle.std.specs.Option.{option_copied};
 ghost use Rattle.edn.specs.Value.{nil, int, vector, none, more};
 ghost use Rattle.edn.specs.View.{value_of, values_of, entries_of};
-ghost use Rattle.models.specs.Texts.{Finds};
+ghost use Rattle.models.specs.Names.{Finds};
 ghost use Rattle.history.specs.Spelling.{is_keyword, value_at, int_in, name_in, two_in, IsNumber};
 
 use edn::Edn;
@@ -38,7 +38,8 @@ pub fn is_nil(element: &Edn) -> bool
 
 // The elements, if they are two.
 fn both(elements: &[Edn]) -> Option<(&Edn, &Edn)>
-    ensures { option_map (λ p. (value_of p.0.now, value_of p.1.now)) result ≡ two_in (vector (values_of elements.now)) }
+    ensures { option_map (λ p. (value_of p.0.now, value_of p.1.now)) result
+        ≡ two_in (vector (values_of elements.now)) }
 {
     if elements.len() != 2 {
         return None;
@@ -48,7 +49,8 @@ fn both(elements: &[Edn]) -> Option<(&Edn, &Edn)>
 
 /// The two elements of the vector of two that an element is.
 pub fn two_of(element: &Edn) -> Option<(&Edn, &Edn)>
-    ensures { option_map (λ p. (value_of p.0.now, value_of p.1.now)) result ≡ two_in (value_of element.now) }
+    ensures { option_map (λ p. (value_of p.0.now, value_of p.1.now)) result
+        ≡ two_in (value_of element.now) }
 {
     match element {
         Edn::Vector(parts) => both(parts.as_slice()),
@@ -58,7 +60,8 @@ pub fn two_of(element: &Edn) -> Option<(&Edn, &Edn)>
 
 /// The two integers of the vector of two that an element is.
 pub fn integers_of(element: &Edn) -> Option<(i64, i64)>
-    ensures { Finds result (λ p. value_of element.now ≡ vector (more (int p.0) (more (int p.1) none))) }
+    ensures { Finds result
+        (λ p. value_of element.now ≡ vector (more (int p.0) (more (int p.1) none))) }
 {
     let (a, b) = two_of(element)?;
     Some((integer(a)?, integer(b)?))
@@ -89,7 +92,8 @@ fn is_keyword(element: &Edn, name: &str) -> bool
 
 /// The value of the first pair whose key is the keyword of this name.
 pub fn value_at<'a>(pairs: &'a [(Edn, Edn)], name: &str) -> Option<&'a Edn>
-    ensures { option_map value_of (option_copied result) ≡ value_at name.now (entries_of pairs.now) }
+    ensures { option_map value_of (option_copied result)
+        ≡ value_at name.now (entries_of pairs.now) }
 {
     for pair in pairs {
         if is_keyword(&pair.0, name) {

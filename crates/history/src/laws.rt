@@ -2,13 +2,13 @@
 ghost use Rattle.std.specs.Prelude.{◌≡◌, ℕ, List};
 ghost use Rattle.edn.specs.Value.{Value};
 ghost use Rattle.history.specs.Spelling.{Spells};
-ghost use Rattle.edn.specs.declared.refusals.Refusal.{Refusal};
-ghost use Rattle.edn.specs.declared.refusals.Refusal.TheVariants.{Busy, WrongProcess, NotOpen, Mismatch};
+ghost use Rattle.edn.specs.declared.refusal.Refusal.{Refusal};
+ghost use Rattle.edn.specs.declared.refusal.Refusal.TheVariants.{Busy, WrongProcess, NotOpen, Mismatch};
 ghost use Rattle.models.specs.declared.operation.Part.TheVariants.{Nil};
-ghost use Rattle.history.specs.declared.events.EventKind.TheVariants.{Invoke, Ok};
-ghost use Rattle.history.specs.declared.events.Event.{Event};
+ghost use Rattle.history.specs.declared.event.EventKind.TheVariants.{Invoke, Ok};
+ghost use Rattle.history.specs.declared.event.Event.{Event};
 ghost use Rattle.history.specs.Events.{indexed_from};
-ghost use Rattle.history.specs.Rule.{IsHistory};
+ghost use Rattle.history.specs.ProcessRule.{IsHistory};
 ghost use Rattle.history.specs.WellFormed.{IsWellFormed, Refuses, IsHistoryOf};
 ghost use Rattle.history.specs.Examples.{event, read, write, open_write, crashed_write};
 
@@ -29,7 +29,8 @@ pub fn refusals_in_order()
 
 /// Events each of which is well-formed after those before it follow the process rule, as far as operations go.
 pub fn process_rule_law()
-    ensures { (c : ℕ) (events : List Event) → IsHistoryOf c events → IsHistory (indexed_from 0 events) }
+    ensures { (c : ℕ) (events : List Event) →
+        IsHistoryOf c events → IsHistory (indexed_from 0 events) }
 {}
 
 /// An element spells at most one event.

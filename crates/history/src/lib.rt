@@ -1,21 +1,19 @@
 //! Histories of client events, in the manner of Jepsen.
 #![tactic(auto)]
 
+mod allowed;
 mod elements;
-pub mod events;
+pub mod event;
 mod groups;
-mod histories;
+mod history;
 mod laws;
-mod reading;
 mod rows;
-mod tables;
-#[cfg(test)]
-mod tests;
+mod spelling;
 
-pub use events::{Body, Event, EventKind, Fault, Process};
+pub use event::{Body, Event, EventKind, Fault, Process};
 pub use groups::Groups;
-pub use histories::History;
+pub use history::History;
 pub use laws::{
     crashed_process_is_replaced, one_event, one_refusal, process_rule_law, refusals_in_order,
 };
-pub use reading::from_edn;
+pub use spelling::from_edn;

@@ -1,8 +1,8 @@
 //! What a history keeps of each thread.
 ghost use Rattle.std.specs.Prelude.{◌≡◌, ◌+◌, ◌<◌, ◌≤◌, ◌^◌, length, All};
-ghost use Rattle.history.specs.Kept.{row_after, MovesOn};
+ghost use Rattle.history.specs.HistoryInvariant.{row_after, MovesOn};
 
-use crate::events::{EventKind, Process};
+use crate::event::{EventKind, Process};
 
 /// A thread's current process, and the index of its open invocation.
 #[derive(Clone, Copy)]

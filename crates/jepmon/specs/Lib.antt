@@ -1,8 +1,6 @@
-pub mod Commands
-pub mod Lines
-pub mod Orders
-pub mod Replies
-pub mod Script
-pub mod Steps
-pub mod Watch
-pub mod Words
+pub mod Command
+pub mod CommandLine
+pub mod ExitStatus
+pub mod Reply
+pub mod VerdictLine
+pub mod Unopened

@@ -2,23 +2,17 @@
 //! whether what the clients saw is linearizable (Herlihy and Wing, TOPLAS 1990).
 #![tactic(auto)]
 
-pub mod answering;
-pub mod commands;
-pub mod endings;
+pub mod command;
+pub mod command_line;
+pub mod exit_status;
 pub mod laws;
-pub mod machine;
-pub mod orders;
-pub mod replies;
 pub mod script;
-pub mod session;
-#[cfg(test)]
-mod tests;
-pub mod watched;
-pub mod writing;
+pub mod verdict_line;
 
+use command_line::{Order, Stop, no_text, order_of};
 use edn::Refusal;
-use endings::{status_after, status_of_stop};
-use orders::{Order, Stop, no_text, order_of};
+use exit_status::{status_after, status_of_stop};
+pub use line_loop::{Failed, Watched};
 use script::run_script;
 use std::alloc::{AllocError, Global};
 use std::env;
@@ -26,7 +20,6 @@ use std::env::Args;
 use std::io::ErrorKind;
 use std::process::ExitCode;
 use std::rt::Env;
-use watched::Watched;
 
 // The order that this program was given.
 fn order_given<R: Env + AllocGlobal>(rt: &R) -> Result<Order, Stop> {

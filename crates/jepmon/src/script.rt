@@ -1,59 +1,52 @@
 //! The monitor, driven by lines.
-ghost use Rattle.std.specs.Prelude.{◌≡◌, ◌≢◌, ◌⊎◌, ℕ, List, [], IfOk, OnOk, IfErr, OnErr, IsErrAnd, Err, true, false};
-ghost use Rattle.std.specs.Io.KnownBytes.{Consumes, IsAtEnd};
+ghost use Rattle.std.specs.Prelude.{◌≡◌, ◌≢◌, ◌⊎◌, ℕ, List, [], IfOk, OnOk, IfErr, IsErrAnd, Err, false, true};
+ghost use Rattle.harness.specs.Limits.{HasLimits};
 ghost use Rattle.harness.specs.Machine.{Machine, opening, MayNotOpen, IsVerdictOn};
-ghost use Rattle.jepmon.specs.Orders.{HasLimits};
-ghost use Rattle.jepmon.specs.Script.{IsAnswered, IsUpToDate, MayStop, Stops};
-ghost use Rattle.jepmon.specs.Replies.{CarriesOut, MayReply};
+ghost use Rattle.line_loop.specs.RefusalLine.{refusal_line};
+ghost use Rattle.line_loop.specs.Stopping.{MayStop, Finishes, Stops, KeepsUp};
+ghost use Rattle.jepmon.specs.Reply.{CarriesOut, MayReply};
+ghost use Rattle.jepmon.specs.Unopened.{IsUnopened};
 
-use crate::answering::answer_lines;
-use crate::commands::{Asked, asked_by};
-use crate::machine::LineMachine;
-use crate::replies::{append_refusal, append_verdict};
-use crate::watched::Failed;
+use crate::command::read_command;
+use crate::verdict_line::append_verdict;
 use edn::Refusal;
 use harness::{Command, Config, Core, Reply};
+use line_loop::{Failed, LineMachine, answer_lines, append_refusal};
 use linspec::Verdict;
 use std::alloc::{AllocError, Global};
 use std::io::{Read, Write};
 use std::marker::Model;
 use std::sync::Wait;
 
-/// A monitor whose commands are lines.
+// A one-thread object whose commands are lines.
 #[derive(Drop)]
-pub struct Script {
+struct ScriptMachine {
     alloc: Global,
     core: Core,
 }
 
-impl Model for Script {
+impl Model for ScriptMachine {
     ghost Value = { Machine };
 
-    ghost view = { λ script. script.core.machine };
+    ghost view = { λ machine. machine.core.machine };
 }
 
-impl LineMachine for Script {
-    type State = Script;
+impl LineMachine for ScriptMachine {
+    type State = ScriptMachine;
 
     type Verdict = Verdict;
 
-    ghost state = { λ script. script };
+    ghost state = { λ machine. machine };
 
     ghost may_reply = { MayReply };
 
     ghost shows = { IsVerdictOn };
 
     fn answer(&mut self, line: &[u8], reply: &mut Vec<u8>) -> Result<(), AllocError> {
-        match asked_by(self.alloc, line)? {
-            Asked::Nothing => Ok(()),
-            Asked::Append(event) => carry_out(
-                self.alloc,
-                &mut self.core,
-                Command::Append(event),
-                reply,
-            ),
-            Asked::Verdict => carry_out(self.alloc, &mut self.core, Command::Verdict, reply),
-            Asked::Refused(refusal) => append_refusal(self.alloc, reply, &refusal),
+        match read_command(self.alloc, line) {
+            Ok(None) => Ok(()),
+            Ok(Some(command)) => carry_out(self.alloc, &mut self.core, command, reply),
+            Err(refusal) => reply_refusal(self.alloc, refusal, reply),
         }
     }
 
@@ -74,8 +67,19 @@ fn carry_out(
 {
     match core.step(command) {
         Ok(Reply::Verdict(verdict)) => append_verdict(alloc, reply, &verdict),
-        Err(Refusal::NoMemory) => Err(AllocError),
-        Err(refusal) => append_refusal(alloc, reply, &refusal),
+        Err(refusal) => reply_refusal(alloc, refusal, reply),
+    }
+}
+
+// Puts the line of a refusal into an empty vector. Want of memory has no line.
+fn reply_refusal(alloc: Global, refusal: Refusal, reply: &mut Vec<u8>) -> Result<(), AllocError>
+    requires { reply.old.items ≡ [] }
+    ensures line { OnOk result (reply.new.items ≡ refusal_line refusal) }
+    ensures memory { OnOk result (refusal ≢ Refusal.NoMemory) }
+{
+    match refusal {
+        Refusal::NoMemory => Err(AllocError),
+        refusal => append_refusal(alloc, reply, &refusal),
     }
 }
 
@@ -100,24 +104,27 @@ pub fn run_script<X: Wait, R: Read + Failed, W: Write + Failed>(
     requires reads { R.has_failed reader.old ≡ false }
     requires writes { W.has_failed writer.old ≡ false }
     // A config out of its limits is refused before anything is read or written.
-    ensures limits { HasLimits config ⊎ IsErrAnd result (λ e. MayNotOpen config e × (reader.new ≡ reader.old) × (writer.new ≡ writer.old)) }
+    ensures limits { HasLimits config
+        ⊎ IsErrAnd result (IsUnopened config reader.old reader.new writer.old writer.new) }
     // All that the reader had is consumed, the writer grew by a reply text of it, and the verdict is that of the end.
-    ensures done { IfOk result (λ verdict. (input : List ℕ) × (end : Machine)
-        × Consumes (R.remaining reader.old) (R.remaining reader.new) input × IsAtEnd (R.remaining reader.new)
-        × IsAnswered MayReply (opening config) (W.contents writer.old) input end (W.contents writer.new)
-        × IsVerdictOn end verdict) }
-    ensures unfailed { OnOk result ((R.has_failed reader.new ≡ false) × (W.has_failed writer.new ≡ false)) }
+    ensures done { IfOk result (λ verdict. (end : Machine) × IsVerdictOn end verdict
+        × Finishes MayReply (opening config) end (R.remaining reader.old) (R.remaining reader.new)
+        (W.contents writer.old) (W.contents writer.new)) }
+    ensures unfailed { OnOk result ((R.has_failed reader.new ≡ false)
+        × (W.has_failed writer.new ≡ false)) }
     // Nothing was read or written; or the writer grew by a beginning of a reply text of the lines read to their end.
-    ensures stopped { IfErr result (λ e. (MayNotOpen config e × (reader.new ≡ reader.old) × (writer.new ≡ writer.old))
-        ⊎ Stops MayReply (opening config) (R.remaining reader.old) (R.remaining reader.new) (W.contents writer.old) (W.contents writer.new) e) }
+    ensures stopped { IfErr result (λ e.
+        IsUnopened config reader.old reader.new writer.old writer.new e
+        ⊎ Stops MayReply (opening config) (R.remaining reader.old) (R.remaining reader.new)
+        (W.contents writer.old) (W.contents writer.new) e) }
     // Where the reader failed, all lines that were read to their line feed had their replies.
-    ensures live { result ≡ Err Refusal.ReadFailed → (seen : List ℕ)
-        × Consumes (R.remaining reader.old) (R.remaining reader.new) seen
-        × IsUpToDate MayReply (opening config) (W.contents writer.old) seen (W.contents writer.new) }
+    ensures live { result ≡ Err Refusal.ReadFailed → KeepsUp MayReply (opening config)
+        (R.remaining reader.old) (R.remaining reader.new)
+        (W.contents writer.old) (W.contents writer.new) }
     ensures kinds { IfErr result (λ e. MayNotOpen config e ⊎ MayStop e) }
     ensures read { result ≡ Err Refusal.ReadFailed → R.has_failed reader.new ≡ true }
     ensures wrote { result ≡ Err Refusal.WriteFailed → W.has_failed writer.new ≡ true }
 {
     let core = Core::new(alloc, config)?;
-    answer_lines(rt, alloc, Script { alloc, core }, reader, writer)
+    answer_lines(rt, alloc, ScriptMachine { alloc, core }, reader, writer)
 }

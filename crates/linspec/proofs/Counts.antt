@@ -1,12 +1,13 @@
 -- how many ends there are, where a list has each once
-use Rattle.std.proofs.Common.{◌≡◌, ◌≢◌, ◌↔◌, ℕ, suc, ◌+◌, ◌≤◌, ◌<◌, ⊎_elim, List, [], ◌∷◌, ◌++◌, take, drop, length, sym, ap, subst, arith, length-append}
+use Rattle.std.proofs.Common.{◌≡◌, ◌≢◌, ◌↔◌, ℕ, suc, ◌+◌, ◌≤◌, ◌<◌, ⊎_elim, Bool, List, [], ◌∷◌, ◌++◌, take, drop, length, sym, ap, subst, arith, length-append}
 use Rattle.std.specs.List.{Contains}
 use Rattle.std.proofs.lemmas.List.{length-take, take-append-drop}
 use Rattle.std.proofs.lemmas.List.Elements.{Contains-append_left, Contains-append_right, Contains-append_cases}
+use Rattle.models.specs.declared.operation.Op.{Op}
 use Rattle.models.specs.Objects.{Object}
 use Rattle.history.specs.Events.{Mark}
 use Rattle.linspec.specs.Orders.{Pairwise}
-use Rattle.linspec.specs.Ends.{End, IsEnd, HasMoreThan}
+use Rattle.linspec.specs.Ends.{End, IsEndBy, HasMoreThanBy}
 use Rattle.linspec.proofs.Lists.{Contains-head, Contains-tail, Contains-cons_cases, Pairwise-left, cut_at}
 
 -- a list without repeats is no longer than one that has all its elements
@@ -25,7 +26,7 @@ no_longer_than {X} (x ∷ xs) ys once h =
     omega arith
 
 -- a list that has each end once tells how many there are
-pub more_ends : (o : Object) (marks : List Mark) (ends : List (End o.State)) (n : ℕ) → Pairwise (λ e f. e ≢ f) ends → ((e : End o.State) → Contains ends e ↔ IsEnd o marks e) → HasMoreThan o marks n ↔ (n < length ends)
+pub more_ends : {counts : Op → Bool} (o : Object) (marks : List Mark) (ends : List (End o.State)) (n : ℕ) → Pairwise (λ e f. e ≢ f) ends → ((e : End o.State) → Contains ends e ↔ IsEndBy counts o marks e) → HasMoreThanBy counts o marks n ↔ (n < length ends)
 more_ends o marks ends n once each = (
   (λ h. let l : length h.ends ≤ length ends = no_longer_than h.ends ends h.distinct (λ e k. (each e).1 (h.each e k)) in let m : length h.ends ≡ n + 1 = h.many in omega arith),
   (λ lt. record {

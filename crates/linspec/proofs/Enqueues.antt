@@ -4,6 +4,7 @@ use Rattle.std.specs.List.{Contains}
 use Rattle.models.specs.declared.finding.Found.{Found}
 use Rattle.models.specs.declared.finding.Found.TheVariants.{Unit as Done}
 use Rattle.models.specs.Objects.{fifo_queue}
+use Rattle.models.proofs.Tables.{same_outcome}
 use Rattle.history.specs.Events.{Mark}
 use Rattle.history.specs.Events.Mark.{Invoked, Returned, Failed}
 use Rattle.linspec.specs.Operations.{HasReturned, Precedes}
@@ -18,17 +19,17 @@ use Rattle.linspec.proofs.Counts.{no_longer_than}
 abbrev H : List Mark
 H = key_marks 1 two_enqueues
 
-is_H : H ≡ Invoked 0 (enqueue 1 5) ∷ Invoked 1 (enqueue 1 6) ∷ []
+is_H : H ≡ Invoked 0 (enqueue 1 (pos 5)) ∷ Invoked 1 (enqueue 1 (pos 6)) ∷ []
 is_H = refl
 
-of_two : (m : Mark) → Contains H m → (m ≡ Invoked 0 (enqueue 1 5)) ⊎ (m ≡ Invoked 1 (enqueue 1 6))
-of_two m h = ⊎_elim (λ e. inl (sym e)) (λ k. ⊎_elim (λ e. inr (sym e)) (λ n. absurd (Contains-nil m n)) (Contains-cons_cases (Invoked 1 (enqueue 1 6)) [] m k)) (Contains-cons_cases (Invoked 0 (enqueue 1 5)) (Invoked 1 (enqueue 1 6) ∷ []) m h)
+of_two : (m : Mark) → Contains H m → (m ≡ Invoked 0 (enqueue 1 (pos 5))) ⊎ (m ≡ Invoked 1 (enqueue 1 (pos 6)))
+of_two m h = ⊎_elim (λ e. inl (sym e)) (λ k. ⊎_elim (λ e. inr (sym e)) (λ n. absurd (Contains-nil m n)) (Contains-cons_cases (Invoked 1 (enqueue 1 (pos 6))) [] m k)) (Contains-cons_cases (Invoked 0 (enqueue 1 (pos 5))) (Invoked 1 (enqueue 1 (pos 6)) ∷ []) m h)
 
 no_return : (id : ℕ) → HasReturned H id → ⊥
-no_return id r = ⊎_elim (λ (e : Returned id r.0 ≡ Invoked 0 (enqueue 1 5)). cc) (λ (e : Returned id r.0 ≡ Invoked 1 (enqueue 1 6)). cc) (of_two _ r.1)
+no_return id r = ⊎_elim (λ (e : Returned id r.0 ≡ Invoked 0 (enqueue 1 (pos 5))). cc) (λ (e : Returned id r.0 ≡ Invoked 1 (enqueue 1 (pos 6))). cc) (of_two _ r.1)
 
 no_fail : (id : ℕ) → Contains H (Failed id) → ⊥
-no_fail id h = ⊎_elim (λ (e : Failed id ≡ Invoked 0 (enqueue 1 5)). cc) (λ (e : Failed id ≡ Invoked 1 (enqueue 1 6)). cc) (of_two _ h)
+no_fail id h = ⊎_elim (λ (e : Failed id ≡ Invoked 0 (enqueue 1 (pos 5))). cc) (λ (e : Failed id ≡ Invoked 1 (enqueue 1 (pos 6))). cc) (of_two _ h)
 
 -- every order of these two is legal that runs
 pending_legal : (order : List Taken) (s : List ℤ) → ((x : Taken) → Contains order x → Contains H (Invoked x.id x.op)) → Pairwise (λ x y. x.id ≢ y.id) order → Run fifo_queue [] order s → IsLegalOrder fifo_queue H order s
@@ -47,18 +48,18 @@ pending_legal order s invoked once run = record {
     every (x ∷ l) = ((λ y h p. no_return y.id (Precedes-returned H y.id x.id p)), every l)
 
 abbrev a5 : Taken
-a5 = record { id = 0; op = enqueue 1 5; found = Done }
+a5 = record { id = 0; op = enqueue 1 (pos 5); found = Done }
 
 abbrev b6 : Taken
-b6 = record { id = 1; op = enqueue 1 6; found = Done }
+b6 = record { id = 1; op = enqueue 1 (pos 6); found = Done }
 
 apart : ◌≡◌ {A = ℕ} 0 1 → ⊥
 apart e = omega arith
 
-in_a : Contains H (Invoked 0 (enqueue 1 5))
+in_a : Contains H (Invoked 0 (enqueue 1 (pos 5)))
 in_a = (0, omega arith, refl)
 
-in_b : Contains H (Invoked 1 (enqueue 1 6))
+in_b : Contains H (Invoked 1 (enqueue 1 (pos 6)))
 in_b = (1, omega arith, refl)
 
 one_of : (x y : Taken) → Contains (x ∷ []) y → x ≡ y
@@ -74,18 +75,18 @@ none : IsLegalOrder fifo_queue H [] []
 none = pending_legal [] [] (λ x h. absurd (Contains-nil x h)) tt refl
 
 five : IsLegalOrder fifo_queue H (a5 ∷ []) (pos 5 ∷ [])
-five = pending_legal (a5 ∷ []) (pos 5 ∷ []) (single_in a5 in_a) ((λ y h. absurd (Contains-nil y h)), tt) (pos 5 ∷ [], refl, refl)
+five = pending_legal (a5 ∷ []) (pos 5 ∷ []) (single_in a5 in_a) ((λ y h. absurd (Contains-nil y h)), tt) (pos 5 ∷ [], inl refl, refl)
 
 six : IsLegalOrder fifo_queue H (b6 ∷ []) (pos 6 ∷ [])
-six = pending_legal (b6 ∷ []) (pos 6 ∷ []) (single_in b6 in_b) ((λ y h. absurd (Contains-nil y h)), tt) (pos 6 ∷ [], refl, refl)
+six = pending_legal (b6 ∷ []) (pos 6 ∷ []) (single_in b6 in_b) ((λ y h. absurd (Contains-nil y h)), tt) (pos 6 ∷ [], inl refl, refl)
 
 five_six : IsLegalOrder fifo_queue H (a5 ∷ b6 ∷ []) (pos 5 ∷ pos 6 ∷ [])
 five_six = pending_legal (a5 ∷ b6 ∷ []) (pos 5 ∷ pos 6 ∷ []) (both_in a5 b6 in_a in_b)
-    ((λ y h e. apart (e ∙ ap (λ (w : Taken). w.id) (sym (one_of b6 y h)))), ((λ y h. absurd (Contains-nil y h)), tt)) (pos 5 ∷ [], refl, (pos 5 ∷ pos 6 ∷ [], refl, refl))
+    ((λ y h e. apart (e ∙ ap (λ (w : Taken). w.id) (sym (one_of b6 y h)))), ((λ y h. absurd (Contains-nil y h)), tt)) (pos 5 ∷ [], inl refl, (pos 5 ∷ pos 6 ∷ [], inl refl, refl))
 
 six_five : IsLegalOrder fifo_queue H (b6 ∷ a5 ∷ []) (pos 6 ∷ pos 5 ∷ [])
 six_five = pending_legal (b6 ∷ a5 ∷ []) (pos 6 ∷ pos 5 ∷ []) (both_in b6 a5 in_b in_a)
-    ((λ y h e. apart (sym (e ∙ ap (λ (w : Taken). w.id) (sym (one_of a5 y h))))), ((λ y h. absurd (Contains-nil y h)), tt)) (pos 6 ∷ [], refl, (pos 6 ∷ pos 5 ∷ [], refl, refl))
+    ((λ y h e. apart (sym (e ∙ ap (λ (w : Taken). w.id) (sym (one_of a5 y h))))), ((λ y h. absurd (Contains-nil y h)), tt)) (pos 6 ∷ [], inl refl, (pos 6 ∷ pos 5 ∷ [], inl refl, refl))
 
 abbrev left_by : (order : List Taken) (s : List ℤ) → IsLegalOrder fifo_queue H order s → End (List ℤ)
 left_by order s l = (end_of fifo_queue H order s l).0
@@ -139,19 +140,19 @@ distinct = (
   ),
 )
 
-enq_step : (s t : List ℤ) (v : ℕ) (found : Found) → fifo_queue.Steps s (enqueue 1 v) found t → (found ≡ Done) × (t ≡ s ++ pos v ∷ [])
-enq_step s t v found h = let q : ◌≡◌ {A = List ℤ × Found} (t, found) (s ++ pos v ∷ [], Done) = cc in (ap (λ (p : List ℤ × Found). p.1) q, ap (λ (p : List ℤ × Found). p.0) q)
+enq_step : (s t : List ℤ) (v : ℤ) (found : Found) → fifo_queue.Steps s (enqueue 1 v) found t → (found ≡ Done) × (t ≡ s ++ v ∷ [])
+enq_step s t v found h = let p = same_outcome (s ++ v ∷ [], Done) (t, found) h in (sym p.1, sym p.0)
 
-which : (x : Taken) → Contains H (Invoked x.id x.op) → ((x.id ≡ 0) × (x.op ≡ enqueue 1 5)) ⊎ ((x.id ≡ 1) × (x.op ≡ enqueue 1 6))
-which x h = ⊎_elim (λ (e : Invoked x.id x.op ≡ Invoked 0 (enqueue 1 5)). inl ((let t : x.id ≡ 0 = cc in t), (let t : x.op ≡ enqueue 1 5 = cc in t)))
-    (λ (e : Invoked x.id x.op ≡ Invoked 1 (enqueue 1 6)). inr ((let t : x.id ≡ 1 = cc in t), (let t : x.op ≡ enqueue 1 6 = cc in t))) (of_two _ h)
+which : (x : Taken) → Contains H (Invoked x.id x.op) → ((x.id ≡ 0) × (x.op ≡ enqueue 1 (pos 5))) ⊎ ((x.id ≡ 1) × (x.op ≡ enqueue 1 (pos 6)))
+which x h = ⊎_elim (λ (e : Invoked x.id x.op ≡ Invoked 0 (enqueue 1 (pos 5))). inl ((let t : x.id ≡ 0 = cc in t), (let t : x.op ≡ enqueue 1 (pos 5) = cc in t)))
+    (λ (e : Invoked x.id x.op ≡ Invoked 1 (enqueue 1 (pos 6))). inr ((let t : x.id ≡ 1 = cc in t), (let t : x.op ≡ enqueue 1 (pos 6) = cc in t))) (of_two _ h)
 
 -- a first operation, and what the queue is then
 took : (x : Taken) (s t : List ℤ) → Contains H (Invoked x.id x.op) → fifo_queue.Steps s x.op x.found t → ((x ≡ a5) × (t ≡ s ++ pos 5 ∷ [])) ⊎ ((x ≡ b6) × (t ≡ s ++ pos 6 ∷ []))
 took x s t i step =
     ⊎_elim
-    (λ w. (let r = enq_step s t 5 x.found (subst (λ op. fifo_queue.Steps s op x.found t) w.1 step) in inl ((λ i. record { id = w.0 i; op = w.1 i; found = r.0 i }), r.1)))
-    (λ w. (let r = enq_step s t 6 x.found (subst (λ op. fifo_queue.Steps s op x.found t) w.1 step) in inr ((λ i. record { id = w.0 i; op = w.1 i; found = r.0 i }), r.1)))
+    (λ w. (let r = enq_step s t (pos 5) x.found (subst (λ op. fifo_queue.Steps s op x.found t) w.1 step) in inl ((λ i. record { id = w.0 i; op = w.1 i; found = r.0 i }), r.1)))
+    (λ w. (let r = enq_step s t (pos 6) x.found (subst (λ op. fifo_queue.Steps s op x.found t) w.1 step) in inr ((λ i. record { id = w.0 i; op = w.1 i; found = r.0 i }), r.1)))
     (which x i)
 
 -- an end of one of the five orders is one of the list

@@ -1,10 +1,10 @@
 -- each legal order has an end, and only one with its state
-use Rattle.std.proofs.Common.{◌≡◌, ◌≢◌, ℕ, ◌⊎◌, inl, inr, ⊎_elim, Option, Some, None, List, [], ◌∷◌, ◌++◌, refl, sym, ap, ◌∙◌, subst, append_assoc}
+use Rattle.std.proofs.Common.{◌≡◌, ◌≢◌, ◌↔◌, ℕ, ◌⊎◌, inl, inr, ⊎_elim, Bool, IsTrue, Option, Some, None, List, [], ◌∷◌, ◌++◌, refl, sym, ap, ◌∙◌, subst, append_assoc}
 use Rattle.std.specs.List.{Contains}
 use Rattle.std.specs.Ordering.{nat_cmp}
 use Rattle.std.specs.FinMap as map
 use Rattle.std.specs.FinSet as set
-use Rattle.std.proofs.lemmas.Bool.{cases_eq, true≢false}
+use Rattle.std.proofs.lemmas.Bool.{cases_Bool, cases_eq, true≢false}
 use Rattle.std.proofs.lemmas.List.{append-nil}
 use Rattle.models.specs.declared.operation.Op.{Op}
 use Rattle.models.specs.declared.finding.Found.{Found}
@@ -14,7 +14,7 @@ use Rattle.history.specs.Events.{Mark}
 use Rattle.history.specs.Events.Mark.{Invoked, Returned, Failed, Crashed}
 use Rattle.linspec.specs.Operations.{IsInvoked, HasReturned, IsOpen}
 use Rattle.linspec.specs.Orders.{Taken, Pairwise, Includes, IsLegalOrder}
-use Rattle.linspec.specs.Ends.{End, Leaves}
+use Rattle.linspec.specs.Ends.{End, HasFound, HasCrashedBy, LeavesBy, every, Leaves}
 use Rattle.linspec.proofs.Lists.{Contains-nil, Contains-head, Contains-tail, Contains-cons_cases, Pairwise-across}
 use Rattle.linspec.proofs.Parts.{Records, Marks, Records-add, Records-skip, Records-unique, Marks-add, Marks-skip, Marks-unique}
 
@@ -66,6 +66,37 @@ failed_or_not marks id = ⊎_elim (λ h. inl (subst (Contains marks) h.2 h.1)) (
 pub crashed_or_not : (marks : List Mark) (id : ℕ) → Contains marks (Crashed id) ⊎ (¬ Contains marks (Crashed id))
 crashed_or_not marks id = ⊎_elim (λ h. inl (subst (Contains marks) h.2 h.1)) (λ none. inr (λ r. none _ r refl)) (some_mark _ (is_crash id) marks)
 
+-- the operation counts
+abbrev pub CountsIn : (Op → Bool) → List Mark → ℕ → Type 0
+CountsIn counts marks id = (op : Op) × Contains marks (Invoked id op) × IsTrue (counts op)
+
+is_counted : (counts : Op → Bool) (id : ℕ) (m : Mark) → ((op : Op) × (m ≡ Invoked id op) × IsTrue (counts op)) ⊎ (¬ ((op : Op) × (m ≡ Invoked id op) × IsTrue (counts op)))
+is_counted counts id (Invoked i op) =
+    ⊎_elim
+    (λ e. ⊎_elim
+    (λ t. inl (op, ap (λ j. Invoked j op) e, t))
+    (λ f. inr (λ h. (let q : Invoked i op ≡ Invoked id h.0 = h.1 in let same : op ≡ h.0 = cc in true≢false (sym h.2 ∙ ap counts (sym same) ∙ f))))
+    (cases_Bool (counts op)))
+    (λ ne. inr (λ h. ne (let q : Invoked i op ≡ Invoked id h.0 = h.1 in let t : i ≡ id = cc in t)))
+    (cases_eq i id)
+is_counted counts id (Returned i a) = inr (λ h. (let q : Returned i a ≡ Invoked id h.0 = h.1 in cc))
+is_counted counts id (Failed i) = inr (λ h. (let q : Failed i ≡ Invoked id h.0 = h.1 in cc))
+is_counted counts id (Crashed i) = inr (λ h. (let q : Crashed i ≡ Invoked id h.0 = h.1 in cc))
+
+pub counted_or_not : (counts : Op → Bool) (marks : List Mark) (id : ℕ) → CountsIn counts marks id ⊎ (¬ CountsIn counts marks id)
+counted_or_not counts marks id =
+    ⊎_elim
+    (λ h. inl (h.2.0, subst (Contains marks) h.2.1 h.1, h.2.2))
+    (λ none. inr (λ r. none _ r.1 (r.0, refl, r.2)))
+    (some_mark _ (is_counted counts id) marks)
+
+pub has_crashed_or_not : (counts : Op → Bool) (marks : List Mark) (id : ℕ) → HasCrashedBy counts marks id ⊎ (¬ HasCrashedBy counts marks id)
+has_crashed_or_not counts marks id =
+    ⊎_elim
+    (λ c. ⊎_elim (λ k. inl (c, k)) (λ nk. inr (λ h. nk h.1)) (counted_or_not counts marks id))
+    (λ nc. inr (λ h. nc h.0))
+    (crashed_or_not marks id)
+
 pub open_or_not : (marks : List Mark) (id : ℕ) → IsOpen marks id ⊎ (¬ IsOpen marks id)
 open_or_not marks id =
     ⊎_elim
@@ -116,15 +147,40 @@ module _ (Q : ℕ → Type 0) (dec : (i : ℕ) → Q i ⊎ (¬ Q i)) where
       (λ id. ((λ h. absurd (true≢false (sym h ∙ set.contains-empty nat_cmp id))), (λ h. absurd (Contains-nil _ h.0.1))))
 
 -- a legal order leaves an end
-pub end_of : (o : Object) (marks : List Mark) (order : List Taken) (s : o.State) → IsLegalOrder o marks order s → (e : End o.State) × Leaves o marks order e × (e.state ≡ s)
-end_of o marks order s l =
+pub end_of_by : (counts : Op → Bool) (o : Object) (marks : List Mark) (order : List Taken) (s : o.State) → IsLegalOrder o marks order s → (e : End o.State) × LeavesBy counts o marks order e × (e.state ≡ s)
+end_of_by counts o marks order s l =
     let p : (q : map.FinMap nat_cmp Found) × Records (IsOpen marks) order q = records_of (IsOpen marks) (open_or_not marks) order l.once in
-    let c : (t : set.FinSet nat_cmp) × Marks (λ i. Contains marks (Crashed i)) order t = marks_of (λ i. Contains marks (Crashed i)) (crashed_or_not marks) order in
+    let c : (t : set.FinSet nat_cmp) × Marks (HasCrashedBy counts marks) order t = marks_of (HasCrashedBy counts marks) (has_crashed_or_not counts marks) order in
     (record { state = s; pending = p.0; crashed = c.0 }, record { legal = l; pending = p.1; crashed = c.1 }, refl)
 
+pub end_of : (o : Object) (marks : List Mark) (order : List Taken) (s : o.State) → IsLegalOrder o marks order s → (e : End o.State) × Leaves o marks order e × (e.state ≡ s)
+end_of = end_of_by every
+
 -- and one only
-pub end_is : (o : Object) (marks : List Mark) (order : List Taken) (e f : End o.State) → e.state ≡ f.state → Leaves o marks order e → Leaves o marks order f → e ≡ f
-end_is o marks order e f s l k =
+pub end_is : {counts : Op → Bool} (o : Object) (marks : List Mark) (order : List Taken) (e f : End o.State) → e.state ≡ f.state → LeavesBy counts o marks order e → LeavesBy counts o marks order f → e ≡ f
+end_is {counts} o marks order e f s l k =
     let p : e.pending ≡ f.pending = Records-unique (IsOpen marks) order e.pending f.pending l.pending k.pending in
-    let c : e.crashed ≡ f.crashed = Marks-unique (λ i. Contains marks (Crashed i)) order e.crashed f.crashed l.crashed k.crashed in
+    let c : e.crashed ≡ f.crashed = Marks-unique (HasCrashedBy counts marks) order e.crashed f.crashed l.crashed k.crashed in
     λ i. record { state = s i; pending = p i; crashed = c i }
+
+-- where each operation counts, the crashed part has just the crashed operations of the order
+pub has_crashed : (o : Object) (marks : List Mark) (order : List Taken) (s : o.State) → IsLegalOrder o marks order s → (id : ℕ) → Includes order id → Contains marks (Crashed id) → HasCrashedBy every marks id
+has_crashed o marks order s l id i c = (c, (i.0.op, subst (λ j. Contains marks (Invoked j i.0.op)) i.2 (l.invoked i.0 i.1), refl))
+
+pub crashed_part : (o : Object) (marks : List Mark) (order : List Taken) (e : End o.State) → Leaves o marks order e → (id : ℕ) → IsTrue (set.contains e.crashed id) ↔ (Includes order id × Contains marks (Crashed id))
+crashed_part o marks order e v id = (
+  (λ h. (let r : Includes order id × HasCrashedBy every marks id = (v.crashed id).0 h in (r.0, r.1.0))),
+  (λ h. (v.crashed id).1 (h.0, has_crashed o marks order e.state v.legal id h.0 h.1)),
+)
+
+pub leaves_by_parts : (o : Object) (marks : List Mark) (order : List Taken) (e : End o.State) → IsLegalOrder o marks order e.state
+    → ((id : ℕ) (found : Found) → (map.get e.pending id ≡ Some found) ↔ (HasFound order id found × IsOpen marks id))
+    → ((id : ℕ) → IsTrue (set.contains e.crashed id) ↔ (Includes order id × Contains marks (Crashed id))) → Leaves o marks order e
+leaves_by_parts o marks order e l pending crashed = record {
+  legal = l;
+  pending = pending;
+  crashed = λ id. (
+    (λ h. (let r : Includes order id × Contains marks (Crashed id) = (crashed id).0 h in (r.0, has_crashed o marks order e.state l id r.0 r.1))),
+    (λ h. (crashed id).1 (h.0, h.1.0)),
+  );
+}

@@ -8,7 +8,7 @@ use Rattle.history.specs.Events.{Mark}
 use Rattle.history.specs.Events.Mark.{Invoked, Returned}
 use Rattle.linspec.specs.Operations.{HasReturned, Precedes}
 use Rattle.linspec.specs.Orders.{Taken, Includes, Pairwise, Run, IsLegalOrder, IsLinearizable}
-use Rattle.linspec.specs.Search.{MayStandAfter, MayComeNext, Finishes, CanFinish}
+use Rattle.linspec.specs.Finishing.{MayStandAfter, MayComeNext, Finishes, CanFinish}
 use Rattle.linspec.proofs.Lists.{Contains-nil, Contains-head, Contains-tail, Contains-cons_cases}
 
 module _ (o : Object) (marks : List Mark) where

@@ -1,22 +1,26 @@
 -- linearizable is closed under fronts
-use Rattle.std.proofs.Common.{◌≡◌, ◌↔◌, List, [], ◌∷◌, ◌++◌, refl, sym, ap, ◌∙◌, subst, append_assoc}
+use Rattle.std.proofs.Common.{◌≡◌, ◌↔◌, Bool, List, [], ◌∷◌, ◌++◌, refl, sym, ap, ◌∙◌, subst, append_assoc}
 use Rattle.std.proofs.lemmas.List.{append-nil}
+use Rattle.models.specs.declared.operation.Op.{Op}
 use Rattle.models.specs.Objects.{Object}
 use Rattle.history.specs.Events.{Mark, Entry, marks, IsFront}
 use Rattle.history.specs.Events.Mark.{Invoked, Returned, Failed, Crashed}
-use Rattle.linspec.specs.WellFormed.{MayFollow, AreWellFormed}
+use Rattle.linspec.specs.MarkRule.{MayFollow, AreWellFormed}
 use Rattle.linspec.specs.Orders.{Taken, IsLinearizable}
-use Rattle.linspec.specs.Ends.{End, Leaves, IsEnd}
+use Rattle.linspec.specs.Ends.{End, LeavesBy, IsEndBy, every, IsEnd}
 use Rattle.linspec.proofs.Marks.{IsLegalOrder-fewer}
-use Rattle.linspec.proofs.Fates.{end_of}
+use Rattle.linspec.proofs.Fates.{end_of_by}
 use Rattle.linspec.proofs.Reach.{Reaches, invoke_before}
 
--- a history is linearizable where it has an end
-pub IsLinearizable-end : (o : Object) (marks : List Mark) → IsLinearizable o marks ↔ ((e : End o.State) × IsEnd o marks e)
-IsLinearizable-end o marks = (
-  (λ h. let e : (e : End o.State) × Leaves o marks h.0 e × (e.state ≡ h.1) = end_of o marks h.0 h.1 h.2 in (e.0, (h.0, e.1))),
-  (λ h. let v : Leaves o marks h.1.0 h.0 = h.1.1 in (h.1.0, h.0.state, v.legal)),
+-- a history is linearizable where it has an end, whatever counts
+pub IsLinearizable-end_by : (counts : Op → Bool) (o : Object) (marks : List Mark) → IsLinearizable o marks ↔ ((e : End o.State) × IsEndBy counts o marks e)
+IsLinearizable-end_by counts o marks = (
+  (λ h. let e : (e : End o.State) × LeavesBy counts o marks h.0 e × (e.state ≡ h.1) = end_of_by counts o marks h.0 h.1 h.2 in (e.0, (h.0, e.1))),
+  (λ h. let v : LeavesBy counts o marks h.1.0 h.0 = h.1.1 in (h.1.0, h.0.state, v.legal)),
 )
+
+pub IsLinearizable-end : (o : Object) (marks : List Mark) → IsLinearizable o marks ↔ ((e : End o.State) × IsEnd o marks e)
+IsLinearizable-end = IsLinearizable-end_by every
 
 -- one mark fewer
 IsLinearizable-fewer : (o : Object) (marks : List Mark) (m : Mark) → MayFollow marks m → IsLinearizable o (marks ++ m ∷ []) → IsLinearizable o marks

@@ -5,13 +5,13 @@ use Rattle.std.proofs.lemmas.Bool.{cases_eq, eq-eqb, ne_eqb}
 use Rattle.std.proofs.lemmas.List.{append-nil}
 use Rattle.std.proofs.lemmas.List.Elements.{Contains-append_right, Contains-push_cases}
 use Rattle.models.specs.declared.operation.Op.{Op}
-use Rattle.history.specs.Events.{Act, act_of, key_of, process_of}
-use Rattle.history.specs.Events.Act.{Invokes, Returns, Fails, Crashes, Strikes}
-use Rattle.history.specs.declared.events.Event.{Event}
-use Rattle.history.specs.Events.{Mark, Entry, marks, marks_of, last_after, entries_from, entries_of}
+use Rattle.history.specs.Events.{Act, OpEvent, op_event}
+use Rattle.history.specs.Events.Act.{Invokes, Returns, Fails, Crashes}
+use Rattle.history.specs.declared.event.Event.{Event}
+use Rattle.history.specs.Events.{Mark, Entry, marks, mark_by_act, entry_by, entries_by, last_by, last_after, entries_from, entries_of}
 use Rattle.history.specs.Events.Mark.{Invoked, Returned, Failed, Crashed}
-use Rattle.history.specs.Rule.{MayCome, busy_after, MayComeFrom, IsHistory}
-use Rattle.linspec.specs.WellFormed.{id_of, IsNew, MayFollow, AreWellFormed, IsKeyed}
+use Rattle.history.specs.ProcessRule.{MayAct, MayCome, busy_by, busy_after, MayComeFrom, IsHistory}
+use Rattle.linspec.specs.MarkRule.{id_of, IsNew, MayFollow, AreWellFormed, IsKeyed}
 use Rattle.linspec.specs.Operations.{IsOpen}
 use Rattle.linspec.specs.Verdicts.{IsRising}
 use Rattle.linspec.proofs.Lists.{Contains-nil, Contains-head, Contains-cons_cases, snoc_cut, Pairwise-append}
@@ -101,14 +101,14 @@ completed i p key m last busy busy' D g is_busy c is may off on = record {
         let b : id_of f.0.mark < i = g.id_below f.0 f.1 in let q : id_of f.0.mark ≡ last p = ap id_of f.2 in omega (arith, is))
 
 invoked : (i p key : ℕ) (op : Op) (last : ℕ → ℕ) (busy : ℕ → Option ℕ) (D : List Entry) → Good i last busy D → op.key ≡ key
-    → Good (i + 1) (last_after i last p (Invokes op)) (busy_after busy p key (Invokes op)) (D ++ record { index = i; key = key; mark = Invoked i op } ∷ [])
+    → Good (i + 1) (last_by i last p (Invokes op)) (busy_by busy p key (Invokes op)) (D ++ record { index = i; key = key; mark = Invoked i op } ∷ [])
 invoked i p key op last busy D g is_key = record {
   keyed = keyed_snoc D e g.keyed (λ id o q. (let t : op ≡ o = cc in ap (λ (w : Op). w.key) (sym t) ∙ is_key)) (λ f h q. absurd (far f h q));
   well = well_snoc D e g.well new;
   rising = rising_snoc D e g.rising g.index_below;
   index_below = λ f h. ⊎_elim (λ k. (let b : f.index < i = g.index_below f k in omega arith)) (λ s. (let b : i ≡ f.index = ap (λ (w : Entry). w.index) s in omega arith)) (Contains-push_cases D e f h);
   id_below = λ f h. ⊎_elim (λ k. (let b : id_of f.mark < i = g.id_below f k in omega arith)) (λ s. (let b : i ≡ id_of f.mark = ap (λ (w : Entry). id_of w.mark) s in omega arith)) (Contains-push_cases D e f h);
-  has_open = λ q k b. subst (λ l. IsOpen l (last_after i last p (Invokes op) q)) (sym (marks-append D (e ∷ []))) (⊎_elim
+  has_open = λ q k b. subst (λ l. IsOpen l (last_by i last p (Invokes op) q)) (sym (marks-append D (e ∷ []))) (⊎_elim
       (λ s. subst (IsOpen (marks D ++ Invoked i op ∷ [])) (sym (cond_same q p i (last q) s)) (new_is_open (marks D) i op new))
       (λ ne. subst (IsOpen (marks D ++ Invoked i op ∷ [])) (sym (cond_other q p i (last q) ne)) (open_with_new (marks D) i op new (last q) (g.has_open q k (was q k ne b))))
       (cases_eq q p));
@@ -140,10 +140,10 @@ invoked i p key op last busy D g is_key = record {
     new : IsNew (marks D) i
     new m h q = (let f = from_marks D m h in far f.0 f.1 (ap id_of f.2 ∙ q))
 
-    was : (q k : ℕ) → q ≢ p → busy_after busy p key (Invokes op) q ≡ Some k → busy q ≡ Some k
+    was : (q k : ℕ) → q ≢ p → busy_by busy p key (Invokes op) q ≡ Some k → busy q ≡ Some k
     was q k ne b = sym (cond_other q p (Some key) (busy q) ne) ∙ b
 
-    key_is : (q k : ℕ) → q ≡ p → busy_after busy p key (Invokes op) q ≡ Some k → key ≡ k
+    key_is : (q k : ℕ) → q ≡ p → busy_by busy p key (Invokes op) q ≡ Some k → key ≡ k
     key_is q k t b = (let u : Some key ≡ Some k = sym (cond_same q p (Some key) (busy q) t) ∙ b in let v : key ≡ k = cc in v)
 
     last_below : (q k : ℕ) → busy q ≡ Some k → last q < i
@@ -155,31 +155,30 @@ record Fine (entries : List Entry) : Type 0 where
   well : AreWellFormed (marks entries)
   rising : IsRising entries
 
-step : (i p key : ℕ) (b : Act) (last : ℕ → ℕ) (busy : ℕ → Option ℕ) (D : List Entry) (events : List (ℕ × Event)) → MayCome busy p key b → MayComeFrom (i + 1) (busy_after busy p key b) events → Good i last busy D
+-- the entries after an act that may come
+acted : (i p key : ℕ) (b : Act) (last : ℕ → ℕ) (busy : ℕ → Option ℕ) (D : List Entry) → MayAct busy p key b → Good i last busy D
+    → Good (i + 1) (last_by i last p b) (busy_by busy p key b) (D ++ record { index = i; key = key; mark = mark_by_act i (last p) b } ∷ [])
+acted i p key (Invokes op) last busy D may g = invoked i p key op last busy D g may.1
+acted i p key (Returns a) last busy D may g =
+    completed i p key (Returned (last p) a) last busy (busy_by busy p key (Returns a)) D g may tt refl (g.has_open p key may) (cond_same p p None (busy p) refl) (λ q ne. cond_other q p None (busy q) ne)
+acted i p key Fails last busy D may g =
+    completed i p key (Failed (last p)) last busy (busy_by busy p key Fails) D g may tt refl (g.has_open p key may) (cond_same p p None (busy p) refl) (λ q ne. cond_other q p None (busy q) ne)
+acted i p key Crashes last busy D may g =
+    completed i p key (Crashed (last p)) last busy (busy_by busy p key Crashes) D g may tt refl (g.has_open p key may) (cond_same p p None (busy p) refl) (λ q ne. cond_other q p None (busy q) ne)
+
+step : (i : ℕ) (o : Option OpEvent) (last : ℕ → ℕ) (busy : ℕ → Option ℕ) (D : List Entry) (events : List (ℕ × Event)) → MayCome busy o → MayComeFrom (i + 1) (busy_after busy o) events → Good i last busy D
     → ((last' : ℕ → ℕ) (busy' : ℕ → Option ℕ) (D' : List Entry) → MayComeFrom (i + 1) busy' events → Good (i + 1) last' busy' D' → Fine (D' ++ entries_from last' events))
-    → Fine (D ++ (marks_of i last p key b ++ entries_from (last_after i last p b) events))
-step i p key (Invokes op) last busy D events may come g next =
-    subst Fine (append_assoc D (record { index = i; key = key; mark = Invoked i op } ∷ []) (entries_from (last_after i last p (Invokes op)) events))
-    (next (last_after i last p (Invokes op)) (busy_after busy p key (Invokes op)) (D ++ record { index = i; key = key; mark = Invoked i op } ∷ []) come (invoked i p key op last busy D g may.1))
-step i p key (Returns a) last busy D events may come g next =
-    subst Fine (append_assoc D (record { index = i; key = key; mark = Returned (last p) a } ∷ []) (entries_from last events))
-    (next last (busy_after busy p key (Returns a)) (D ++ record { index = i; key = key; mark = Returned (last p) a } ∷ []) come
-    (completed i p key (Returned (last p) a) last busy (busy_after busy p key (Returns a)) D g may tt refl (g.has_open p key may) (cond_same p p None (busy p) refl) (λ q ne. cond_other q p None (busy q) ne)))
-step i p key Fails last busy D events may come g next =
-    subst Fine (append_assoc D (record { index = i; key = key; mark = Failed (last p) } ∷ []) (entries_from last events))
-    (next last (busy_after busy p key Fails) (D ++ record { index = i; key = key; mark = Failed (last p) } ∷ []) come
-    (completed i p key (Failed (last p)) last busy (busy_after busy p key Fails) D g may tt refl (g.has_open p key may) (cond_same p p None (busy p) refl) (λ q ne. cond_other q p None (busy q) ne)))
-step i p key Crashes last busy D events may come g next =
-    subst Fine (append_assoc D (record { index = i; key = key; mark = Crashed (last p) } ∷ []) (entries_from last events))
-    (next last (busy_after busy p key Crashes) (D ++ record { index = i; key = key; mark = Crashed (last p) } ∷ []) come
-    (completed i p key (Crashed (last p)) last busy (busy_after busy p key Crashes) D g may tt refl (g.has_open p key may) (cond_same p p None (busy p) refl) (λ q ne. cond_other q p None (busy q) ne)))
-step i p key Strikes last busy D events may come g next = next last busy D come (good_up i (i + 1) last busy D (omega arith) g)
+    → Fine (D ++ (entries_by i last o ++ entries_from (last_after i last o) events))
+step i None last busy D events may come g next = next last busy D come (good_up i (i + 1) last busy D (omega arith) g)
+step i (Some e) last busy D events may come g next =
+    subst Fine (append_assoc D (entry_by i last e ∷ []) (entries_from (last_by i last e.process e.act) events))
+    (next (last_by i last e.process e.act) (busy_by busy e.process e.key e.act) (D ++ entry_by i last e ∷ []) come (acted i e.process e.key e.act last busy D may g))
 
 -- the entries so far and those of the events to come
 all_good : (events : List (ℕ × Event)) (n : ℕ) (last : ℕ → ℕ) (busy : ℕ → Option ℕ) (D : List Entry) → MayComeFrom n busy events → Good n last busy D → Fine (D ++ entries_from last events)
 all_good [] n last busy D may g = subst Fine (sym (append-nil D)) (record { keyed = g.keyed; well = g.well; rising = g.rising })
 all_good (x ∷ events) n last busy D may g =
-    step x.0 (process_of x.1) (key_of x.1) (act_of x.1) last busy D events may.1 may.2 (good_up n x.0 last busy D may.0 g)
+    step x.0 (op_event x.1) last busy D events may.1 may.2 (good_up n x.0 last busy D may.0 g)
     (λ last' busy' D' come g'. all_good events (x.0 + 1) last' busy' D' come g')
 
 nothing : Good 0 (λ _. 0) (λ _. None) []

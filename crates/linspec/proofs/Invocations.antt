@@ -9,7 +9,7 @@ use Rattle.history.specs.Events.{Mark}
 use Rattle.history.specs.Events.Mark.{Invoked}
 use Rattle.linspec.specs.Operations.{HasReturned, Precedes}
 use Rattle.linspec.specs.Orders.{Taken, Pairwise, Includes, IsLegalOrder}
-use Rattle.linspec.specs.WellFormed.{IsNew}
+use Rattle.linspec.specs.MarkRule.{IsNew}
 use Rattle.linspec.proofs.Lists.{Contains-nil, Contains-head, Contains-cons_cases, Pairwise-across}
 use Rattle.linspec.proofs.Marks.{IsLegalOrder-fewer, IsLegalOrder-more}
 

@@ -2,18 +2,12 @@
 use Rattle.std.proofs.Common.{◌≡◌, ◌≢◌, ℕ, ◌+◌, ⊎_elim, cond, nat_eq, Option, Some, None, List, [], ◌∷◌, ◌++◌, refl, sym, ap, ◌∙◌}
 use Rattle.std.specs.List.{filter}
 use Rattle.std.proofs.lemmas.Bool.{cases_eq, eq-eqb, ne_eqb}
-use Rattle.history.specs.Events.{Act, act_of, key_of, process_of}
-use Rattle.history.specs.Events.Act.{Invokes, Returns, Fails, Crashes, Strikes}
-use Rattle.history.specs.declared.events.Event.{Event}
-use Rattle.history.specs.Events.{Entry, marks_of, last_after, entries_from, entries_of, of_key}
-use Rattle.history.specs.Events.Mark.{Invoked, Returned, Failed, Crashed}
-use Rattle.history.specs.Rule.{MayCome, busy_after, MayComeFrom, IsHistory}
+use Rattle.history.specs.declared.event.Event.{Event}
+use Rattle.history.specs.Events.{Act, OpEvent, op_event, Entry, entry_by, entries_by, last_by, last_after, mark_by_act, entries_from, entries_of, of_key, is_of_key, is_event_of, events_of_key}
+use Rattle.history.specs.Events.Act.{Invokes, Returns, Fails, Crashes}
+use Rattle.history.specs.ProcessRule.{MayAct, MayCome, busy_by, busy_after, MayComeFrom, IsHistory}
 use Rattle.linspec.proofs.Filters.{filter-yes, filter-no}
 use Rattle.linspec.proofs.Histories.{cond_same, cond_other}
-
--- the events of a key, whose indices stay
-abbrev pub events_of_key : ℕ → List (ℕ × Event) → List (ℕ × Event)
-events_of_key k events = filter (λ x. nat_eq (key_of x.1) k) events
 
 clash : (o : Option ℕ) (k : ℕ) → o ≡ None → o ≡ Some k → ⊥
 clash o k a b = cc
@@ -24,28 +18,20 @@ same_key k e es q = filter-yes (λ (e : Entry). nat_eq e.key k) e es (eq-eqb e.k
 other_key : (k : ℕ) (e : Entry) (es : List Entry) → e.key ≢ k → of_key k (e ∷ es) ≡ of_key k es
 other_key k e es q = filter-no (λ (e : Entry). nat_eq e.key k) e es (ne_eqb e.key k q)
 
--- an event of the key makes the same mark, by the same last invocation
-mark_here : (k i p key : ℕ) (b : Act) (last last' : ℕ → ℕ) (busy : ℕ → Option ℕ) (es es' : List Entry) → key ≡ k → MayCome busy p key b → (busy p ≡ Some k → last p ≡ last' p) → of_key k es ≡ es'
-    → of_key k (marks_of i last p key b ++ es) ≡ marks_of i last' p key b ++ es'
-mark_here k i p key (Invokes op) last last' busy es es' is may same rest = same_key k _ es is ∙ ap (λ l. record { index = i; key = key; mark = Invoked i op } ∷ l) rest
-mark_here k i p key (Returns a) last last' busy es es' is may same rest = same_key k _ es is ∙ (λ j. record { index = i; key = key; mark = Returned (same (may ∙ ap Some is) j) a } ∷ rest j)
-mark_here k i p key Fails last last' busy es es' is may same rest = same_key k _ es is ∙ (λ j. record { index = i; key = key; mark = Failed (same (may ∙ ap Some is) j) } ∷ rest j)
-mark_here k i p key Crashes last last' busy es es' is may same rest = same_key k _ es is ∙ (λ j. record { index = i; key = key; mark = Crashed (same (may ∙ ap Some is) j) } ∷ rest j)
-mark_here k i p key Strikes last last' busy es es' is may same rest = rest
-
-mark_other : (k i p key : ℕ) (b : Act) (last : ℕ → ℕ) (es : List Entry) → key ≢ k → of_key k (marks_of i last p key b ++ es) ≡ of_key k es
-mark_other k i p key (Invokes op) last es ne = other_key k _ es ne
-mark_other k i p key (Returns a) last es ne = other_key k _ es ne
-mark_other k i p key Fails last es ne = other_key k _ es ne
-mark_other k i p key Crashes last es ne = other_key k _ es ne
-mark_other k i p key Strikes last es ne = refl
+-- an act of the key makes the same mark, by the same last invocation
+same_mark : (k i p key : ℕ) (b : Act) (last last' : ℕ → ℕ) (busy : ℕ → Option ℕ) → key ≡ k → MayAct busy p key b → (busy p ≡ Some k → last p ≡ last' p)
+    → mark_by_act i (last p) b ≡ mark_by_act i (last' p) b
+same_mark k i p key (Invokes op) last last' busy is may same = refl
+same_mark k i p key (Returns a) last last' busy is may same = ap (λ l. mark_by_act i l (Returns a)) (same (may ∙ ap Some is))
+same_mark k i p key Fails last last' busy is may same = ap (λ l. mark_by_act i l Fails) (same (may ∙ ap Some is))
+same_mark k i p key Crashes last last' busy is may same = ap (λ l. mark_by_act i l Crashes) (same (may ∙ ap Some is))
 
 still_busy : (q p k : ℕ) (x : Option ℕ) → cond (nat_eq q p) None x ≡ Some k → x ≡ Some k
 still_busy q p k x h = ⊎_elim (λ e. absurd (clash _ k (cond_same q p None x e) h)) (λ ne. sym (cond_other q p None x ne) ∙ h) (cases_eq q p)
 
 -- who has an open operation of the key has the same last invocation, after an event of the key and after one of another
 after_here : (k i p key : ℕ) (b : Act) (last last' : ℕ → ℕ) (busy : ℕ → Option ℕ) → ((q : ℕ) → busy q ≡ Some k → last q ≡ last' q)
-    → (q : ℕ) → busy_after busy p key b q ≡ Some k → last_after i last p b q ≡ last_after i last' p b q
+    → (q : ℕ) → busy_by busy p key b q ≡ Some k → last_by i last p b q ≡ last_by i last' p b q
 after_here k i p key (Invokes op) last last' busy same q h =
     ⊎_elim
     (λ e. cond_same q p i (last q) e ∙ sym (cond_same q p i (last' q) e))
@@ -54,10 +40,9 @@ after_here k i p key (Invokes op) last last' busy same q h =
 after_here k i p key (Returns a) last last' busy same q h = same q (still_busy q p k (busy q) h)
 after_here k i p key Fails last last' busy same q h = same q (still_busy q p k (busy q) h)
 after_here k i p key Crashes last last' busy same q h = same q (still_busy q p k (busy q) h)
-after_here k i p key Strikes last last' busy same q h = same q h
 
 after_other : (k i p key : ℕ) (b : Act) (last last' : ℕ → ℕ) (busy : ℕ → Option ℕ) → key ≢ k → ((q : ℕ) → busy q ≡ Some k → last q ≡ last' q)
-    → (q : ℕ) → busy_after busy p key b q ≡ Some k → last_after i last p b q ≡ last' q
+    → (q : ℕ) → busy_by busy p key b q ≡ Some k → last_by i last p b q ≡ last' q
 after_other k i p key (Invokes op) last last' busy ne same q h =
     ⊎_elim
     (λ e. (let t : Some key ≡ Some k = sym (cond_same q p (Some key) (busy q) e) ∙ h in let u : key ≡ k = cc in absurd (ne u)))
@@ -66,21 +51,35 @@ after_other k i p key (Invokes op) last last' busy ne same q h =
 after_other k i p key (Returns a) last last' busy ne same q h = same q (still_busy q p k (busy q) h)
 after_other k i p key Fails last last' busy ne same q h = same q (still_busy q p k (busy q) h)
 after_other k i p key Crashes last last' busy ne same q h = same q (still_busy q p k (busy q) h)
-after_other k i p key Strikes last last' busy ne same q h = same q h
+
+-- one event, and then what comes of the rest
+module _ (k i : ℕ) (last last' : ℕ → ℕ) (busy : ℕ → Option ℕ) (same : (q : ℕ) → busy q ≡ Some k → last q ≡ last' q) (x : ℕ × Event) (at : x.0 ≡ i) (events : List (ℕ × Event)) where
+  abbrev Rest : Type 0
+  Rest = (l l' : ℕ → ℕ) (b : ℕ → Option ℕ) → MayComeFrom (i + 1) b events → ((q : ℕ) → b q ≡ Some k → l q ≡ l' q) → of_key k (entries_from l events) ≡ entries_from l' (events_of_key k events)
+
+  by_event : (o : Option OpEvent) → op_event x.1 ≡ o → MayCome busy o → MayComeFrom (i + 1) (busy_after busy o) events → Rest
+      → of_key k (entries_by i last o ++ entries_from (last_after i last o) events) ≡ entries_from last' (events_of_key k (x ∷ events))
+  by_event None is may come rest =
+      rest last last' busy come same
+      ∙ sym (ap (entries_from last') (filter-no (λ (x : ℕ × Event). is_event_of k x.1) x events (ap (is_of_key k) is)))
+  by_event (Some e) is may come rest =
+      ⊎_elim
+      (λ here. same_key k (entry_by i last e) _ here
+      ∙ ap (λ m. record { index = i; key = e.key; mark = m } ∷ of_key k (entries_from (last_by i last e.process e.act) events)) (same_mark k i e.process e.key e.act last last' busy here may (same e.process))
+      ∙ ap (λ l. entry_by i last' e ∷ l) (rest (last_by i last e.process e.act) (last_by i last' e.process e.act) (busy_by busy e.process e.key e.act) come (after_here k i e.process e.key e.act last last' busy same))
+      ∙ sym (ap (entries_from last') (filter-yes (λ (x : ℕ × Event). is_event_of k x.1) x events (ap (is_of_key k) is ∙ eq-eqb e.key k here))
+      ∙ ap (λ n. entries_by n last' (op_event x.1) ++ entries_from (last_after n last' (op_event x.1)) (events_of_key k events)) at
+      ∙ ap (λ o. entries_by i last' o ++ entries_from (last_after i last' o) (events_of_key k events)) is))
+      (λ ne. other_key k (entry_by i last e) _ ne
+      ∙ rest (last_by i last e.process e.act) last' (busy_by busy e.process e.key e.act) come (after_other k i e.process e.key e.act last last' busy ne same)
+      ∙ sym (ap (entries_from last') (filter-no (λ (x : ℕ × Event). is_event_of k x.1) x events (ap (is_of_key k) is ∙ ne_eqb e.key k ne))))
+      (cases_eq e.key k)
 
 key_entries : (k : ℕ) (events : List (ℕ × Event)) (n : ℕ) (last last' : ℕ → ℕ) (busy : ℕ → Option ℕ) → MayComeFrom n busy events → ((q : ℕ) → busy q ≡ Some k → last q ≡ last' q)
     → of_key k (entries_from last events) ≡ entries_from last' (events_of_key k events)
 key_entries k [] n last last' busy may same = refl
 key_entries k (x ∷ events) n last last' busy may same =
-    ⊎_elim
-    (λ e. mark_here k x.0 (process_of x.1) (key_of x.1) (act_of x.1) last last' busy _ _ e may.1 (same (process_of x.1))
-    (key_entries k events (x.0 + 1) (last_after x.0 last (process_of x.1) (act_of x.1)) (last_after x.0 last' (process_of x.1) (act_of x.1)) (busy_after busy (process_of x.1) (key_of x.1) (act_of x.1)) may.2
-    (after_here k x.0 (process_of x.1) (key_of x.1) (act_of x.1) last last' busy same))
-    ∙ sym (ap (entries_from last') (filter-yes (λ (x : ℕ × Event). nat_eq (key_of x.1) k) x events (eq-eqb (key_of x.1) k e))))
-    (λ ne. mark_other k x.0 (process_of x.1) (key_of x.1) (act_of x.1) last _ ne
-    ∙ key_entries k events (x.0 + 1) (last_after x.0 last (process_of x.1) (act_of x.1)) last' (busy_after busy (process_of x.1) (key_of x.1) (act_of x.1)) may.2 (after_other k x.0 (process_of x.1) (key_of x.1) (act_of x.1) last last' busy ne same)
-    ∙ sym (ap (entries_from last') (filter-no (λ (x : ℕ × Event). nat_eq (key_of x.1) k) x events (ne_eqb (key_of x.1) k ne))))
-    (cases_eq (key_of x.1) k)
+    by_event k x.0 last last' busy same x refl events (op_event x.1) refl may.1 may.2 (λ l l' b come so. key_entries k events (x.0 + 1) l l' b come so)
 
 pub entries_of_key : (k : ℕ) (events : List (ℕ × Event)) → IsHistory events → of_key k (entries_of events) ≡ entries_of (events_of_key k events)
 entries_of_key k events may = key_entries k events 0 (λ _. 0) (λ _. 0) (λ _. None) may (λ q h. refl)

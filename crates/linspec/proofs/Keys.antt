@@ -2,20 +2,20 @@
 use Rattle.std.proofs.Common.{◌≡◌, ◌≢◌, ◌↔◌, ℕ, ◌⊎◌, inl, inr, ⊎_elim, Some, Bool, IsTrue, cond, nat_eq, List, [], ◌∷◌, ◌++◌, map, refl, sym, ap, ◌∙◌, subst}
 use Rattle.std.specs.List.{Contains}
 use Rattle.std.proofs.lemmas.Bool.{cases_eq, eq-eqb, ne_eqb}
-use Rattle.models.specs.declared.kinds.ModelKind.{ModelKind}
-use Rattle.models.specs.declared.kinds.ModelKind.TheVariants.{Register, CasRegister, Mutex, FifoQueue, Set}
+use Rattle.models.specs.declared.model_kind.ModelKind.{ModelKind}
+use Rattle.models.specs.declared.model_kind.ModelKind.TheVariants.{Register, CasRegister, Mutex, FifoQueue, Set}
 use Rattle.models.specs.declared.operation.Op.{Op}
 use Rattle.models.specs.declared.finding.Found.{Found}
-use Rattle.models.specs.declared.any_states.AnyState.{AnyState}
-use Rattle.models.specs.declared.any_states.AnyState.TheVariants.{Register as OfRegister, CasRegister as OfCasRegister, Mutex as OfMutex, FifoQueue as OfFifoQueue, Set as OfSet}
-use Rattle.models.specs.AnyStates.{any}
+use Rattle.models.specs.declared.any_state.AnyState.{AnyState}
+use Rattle.models.specs.declared.any_state.AnyState.TheVariants.{Register as OfRegister, CasRegister as OfCasRegister, Mutex as OfMutex, FifoQueue as OfFifoQueue, Set as OfSet}
+use Rattle.models.specs.AnyState.{any}
 use Rattle.models.specs.Objects.{object_of}
 use Rattle.history.specs.Events.{Mark}
 use Rattle.history.specs.Events.Mark.{Invoked}
 use Rattle.linspec.specs.Orders.{Taken, IsLinearizable, product}
 use Rattle.linspec.specs.KindsOf.{AgreeWith, HaveKinds}
-use Rattle.linspec.specs.Search.{MayComeNext, Finishes, CanFinish}
-use Rattle.linspec.specs.States.{Keyed, state_at, with_state, start_of, StepsBy, Steps}
+use Rattle.linspec.specs.Finishing.{MayComeNext, Finishes, CanFinish}
+use Rattle.linspec.specs.Attempts.{Keyed, state_at, with_state, start_of, StepsBy, Steps}
 use Rattle.linspec.proofs.Lists.{Contains-nil, Contains-head, Contains-tail, Contains-cons_cases}
 use Rattle.linspec.proofs.Filters.{from_map, to_map}
 use Rattle.linspec.proofs.Puts.{put, put_same, put_other}

@@ -1,6 +1,7 @@
 pub mod Lists
 pub mod Marks
 pub mod Invocations
+pub mod Linearizable
 pub mod FinLaws
 pub mod Parts
 pub mod Fates
@@ -26,3 +27,7 @@ pub mod Trying
 pub mod Puts
 pub mod Keys
 pub mod Steps
+pub mod LastOk
+pub mod BlownQueue
+pub mod BadRead
+pub mod WhatCounts

@@ -4,16 +4,17 @@ use mathlib.Core.Path.{fun_ext}
 use Rattle.std.specs.List.{Contains}
 use Rattle.std.proofs.lemmas.Bool.{cases_order, eqb-true}
 use Rattle.std.proofs.lemmas.List.Elements.{Contains-append_right}
-use Rattle.models.specs.declared.kinds.ModelKind.{ModelKind}
+use Rattle.models.specs.declared.model_kind.ModelKind.{ModelKind}
+use Rattle.models.specs.declared.operation.Op.{Op}
 use Rattle.models.specs.Objects.{Object, object_of}
 use Rattle.history.specs.Events.{Entry, of_key}
 use Rattle.linspec.specs.Orders.{product}
-use Rattle.linspec.specs.Ends.{IsBlownAt, IsBlownIndex}
-use Rattle.linspec.specs.Verdicts.{EndsShortestBadFront, EveryFrontIsLinearizable, IsKeyStatus, IsBlownKeyAt, set_aside, IsVerdictWith, IsVerdict, IsRising}
-use Rattle.linspec.specs.declared.verdicts.KeyStatus.{KeyStatus}
-use Rattle.linspec.specs.declared.verdicts.KeyStatus.TheVariants.{Alive, Dead, Over}
-use Rattle.linspec.specs.declared.verdicts.Verdict.{Verdict}
-use Rattle.linspec.specs.declared.verdicts.Verdict.TheVariants.{Legal, Illegal, Unknown}
+use Rattle.linspec.specs.Ends.{IsBlownAtBy, IsBlownIndexBy, every}
+use Rattle.linspec.specs.Verdicts.{EndsShortestBadFront, EveryFrontIsLinearizable, IsKeyStatusBy, IsBlownKeyAtBy, set_aside, IsVerdictWithBy, IsVerdictBy, IsRising, IsVerdict}
+use Rattle.linspec.specs.declared.verdict.KeyStatus.{KeyStatus}
+use Rattle.linspec.specs.declared.verdict.KeyStatus.TheVariants.{Alive, Dead, Over}
+use Rattle.linspec.specs.declared.verdict.Verdict.{Verdict}
+use Rattle.linspec.specs.declared.verdict.Verdict.TheVariants.{Legal, Illegal, Unknown}
 use Rattle.linspec.proofs.Lists.{Contains-nil, Contains-head, Contains-cons_cases}
 use Rattle.linspec.proofs.Filters.{from_filter}
 
@@ -49,28 +50,28 @@ one_bad_front o entries a b s t =
     (⊎_elim (λ lt. absurd (no_longer o entries a b s t lt)) (λ lt. absurd (no_longer o entries b a t s lt)))
     (cases_order (length s.before) (length t.before))
 
-one_blown_index : (o : Object) (budget : ℕ) (entries : List Entry) (i j : ℕ) → IsBlownIndex o budget entries i → IsBlownIndex o budget entries j → i ≡ j
+one_blown_index : {counts : Op → Bool} (o : Object) (budget : ℕ) (entries : List Entry) (i j : ℕ) → IsBlownIndexBy counts o budget entries i → IsBlownIndexBy counts o budget entries j → i ≡ j
 one_blown_index o budget entries i j b c =
     let h : i ≤ j = b.least j c.blown in
     let k : j ≤ i = c.least i b.blown in
     omega arith
 
-pub one_status : (o : Object) (budget : ℕ) (entries : List Entry) (s t : KeyStatus) → IsKeyStatus o budget entries s → IsKeyStatus o budget entries t → s ≡ t
-one_status o budget entries (Over i) (Over j) h k = ap Over (one_blown_index o budget entries i j h k)
-one_status o budget entries (Over i) (Dead j) h k = absurd (k.0 i h.blown)
-one_status o budget entries (Over i) Alive h k = absurd (k.0 i h.blown)
-one_status o budget entries (Dead i) (Over j) h k = absurd (h.0 j k.blown)
-one_status o budget entries (Dead i) (Dead j) h k = ap Dead (sym h.1.2 ∙ ap (λ (e : Entry). e.index) (one_bad_front o entries h.1.0 k.1.0 h.1.1 k.1.1) ∙ k.1.2)
-one_status o budget entries (Dead i) Alive h k = absurd (bad_front h.1.0 h.1.1 k.1)
+pub one_status : (counts : Op → Bool) (o : Object) (budget : ℕ) (entries : List Entry) (s t : KeyStatus) → IsKeyStatusBy counts o budget entries s → IsKeyStatusBy counts o budget entries t → s ≡ t
+one_status counts o budget entries (Over i) (Over j) h k = ap Over (one_blown_index o budget entries i j h k)
+one_status counts o budget entries (Over i) (Dead j) h k = absurd (k.0 i h.blown)
+one_status counts o budget entries (Over i) Alive h k = absurd (k.0 i h.blown)
+one_status counts o budget entries (Dead i) (Over j) h k = absurd (h.0 j k.blown)
+one_status counts o budget entries (Dead i) (Dead j) h k = ap Dead (sym h.1.2 ∙ ap (λ (e : Entry). e.index) (one_bad_front o entries h.1.0 k.1.0 h.1.1 k.1.1) ∙ k.1.2)
+one_status counts o budget entries (Dead i) Alive h k = absurd (bad_front h.1.0 h.1.1 k.1)
   where
     bad_front : (last : Entry) → EndsShortestBadFront o entries last → EveryFrontIsLinearizable o entries → ⊥
     bad_front last s every = s.bad (every (s.before ++ last ∷ []) s.front)
-one_status o budget entries Alive (Over j) h k = absurd (h.0 j k.blown)
-one_status o budget entries Alive (Dead j) h k = absurd (bad_front k.1.0 k.1.1 h.1)
+one_status counts o budget entries Alive (Over j) h k = absurd (h.0 j k.blown)
+one_status counts o budget entries Alive (Dead j) h k = absurd (bad_front k.1.0 k.1.1 h.1)
   where
     bad_front : (last : Entry) → EndsShortestBadFront o entries last → EveryFrontIsLinearizable o entries → ⊥
     bad_front last s every = s.bad (every (s.before ++ last ∷ []) s.front)
-one_status o budget entries Alive Alive h k = refl
+one_status counts o budget entries Alive Alive h k = refl
 
 -- where the index rises, an index is of one entry
 one_entry : (entries : List Entry) → IsRising entries → (e f : Entry) → Contains entries e → Contains entries f → e.index ≡ f.index → e ≡ f
@@ -93,27 +94,27 @@ same_bool true false f g = sym (f refl)
 same_bool false true f g = g refl
 same_bool false false f g = refl
 
-module _ (kinds : ℕ → ModelKind) (budgets : ℕ → ℕ) (entries : List Entry) (rising : IsRising entries) where
+module _ (counts : Op → Bool) (kinds : ℕ → ModelKind) (budgets : ℕ → ℕ) (entries : List Entry) (rising : IsRising entries) where
   -- a key is blown at an index of its own
-  blown_entry : (k i : ℕ) → IsBlownKeyAt kinds budgets entries k i → (e : Entry) × Contains entries e × (e.key ≡ k) × (e.index ≡ i)
+  blown_entry : (k i : ℕ) → IsBlownKeyAtBy counts kinds budgets entries k i → (e : Entry) × Contains entries e × (e.key ≡ k) × (e.index ≡ i)
   blown_entry k i b =
-      let at : IsBlownAt (object_of (kinds k)) (budgets k) (of_key k entries) i = b.blown in
+      let at : IsBlownAtBy counts (object_of (kinds k)) (budgets k) (of_key k entries) i = b.blown in
       let h : Contains (of_key k entries) at.event = subst (λ l. Contains l at.event) at.cut (Contains-append_right at.before (at.event ∷ at.after) at.event (Contains-head at.event at.after)) in
       let r : Contains entries at.event × (nat_eq at.event.key k ≡ true) = from_filter (λ (e : Entry). nat_eq e.key k) entries at.event h in
       (at.event, r.0, eqb-true at.event.key k r.1, at.here)
 
-  one_blown_key : (k l i : ℕ) → IsBlownKeyAt kinds budgets entries k i → IsBlownKeyAt kinds budgets entries l i → k ≡ l
+  one_blown_key : (k l i : ℕ) → IsBlownKeyAtBy counts kinds budgets entries k i → IsBlownKeyAtBy counts kinds budgets entries l i → k ≡ l
   one_blown_key k l i b c =
       let e = blown_entry k i b in
       let f = blown_entry l i c in
       sym e.2 ∙ ap (λ (w : Entry). w.key) (one_entry entries rising e.0 f.0 e.1 f.1 (e.3 ∙ sym f.3)) ∙ f.2
 
-  every_not_bad : (blown : ℕ → Bool) (last : Entry) → EndsShortestBadFront (product kinds) (set_aside kinds budgets entries blown) last → EveryFrontIsLinearizable (product kinds) (set_aside kinds budgets entries blown) → ⊥
+  every_not_bad : (blown : ℕ → Bool) (last : Entry) → EndsShortestBadFront (product kinds) (set_aside blown entries) last → EveryFrontIsLinearizable (product kinds) (set_aside blown entries) → ⊥
   every_not_bad blown last s every = s.bad (every (s.before ++ last ∷ []) s.front)
 
-  one_with : (blown : ℕ → Bool) (v w : Verdict) → IsVerdictWith kinds budgets entries blown v → IsVerdictWith kinds budgets entries blown w → v ≡ w
+  one_with : (blown : ℕ → Bool) (v w : Verdict) → IsVerdictWithBy counts kinds budgets entries blown v → IsVerdictWithBy counts kinds budgets entries blown w → v ≡ w
   one_with blown (Illegal k i) (Illegal l j) h g =
-      let e : h.0 ≡ g.0 = one_bad_front (product kinds) (set_aside kinds budgets entries blown) h.0 g.0 h.1 g.1 in
+      let e : h.0 ≡ g.0 = one_bad_front (product kinds) (set_aside blown entries) h.0 g.0 h.1 g.1 in
       let keys : k ≡ l = sym h.2 ∙ ap (λ (w : Entry). w.key) e ∙ g.2 in
       let indices : i ≡ j = sym h.3 ∙ ap (λ (w : Entry). w.index) e ∙ g.3 in
       cc
@@ -124,14 +125,17 @@ module _ (kinds : ℕ → ModelKind) (budgets : ℕ → ℕ) (entries : List Ent
       let a : i ≤ j = h.2 l j g.1 in
       let b : j ≤ i = g.2 k i h.1 in
       let indices : i ≡ j = omega arith in
-      let keys : k ≡ l = one_blown_key k l i h.1 (subst (IsBlownKeyAt kinds budgets entries l) (sym indices) g.1) in
+      let keys : k ≡ l = one_blown_key k l i h.1 (subst (IsBlownKeyAtBy counts kinds budgets entries l) (sym indices) g.1) in
       cc
   one_with blown (Unknown k i) Legal h g = absurd (g.1 k (i, h.1))
   one_with blown Legal (Illegal l j) h g = absurd (every_not_bad blown g.0 g.1 h.0)
   one_with blown Legal (Unknown l j) h g = absurd (h.1 l (j, g.1))
   one_with blown Legal Legal h g = refl
 
-  pub one_verdict : (v w : Verdict) → IsVerdict kinds budgets entries v → IsVerdict kinds budgets entries w → v ≡ w
-  one_verdict v w h g =
+  pub one_verdict_by : (v w : Verdict) → IsVerdictBy counts kinds budgets entries v → IsVerdictBy counts kinds budgets entries w → v ≡ w
+  one_verdict_by v w h g =
       let same : g.0 ≡ h.0 = fun_ext (λ k. same_bool (g.0 k) (h.0 k) (λ t. (h.1 k).1 ((g.1 k).0 t)) (λ t. (g.1 k).1 ((h.1 k).0 t))) in
-      one_with h.0 v w h.2 (subst (λ (blown : ℕ → Bool). IsVerdictWith kinds budgets entries blown w) same g.2)
+      one_with h.0 v w h.2 (subst (λ (blown : ℕ → Bool). IsVerdictWithBy counts kinds budgets entries blown w) same g.2)
+
+pub one_verdict : (kinds : ℕ → ModelKind) (budgets : ℕ → ℕ) (entries : List Entry) → IsRising entries → (v w : Verdict) → IsVerdict kinds budgets entries v → IsVerdict kinds budgets entries w → v ≡ w
+one_verdict = one_verdict_by every

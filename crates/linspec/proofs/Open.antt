@@ -5,7 +5,7 @@ use Rattle.models.specs.declared.operation.Op.{Op}
 use Rattle.history.specs.Events.{Mark}
 use Rattle.history.specs.Events.Mark.{Invoked, Returned, Failed, Crashed}
 use Rattle.linspec.specs.Operations.{IsOpen}
-use Rattle.linspec.specs.WellFormed.{id_of, IsNew}
+use Rattle.linspec.specs.MarkRule.{id_of, IsNew}
 
 -- a completion: an ok, a fail or an info
 abbrev pub IsCompletion : Mark → Type 0
@@ -14,7 +14,7 @@ IsCompletion (Returned id answer) = Unit {0}
 IsCompletion (Failed id) = Unit {0}
 IsCompletion (Crashed id) = Unit {0}
 
-no_invocation : (m : Mark) → IsCompletion m → (id : ℕ) (op : Op) → m ≢ Invoked id op
+pub no_invocation : (m : Mark) → IsCompletion m → (id : ℕ) (op : Op) → m ≢ Invoked id op
 no_invocation m c id op e = subst IsCompletion e c
 
 no_longer : (marks : List Mark) (m : Mark) → IsCompletion m → IsOpen (marks ++ m ∷ []) (id_of m) → ⊥

@@ -5,6 +5,7 @@ use Rattle.models.specs.declared.finding.Found.{Found}
 use Rattle.models.specs.declared.finding.Found.TheVariants.{Unit as Done}
 use Rattle.models.specs.declared.finding.Answer.TheVariants.{Nothing, Number, Numbers}
 use Rattle.models.specs.Objects.{register, cas_register, mutex}
+use Rattle.models.proofs.Tables.{same_outcome}
 use Rattle.history.specs.Events.Mark.{Invoked, Returned}
 use Rattle.linspec.specs.Orders.{Taken, Includes, Run, IsLegalOrder, IsLinearizable}
 use Rattle.linspec.specs.Examples.{write, cas, acquire, key_marks, write_then_cas, acquire_while_held, mutex_held_twice}
@@ -13,20 +14,20 @@ use Rattle.linspec.proofs.LegalOrders.{legal_by}
 
 pub cas_linearizable : IsLinearizable cas_register (key_marks 7 write_then_cas)
 cas_linearizable =
-    let order : List Taken = record { id = 0; op = write 7 1; found = Done } ∷ record { id = 2; op = cas 7 1 2; found = Done } ∷ [] in (
+    let order : List Taken = record { id = 0; op = write 7 (pos 1); found = Done } ∷ record { id = 2; op = cas 7 (pos 1) (pos 2); found = Done } ∷ [] in (
       order,
       Some (pos 2),
       legal_by cas_register (key_marks 7 write_then_cas) order (Some (pos 2)) refl refl refl
           ((0, omega arith, refl), ((2, omega arith, refl), tt))
           ((tt, (tt, tt)), ((tt, (tt, tt)), tt))
-          (Some (pos 1), refl, (Some (pos 2), refl, refl)),
+          (Some (pos 1), inl refl, (Some (pos 2), inl refl, refl)),
     )
 
-no_step : (s t : Option ℤ) (found : Found) → register.Steps s (cas 7 1 2) found t → ⊥
-no_step s t found h = let q : ◌≡◌ {A = Option (Option ℤ × Found)} None (Some (t, found)) = h in cc
+no_step : (s t : Option ℤ) (found : Found) → register.Steps s (cas 7 (pos 1) (pos 2)) found t → ⊥
+no_step s t found h = h
 
 -- no run of a register has a cas in it
-no_run : (order : List Taken) (s t : Option ℤ) → Run register s order t → (x : Taken) → Contains order x → x.op ≡ cas 7 1 2 → ⊥
+no_run : (order : List Taken) (s t : Option ℤ) → Run register s order t → (x : Taken) → Contains order x → x.op ≡ cas 7 (pos 1) (pos 2) → ⊥
 no_run [] s t run x h e = Contains-nil x h
 no_run (y ∷ order) s t run x h e =
     ⊎_elim
@@ -34,14 +35,14 @@ no_run (y ∷ order) s t run x h e =
     (λ k. no_run order run.0 t run.2 x k e)
     (Contains-cons_cases y order x h)
 
-which_cas : (x : Taken) → Contains (key_marks 7 write_then_cas) (Invoked x.id x.op) → (x.id ≡ 0) ⊎ (x.op ≡ cas 7 1 2)
+which_cas : (x : Taken) → Contains (key_marks 7 write_then_cas) (Invoked x.id x.op) → (x.id ≡ 0) ⊎ (x.op ≡ cas 7 (pos 1) (pos 2))
 which_cas x h =
     ⊎_elim (λ e. inl (let t : x.id ≡ 0 = cc in t)) (λ h. ⊎_elim (λ e. cc)
-    (λ h. ⊎_elim (λ e. inr (let t : x.op ≡ cas 7 1 2 = cc in t)) (λ h. ⊎_elim (λ e. cc) (λ n. absurd (Contains-nil _ n))
+    (λ h. ⊎_elim (λ e. inr (let t : x.op ≡ cas 7 (pos 1) (pos 2) = cc in t)) (λ h. ⊎_elim (λ e. cc) (λ n. absurd (Contains-nil _ n))
     (Contains-cons_cases (Returned 2 (Numbers (pos 1) (pos 2))) [] _ h))
-    (Contains-cons_cases (Invoked 2 (cas 7 1 2)) (Returned 2 (Numbers (pos 1) (pos 2)) ∷ []) _ h))
-    (Contains-cons_cases (Returned 0 (Number (pos 1))) (Invoked 2 (cas 7 1 2) ∷ Returned 2 (Numbers (pos 1) (pos 2)) ∷ []) _ h))
-    (Contains-cons_cases (Invoked 0 (write 7 1)) (Returned 0 (Number (pos 1)) ∷ Invoked 2 (cas 7 1 2) ∷ Returned 2 (Numbers (pos 1) (pos 2)) ∷ []) _ h)
+    (Contains-cons_cases (Invoked 2 (cas 7 (pos 1) (pos 2))) (Returned 2 (Numbers (pos 1) (pos 2)) ∷ []) _ h))
+    (Contains-cons_cases (Returned 0 (Number (pos 1))) (Invoked 2 (cas 7 (pos 1) (pos 2)) ∷ Returned 2 (Numbers (pos 1) (pos 2)) ∷ []) _ h))
+    (Contains-cons_cases (Invoked 0 (write 7 (pos 1))) (Returned 0 (Number (pos 1)) ∷ Invoked 2 (cas 7 (pos 1) (pos 2)) ∷ Returned 2 (Numbers (pos 1) (pos 2)) ∷ []) _ h)
 
 no_order : (order : List Taken) (s : Option ℤ) → IsLegalOrder register (key_marks 7 write_then_cas) order s → ⊥
 no_order order s l =
@@ -57,13 +58,13 @@ no_cas_of_register h = no_order h.0 h.1 h.2
 pub waiting_linearizable : IsLinearizable mutex (key_marks 4 acquire_while_held)
 waiting_linearizable =
     let order : List Taken = record { id = 0; op = acquire 4; found = Done } ∷ [] in
-    (order, true, legal_by mutex (key_marks 4 acquire_while_held) order true refl refl refl ((0, omega arith, refl), tt) ((tt, tt), tt) (true, refl, refl))
+    (order, true, legal_by mutex (key_marks 4 acquire_while_held) order true refl refl refl ((0, omega arith, refl), tt) ((tt, tt), tt) (true, inl refl, refl))
 
 acquire_step : (t : Bool) (found : Found) → mutex.Steps false (acquire 4) found t → t ≡ true
-acquire_step t found h = let q : ◌≡◌ {A = Bool × Found} (t, found) (true, Done) = cc in ap (λ (p : Bool × Found). p.0) q
+acquire_step t found h = sym (same_outcome (true, Done) (t, found) h).0
 
 no_second_step : (t : Bool) (found : Found) → mutex.Steps true (acquire 4) found t → ⊥
-no_second_step t found h = let q : ◌≡◌ {A = Option (Bool × Found)} None (Some (t, found)) = h in cc
+no_second_step t found h = h
 
 is_acquire : (x : Taken) → Contains (key_marks 4 mutex_held_twice) (Invoked x.id x.op) → x.op ≡ acquire 4
 is_acquire x h =

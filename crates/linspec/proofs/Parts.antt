@@ -8,22 +8,22 @@ use Rattle.std.proofs.lemmas.Bool.{cases_eq}
 use Rattle.std.proofs.lemmas.List.Elements.{Contains-append_left, Contains-push, Contains-push_cases}
 use Rattle.models.specs.declared.finding.Found.{Found}
 use Rattle.linspec.specs.Orders.{Taken, Includes}
-use Rattle.linspec.specs.Ends.{Finds}
+use Rattle.linspec.specs.Ends.{HasFound}
 use Rattle.linspec.proofs.FinLaws.{get-insert_same, get-insert_other, get-remove_same, get-remove_other, contains-insert_same, contains-insert_other}
 
 -- p has what each operation of the order found of which Q holds
 abbrev pub Records : (ℕ → Type 0) → List Taken → map.FinMap nat_cmp Found → Type 0
-Records Q order p = (id : ℕ) (found : Found) → (map.get p id ≡ Some found) ↔ (Finds order id found × Q id)
+Records Q order p = (id : ℕ) (found : Found) → (map.get p id ≡ Some found) ↔ (HasFound order id found × Q id)
 
 -- s has the operations of the order of which Q holds
 abbrev pub Marks : (ℕ → Type 0) → List Taken → set.FinSet nat_cmp → Type 0
 Marks Q order s = (id : ℕ) → IsTrue (set.contains s id) ↔ (Includes order id × Q id)
 
-pub Finds-more : (order : List Taken) (x : Taken) (id : ℕ) (f : Found) → Finds order id f → Finds (order ++ x ∷ []) id f
-Finds-more order x id f h = (h.0, Contains-append_left order (x ∷ []) _ h.1, h.2, h.3)
+pub HasFound-more : (order : List Taken) (x : Taken) (id : ℕ) (f : Found) → HasFound order id f → HasFound (order ++ x ∷ []) id f
+HasFound-more order x id f h = (h.0, Contains-append_left order (x ∷ []) _ h.1, h.2, h.3)
 
-pub Finds-cases : (order : List Taken) (x : Taken) (id : ℕ) (f : Found) → Finds (order ++ x ∷ []) id f → Finds order id f ⊎ ((x.id ≡ id) × (x.found ≡ f))
-Finds-cases order x id f h =
+pub HasFound-cases : (order : List Taken) (x : Taken) (id : ℕ) (f : Found) → HasFound (order ++ x ∷ []) id f → HasFound order id f ⊎ ((x.id ≡ id) × (x.found ≡ f))
+HasFound-cases order x id f h =
     ⊎_elim (λ k. inl (h.0, k, h.2, h.3)) (λ e. inr (ap (λ (w : Taken). w.id) e ∙ h.2, ap (λ (w : Taken). w.found) e ∙ h.3)) (Contains-push_cases order x h.0 h.1)
 
 pub Includes-more : (order : List Taken) (x : Taken) (id : ℕ) → Includes order id → Includes (order ++ x ∷ []) id
@@ -44,21 +44,21 @@ module _ (Q : ℕ → Type 0) (order : List Taken) where
         (λ h. ⊎_elim
             (λ k. absurd (new (k.0, k.1, k.2 ∙ e)))
             (λ k. ap (map.get (map.insert p x.id x.found)) e ∙ get-insert_same p x.id x.found ∙ ap Some k.1)
-            (Finds-cases order x id f h.0)),
+            (HasFound-cases order x id f h.0)),
       ))
       (λ ne. (
-        (λ h. (let old : Finds order id f × Q id = (r id f).0 (sym (get-insert_other p x.id x.found id ne) ∙ h) in (Finds-more order x id f old.0, old.1))),
+        (λ h. (let old : HasFound order id f × Q id = (r id f).0 (sym (get-insert_other p x.id x.found id ne) ∙ h) in (HasFound-more order x id f old.0, old.1))),
         (λ h. ⊎_elim
             (λ k. get-insert_other p x.id x.found id ne ∙ (r id f).1 (k, h.1))
             (λ k. absurd (ne (sym k.0)))
-            (Finds-cases order x id f h.0)),
+            (HasFound-cases order x id f h.0)),
       ))
       (cases_eq id x.id)
 
   pub Records-skip : (p : map.FinMap nat_cmp Found) (x : Taken) → ¬ Q x.id → Records Q order p → Records Q (order ++ x ∷ []) p
   Records-skip p x not_q r id f = (
-    (λ h. (let old : Finds order id f × Q id = (r id f).0 h in (Finds-more order x id f old.0, old.1))),
-    (λ h. ⊎_elim (λ k. (r id f).1 (k, h.1)) (λ k. absurd (not_q (subst Q (sym k.0) h.1))) (Finds-cases order x id f h.0)),
+    (λ h. (let old : HasFound order id f × Q id = (r id f).0 h in (HasFound-more order x id f old.0, old.1))),
+    (λ h. ⊎_elim (λ k. (r id f).1 (k, h.1)) (λ k. absurd (not_q (subst Q (sym k.0) h.1))) (HasFound-cases order x id f h.0)),
   )
 
   pub Marks-add : (s : set.FinSet nat_cmp) (x : Taken) → Q x.id → Marks Q order s → Marks Q (order ++ x ∷ []) (set.insert s x.id)
@@ -105,14 +105,14 @@ module _ (Q : ℕ → Type 0) (order : List Taken) where
         (λ h. absurd (h.1.1 e)),
       ))
       (λ ne. (
-        (λ h. (let old : Finds order id f × Q id = (r id f).0 (sym (get-remove_other p k id ne) ∙ h) in (old.0, (old.1, ne)))),
+        (λ h. (let old : HasFound order id f × Q id = (r id f).0 (sym (get-remove_other p k id ne) ∙ h) in (old.0, (old.1, ne)))),
         (λ h. get-remove_other p k id ne ∙ (r id f).1 (h.0, h.1.0)),
       ))
       (cases_eq id k)
 
   pub Records-change : (S : ℕ → Type 0) (p : map.FinMap nat_cmp Found) → ((i : ℕ) → Includes order i → Q i → S i) → ((i : ℕ) → Includes order i → S i → Q i) → Records Q order p → Records S order p
   Records-change S p to from r id f = (
-    (λ h. (let old : Finds order id f × Q id = (r id f).0 h in (old.0, to id (old.0.0, old.0.1, old.0.2) old.1))),
+    (λ h. (let old : HasFound order id f × Q id = (r id f).0 h in (old.0, to id (old.0.0, old.0.1, old.0.2) old.1))),
     (λ h. (r id f).1 (h.0, from id (h.0.0, h.0.1, h.0.2) h.1)),
   )
 

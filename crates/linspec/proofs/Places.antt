@@ -1,10 +1,8 @@
 -- where events are indexed by their places, the indices of their entries rise
-use Rattle.std.proofs.Common.{◌≡◌, ℕ, ◌+◌, ◌≤◌, ⊎_elim, List, [], ◌∷◌, ◌++◌, refl, ap, arith}
+use Rattle.std.proofs.Common.{◌≡◌, ℕ, ◌+◌, ◌≤◌, ⊎_elim, Option, Some, None, List, [], ◌∷◌, ◌++◌, refl, ap, arith}
 use Rattle.std.specs.List.{Contains}
-use Rattle.history.specs.declared.events.Event.{Event}
-use Rattle.history.specs.Events.{Act, act_of, key_of, process_of, Entry, marks_of, last_after, entries_from, entries_of, indexed_from}
-use Rattle.history.specs.Events.Act.{Invokes, Returns, Fails, Crashes, Strikes}
-use Rattle.history.specs.Events.Mark.{Invoked, Returned, Failed, Crashed}
+use Rattle.history.specs.declared.event.Event.{Event}
+use Rattle.history.specs.Events.{OpEvent, op_event, Entry, entry_by, entries_by, last_after, entries_from, entries_of, indexed_from}
 use Rattle.linspec.specs.Verdicts.{IsRising}
 use Rattle.linspec.proofs.Lists.{Contains-nil, Contains-cons_cases}
 
@@ -22,18 +20,15 @@ with_entry n x entries is r = record {
   rising = ((λ e h. (let b : n + 1 ≤ e.index = r.from e h in omega arith)), r.rising);
 }
 
-with_marks : (n : ℕ) (last : ℕ → ℕ) (p key : ℕ) (act : Act) (entries : List Entry) → RisesFrom (n + 1) entries → RisesFrom n (marks_of n last p key act ++ entries)
-with_marks n last p key (Invokes op) entries r = with_entry n (record { index = n; key = key; mark = Invoked n op }) entries refl r
-with_marks n last p key (Returns a) entries r = with_entry n (record { index = n; key = key; mark = Returned (last p) a }) entries refl r
-with_marks n last p key Fails entries r = with_entry n (record { index = n; key = key; mark = Failed (last p) }) entries refl r
-with_marks n last p key Crashes entries r = with_entry n (record { index = n; key = key; mark = Crashed (last p) }) entries refl r
-with_marks n last p key Strikes entries r = record { from = λ e h. (let b : n + 1 ≤ e.index = r.from e h in omega arith); rising = r.rising }
+with_entries : (n : ℕ) (last : ℕ → ℕ) (o : Option OpEvent) (entries : List Entry) → RisesFrom (n + 1) entries → RisesFrom n (entries_by n last o ++ entries)
+with_entries n last None entries r = record { from = λ e h. (let b : n + 1 ≤ e.index = r.from e h in omega arith); rising = r.rising }
+with_entries n last (Some x) entries r = with_entry n (entry_by n last x) entries refl r
 
 from_place : (events : List Event) (n : ℕ) (last : ℕ → ℕ) → RisesFrom n (entries_from last (indexed_from n events))
 from_place [] n last = record { from = λ e h. absurd (Contains-nil e h); rising = tt }
 from_place (e ∷ events) n last =
-    let after : ℕ → ℕ = last_after n last (process_of e) (act_of e) in
-    with_marks n last (process_of e) (key_of e) (act_of e) (entries_from after (indexed_from (n + 1) events)) (from_place events (n + 1) after)
+    let after : ℕ → ℕ = last_after n last (op_event e) in
+    with_entries n last (op_event e) (entries_from after (indexed_from (n + 1) events)) (from_place events (n + 1) after)
 
 pub rising_places : (events : List Event) → IsRising (entries_of (indexed_from 0 events))
 rising_places events = let r : RisesFrom 0 (entries_of (indexed_from 0 events)) = from_place events 0 (λ _. 0) in r.rising

@@ -3,7 +3,7 @@ use Rattle.std.proofs.Common.{◌≡◌, ◌≢◌, ℕ, ◌⊎◌, inl, inr, re
 use mathlib.Core.Path.{subst_refl}
 use native.Mathlib.Nat.{ℕ_set}
 use Rattle.std.proofs.lemmas.Bool.{cases_eq}
-use Rattle.models.specs.declared.kinds.ModelKind.{ModelKind}
+use Rattle.models.specs.declared.model_kind.ModelKind.{ModelKind}
 use Rattle.models.specs.Objects.{object_of}
 
 module _ (kinds : ℕ → ModelKind) where

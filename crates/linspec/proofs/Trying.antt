@@ -10,12 +10,12 @@ use Rattle.models.specs.declared.finding.Answer.{Answer}
 use Rattle.models.specs.Objects.{Fits}
 use Rattle.history.specs.Events.{Mark}
 use Rattle.history.specs.Events.Mark.{Invoked, Returned, Failed, Crashed}
-use Rattle.linspec.specs.declared.operations.Mark as kept
+use Rattle.linspec.specs.declared.kept_marks.KeptMark as kept
 use Rattle.linspec.specs.Operations.{HasReturned}
 use Rattle.linspec.specs.Orders.{Taken}
-use Rattle.linspec.specs.Said.{mark_said, said}
-use Rattle.linspec.specs.Search.{MayStandAfter, Finishes, CanFinish}
-use Rattle.linspec.specs.States.{Keyed, Steps, Front, FollowsBy, Follows}
+use Rattle.linspec.specs.KeptMarks.{mark_of, marks_of_kept}
+use Rattle.linspec.specs.Finishing.{MayStandAfter, Finishes, CanFinish}
+use Rattle.linspec.specs.Attempts.{Keyed, Steps, AttemptView, FollowsBy, Follows}
 use Rattle.linspec.proofs.Lists.{Contains-nil, Contains-head, Contains-tail, Contains-cons_cases}
 use Rattle.linspec.proofs.Filters.{to_map}
 
@@ -99,15 +99,15 @@ left-less (m ∷ marks) taken id op h fresh =
     (Contains-cons_cases m marks (Invoked id op) h)
 
 -- a front that follows has fewer left
-pub fewer_left : (marks : List Mark) (front after : Front) (m : Mark) → Contains marks m → Follows marks front m after → left marks after.taken < left marks front.taken
+pub fewer_left : (marks : List Mark) (front after : AttemptView) (m : Mark) → Contains marks m → Follows marks front m after → left marks after.taken < left marks front.taken
 fewer_left marks front after (Invoked id op) h f = subst (λ taken. left marks taken < left marks front.taken) f.taken (left-less marks front.taken id op h f.stands.fresh)
 fewer_left marks front after (Returned id answer) h f = absurd f
 fewer_left marks front after (Failed id) h f = absurd f
 fewer_left marks front after (Crashed id) h f = absurd f
 
-module _ (marks : List Mark) (front : Front) where
+module _ (marks : List Mark) (front : AttemptView) where
   -- a first operation, and then the rest
-  pub finish_first : (after : Front) (m : Mark) → Contains marks m → Follows marks front m after → CanFinish Steps marks after.taken after.states → CanFinish Steps marks front.taken front.states
+  pub finish_first : (after : AttemptView) (m : Mark) → Contains marks m → Follows marks front m after → CanFinish Steps marks after.taken after.states → CanFinish Steps marks front.taken front.states
   finish_first after (Invoked id op) h f c = (
     record { id = id; op = op; found = f.found } ∷ c.0,
     (
@@ -121,7 +121,7 @@ module _ (marks : List Mark) (front : Front) where
 
   -- no first operation is left that leads to an end
   pub no_finish : ¬ ((id : ℕ) → HasReturned marks id → Contains front.taken id)
-      → ((m : Mark) → Contains marks m → (after : Front) → Follows marks front m after → ¬ CanFinish Steps marks after.taken after.states)
+      → ((m : Mark) → Contains marks m → (after : AttemptView) → Follows marks front m after → ¬ CanFinish Steps marks after.taken after.states)
       → ¬ CanFinish Steps marks front.taken front.states
   no_finish not_done tried c = by_rest c.0 c.1
     where
@@ -133,43 +133,43 @@ module _ (marks : List Mark) (front : Front) where
           (rest, f.1.2)
 
 -- no mark of these leads to an end
-abbrev pub Tried : List Mark → Front → List Mark → Type 0
-Tried marks front these = (m : Mark) → Contains these m → (after : Front) → Follows marks front m after → ¬ CanFinish Steps marks after.taken after.states
+abbrev pub Tried : List Mark → AttemptView → List Mark → Type 0
+Tried marks front these = (m : Mark) → Contains these m → (after : AttemptView) → Follows marks front m after → ¬ CanFinish Steps marks after.taken after.states
 
-module _ (marks : List kept.Mark) (front : Front) (at : ℕ) (m : kept.Mark) (l : at < length marks) (is : m ≡ get_or marks at m) where
-  pub here_in : Contains (said marks) (mark_said m)
-  here_in = to_map mark_said marks m (subst (Contains marks) (sym is) (Contains-get_or marks at m l))
+module _ (marks : List kept.KeptMark) (front : AttemptView) (at : ℕ) (m : kept.KeptMark) (l : at < length marks) (is : m ≡ get_or marks at m) where
+  pub here_in : Contains (marks_of_kept marks) (mark_of m)
+  here_in = to_map mark_of marks m (subst (Contains marks) (sym is) (Contains-get_or marks at m l))
 
-  pub tried_more : Tried (said marks) front (said (take at marks)) → ((after : Front) → Follows (said marks) front (mark_said m) after → ¬ CanFinish Steps (said marks) after.taken after.states)
-      → Tried (said marks) front (said (take (at + 1) marks))
+  pub tried_more : Tried (marks_of_kept marks) front (marks_of_kept (take at marks)) → ((after : AttemptView) → Follows (marks_of_kept marks) front (mark_of m) after → ¬ CanFinish Steps (marks_of_kept marks) after.taken after.states)
+      → Tried (marks_of_kept marks) front (marks_of_kept (take (at + 1) marks))
   tried_more before here n h after f =
       ⊎_elim
       (λ k. before n k after f)
-      (λ e. here after (subst (λ w. Follows (said marks) front w after) (sym e) f))
-      (Contains-push_cases (said (take at marks)) (mark_said m) n
-      (subst (λ xs. Contains xs n) (ap said (take_more marks at m l ∙ ap (λ x. take at marks ++ x ∷ []) (sym is)) ∙ map-append mark_said (take at marks) (m ∷ [])) h))
+      (λ e. here after (subst (λ w. Follows (marks_of_kept marks) front w after) (sym e) f))
+      (Contains-push_cases (marks_of_kept (take at marks)) (mark_of m) n
+      (subst (λ xs. Contains xs n) (ap marks_of_kept (take_more marks at m l ∙ ap (λ x. take at marks ++ x ∷ []) (sym is)) ∙ map-append mark_of (take at marks) (m ∷ [])) h))
 
   -- the search went on from the front with this operation, if it may come next
-  pub tried_next : (next : Option Front) → ((after : Front) → Follows (said marks) front (mark_said m) after ↔ IsSomeAnd next (λ n. n ≡ after))
-      → ((n : Front) → next ≡ Some n → ¬ CanFinish Steps (said marks) n.taken n.states)
-      → (after : Front) → Follows (said marks) front (mark_said m) after → ¬ CanFinish Steps (said marks) after.taken after.states
+  pub tried_next : (next : Option AttemptView) → ((after : AttemptView) → Follows (marks_of_kept marks) front (mark_of m) after ↔ IsSomeAnd next (λ n. n ≡ after))
+      → ((n : AttemptView) → next ≡ Some n → ¬ CanFinish Steps (marks_of_kept marks) n.taken n.states)
+      → (after : AttemptView) → Follows (marks_of_kept marks) front (mark_of m) after → ¬ CanFinish Steps (marks_of_kept marks) after.taken after.states
   tried_next None e none after f = absurd ((e after).0 f)
-  tried_next (Some n) e none after f = let same : n ≡ after = (e after).0 f in subst (λ (k : Front). ¬ CanFinish Steps (said marks) k.taken k.states) same (none n refl)
+  tried_next (Some n) e none after f = let same : n ≡ after = (e after).0 f in subst (λ (k : AttemptView). ¬ CanFinish Steps (marks_of_kept marks) k.taken k.states) same (none n refl)
 
 -- what became of the front that followed, if any
-pub not_that_one : (marks : List Mark) (next : Option Front) (n : Front) → next ≡ Some n → ¬ CanFinish Steps marks n.taken n.states → (k : Front) → next ≡ Some k → ¬ CanFinish Steps marks k.taken k.states
-not_that_one marks next n is none k e = let same : n ≡ k = (let q : Some n ≡ Some k = sym is ∙ e in cc) in subst (λ (f : Front). ¬ CanFinish Steps marks f.taken f.states) same none
+pub not_that_one : (marks : List Mark) (next : Option AttemptView) (n : AttemptView) → next ≡ Some n → ¬ CanFinish Steps marks n.taken n.states → (k : AttemptView) → next ≡ Some k → ¬ CanFinish Steps marks k.taken k.states
+not_that_one marks next n is none k e = let same : n ≡ k = (let q : Some n ≡ Some k = sym is ∙ e in cc) in subst (λ (f : AttemptView). ¬ CanFinish Steps marks f.taken f.states) same none
 
-pub not_one : (marks : List Mark) (next : Option Front) → next ≡ None → (k : Front) → next ≡ Some k → ¬ CanFinish Steps marks k.taken k.states
+pub not_one : (marks : List Mark) (next : Option AttemptView) → next ≡ None → (k : AttemptView) → next ≡ Some k → ¬ CanFinish Steps marks k.taken k.states
 not_one marks next is k e = cc
 
 -- an operation at the front, where the states are these
-module _ (marks : List Mark) (front : Front) (id : ℕ) (op : Op) (states : List Keyed) (same : front.states ≡ states) where
-  pub no_operation : ((found : Found) (after : List Keyed) → ¬ Steps states op found after) → (after : Front) → FollowsBy marks front id op after ↔ ⊥
+module _ (marks : List Mark) (front : AttemptView) (id : ℕ) (op : Op) (states : List Keyed) (same : front.states ≡ states) where
+  pub no_operation : ((found : Found) (after : List Keyed) → ¬ Steps states op found after) → (after : AttemptView) → FollowsBy marks front id op after ↔ ⊥
   no_operation none after = ((λ f. none f.found after.states (subst (λ s. Steps s op f.found after.states) same f.step)), (λ h. absurd h))
 
   module _ (next : List Keyed) (found : Found) (one : (f : Found) (after : List Keyed) → Steps states op f after ↔ ((next ≡ after) × (found ≡ f))) where
-    pub no_fit : ¬ ((answer : Answer) → Contains marks (Returned id answer) → Fits found answer) → (after : Front) → FollowsBy marks front id op after ↔ ⊥
+    pub no_fit : ¬ ((answer : Answer) → Contains marks (Returned id answer) → Fits found answer) → (after : AttemptView) → FollowsBy marks front id op after ↔ ⊥
     no_fit unfit after = (
       (λ f. unfit (subst (λ g. (answer : Answer) → Contains marks (Returned id answer) → Fits g answer)
           (sym ((one f.found after.states).0 (subst (λ s. Steps s op f.found after.states) same f.step)).1) f.fits)),
@@ -177,13 +177,13 @@ module _ (marks : List Mark) (front : Front) (id : ℕ) (op : Op) (states : List
     )
 
     pub one_operation : (taken now : List ℕ) → front.taken ≡ taken → now ≡ taken ++ id ∷ [] → MayStandAfter marks taken id → ((answer : Answer) → Contains marks (Returned id answer) → Fits found answer)
-        → (r : Front) → r.taken ≡ now → r.states ≡ next → (after : Front) → FollowsBy marks front id op after ↔ (r ≡ after)
+        → (r : AttemptView) → r.taken ≡ now → r.states ≡ next → (after : AttemptView) → FollowsBy marks front id op after ↔ (r ≡ after)
     one_operation taken now is longer stands fits r r_taken r_states after = (
       (λ f.
           let p : r.taken ≡ after.taken = r_taken ∙ longer ∙ ap (λ l. l ++ id ∷ []) (sym is) ∙ f.taken in
           let q : r.states ≡ after.states = r_states ∙ ((one f.found after.states).0 (subst (λ s. Steps s op f.found after.states) same f.step)).0 in
           λ i. record { taken = p i; states = q i }),
-      (λ e. subst (λ (k : Front). FollowsBy marks front id op k) e (record {
+      (λ e. subst (λ (k : AttemptView). FollowsBy marks front id op k) e (record {
         stands = subst (λ l. MayStandAfter marks l id) (sym is) stands;
         found = found;
         step = subst (λ s. Steps s op found r.states) (sym same) ((one found r.states).1 (sym r_states, refl));

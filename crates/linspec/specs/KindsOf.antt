@@ -1,7 +1,7 @@
--- The kinds of the keys of a history, given by a list
+-- Promise: the kinds of the keys of a history, given by a list
 use Rattle.std.specs.Prelude.{◌≡◌, ℕ, List}
 use Rattle.std.specs.List.{Contains}
-use Rattle.models.specs.declared.kinds.ModelKind.{ModelKind}
+use Rattle.models.specs.declared.model_kind.ModelKind.{ModelKind}
 use Rattle.models.specs.declared.operation.Op.{Op}
 use Rattle.history.specs.Events.{Mark}
 use Rattle.history.specs.Events.Mark.{Invoked}
@@ -12,4 +12,6 @@ AgreeWith kinds list = (key : ℕ) (kind : ModelKind) → Contains list (key, ki
 
 -- the list has each key of an operation
 abbrev pub HaveKinds : List (ℕ × ModelKind) → List Mark → Type 0
-HaveKinds list marks = (id : ℕ) (op : Op) → Contains marks (Invoked id op) → (kind : ModelKind) × Contains list (op.key, kind)
+HaveKinds list marks =
+    (id : ℕ) (op : Op) → Contains marks (Invoked id op)
+    → (kind : ModelKind) × Contains list (op.key, kind)

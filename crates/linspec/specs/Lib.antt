@@ -2,9 +2,9 @@ pub mod Operations
 pub mod Orders
 pub mod Ends
 pub mod Verdicts
-pub mod WellFormed
+pub mod MarkRule
 pub mod Examples
-pub mod Said
-pub mod Search
+pub mod KeptMarks
+pub mod Finishing
 pub mod KindsOf
-pub mod States
+pub mod Attempts

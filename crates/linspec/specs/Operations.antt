@@ -1,5 +1,5 @@
--- Operations, and which precede which (Herlihy and Wing 1990, section 2). An operation is named by the index of
--- its invocation, and what became of it is a fact about the marks of its history
+-- Promise: operations, and which precede which (Herlihy and Wing 1990, section 2). An operation is named by the index
+-- of its invocation, and what became of it is a fact about the marks of its history
 use Rattle.std.specs.Prelude.{◌≡◌, ℕ, List, ◌++◌}
 use Rattle.std.specs.List.{Contains}
 use Rattle.models.specs.declared.operation.Op.{Op}

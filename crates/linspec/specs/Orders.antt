@@ -1,7 +1,7 @@
--- Legal orders and linearizability (Herlihy and Wing 1990, section 2)
+-- Promise: legal orders and linearizability (Herlihy and Wing 1990, section 2)
 use Rattle.std.specs.Prelude.{◌≡◌, ◌≢◌, ℕ, List, [], ◌∷◌}
 use Rattle.std.specs.List.{Contains}
-use Rattle.models.specs.declared.kinds.ModelKind.{ModelKind}
+use Rattle.models.specs.declared.model_kind.ModelKind.{ModelKind}
 use Rattle.models.specs.declared.operation.Op.{Op}
 use Rattle.models.specs.declared.finding.Found.{Found}
 use Rattle.models.specs.declared.finding.Answer.{Answer}
@@ -31,7 +31,8 @@ Run o s [] t = s ≡ t
 Run o s (x ∷ order) t = (mid : o.State) × o.Steps s x.op x.found mid × Run o mid order t
 
 -- a legal order of the history, which ends in the state s
-pub record IsLegalOrder (o : Object) (marks : List Mark) (order : List Taken) (s : o.State) : Type 0 where
+pub record IsLegalOrder (o : Object) (marks : List Mark) (order : List Taken) (s : o.State)
+    : Type 0 where
   -- operations of the history, each at most once
   pub invoked : (x : Taken) → Contains order x → Contains marks (Invoked x.id x.op)
   pub once : Pairwise (λ x y. x.id ≢ y.id) order
@@ -42,7 +43,8 @@ pub record IsLegalOrder (o : Object) (marks : List Mark) (order : List Taken) (s
   pub in_time : Pairwise (λ x y. ¬ Precedes marks y.id x.id) order
   -- each in turn can take place, and what a done one finds fits its answer
   pub run : Run o o.start order s
-  pub fits : (x : Taken) (answer : Answer) → Contains order x → Contains marks (Returned x.id answer) → Fits x.found answer
+  pub fits : (x : Taken) (answer : Answer) → Contains order x
+      → Contains marks (Returned x.id answer) → Fits x.found answer
 
 -- the history is linearizable: it has a legal order. Pending operations are completed or dropped
 abbrev pub IsLinearizable : Object → List Mark → Type 0
@@ -53,5 +55,7 @@ abbrev pub product : (ℕ → ModelKind) → Object
 product kinds = record {
   State = (k : ℕ) → (object_of (kinds k)).State;
   start = λ k. (object_of (kinds k)).start;
-  Steps = λ s op found t. (object_of (kinds op.key)).Steps (s op.key) op found (t op.key) × ((k : ℕ) → k ≢ op.key → t k ≡ s k);
+  Steps = λ s op found t.
+      (object_of (kinds op.key)).Steps (s op.key) op found (t op.key)
+      × ((k : ℕ) → k ≢ op.key → t k ≡ s k);
 }

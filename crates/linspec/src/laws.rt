@@ -1,48 +1,88 @@
 //! Laws that show that the definitions say what they should.
-ghost use Rattle.std.specs.Prelude.{◌≡◌, ◌≢◌, ◌↔◌, ℕ, pos, List};
-ghost use Rattle.models.specs.declared.kinds.ModelKind.{ModelKind};
+ghost use Rattle.std.specs.Prelude.{◌≡◌, ◌≢◌, ◌↔◌, ℕ, ℤ, pos, Bool, false, List, [], ◌∷◌, ◌++◌};
+ghost use Rattle.models.specs.declared.model_kind.ModelKind.{ModelKind};
+ghost use Rattle.models.specs.declared.operation.Op.{Op};
 ghost use Rattle.models.specs.Objects.{object_of, register, cas_register, mutex, fifo_queue};
-ghost use Rattle.history.specs.declared.events.Event.{Event};
-ghost use Rattle.history.specs.Events.{Entry, IsFront, entries_of, indexed_from, marks, of_key};
-ghost use Rattle.history.specs.Rule.{IsHistory};
-ghost use Rattle.linspec.specs.WellFormed.{IsKeyed, AreWellFormed};
-ghost use Rattle.linspec.specs.Orders.{IsLinearizable};
-ghost use Rattle.linspec.specs.Ends.{HasMoreThan};
-ghost use Rattle.linspec.specs.Examples.{key_marks, write_then_open_read, write_then_read, read_of_pending_write, read_of_failed_write, reads_after_crashed_write, two_enqueues, write_then_cas, acquire_while_held, mutex_held_twice};
-ghost use Rattle.linspec.specs.Orders.{product};
-ghost use Rattle.linspec.specs.declared.verdicts.KeyStatus.{KeyStatus};
-ghost use Rattle.linspec.specs.declared.verdicts.Verdict.{Verdict};
-ghost use Rattle.linspec.specs.Verdicts.{IsKeyStatus, IsVerdict, IsRising};
+ghost use Rattle.history.specs.declared.event.Event.{Event};
+ghost use Rattle.history.specs.Events.{Mark, Entry, IsFront, entries_of, indexed_from, marks};
+ghost use Rattle.history.specs.Events.Mark.{Invoked, Crashed};
+ghost use Rattle.history.specs.ProcessRule.{IsHistory};
+ghost use Rattle.linspec.specs.MarkRule.{IsNew, IsKeyed, AreWellFormed};
+ghost use Rattle.linspec.specs.Orders.{IsLinearizable, product};
+ghost use Rattle.linspec.specs.Ends.{HasMoreThan, HasMoreThanBy, IsBlownIndex, IsWithinBudget};
+ghost use Rattle.linspec.specs.Verdicts.{IsKeyStatusBy, IsVerdict, IsVerdictBy, IsRising};
+ghost use Rattle.linspec.specs.Examples.{all_entries, key_entries, key_marks, queue_at_one};
+ghost use Rattle.linspec.specs.Examples.{write_then_open_read, write_then_read, read_of_pending_write, read_of_failed_write, reads_after_crashed_write, crashed_read, two_enqueues, two_enqueues_then_ok, bad_read_beside_blown, write_then_cas, acquire_while_held, mutex_held_twice};
+ghost use Rattle.linspec.specs.declared.verdict.KeyStatus.{KeyStatus};
+ghost use Rattle.linspec.specs.declared.verdict.Verdict.{Verdict};
+
+/// The empty history is linearizable, for one key and for all keys together.
+pub fn empty_law()
+    ensures one { (kind : ModelKind) → IsLinearizable (object_of kind) [] }
+    ensures all { (kinds : ℕ → ModelKind) → IsLinearizable (product kinds) [] }
+{}
 
 /// Each front of a linearizable history is linearizable, for one key and for all keys together.
 pub fn fronts_law()
-    ensures one { (kind : ModelKind) (front entries : List Entry) → AreWellFormed (marks entries) → IsFront front entries →
-        IsLinearizable (object_of kind) (marks entries) → IsLinearizable (object_of kind) (marks front) }
-    ensures all { (kinds : ℕ → ModelKind) (front entries : List Entry) → AreWellFormed (marks entries) → IsFront front entries →
-        IsLinearizable (product kinds) (marks entries) → IsLinearizable (product kinds) (marks front) }
+    ensures one { (kind : ModelKind) (front entries : List Entry) →
+        AreWellFormed (marks entries) → IsFront front entries
+        → IsLinearizable (object_of kind) (marks entries)
+        → IsLinearizable (object_of kind) (marks front) }
+    ensures all { (kinds : ℕ → ModelKind) (front entries : List Entry) →
+        AreWellFormed (marks entries) → IsFront front entries
+        → IsLinearizable (product kinds) (marks entries)
+        → IsLinearizable (product kinds) (marks front) }
 {}
 
 /// No longer history revives a front that is not linearizable: then the whole isn't either.
 pub fn no_revival_law()
-    ensures one { (kind : ModelKind) (front entries : List Entry) → AreWellFormed (marks entries) → IsFront front entries →
-        ¬ IsLinearizable (object_of kind) (marks front) → ¬ IsLinearizable (object_of kind) (marks entries) }
-    ensures all { (kinds : ℕ → ModelKind) (front entries : List Entry) → AreWellFormed (marks entries) → IsFront front entries →
-        ¬ IsLinearizable (product kinds) (marks front) → ¬ IsLinearizable (product kinds) (marks entries) }
+    ensures one { (kind : ModelKind) (front entries : List Entry) →
+        AreWellFormed (marks entries) → IsFront front entries
+        → ¬ IsLinearizable (object_of kind) (marks front)
+        → ¬ IsLinearizable (object_of kind) (marks entries) }
+    ensures all { (kinds : ℕ → ModelKind) (front entries : List Entry) →
+        AreWellFormed (marks entries) → IsFront front entries
+        → ¬ IsLinearizable (product kinds) (marks front)
+        → ¬ IsLinearizable (product kinds) (marks entries) }
 {}
 
-/// The definitions determine the answer: a key has one status, and a history one verdict.
+/// Neither an invocation of a new operation nor a crash kills: what was linearizable still is, for one key and for all
+/// keys together.
+pub fn never_kills_law()
+    ensures invocation { (kind : ModelKind) (marks : List Mark) (id : ℕ) (op : Op) →
+        IsNew marks id → IsLinearizable (object_of kind) marks
+        → IsLinearizable (object_of kind) (marks ++ Invoked id op ∷ []) }
+    ensures crash { (kind : ModelKind) (marks : List Mark) (id : ℕ) →
+        IsLinearizable (object_of kind) marks
+        → IsLinearizable (object_of kind) (marks ++ Crashed id ∷ []) }
+    ensures invocation_of_all { (kinds : ℕ → ModelKind) (marks : List Mark) (id : ℕ) (op : Op) →
+        IsNew marks id → IsLinearizable (product kinds) marks
+        → IsLinearizable (product kinds) (marks ++ Invoked id op ∷ []) }
+    ensures crash_of_all { (kinds : ℕ → ModelKind) (marks : List Mark) (id : ℕ) →
+        IsLinearizable (product kinds) marks
+        → IsLinearizable (product kinds) (marks ++ Crashed id ∷ []) }
+{}
+
+/// The definitions determine the answer, whichever crashed operations count: a key has one status, and a history one
+/// verdict.
 pub fn one_answer_law()
-    ensures status { (kind : ModelKind) (budget : ℕ) (entries : List Entry) (s t : KeyStatus) →
-        IsKeyStatus (object_of kind) budget entries s → IsKeyStatus (object_of kind) budget entries t → s ≡ t }
-    ensures verdict { (kinds : ℕ → ModelKind) (budgets : ℕ → ℕ) (entries : List Entry) (v w : Verdict) → IsRising entries →
-        IsVerdict kinds budgets entries v → IsVerdict kinds budgets entries w → v ≡ w }
+    ensures status { (counts : Op → Bool) (kind : ModelKind) (budget : ℕ) (entries : List Entry)
+        (s t : KeyStatus) → IsKeyStatusBy counts (object_of kind) budget entries s
+        → IsKeyStatusBy counts (object_of kind) budget entries t → s ≡ t }
+    ensures verdict { (counts : Op → Bool) (kinds : ℕ → ModelKind) (budgets : ℕ → ℕ)
+        (entries : List Entry) (v w : Verdict) → IsRising entries
+        → IsVerdictBy counts kinds budgets entries v → IsVerdictBy counts kinds budgets entries w
+        → v ≡ w }
 {}
 
 /// What the process rule gives for the entries of a history.
 pub fn history_law()
-    ensures keyed { (events : List (ℕ × Event)) → IsHistory events → IsKeyed (entries_of events) }
-    ensures well { (events : List (ℕ × Event)) → IsHistory events → AreWellFormed (marks (entries_of events)) }
-    ensures rising { (events : List (ℕ × Event)) → IsHistory events → IsRising (entries_of events) }
+    ensures keyed { (events : List (ℕ × Event)) →
+        IsHistory events → IsKeyed (entries_of events) }
+    ensures well { (events : List (ℕ × Event)) →
+        IsHistory events → AreWellFormed (marks (entries_of events)) }
+    ensures rising { (events : List (ℕ × Event)) →
+        IsHistory events → IsRising (entries_of events) }
 {}
 
 /// In a whole history, whose events are indexed by their places, the indices of the entries rise.
@@ -50,11 +90,12 @@ pub fn places_rise()
     ensures { (events : List Event) → IsRising (entries_of (indexed_from 0 events)) }
 {}
 
-/// A read after a write of 3 may answer 3 and no other value; before it has answered, nothing is wrong yet.
+/// A read after a write may answer the written value and no other; before it has answered, nothing is wrong yet.
 pub fn write_then_read_law()
-    ensures unanswered { IsLinearizable register (key_marks 7 write_then_open_read) }
-    ensures its_value { IsLinearizable register (key_marks 7 (write_then_read 3)) }
-    ensures other_value { (a : ℕ) → pos 3 ≢ pos a → ¬ IsLinearizable register (key_marks 7 (write_then_read a)) }
+    ensures unanswered { (v : ℤ) → IsLinearizable register (key_marks 7 (write_then_open_read v)) }
+    ensures its_value { (v : ℤ) → IsLinearizable register (key_marks 7 (write_then_read v v)) }
+    ensures other_value { (v a : ℤ) → v ≢ a
+        → ¬ IsLinearizable register (key_marks 7 (write_then_read v a)) }
 {}
 
 /// A pending write may have been read; where the write then fails, it may not.
@@ -66,14 +107,47 @@ pub fn pending_write_law()
 /// A crashed write may take place at any later moment: after a read that answers the value before it, a read may answer
 /// its value. It takes place once: after a read that answers its value, none answers the value before it.
 pub fn crashed_write_law()
-    ensures later { IsLinearizable register (key_marks 7 (reads_after_crashed_write 1 2)) }
-    ensures not_undone { ¬ IsLinearizable register (key_marks 7 (reads_after_crashed_write 2 1)) }
+    ensures later { IsLinearizable register
+        (key_marks 7 (reads_after_crashed_write (pos 1) (pos 2))) }
+    ensures not_undone { ¬ IsLinearizable register
+        (key_marks 7 (reads_after_crashed_write (pos 2) (pos 1))) }
 {}
 
 /// Two enqueues at once have five ends: none is included, either alone, or both in either order.
 pub fn two_enqueues_law()
     ensures five { HasMoreThan fifo_queue (key_marks 1 two_enqueues) 4 }
     ensures not_six { ¬ HasMoreThan fifo_queue (key_marks 1 two_enqueues) 5 }
+{}
+
+/// Two enqueues at once, and then the ok of one: its five ends blow a budget of four at the ok's index, and not one of
+/// five.
+pub fn blown_index_law()
+    ensures four { IsBlownIndex fifo_queue 4 (key_entries 1 two_enqueues_then_ok) 2 }
+    ensures five { IsWithinBudget fifo_queue 5 (key_entries 1 two_enqueues_then_ok) }
+{}
+
+/// Where a budget is blown and nothing else is wrong, the verdict is Unknown, with the key and the blown index.
+pub fn unknown_law()
+    ensures { IsVerdict (λ key. ModelKind.FifoQueue) (λ key. 4)
+        (all_entries two_enqueues_then_ok) (Verdict.Unknown 1 2) }
+{}
+
+/// Illegal comes before Unknown: beside a blown key, a read of a value that nobody has written makes the verdict Illegal,
+/// with its own key and index.
+pub fn illegal_before_unknown_law()
+    ensures illegal { IsVerdict queue_at_one (λ key. 4)
+        (all_entries bad_read_beside_blown) (Verdict.Illegal 2 4) }
+    ensures not_unknown { (key index : ℕ) → ¬ IsVerdict queue_at_one (λ key. 4)
+        (all_entries bad_read_beside_blown) (Verdict.Unknown key index) }
+{}
+
+/// What counts in an end: a crashed read has two ends, without it and with it; and one, where no crashed operation
+/// counts.
+pub fn what_counts_law()
+    ensures two { HasMoreThan register (key_marks 7 crashed_read) 1 }
+    ensures not_three { ¬ HasMoreThan register (key_marks 7 crashed_read) 2 }
+    ensures one { HasMoreThanBy (λ op. false) register (key_marks 7 crashed_read) 0 }
+    ensures not_two { ¬ HasMoreThanBy (λ op. false) register (key_marks 7 crashed_read) 1 }
 {}
 
 /// A cas takes place on a cas-register, and never on a plain register.

@@ -1,12 +1,10 @@
 //! What it means that a history is linearizable: the definitions, and laws that show them to be right.
 #![tactic(auto)]
 
+mod brute_force;
+mod kept_marks;
 pub mod laws;
-mod operations;
-mod search;
-#[cfg(test)]
-mod tests;
-pub mod verdicts;
+pub mod verdict;
 
-pub use search::brute;
-pub use verdicts::{KeyStatus, Verdict};
+pub use brute_force::brute;
+pub use verdict::{KeyStatus, Verdict};

@@ -7,7 +7,7 @@ use Rattle.std.proofs.lemmas.List.Elements.{Contains-append_left, Contains-appen
 use Rattle.models.specs.declared.finding.Answer.{Answer}
 use Rattle.history.specs.Events.{Mark, Entry, marks}
 use Rattle.history.specs.Events.Mark.{Invoked, Returned, Failed, Crashed}
-use Rattle.linspec.specs.WellFormed.{id_of, IsNew, AreWellFormed, IsKeyed}
+use Rattle.linspec.specs.MarkRule.{id_of, IsNew, AreWellFormed, IsKeyed}
 use Rattle.linspec.specs.Operations.{HasReturned, Precedes}
 use Rattle.linspec.specs.Orders.{Taken, Pairwise}
 use Rattle.linspec.proofs.Lists.{Contains-nil, Contains-head, Pairwise-append, Pairwise-left, Pairwise-right, Pairwise-across, cut_at}

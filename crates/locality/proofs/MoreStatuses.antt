@@ -2,10 +2,10 @@
 use Rattle.std.proofs.Common.{◌≡◌, ℕ, ◌≤◌, ◌<◌, ⊎_elim, List, [], ◌∷◌, ◌++◌, ap, subst, arith}
 use Rattle.std.specs.List.{Contains}
 use Rattle.std.proofs.lemmas.List.Elements.{Contains-append_left, Contains-push, Contains-push_cases}
-use Rattle.linspec.specs.declared.verdicts.KeyStatus.{KeyStatus}
-use Rattle.linspec.specs.declared.verdicts.KeyStatus.TheVariants.{Alive, Dead, Over}
-use Rattle.linspec.specs.declared.verdicts.Verdict.{Verdict}
-use Rattle.linspec.specs.declared.verdicts.Verdict.TheVariants.{Legal, Illegal, Unknown}
+use Rattle.linspec.specs.declared.verdict.KeyStatus.{KeyStatus}
+use Rattle.linspec.specs.declared.verdict.KeyStatus.TheVariants.{Alive, Dead, Over}
+use Rattle.linspec.specs.declared.verdict.Verdict.{Verdict}
+use Rattle.linspec.specs.declared.verdict.Verdict.TheVariants.{Legal, Illegal, Unknown}
 use Rattle.linspec.specs.Verdicts.{IsJoin}
 
 module _ (statuses : List (ℕ × KeyStatus)) (key : ℕ) where

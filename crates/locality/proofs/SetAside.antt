@@ -3,12 +3,10 @@ use Rattle.std.proofs.Common.{◌≡◌, ℕ, ⊎_elim, Bool, true, false, not, 
 use Rattle.std.specs.List.{filter, Contains}
 use Rattle.std.proofs.lemmas.Bool.{cases_Bool, cases_eq, eq-eqb, ne_eqb, true≢false}
 use Rattle.std.proofs.lemmas.List.Elements.{Contains-append_left, Contains-append_right}
-use Rattle.models.specs.Objects.{Object}
 use Rattle.history.specs.Events.{Mark, Entry, of_key, marks, IsFront}
 use Rattle.history.specs.Events.Mark.{Invoked, Returned, Failed, Crashed}
-use Rattle.linspec.specs.WellFormed.{id_of, MayFollow, AreWellFormed, IsKeyed}
+use Rattle.linspec.specs.MarkRule.{id_of, MayFollow, AreWellFormed, IsKeyed}
 use Rattle.linspec.specs.Operations.{IsOpen}
-use Rattle.linspec.specs.Orders.{IsLinearizable}
 use Rattle.linspec.proofs.Lists.{Contains-nil, Contains-head}
 use Rattle.linspec.proofs.Filters.{from_filter, to_filter, to_map, from_map, map-cut, filter-cut_at, filter-yes, filter-no, filter-none}
 use Rattle.linspec.proofs.Fronts.{marks-append}
@@ -90,19 +88,3 @@ module _ (blown : ℕ → Bool) (k : ℕ) where
       clash : (b : Bool) → b ≡ true → not b ≡ true → ⊥
       clash true e f = true≢false (sym f)
       clash false e f = true≢false (sym e)
-
--- the empty history is linearizable
-pub IsLinearizable-empty : (o : Object) → IsLinearizable o []
-IsLinearizable-empty o = (
-  [],
-  o.start,
-  record {
-    invoked = λ x h. absurd (Contains-nil x h);
-    once = tt;
-    none_failed = λ x h. absurd (Contains-nil x h);
-    all_done = λ id d. absurd (Contains-nil _ d.1);
-    in_time = tt;
-    run = refl;
-    fits = λ x a h. absurd (Contains-nil x h);
-  },
-)

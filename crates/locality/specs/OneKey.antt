@@ -1,11 +1,11 @@
--- Histories of one key
+-- Promise: histories of one key
 use Rattle.std.specs.Prelude.{◌≡◌, ℕ, List}
 use Rattle.std.specs.List.{Contains}
 use Rattle.history.specs.Events.{Entry}
-use Rattle.linspec.specs.declared.verdicts.KeyStatus.{KeyStatus}
-use Rattle.linspec.specs.declared.verdicts.KeyStatus.TheVariants.{Alive, Dead, Over}
-use Rattle.linspec.specs.declared.verdicts.Verdict.{Verdict}
-use Rattle.linspec.specs.declared.verdicts.Verdict.TheVariants.{Legal, Illegal, Unknown}
+use Rattle.linspec.specs.declared.verdict.KeyStatus.{KeyStatus}
+use Rattle.linspec.specs.declared.verdict.KeyStatus.TheVariants.{Alive, Dead, Over}
+use Rattle.linspec.specs.declared.verdict.Verdict.{Verdict}
+use Rattle.linspec.specs.declared.verdict.Verdict.TheVariants.{Legal, Illegal, Unknown}
 
 -- each entry is of the key
 abbrev pub IsOfKey : ℕ → List Entry → Type 0

@@ -1,6 +1,6 @@
 //! One verdict from the statuses of all keys.
 ghost use Rattle.std.specs.Prelude.{ℕ, List, [], ◌∷◌, ◌++◌};
-ghost use Rattle.linspec.specs.declared.verdicts.KeyStatus.{KeyStatus};
+ghost use Rattle.linspec.specs.declared.verdict.KeyStatus.{KeyStatus};
 ghost use Rattle.linspec.specs.Verdicts.{IsJoin};
 
 use linspec::{KeyStatus, Verdict};
@@ -22,7 +22,8 @@ pub fn join(statuses: &[(Key, KeyStatus)]) -> Verdict
 
 /// The verdict of a list with one more status.
 fn with_status(verdict: Verdict, key: Key, status: KeyStatus) -> Verdict
-    ensures { (statuses : List (ℕ × KeyStatus)) → IsJoin statuses verdict → IsJoin (statuses ++ (key, status) ∷ []) result }
+    ensures { (statuses : List (ℕ × KeyStatus)) → IsJoin statuses verdict
+        → IsJoin (statuses ++ (key, status) ∷ []) result }
 {
     match status {
         KeyStatus::Alive => verdict,
@@ -33,7 +34,8 @@ fn with_status(verdict: Verdict, key: Key, status: KeyStatus) -> Verdict
 
 /// The verdict of a list with one more dead key.
 fn with_dead(verdict: Verdict, key: Key, index: u32) -> Verdict
-    ensures { (statuses : List (ℕ × KeyStatus)) → IsJoin statuses verdict → IsJoin (statuses ++ (key, KeyStatus.Dead index) ∷ []) result }
+    ensures { (statuses : List (ℕ × KeyStatus)) → IsJoin statuses verdict
+        → IsJoin (statuses ++ (key, KeyStatus.Dead index) ∷ []) result }
 {
     match verdict {
         Verdict::Legal | Verdict::Unknown { .. } => Verdict::Illegal { key, index },
@@ -50,7 +52,8 @@ fn with_dead(verdict: Verdict, key: Key, index: u32) -> Verdict
 
 /// The verdict of a list with one more blown key.
 fn with_over(verdict: Verdict, key: Key, index: u32) -> Verdict
-    ensures { (statuses : List (ℕ × KeyStatus)) → IsJoin statuses verdict → IsJoin (statuses ++ (key, KeyStatus.Over index) ∷ []) result }
+    ensures { (statuses : List (ℕ × KeyStatus)) → IsJoin statuses verdict
+        → IsJoin (statuses ++ (key, KeyStatus.Over index) ∷ []) result }
 {
     match verdict {
         Verdict::Illegal { .. } => verdict,

@@ -1,34 +1,52 @@
 //! Laws of histories of many keys.
-ghost use Rattle.std.specs.Prelude.{◌≡◌, ◌↔◌, ℕ, List, []};
+ghost use Rattle.std.specs.Prelude.{◌≡◌, ◌↔◌, ℕ, Bool, List, []};
 ghost use Rattle.std.specs.List.{Contains};
-ghost use Rattle.models.specs.declared.kinds.ModelKind.{ModelKind};
+ghost use Rattle.models.specs.declared.model_kind.ModelKind.{ModelKind};
+ghost use Rattle.models.specs.declared.operation.Op.{Op};
 ghost use Rattle.models.specs.Objects.{object_of};
 ghost use Rattle.history.specs.Events.{Entry, marks, of_key};
-ghost use Rattle.linspec.specs.declared.verdicts.KeyStatus.{KeyStatus};
-ghost use Rattle.linspec.specs.declared.verdicts.Verdict.{Verdict};
-ghost use Rattle.linspec.specs.WellFormed.{IsKeyed, AreWellFormed};
+ghost use Rattle.linspec.specs.declared.verdict.KeyStatus.{KeyStatus};
+ghost use Rattle.linspec.specs.declared.verdict.Verdict.{Verdict};
+ghost use Rattle.linspec.specs.MarkRule.{IsKeyed, AreWellFormed};
 ghost use Rattle.linspec.specs.Orders.{IsLinearizable, product};
-ghost use Rattle.linspec.specs.Verdicts.{IsVerdict, IsRising, IsKeyStatus, AreStatuses, IsJoin};
+ghost use Rattle.linspec.specs.Verdicts.{IsVerdict, IsVerdictBy, IsRising, IsKeyStatusBy, AreStatuses, AreStatusesBy, IsJoin};
 ghost use Rattle.locality.specs.OneKey.{IsOfKey, verdict_of};
 
 /// Locality: a history is linearizable exactly where each key's part of it is (Herlihy and Wing 1990, section 3.1).
 pub fn locality_law()
-    ensures { (kinds : ℕ → ModelKind) (entries : List Entry) → IsKeyed entries → AreWellFormed (marks entries) →
-        IsLinearizable (product kinds) (marks entries) ↔ ((k : ℕ) → IsLinearizable (object_of (kinds k)) (marks (of_key k entries))) }
+    ensures { (kinds : ℕ → ModelKind) (entries : List Entry) →
+        IsKeyed entries → AreWellFormed (marks entries)
+        → IsLinearizable (product kinds) (marks entries)
+        ↔ ((k : ℕ) → IsLinearizable (object_of (kinds k)) (marks (of_key k entries))) }
 {}
 
 /// The verdict on the whole history is the join of the statuses of its keys: what `join` promises of a list that has the
 /// status of each key, once, is the verdict.
 pub fn join_law()
-    ensures { (kinds : ℕ → ModelKind) (budgets : ℕ → ℕ) (entries : List Entry) (statuses : List (ℕ × KeyStatus)) (v : Verdict) →
-        IsKeyed entries → AreWellFormed (marks entries) → IsRising entries →
-        AreStatuses kinds budgets entries statuses → IsJoin statuses v → IsVerdict kinds budgets entries v }
+    ensures { (kinds : ℕ → ModelKind) (budgets : ℕ → ℕ) (entries : List Entry)
+        (statuses : List (ℕ × KeyStatus)) (v : Verdict) →
+        IsKeyed entries → AreWellFormed (marks entries) → IsRising entries
+        → AreStatuses kinds budgets entries statuses → IsJoin statuses v
+        → IsVerdict kinds budgets entries v }
 {}
 
-/// Where all operations are of one key, the verdict is that key's status; where there is none, it is Legal.
+/// The same, whichever crashed operations count among the ends.
+pub fn join_law_by()
+    ensures { (counts : Op → Bool) (kinds : ℕ → ModelKind) (budgets : ℕ → ℕ)
+        (entries : List Entry) (statuses : List (ℕ × KeyStatus)) (v : Verdict) →
+        IsKeyed entries → AreWellFormed (marks entries) → IsRising entries
+        → AreStatusesBy counts kinds budgets entries statuses → IsJoin statuses v
+        → IsVerdictBy counts kinds budgets entries v }
+{}
+
+/// Where all operations are of one key, the verdict is that key's status; where there is none, it is Legal; whichever
+/// crashed operations count.
 pub fn one_key_law()
-    ensures one { (kinds : ℕ → ModelKind) (budgets : ℕ → ℕ) (key : ℕ) (entries : List Entry) (status : KeyStatus) →
-        IsKeyed entries → AreWellFormed (marks entries) → IsRising entries → IsOfKey key entries →
-        IsKeyStatus (object_of (kinds key)) (budgets key) entries status → IsVerdict kinds budgets entries (verdict_of key status) }
-    ensures none { (kinds : ℕ → ModelKind) (budgets : ℕ → ℕ) → IsVerdict kinds budgets [] Verdict.Legal }
+    ensures one { (counts : Op → Bool) (kinds : ℕ → ModelKind) (budgets : ℕ → ℕ) (key : ℕ)
+        (entries : List Entry) (status : KeyStatus) →
+        IsKeyed entries → AreWellFormed (marks entries) → IsRising entries → IsOfKey key entries
+        → IsKeyStatusBy counts (object_of (kinds key)) (budgets key) entries status
+        → IsVerdictBy counts kinds budgets entries (verdict_of key status) }
+    ensures none { (counts : Op → Bool) (kinds : ℕ → ModelKind) (budgets : ℕ → ℕ) →
+        IsVerdictBy counts kinds budgets [] Verdict.Legal }
 {}

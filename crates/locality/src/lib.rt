@@ -3,7 +3,5 @@
 
 pub mod joining;
 pub mod laws;
-#[cfg(test)]
-mod tests;
 
 pub use joining::join;

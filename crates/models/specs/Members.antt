@@ -1,4 +1,4 @@
--- Sets of integers, each as the ascending list of its members
+-- Promise: sets of integers, each as the ascending list of its members
 use Rattle.std.specs.Prelude.{ℤ, ◌<ℤ◌, int_lt, List, [], ◌∷◌, if◌then◌else◌}
 use Rattle.std.specs.List.{Contains}
 
@@ -10,4 +10,5 @@ IsAscending (x ∷ xs) = ((y : ℤ) → Contains xs y → x <ℤ y) × IsAscendi
 -- the set with v put in: in front of the first greater member, and not a second time
 abbrev pub put_in : ℤ → List ℤ → List ℤ
 put_in v [] = v ∷ []
-put_in v (x ∷ xs) = if int_lt v x then v ∷ x ∷ xs else if int_lt x v then x ∷ put_in v xs else x ∷ xs
+put_in v (x ∷ xs) =
+    if int_lt v x then v ∷ x ∷ xs else if int_lt x v then x ∷ put_in v xs else x ∷ xs

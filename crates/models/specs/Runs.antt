@@ -1,4 +1,4 @@
--- Runs of an object
+-- Promise: runs of an object
 use Rattle.std.specs.Prelude.{◌≡◌, ℕ, ℤ, List, [], ◌∷◌}
 use Rattle.models.specs.declared.operation.Name.TheVariants.{Enqueue, Dequeue}
 use Rattle.models.specs.declared.operation.Part.TheVariants.{Nil, Int}

@@ -1,40 +1,55 @@
 //! Laws that show that the tables say what they should.
-ghost use Rattle.std.specs.Prelude.{◌≡◌, ◌↔◌, ◌⊎◌, ℕ, ℤ, Bool, Some, Option, List, [], ◌++◌, map};
-ghost use Rattle.std.specs.List.{Contains};
+ghost use Rattle.std.specs.Prelude.{◌≡◌, ◌≢◌, ◌↔◌, ◌⊎◌, ℕ, ℤ, Bool, Some, Option, List, [], ◌++◌, map};
+ghost use Rattle.std.specs.List.{AllPairs, Contains};
 ghost use Rattle.models.specs.declared.operation.Name.TheVariants.{Acquire, Cas};
+ghost use Rattle.models.specs.declared.operation.Op.{Op};
 ghost use Rattle.models.specs.declared.operation.Part.TheVariants.{Nil, Pair};
 ghost use Rattle.models.specs.declared.finding.Found.{Found};
 ghost use Rattle.models.specs.declared.finding.Found.TheVariants.{Unit as Done};
-ghost use Rattle.models.specs.declared.kinds.ModelKind.{ModelKind};
-ghost use Rattle.models.specs.declared.any_states.AnyState.{AnyState};
-ghost use Rattle.models.specs.AnyStates.{any, kind_of};
+ghost use Rattle.models.specs.declared.model_kind.ModelKind.{ModelKind};
+ghost use Rattle.models.specs.declared.any_state.AnyState.{AnyState};
+ghost use Rattle.models.specs.AnyState.{any, kind_of_state};
 ghost use Rattle.models.specs.Members.{IsAscending, put_in};
-ghost use Rattle.models.specs.Objects.{cas_register_apply, mutex_apply, fifo_queue, object_of};
+ghost use Rattle.models.specs.Objects.{IsOneOf, cas_register_apply, mutex_apply, fifo_queue, object_of, table_of};
 ghost use Rattle.models.specs.Runs.{Runs, enqueued, dequeued};
+
+/// No table lists an outcome twice.
+pub fn table_law()
+    ensures { (kind : ModelKind) (op : Op) (s : (table_of kind).State) →
+        AllPairs (λ x y. x ≢ y) ((table_of kind).apply op s) }
+{}
 
 /// A cas takes place just where the state is its first value, and leaves its second.
 pub fn cas_law()
-    ensures { (a b : ℤ) (s t : Option ℤ) (found : Found) → cas_register_apply Cas (Pair a b) s ≡ Some (t, found) ↔ ((s ≡ Some a) × (t ≡ Some b) × (found ≡ Done)) }
+    ensures { (a b : ℤ) (s t : Option ℤ) (found : Found) →
+        IsOneOf (cas_register_apply Cas (Pair a b) s) (t, found)
+        ↔ ((s ≡ Some a) × (t ≡ Some b) × (found ≡ Done)) }
 {}
 
 /// A mutex is not acquired again before its release.
 pub fn mutex_law()
-    ensures { (s t u : Bool) (f g : Found) → mutex_apply Acquire Nil s ≡ Some (t, f) → ¬ (mutex_apply Acquire Nil t ≡ Some (u, g)) }
+    ensures { (s t u : Bool) (f g : Found) →
+        IsOneOf (mutex_apply Acquire Nil s) (t, f) → ¬ IsOneOf (mutex_apply Acquire Nil t) (u, g) }
 {}
 
 /// A queue gives back in order what was put in.
 pub fn queue_law()
-    ensures { (key : ℕ) (values : List ℤ) → Runs fifo_queue [] (map (enqueued key) values ++ map (dequeued key) values) [] }
+    ensures { (key : ℕ) (values : List ℤ) →
+        Runs fifo_queue [] (map (enqueued key) values ++ map (dequeued key) values) [] }
 {}
 
 /// A set with a value put in has that value and its members before, and no other; and it stays ascending.
 pub fn put_in_law()
-    ensures members { (v : ℤ) (members : List ℤ) (x : ℤ) → Contains (put_in v members) x ↔ ((x ≡ v) ⊎ Contains members x) }
-    ensures ascending { (v : ℤ) (members : List ℤ) → IsAscending members → IsAscending (put_in v members) }
+    ensures members { (v : ℤ) (members : List ℤ) (x : ℤ) →
+        Contains (put_in v members) x ↔ ((x ≡ v) ⊎ Contains members x) }
+    ensures ascending { (v : ℤ) (members : List ℤ) →
+        IsAscending members → IsAscending (put_in v members) }
 {}
 
 /// Each state of any kind is a state of its own kind, and of no other.
 pub fn any_state_law()
-    ensures own { (a : AnyState) → (s : (object_of (kind_of a)).State) × (a ≡ any (kind_of a) s) }
-    ensures alone { (kind : ModelKind) (s : (object_of kind).State) → kind_of (any kind s) ≡ kind }
+    ensures own { (a : AnyState) →
+        (s : (object_of (kind_of_state a)).State) × (a ≡ any (kind_of_state a) s) }
+    ensures alone { (kind : ModelKind) (s : (object_of kind).State) →
+        kind_of_state (any kind s) ≡ kind }
 {}

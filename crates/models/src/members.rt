@@ -3,7 +3,7 @@ ghost use Rattle.std.specs.Prelude.{◌≡◌, ◌↔◌, IsTrue, IfOk, [], List
 ghost use Rattle.std.specs.Ordering.{int_cmp, int_eq};
 ghost use Rattle.std.specs.Cmp.Lexicographic.{pointwise, slice_cmp};
 ghost use Rattle.models.specs.Members.{IsAscending, put_in};
-ghost use Rattle.models.specs.States.{ints_alike, ints_equal, ints_ordered, ints_ranked, ints_agree, ints_tie};
+ghost use Rattle.models.specs.Comparisons.{ints_alike, ints_equal, ints_ordered, ints_ranked, ints_agree, ints_tie};
 
 use std::alloc::{AllocError, Global};
 use std::cmp::Ordering;

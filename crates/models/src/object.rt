@@ -1,5 +1,6 @@
 //! What each sequential object has: a sequential specification (Herlihy and Wing 1990, section 2).
-ghost use Rattle.std.specs.Prelude.{true, ◌≡◌, ◌↔◌, IsTrue, IfOk, Option};
+ghost use Rattle.std.specs.Prelude.{true, ◌≡◌, ◌↔◌, IsTrue, IfOk, List};
+ghost use Rattle.std.specs.Option.{option_to_list};
 ghost use Rattle.models.specs.declared.operation.Op.{Op};
 ghost use Rattle.models.specs.declared.finding.Found.{Found};
 
@@ -16,8 +17,8 @@ pub trait SeqObject {
     /// The start state.
     ghost start_state: { Self.State };
 
-    /// Where an operation applies, the state after it and what it finds.
-    ghost apply_to: { Op → Self.State → Option (Self.State × Found) };
+    /// The outcomes of an operation in a state, each the state after it and what it finds.
+    ghost apply_to: { Op → Self.State → List (Self.State × Found) };
 
     /// The start state. Takes no memory.
     fn start(alloc: Global) -> Self::State
@@ -27,14 +28,14 @@ pub trait SeqObject {
     fn copy(alloc: Global, state: &Self::State) -> Result<Self::State, AllocError>
         ensures { IfOk result (λ other. other ≡ state.now) };
 
-    /// The state after the operation and what it finds, or `None` where the operation can't take place in the state;
-    /// `AllocError` where there is no memory for the new state. Leaves the state as it was.
+    /// The only outcome of the operation in the state, which is the state after it and what it finds, or `None` where
+    /// it can't take place; `AllocError` where there is no memory for the new state. Leaves the state as it was.
     fn apply(
         alloc: Global,
         state: &Self::State,
         op: &Op,
     ) -> Result<Option<(Self::State, Found)>, AllocError>
-        ensures { IfOk result (λ outcome. outcome ≡ apply_to op.now state.now) };
+        ensures { IfOk result (λ outcome. option_to_list outcome ≡ apply_to op.now state.now) };
 
     /// States that compare equal are the same state.
     ghost exact: { (a b : Self.State) → Self.State.eq a b ≡ true → a ≡ b };

@@ -1,6 +1,6 @@
 //! Operations on an object.
 ghost use Rattle.std.specs.Prelude.{◌≡◌, ◌↔◌, IsTrue, IfOk};
-ghost use Rattle.models.specs.Texts.{text_of, Finds};
+ghost use Rattle.models.specs.Names.{text_of, Finds};
 
 use crate::members::Members;
 use std::alloc::AllocError;
@@ -9,7 +9,7 @@ use std::alloc::AllocError;
 pub type Key = u16;
 
 /// The names of operations. Cas compares and sets; the others are those of a mutex, a queue and a set.
-#[derive(Clone, Copy)]
+#[derive(Clone, Copy, Debug, PartialEq, Eq)]
 pub enum Name {
     Read,
     Write,
@@ -60,14 +60,6 @@ macro_rules! name_of_text {
     }};
 }
 
-macro_rules! same_name {
-    ($a:expr, $b:expr; $($N:ident $text:literal $part:ident $how:ident [$($parts:ident)*]),*) => {
-        match $a {
-            $(Name::$N => matches!($b, Name::$N),)*
-        }
-    };
-}
-
 impl Name {
     /// The name as a history spells it. Takes no memory.
     pub fn text(self) -> &'static str
@@ -81,13 +73,6 @@ impl Name {
         ensures { Finds result (λ name. text.now ≡ text_of name) }
     {
         each_name!(name_of_text; text)
-    }
-
-    /// Whether both are the same name.
-    pub fn same(self, other: Name) -> bool
-        ensures { IsTrue result ↔ (self ≡ other) }
-    {
-        each_name!(same_name; self, other)
     }
 }
 
@@ -114,6 +99,19 @@ impl Part {
             Part::Int(a) => Ok(Part::Int(*a)),
             Part::Pair(a, b) => Ok(Part::Pair(*a, *b)),
             Part::Set(members) => Ok(Part::Set(members.copy()?)),
+        }
+    }
+
+    /// Whether both are the same part. Takes no memory.
+    pub fn same(&self, other: &Part) -> bool
+        ensures { IsTrue result ↔ (self.now ≡ other.now) }
+    {
+        match (self, other) {
+            (Part::Nil, Part::Nil) => true,
+            (Part::Int(x), Part::Int(y)) => *x == *y,
+            (Part::Pair(w, x), Part::Pair(y, z)) => *w == *y && *x == *z,
+            (Part::Set(x), Part::Set(y)) => x.same(y),
+            _ => false,
         }
     }
 }

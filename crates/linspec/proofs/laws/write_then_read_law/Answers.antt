@@ -8,4 +8,4 @@ pub returns-clause-its_value : goal.returns-clause-its_value
 returns-clause-its_value c = write_then_read_linearizable
 
 pub returns-clause-other_value : goal.returns-clause-other_value
-returns-clause-other_value c a ne = other_value_not_linearizable a ne
+returns-clause-other_value c = other_value_not_linearizable

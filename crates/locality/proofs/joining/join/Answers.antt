@@ -1,7 +1,7 @@
 use Rattle.std.proofs.Common.{ℕ, List, sym, subst}
 use Rattle.std.proofs.lemmas.List.{take_more, take_all}
-use Rattle.linspec.specs.declared.verdicts.KeyStatus.{KeyStatus}
-use Rattle.linspec.specs.declared.verdicts.KeyStatus.TheVariants.{Alive}
+use Rattle.linspec.specs.declared.verdict.KeyStatus.{KeyStatus}
+use Rattle.linspec.specs.declared.verdict.KeyStatus.TheVariants.{Alive}
 use Rattle.linspec.specs.Verdicts.{IsJoin}
 use Rattle.locality.proofs.joining.join.Goals as goal
 

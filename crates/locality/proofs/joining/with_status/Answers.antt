@@ -1,5 +1,5 @@
 use Rattle.std.proofs.Common.{[], ◌∷◌, ◌++◌, sym, subst}
-use Rattle.linspec.specs.declared.verdicts.KeyStatus.{KeyStatus}
+use Rattle.linspec.specs.declared.verdict.KeyStatus.{KeyStatus}
 use Rattle.linspec.specs.Verdicts.{IsJoin}
 use Rattle.locality.proofs.MoreStatuses.{IsJoin-alive}
 use Rattle.locality.proofs.joining.with_status.Goals as goal

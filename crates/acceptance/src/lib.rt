@@ -1,0 +1,20 @@
+//! Worked rows: calls of every crate that judges, each answer compared with one that follows from the definitions by hand;
+//! and two ways to judge small histories, compared with one another. It has tests alone.
+#![tactic(auto)]
+
+#[cfg(test)]
+mod agreement;
+#[cfg(test)]
+mod frontiers;
+#[cfg(test)]
+mod histories;
+#[cfg(test)]
+mod joins;
+#[cfg(test)]
+mod key_lines;
+#[cfg(test)]
+mod objects;
+#[cfg(test)]
+mod one_thread;
+#[cfg(test)]
+mod plain_checker;

@@ -1,0 +1,53 @@
+-- Promise: tapes of the one-thread object, and the verdicts that they lead to (this project's own)
+use Rattle.std.specs.Prelude.{ℕ, ◌≤◌, List, [], ◌∷◌, Result, Ok, Err}
+use Rattle.edn.specs.declared.refusal.Refusal.{Refusal}
+use Rattle.edn.specs.declared.refusal.Refusal.TheVariants.{NoSeat}
+use Rattle.linspec.specs.declared.verdict.Verdict.{Verdict}
+use Rattle.harness.specs.declared.command.Config.{Config}
+use Rattle.harness.specs.declared.command.Command.{Command}
+use Rattle.harness.specs.declared.command.Command.TheVariants.{Append, Verdict as Ask}
+use Rattle.harness.specs.declared.command.Reply.{Reply}
+use Rattle.harness.specs.declared.command.Reply.TheVariants.{Verdict as Says}
+use Rattle.harness.specs.Machine.{Machine, MayStep, IsVerdictOn, IsBudget, MayNotOpen}
+use Rattle.history.specs.WellFormed.{IsConcurrency, IsWellFormed}
+use Rattle.board.specs.declared.tape.TapeEntry.{TapeEntry}
+use Rattle.board.specs.declared.tape.TapeEntry.TheVariants.{Opening}
+use Rattle.board.specs.Tape.{Leads, IsSummaryAfter}
+
+-- a refusal is a reply too
+abbrev pub CoreReply : Type 0
+CoreReply = Result Reply Refusal
+
+abbrev pub CoreTape : Type 0
+CoreTape = List (TapeEntry Machine Command CoreReply)
+
+-- each reply on the tape is one that the one-thread object may give there, and the last leads to this machine
+abbrev pub LeadsTo : CoreTape → Machine → Type 0
+LeadsTo tape end = Leads MayStep tape end
+
+-- the tape without calls, on this opening
+abbrev pub opening_tape : Machine → CoreTape
+opening_tape m = Opening m ∷ []
+
+-- the verdict is the one from scratch, on the machine that the tape leads to
+abbrev pub IsVerdictAfter : CoreTape → Verdict → Type 0
+IsVerdictAfter tape verdict = IsSummaryAfter MayStep IsVerdictOn tape verdict
+
+-- what the reply says of the verdict is the one from scratch
+abbrev pub IsTrueOn : Machine → CoreReply → Type 0
+IsTrueOn m (Ok (Says verdict)) = IsVerdictOn m verdict
+IsTrueOn m (Err why) = Unit {0}
+
+-- the same, on the machine that the tape leads to
+abbrev pub IsTrueAfter : CoreTape → CoreReply → Type 0
+IsTrueAfter tape reply = IsSummaryAfter MayStep IsTrueOn tape reply
+
+-- the command may want memory: it appends an event that the history takes. The verdict, and a refused event, want none
+abbrev pub MayWantMemory : Machine → Command → Type 0
+MayWantMemory m (Append event) = IsWellFormed m.concurrency m.events event
+MayWantMemory m Ask = ⊥
+
+-- why no board is made: the object's refusals come first
+abbrev pub MayNotBegin : Config → ℕ → Refusal → Type 0
+MayNotBegin config seats NoSeat = IsBudget config.budget × IsConcurrency config.concurrency × ¬ ((1 ≤ seats) × (seats ≤ 64))
+MayNotBegin config seats why = MayNotOpen config why

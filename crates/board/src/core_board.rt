@@ -1,0 +1,165 @@
+//! The board of the one-thread object: opening, calls and glances.
+ghost use Rattle.std.specs.Prelude.{◌≡◌, ◌⊎◌, ◌+◌, ◌≤◌, length, IfOk, IfErr, OnOk, IfSome, IsSome};
+ghost use Rattle.edn.specs.declared.refusal.Refusal.TheVariants.{NoMemory, NoSeat};
+ghost use Rattle.history.specs.WellFormed.{IsConcurrency};
+ghost use Rattle.harness.specs.Machine.{MayStep, IsBudget, at_rest, opening};
+ghost use Rattle.board.specs.Tape.{HasSeen, IsAnswered, IsRefused, IsTapeOf};
+ghost use Rattle.board.specs.Seat.{IsFresh};
+ghost use Rattle.board.specs.CoreTape.{CoreTape, LeadsTo, IsVerdictAfter, IsTrueAfter};
+ghost use Rattle.board.specs.CoreTape.{MayWantMemory, MayNotBegin, opening_tape};
+
+use crate::tag::Tag;
+use crate::{blank, board, seat};
+use edn::{Gate, OpenGate, Refusal};
+use harness::{Command, Config, Core};
+use linspec::Verdict;
+use std::alloc::Global;
+use std::sync::Wait;
+
+/// The most seats that a board has.
+const MOST_SEATS: u32 = 64;
+
+/// A board that no tag names yet: open it in a function that is generic over the tag.
+pub type Blank = blank::Blank<Core>;
+
+/// One monitor that many threads share. A call takes the lock, and is one entry of one legal tape; a glance takes none.
+/// It is linear: `end` takes it apart. The tag `B` names it.
+pub type Board<B> = board::Board<Core, B>;
+
+/// Who calls: its number, how many of its calls were answered, and the tape that it has seen. Contracts see these three.
+/// The tag `B` keeps it with its board.
+pub type Seat<B> = seat::Seat<Core, B>;
+
+/// What a seat had seen, to be told to another seat of the same board by `learn`. It takes no memory.
+pub type News<B> = seat::News<Core, B>;
+
+/// What a call answers: the `reply`, which may be a refusal, the number of its entry from 1, and what the seat had then
+/// seen, as news for others.
+pub type Answered<B> = seat::Answered<Core, B>;
+
+/// What a glance shows: how many calls had been made, and the verdict after them.
+#[derive(Clone, Copy)]
+pub struct Glance {
+    /// How many calls had been made.
+    pub commit: u64,
+    /// The verdict after them.
+    pub verdict: Verdict,
+}
+
+impl blank::Blank<Core> {
+    /// The parts of a board for so many seats, 1 to 64, that opens as configured.
+    ///
+    /// # Errors
+    /// Those of [`Core::new`], else [`Refusal::NoSeat`] where the seats are not 1 to 64.
+    #[tactic(auto, using(crate::proofs::Refusing::not_begin))]
+    pub fn new(alloc: Global, config: Config, seats: u32) -> Result<Blank, Refusal>
+        ensures limits { OnOk result (IsBudget config.budget × IsConcurrency config.concurrency) }
+        ensures seats { IfOk result (λ blank. (blank.seats ≡ seats) × (1 ≤ seats) × (seats ≤ 64)) }
+        ensures opened { IfOk result (λ blank. blank.object ≡ at_rest (opening config)) }
+        ensures refused { IfErr result (MayNotBegin config seats) }
+    {
+        let core = Core::new(alloc, config)?;
+        if seats < 1 || seats > MOST_SEATS {
+            return Err(Refusal::NoSeat);
+        }
+        Ok(blank::Blank::of(alloc, core, seats))
+    }
+
+    /// The board that the tag names, and its seats, numbered from 0, which have seen the tape without calls. Call it in a
+    /// function generic over the tag, and that one with std's `Brand`.
+    ///
+    /// # Errors
+    /// [`Refusal::NoMemory`] where a growth was refused, [`Refusal::NoSeat`] where the published copy gave a seat no place
+    /// to read from.
+    pub fn open<B: Tag>(self) -> Result<(Board<B>, Vec<Seat<B>>), Refusal>
+        requires names { (self.word ≡ B.word) × (self.ledger.name ≡ B.name)
+            × (self.ledger.parts ≡ B.parts) }
+        ensures opening { IfOk result (λ r. r.0 ≡ opening_tape self.object.machine) }
+        ensures seats { IfOk result (λ r. (length r.1.items ≡ self.seats)
+            × (length r.1.items ≡ B.parts)) }
+        ensures fresh { IfOk result (λ r. IsFresh (opening_tape self.object.machine) r.1.items) }
+        ensures refused { IfErr result (λ why. (why ≡ NoMemory) ⊎ (why ≡ NoSeat)) }
+    {
+        self.into_board::<B>()
+    }
+}
+
+impl<B: Tag> board::Board<Core, B> {
+    /// Carries out a command under the lock, as one entry of the tape, and publishes it. A refused command is still an
+    /// entry, with the refusal as its reply. The verdict in the reply is the one from scratch on the history that the
+    /// tape's commands make. It waits for other calls, and for glances that are inside the copy which it writes. It costs
+    /// what [`Core::prepare`] costs, and each publication visits the reader's place of every seat.
+    ///
+    /// # Errors
+    /// [`Refusal::TapeFull`] where the tape has 2^32 - 1 calls, all of which the seat has then seen, else
+    /// [`Refusal::NoMemory`] where a growth was refused, which a command that is refused and the verdict never want. Then
+    /// the call is no entry, and nothing is published.
+    pub fn call<R: Wait>(
+        &self,
+        rt: &R,
+        seat: &mut Seat<B>,
+        command: Command,
+    ) -> Result<Answered<B>, Refusal>
+        ensures number { seat.new.number ≡ seat.old.number }
+        ensures seen { HasSeen seat.new seat.old.tape }
+        ensures answered { IfOk result (λ a.
+            IsAnswered MayStep seat.old seat.new command a.reply a.commit a.news) }
+        ensures from_scratch { IfOk result (λ a. IsTrueAfter seat.new.tape a.reply) }
+        ensures refused { IfErr result (λ why. (whole : CoreTape)
+            × IsRefused MayStep MayWantMemory whole seat.old seat.new command why) }
+        // To ask for the verdict wants no memory.
+        ensures asked { command ≡ Command.Verdict → IfErr result (λ why. why ≡ Refusal.TapeFull) }
+    {
+        self.call_at(rt, seat, command, &OpenGate)
+    }
+
+    /// A `call` whose gate begins, by the seat's number, under the lock before the entry is published, and ends after it.
+    ///
+    /// # Errors
+    /// Those of `call`. The gate is then not called.
+    pub fn call_at<G: Gate, R: Wait>(
+        &self,
+        rt: &R,
+        seat: &mut Seat<B>,
+        command: Command,
+        gate: &G,
+    ) -> Result<Answered<B>, Refusal>
+        ensures number { seat.new.number ≡ seat.old.number }
+        ensures seen { HasSeen seat.new seat.old.tape }
+        ensures answered { IfOk result (λ a.
+            IsAnswered MayStep seat.old seat.new command a.reply a.commit a.news) }
+        ensures from_scratch { IfOk result (λ a. IsTrueAfter seat.new.tape a.reply) }
+        ensures refused { IfErr result (λ why. (whole : CoreTape)
+            × IsRefused MayStep MayWantMemory whole seat.old seat.new command why) }
+        // To ask for the verdict wants no memory.
+        ensures asked { command ≡ Command.Verdict → IfErr result (λ why. why ≡ Refusal.TapeFull) }
+    {
+        self.carry_out(rt, gate, seat, command)
+    }
+
+    /// Looks at what was last published, and shows the newest verdict that the seat has then seen: that of a tape which
+    /// begins with all that it had seen. It is never `None`. It takes no lock and no memory, and waits for nobody: it costs
+    /// a few atomic steps on the seat's own place.
+    pub fn glance(&self, seat: &mut Seat<B>) -> Option<Glance>
+        ensures same { (seat.new.number ≡ seat.old.number) × (seat.new.count ≡ seat.old.count) }
+        ensures shows { IsSome result }
+        ensures seen { HasSeen seat.new seat.old.tape }
+        ensures commit { IfSome result (λ g. length seat.new.tape ≡ g.commit + 1) }
+        ensures from_scratch { IfSome result (λ g. IsVerdictAfter seat.new.tape g.verdict) }
+    {
+        let shown = seat.look();
+        Some(Glance {
+            commit: shown.commit,
+            verdict: shown.summary,
+        })
+    }
+
+    /// The core, in the state after a legal tape that begins with all that these seats had seen. Where they are all
+    /// seats of the board, the tape has just their calls. It waits for glances that are still inside the published copy.
+    pub fn end<R: Wait>(self, rt: &R, seats: Vec<Seat<B>>) -> Core
+        ensures { (tape : CoreTape) × LeadsTo tape result.machine
+            × IsTapeOf self seats.items B.parts tape }
+    {
+        self.finish(rt, seats)
+    }
+}

@@ -1,0 +1,16 @@
+//! A law of the tapes' commands.
+ghost use Rattle.std.specs.Prelude.{Err};
+ghost use Rattle.edn.specs.declared.refusal.Refusal.{Refusal};
+ghost use Rattle.harness.specs.declared.command.Command.{Command};
+ghost use Rattle.harness.specs.Machine.{Machine, MayStep};
+ghost use Rattle.board.specs.CoreTape.{MayWantMemory};
+
+use history::one_refusal;
+
+/// A command that is refused wants no memory.
+pub fn refused_wants_no_memory()
+    ensures { (old new : Machine) (command : Command) (why : Refusal) →
+        MayStep old command (Err why) new → ¬ MayWantMemory old command }
+{
+    one_refusal();
+}

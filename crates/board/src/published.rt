@@ -1,0 +1,146 @@
+//! What is published, and the copy of it that readers take.
+ghost use Rattle.std.specs.Prelude.{◌≡◌, ◌+◌, length};
+ghost use mathlib.Core.List.{IsPrefix};
+ghost use Rattle.board.specs.Tape.{IsSummaryAfter};
+
+use crate::one_thread::OneThread;
+use crate::tag::Tag;
+use crate::tape::SeenTape;
+use left_right::Absorb;
+use std::alloc::AllocError;
+use std::marker::Model;
+
+/// What is published: a tape, and the summary of the state that it leads to. Contracts see it as its entries.
+#[derive(Drop)]
+pub struct Published<X: OneThread, B: Tag> {
+    summary: X::Summary,
+    tape: SeenTape<X, B>,
+}
+
+impl<X: OneThread, B: Tag> Model for Published<X, B> {
+    ghost use Rattle.std.specs.Prelude.{◌≡◌, List};
+    ghost use Rattle.board.specs.declared.tape.TapeEntry.{TapeEntry};
+    ghost use Rattle.board.specs.Tape.{IsSummaryAfter};
+
+    ghost Value = { List (TapeEntry X.State X.Command X.Reply) };
+
+    ghost view = { λ p. p.tape };
+
+    ghost invariant = { λ p. IsSummaryAfter X.replies X.summarizes p.tape p.summary };
+}
+
+/// What is shown of a publication: the number of its calls, and the summary of the state after them.
+#[derive(Drop)]
+pub struct Shown<S> {
+    pub commit: u64,
+    pub summary: S,
+}
+
+impl<X: OneThread, B: Tag> Published<X, B> {
+    /// A publication of the tape, with this summary of the state that it leads to.
+    pub fn new(summary: X::Summary, tape: SeenTape<X, B>) -> Published<X, B>
+        requires { IsSummaryAfter X.replies X.summarizes tape summary }
+        ensures { result ≡ tape }
+    {
+        Published { summary, tape }
+    }
+
+    /// A copy.
+    pub fn again(&self) -> Published<X, B>
+        ensures { result ≡ self.now }
+    {
+        Published {
+            summary: self.summary,
+            tape: self.tape.again(),
+        }
+    }
+
+    /// What it shows.
+    pub fn show(&self) -> Shown<X::Summary>
+        ensures commit { length self.now ≡ result.commit + 1 }
+        ensures shown { IsSummaryAfter X.replies X.summarizes self.now result.summary }
+    {
+        Shown {
+            commit: self.tape.count(),
+            summary: self.summary,
+        }
+    }
+
+    /// The tape, as far as it was published.
+    pub fn tape(&self) -> &SeenTape<X, B>
+        ensures { result.now ≡ self.now }
+    {
+        &self.tape
+    }
+
+    /// Takes the other in its place, where that goes on with this one.
+    pub fn follow(&mut self, other: &Published<X, B>)
+        ensures this { IsPrefix self.old self.new }
+        ensures that { IsPrefix other.now self.new }
+    {
+        if !self.tape.covers(&other.tape) {
+            *self = other.again();
+        }
+    }
+}
+
+/// What readers take: one publication, in whose place a newer one is put. It has no list of operations, which would take
+/// memory: the writer puts the publication into the copy that nobody reads, and shows that one.
+///
+/// It is a bound, and [`PublishedCopy`] its only type, because a generic struct may not hold a type with ghost fields of a
+/// trait that a generic `impl` alone gives it: the `Writer` and `Reader` of a `PublishedCopy` have such fields of `Absorb`.
+pub trait HoldsPublished<P: Drop>: Absorb<(), State = ()> + Drop {
+    ghost holds: { Self → P };
+
+    /// A copy with this publication.
+    fn of(published: P) -> Self
+        ensures of { holds result ≡ published };
+
+    /// The publication.
+    fn published(&self) -> &P
+        ensures shows { result.now ≡ holds self.now };
+
+    /// Puts this publication in the place of the one before. It takes no memory and cannot fail.
+    fn put(&mut self, published: P)
+        ensures puts { holds self.new ≡ published };
+}
+
+/// One copy of what is published. No operation is absorbed.
+#[derive(Drop)]
+pub struct PublishedCopy<P: Drop> {
+    published: P,
+}
+
+impl<P: Drop> Absorb<()> for PublishedCopy<P> {
+    type State = ();
+
+    ghost state = { λ c. record {} };
+
+    ghost applied = { λ s o. s };
+
+    ghost never_fails = { Unit {0} };
+
+    fn absorb_first(
+        &mut self,
+        _operation: &(),
+        _other: &PublishedCopy<P>,
+    ) -> Result<(), AllocError> {
+        Ok(())
+    }
+}
+
+impl<P: Drop> HoldsPublished<P> for PublishedCopy<P> {
+    ghost holds = { λ c. c.published };
+
+    fn of(published: P) -> PublishedCopy<P> {
+        PublishedCopy { published }
+    }
+
+    fn published(&self) -> &P {
+        &self.published
+    }
+
+    fn put(&mut self, published: P) {
+        self.published = published;
+    }
+}

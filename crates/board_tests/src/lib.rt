@@ -1,0 +1,22 @@
+//! What threads that share a board are answered: small histories through the calls of a board and its glances, each answer
+//! compared with one worked out by hand. It has tests alone.
+#![tactic(auto)]
+
+#[cfg(test)]
+mod boards;
+#[cfg(test)]
+mod full_board;
+#[cfg(test)]
+mod gate;
+#[cfg(test)]
+mod glances;
+#[cfg(test)]
+mod memory;
+#[cfg(test)]
+mod news;
+#[cfg(test)]
+mod openings;
+#[cfg(test)]
+mod said;
+#[cfg(test)]
+mod threads;

@@ -1,5 +1,0 @@
-use Rattle.checkpoints.proofs.Judging.{alive_at_first}
-use Rattle.checkpoints.proofs.standings.Standing.start.Goals as goal
-
-pub returns : goal.returns
-returns c = (alive_at_first _ _, c.in_ok-search.ensures)

@@ -1,0 +1,31 @@
+-- Invariant: how a key stands
+use Rattle.std.specs.Prelude.{ℕ, List}
+use Rattle.models.specs.declared.model_kind.ModelKind.{ModelKind}
+use Rattle.models.specs.Objects.{object_of}
+use Rattle.history.specs.declared.event.Event.{Event}
+use Rattle.history.specs.Events.{entries_of}
+use Rattle.linspec.specs.declared.verdict.KeyStatus.{KeyStatus}
+use Rattle.linspec.specs.declared.verdict.KeyStatus.TheVariants as status
+use Rattle.linspec.specs.Verdicts.{IsKeyStatus}
+use Rattle.checkpoints.specs.LiveKey.{IsLiveKey}
+use Rattle.checkpoints.specs.declared.key_state.KeyState.{KeyState}
+use Rattle.checkpoints.specs.declared.key_state.KeyState.TheVariants.{Alive, Dead, Over}
+
+abbrev pub status_of : KeyState → KeyStatus
+status_of (Alive live) = status.Alive
+status_of (Dead i) = status.Dead i
+status_of (Over i) = status.Over i
+
+-- the key is alive after the events
+abbrev pub IsAlive : ModelKind → ℕ → List (ℕ × Event) → Type 0
+IsAlive kind budget events = IsKeyStatus (object_of kind) budget (entries_of events) status.Alive
+
+-- the key stands so after the events: its status is theirs, and while it is alive it keeps what they
+-- leave
+abbrev pub IsKeyState : ModelKind → ℕ → List (ℕ × Event) → KeyState → Type 0
+IsKeyState kind budget events (Alive live) =
+    IsAlive kind budget events × IsLiveKey kind budget events live
+IsKeyState kind budget events (Dead i) =
+    IsKeyStatus (object_of kind) budget (entries_of events) (status.Dead i)
+IsKeyState kind budget events (Over i) =
+    IsKeyStatus (object_of kind) budget (entries_of events) (status.Over i)

@@ -1,0 +1,50 @@
+-- Invariant: what a key that is alive keeps of its events
+use Rattle.std.specs.Prelude.{◌≡◌, ℕ, Option, Some, None, List, [], ◌∷◌}
+use Rattle.std.specs.Ordering.{nat_cmp}
+use Rattle.std.specs.BTreeMap.{get}
+use Rattle.models.specs.declared.model_kind.ModelKind.{ModelKind}
+use Rattle.history.specs.declared.event.EventKind.{EventKind}
+use Rattle.history.specs.declared.event.EventKind.TheVariants.{Invoke, Ok, Fail, Info}
+use Rattle.history.specs.declared.event.Event.{Event}
+use Rattle.history.specs.Events.{op_event, last_after, entries_of, marks}
+use Rattle.history.specs.ProcessRule.{busy_after}
+use Rattle.frontier.specs.AnyFrontier.{AnyStandsFor, any_budget_of, kind_of_frontier}
+use Rattle.checkpoints.specs.declared.live_key.LiveKey.{LiveKey}
+
+-- the last invocation of each process, and the key of each process's open operation, after events
+abbrev pub invocations_from : (ℕ → ℕ) → List (ℕ × Event) → ℕ → ℕ
+invocations_from last [] = last
+invocations_from last (x ∷ events) = invocations_from (last_after x.0 last (op_event x.1)) events
+
+abbrev pub busy_from : (ℕ → Option ℕ) → List (ℕ × Event) → ℕ → Option ℕ
+busy_from busy [] = busy
+busy_from busy (x ∷ events) = busy_from (busy_after busy (op_event x.1)) events
+
+abbrev pub invocation_of : List (ℕ × Event) → ℕ → ℕ
+invocation_of events = invocations_from (λ _. 0) events
+
+abbrev pub busy_of : List (ℕ × Event) → ℕ → Option ℕ
+busy_of events = busy_from (λ _. None) events
+
+-- the frontier stands for the events, and the open operation of each process that has one is known
+pub record IsLiveKey (kind : ModelKind) (budget : ℕ) (events : List (ℕ × Event)) (live : LiveKey)
+    : Type 0 where
+  pub stands : AnyStandsFor live.frontier (marks (entries_of events))
+  pub kind_is : kind_of_frontier live.frontier ≡ kind
+  pub budget_is : any_budget_of live.frontier ≡ budget
+  pub knows : (p k : ℕ) → busy_of events p ≡ Some k
+      → get nat_cmp live.invocations p ≡ Some (invocation_of events p)
+
+-- the operation that an event is of, where this one was open
+abbrev pub id_by : ℕ → EventKind → Option ℕ → Option ℕ
+id_by index Invoke was = Some index
+id_by index Ok was = was
+id_by index Fail was = was
+id_by index Info was = was
+
+-- the operation that is open after an event
+abbrev pub open_by : ℕ → EventKind → Option ℕ
+open_by index Invoke = Some index
+open_by index Ok = None
+open_by index Fail = None
+open_by index Info = None

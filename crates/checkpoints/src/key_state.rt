@@ -1,0 +1,54 @@
+//! How a key stands after events, and what it needs to go on.
+ghost use Rattle.std.specs.Prelude.{◌≡◌, ℕ, List, [], ◌∷◌, ◌++◌, IfOk};
+ghost use Rattle.models.specs.declared.model_kind.ModelKind.{ModelKind};
+ghost use Rattle.history.specs.declared.event.Event.{Event};
+ghost use Rattle.history.specs.ProcessRule.{IsHistory};
+ghost use Rattle.checkpoints.specs.KeyState.{IsKeyState, status_of};
+
+use crate::live_key::LiveKey;
+use history::Event;
+use linspec::KeyStatus;
+use models::ModelKind;
+use std::alloc::{AllocError, Global};
+
+/// How a key stands. Only one that is alive keeps the ends of its events: dead stays dead, and over stays over.
+#[derive(Drop)]
+pub(crate) enum KeyState {
+    Alive(LiveKey),
+    Dead(u32),
+    Over(u32),
+}
+
+impl KeyState {
+    /// How a key without events stands.
+    pub(crate) fn start(alloc: Global, kind: ModelKind, budget: u32) -> Result<Self, AllocError>
+        ensures { IfOk result (λ state. IsKeyState kind budget [] state) }
+    {
+        let live = LiveKey::start(alloc, kind, budget)?;
+        Ok(KeyState::Alive(live))
+    }
+
+    /// What is known of the key.
+    pub(crate) fn status(&self) -> KeyStatus
+        ensures { result ≡ status_of self.now }
+    {
+        match self {
+            KeyState::Alive(_) => KeyStatus::Alive,
+            KeyState::Dead(index) => KeyStatus::Dead(*index),
+            KeyState::Over(index) => KeyStatus::Over(*index),
+        }
+    }
+
+    /// How the key stands with one more event.
+    pub(crate) fn after(&self, index: u32, event: &Event) -> Result<Self, AllocError>
+        ensures { (kind : ModelKind) (budget : ℕ) (events : List (ℕ × Event))
+            → IsKeyState kind budget events self.now → IsHistory (events ++ (index, event.now) ∷ [])
+            → IfOk result (IsKeyState kind budget (events ++ (index, event.now) ∷ [])) }
+    {
+        match self {
+            KeyState::Alive(live) => live.copy()?.after(index, event),
+            KeyState::Dead(index) => Ok(KeyState::Dead(*index)),
+            KeyState::Over(index) => Ok(KeyState::Over(*index)),
+        }
+    }
+}

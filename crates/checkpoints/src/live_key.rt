@@ -1,0 +1,97 @@
+//! A key that is alive, with the ends of its events.
+ghost use Rattle.std.specs.Prelude.{◌≡◌, ℕ, List, [], ◌∷◌, ◌++◌, nat_eq, if◌then◌else◌, IfOk, OnOk};
+ghost use Rattle.std.specs.Ordering.{nat_cmp};
+ghost use Rattle.std.specs.BTreeMap.{get};
+ghost use Rattle.models.specs.declared.model_kind.ModelKind.{ModelKind};
+ghost use Rattle.history.specs.declared.event.Event.{Event};
+ghost use Rattle.history.specs.ProcessRule.{IsHistory};
+ghost use Rattle.checkpoints.specs.LiveKey.{IsLiveKey, id_by, open_by};
+ghost use Rattle.checkpoints.specs.KeyState.{IsAlive, IsKeyState};
+
+use crate::key_state::KeyState;
+use frontier::{AnyFrontier, Step};
+use history::{Body, Event, EventKind, Process};
+use linspec::laws::never_kills_law;
+use models::ModelKind;
+use std::alloc::{AllocError, Global};
+use std::collections::BTreeMap;
+
+/// The ends of the events so far, and for each process with an open operation the index of its invocation.
+#[derive(Drop)]
+pub(crate) struct LiveKey {
+    frontier: AnyFrontier,
+    invocations: BTreeMap<u32, u32>,
+}
+
+impl LiveKey {
+    /// A key without events.
+    pub(crate) fn start(alloc: Global, kind: ModelKind, budget: u32) -> Result<Self, AllocError>
+        ensures { IfOk result (IsLiveKey kind budget []) }
+    {
+        let frontier = AnyFrontier::start(alloc, kind, budget)?;
+        Ok(LiveKey {
+            frontier,
+            invocations: BTreeMap::new(alloc),
+        })
+    }
+
+    /// A key with the same events.
+    pub(crate) fn copy(&self) -> Result<Self, AllocError>
+        ensures { (kind : ModelKind) (budget : ℕ) (events : List (ℕ × Event))
+            → IsLiveKey kind budget events self.now → IfOk result (IsLiveKey kind budget events) }
+    {
+        let frontier = self.frontier.copy()?;
+        let invocations = self.invocations.clone()?;
+        Ok(LiveKey {
+            frontier,
+            invocations,
+        })
+    }
+
+    /// How a key that is alive stands with one more event.
+    pub(crate) fn after(mut self, index: u32, event: &Event) -> Result<KeyState, AllocError>
+        ensures { (kind : ModelKind) (budget : ℕ) (events : List (ℕ × Event))
+            → IsLiveKey kind budget events self → IsAlive kind budget events
+            → IsHistory (events ++ (index, event.now) ∷ [])
+            → IfOk result (IsKeyState kind budget (events ++ (index, event.now) ∷ [])) }
+    {
+        never_kills_law();
+        // An event that speaks of no operation changes nothing.
+        let Process::Client(process) = event.process else {
+            return Ok(KeyState::Alive(self));
+        };
+        let Body::Op(op) = &event.body else {
+            return Ok(KeyState::Alive(self));
+        };
+        // By the process rule every completion finds an open operation.
+        let Some(id) = turn(&mut self.invocations, process, index, event.kind)? else {
+            return Ok(KeyState::Alive(self));
+        };
+        match self.frontier.observe(id, event.kind, op)? {
+            Step::Alive => Ok(KeyState::Alive(self)),
+            Step::Dead => Ok(KeyState::Dead(index)),
+            Step::Over => Ok(KeyState::Over(index)),
+        }
+    }
+}
+
+// The operation that an event of the process is of, named by the index of its invocation: an invocation opens one, and a
+// completion closes the one that is open.
+fn turn(
+    invocations: &mut BTreeMap<u32, u32>,
+    process: u32,
+    index: u32,
+    kind: EventKind,
+) -> Result<Option<u32>, AllocError>
+    ensures id { IfOk result (λ id. id ≡ id_by index kind (get nat_cmp invocations.old process)) }
+    ensures invocations { OnOk result ((q : ℕ) → get nat_cmp invocations.new q
+        ≡ (if nat_eq q process then open_by index kind else get nat_cmp invocations.old q)) }
+{
+    match kind {
+        EventKind::Invoke => {
+            invocations.insert(process, index)?;
+            Ok(Some(index))
+        }
+        EventKind::Ok | EventKind::Fail | EventKind::Info => Ok(invocations.remove(&process)),
+    }
+}

@@ -1,0 +1,206 @@
+//! Atoms: `nil`, booleans, integers and keywords, which end where the next byte says so.
+
+ghost use Rattle.std.specs.Prelude.{◌≡◌, ℕ, ◌≤◌, ◌^◌, ◌++◌, List, pos, neg_ℤ, IfOk, IfSome, IfNone};
+ghost use Rattle.edn.specs.Value.{Value, keyword};
+ghost use Rattle.edn.specs.View.{value_of};
+ghost use Rattle.edn.specs.Bytes.{MayFollowAtom, IsAtom, IsKeywordText, ends_atom, is_digit, is_letter, goes_on};
+ghost use Rattle.edn.specs.Longest.{IsLongest, HasNone, IsWord, IsName, GoesOn, IsNumeralOf, TakesDigit, TakesOffPlus, atom_value};
+ghost use Rattle.edn.specs.Reading.{OnUnreadable, IsToken};
+
+use crate::gap::after;
+use crate::read_error::ReadError;
+use crate::value::Edn;
+use std::alloc::Global;
+
+/// An atom, as it stands in its text.
+#[derive(Clone, Copy)]
+pub enum Atom<'a> {
+    Nil,
+    Bool(bool),
+    Int(i64),
+    Keyword(&'a [u8]),
+}
+
+fn ends_atom(b: u8) -> bool
+    ensures { result ≡ ends_atom b }
+{
+    matches!(
+        b,
+        b' ' | b'\t' | b'\n' | b'\r' | b',' | b';' | b'"' | b'[' | b']' | b'{' | b'}'
+    )
+}
+
+/// The bytes up to the first that ends an atom, and the rest.
+pub fn token(text: &[u8]) -> (&[u8], &[u8])
+    ensures whole { text.now ≡ result.0.now ++ result.1.now }
+    ensures inside { IsToken result.0.now }
+    ensures after { MayFollowAtom result.1.now }
+{
+    let mut n = 0;
+    while n < text.len() && !ends_atom(text[n]) {
+        n += 1;
+    }
+    text.split_at(n)
+}
+
+fn is_digit(b: u8) -> bool
+    ensures { result ≡ is_digit b }
+{
+    b.is_ascii_digit()
+}
+
+// The number with the digit at the front added to it, and what follows that digit, where the sum is at most `most`.
+fn with_digit(value: u64, text: &[u8], most: u64) -> Option<(u64, &[u8])>
+    requires { 9 ≤ most }
+    ensures found { IfSome result (λ x. TakesDigit most value text.now x.0 x.1.now) }
+    ensures none { IfNone result ((n : ℕ) (t : List ℕ) → ¬ TakesDigit most value text.now n t) }
+{
+    let (first, rest) = text.split_first()?;
+    if !is_digit(*first) {
+        return None;
+    }
+    let digit = u64::from(*first - b'0');
+    if value > (most - digit) / 10 {
+        return None;
+    }
+    Some((10 * value + digit, rest))
+}
+
+// The value of the longest numeral of at most `most` at the front, and what follows it.
+fn longest_numeral(text: &[u8], most: u64) -> Option<(u64, &[u8])>
+    requires { 9 ≤ most }
+    ensures found { IfSome result (λ x. IsLongest (IsNumeralOf most) text.now x.0 x.1.now) }
+    ensures none { IfNone result (HasNone (IsNumeralOf most) text.now) }
+{
+    if let Some(behind) = after(text, b'0') {
+        return Some((0, behind));
+    }
+    let (mut value, mut rest) = with_digit(0, text, most)?;
+    while let Some((more, next)) = with_digit(value, rest, most) {
+        value = more;
+        rest = next;
+    }
+    Some((value, rest))
+}
+
+// The integer below 0 of this size, or 0.
+fn negated(size: u64) -> i64
+    requires { size ≤ 2 ^ 63 }
+    ensures { result ≡ neg_ℤ (pos size) }
+{
+    if size == 1 << 63 {
+        i64::MIN
+    } else {
+        -(size as i64)
+    }
+}
+
+fn is_letter(b: u8) -> bool
+    ensures { result ≡ is_letter b }
+{
+    b.is_ascii_alphabetic()
+}
+
+fn goes_on(b: u8) -> bool
+    ensures { result ≡ goes_on b }
+{
+    is_letter(b) || is_digit(b) || matches!(b, b'-' | b'_' | b'?' | b'!' | b'*' | b'.')
+}
+
+// What follows a byte that goes on with a name.
+fn after_name_byte(text: &[u8]) -> Option<&[u8]>
+    ensures found { IfSome result (λ rest. GoesOn text.now rest.now) }
+    ensures none { IfNone result ((t : List ℕ) → ¬ GoesOn text.now t) }
+{
+    let (first, rest) = text.split_first()?;
+    if goes_on(*first) { Some(rest) } else { None }
+}
+
+// The longest name of a keyword at the front, and what follows it.
+fn longest_name(text: &[u8]) -> Option<(&[u8], &[u8])>
+    ensures found { IfSome result (λ x. IsLongest IsName text.now x.0.now x.1.now) }
+    ensures none { IfNone result (HasNone IsName text.now) }
+{
+    let (first, mut rest) = text.split_first()?;
+    if !is_letter(*first) {
+        return None;
+    }
+    while let Some(next) = after_name_byte(rest) {
+        rest = next;
+    }
+    Some(text.split_at(text.len() - rest.len()))
+}
+
+// `nil`, `true` or `false` at the front, and what follows it.
+fn word_at(text: &[u8]) -> Option<(Atom<'_>, &[u8])>
+    ensures found { IfSome result (λ x. IsLongest IsWord text.now (atom_value x.0) x.1.now) }
+    ensures none { IfNone result (HasNone IsWord text.now) }
+{
+    if let Some(rest) = text.strip_prefix(b"nil") {
+        return Some((Atom::Nil, rest));
+    }
+    if let Some(rest) = text.strip_prefix(b"true") {
+        return Some((Atom::Bool(true), rest));
+    }
+    let rest = text.strip_prefix(b"false")?;
+    Some((Atom::Bool(false), rest))
+}
+
+// The text, or what follows the plus at its front.
+fn without_plus(text: &[u8]) -> &[u8]
+    ensures { TakesOffPlus text.now result.now }
+{
+    match after(text, b'+') {
+        Some(digits) => digits,
+        None => text,
+    }
+}
+
+/// The longest atom at the front, and what follows it.
+pub fn longest_atom(text: &[u8]) -> Option<(Atom<'_>, &[u8])>
+    ensures found { IfSome result (λ x. IsLongest IsAtom text.now (atom_value x.0) x.1.now) }
+    ensures none { IfNone result (HasNone IsAtom text.now) }
+{
+    if let Some(word) = word_at(text) {
+        return Some(word);
+    }
+    if let Some(inner) = after(text, b':') {
+        let (name, rest) = longest_name(inner)?;
+        return Some((Atom::Keyword(name), rest));
+    }
+    if let Some(digits) = after(text, b'-') {
+        // The least integer is one further from 0 than the greatest.
+        let (size, rest) = longest_numeral(digits, 1 << 63)?;
+        return Some((Atom::Int(negated(size)), rest));
+    }
+    let (size, rest) = longest_numeral(without_plus(text), (1 << 63) - 1)?;
+    Some((Atom::Int(size as i64), rest))
+}
+
+fn keyword_of(alloc: Global, name: &[u8]) -> Result<Edn, ReadError>
+    requires { IsKeywordText name.now }
+    ensures ok { IfOk result (λ e. value_of e ≡ keyword name.now) }
+    ensures memory { OnUnreadable result ⊥ }
+{
+    let text = str::from_utf8(name).unwrap();
+    Ok(Edn::Keyword(String::from_str(alloc, text)?))
+}
+
+/// The value of a whole token.
+pub fn atom_of(alloc: Global, token: &[u8]) -> Result<Edn, ReadError>
+    ensures ok { IfOk result (λ e. IsAtom token.now (value_of e)) }
+    ensures unreadable { OnUnreadable result ((v : Value) → ¬ IsAtom token.now v) }
+{
+    let Some((atom, rest)) = longest_atom(token) else {
+        return Err(ReadError::Unreadable);
+    };
+    if !rest.is_empty() {
+        return Err(ReadError::Unreadable);
+    }
+    match atom {
+        Atom::Nil => Ok(Edn::Nil),
+        Atom::Bool(b) => Ok(Edn::Bool(b)),
+        Atom::Int(n) => Ok(Edn::Int(n)),
+        Atom::Keyword(name) => keyword_of(alloc, name),
+    }
+}

@@ -1,0 +1,93 @@
+//! Whether keys and members are all different by [`same`].
+
+ghost use Rattle.std.specs.Prelude.{◌≡◌, ◌↔◌, IsTrue, IfOk, MatchOption, map};
+ghost use Rattle.edn.specs.Value.{Value, IsNotAmong, AreDistinct};
+ghost use Rattle.edn.specs.Scalar.{scalar_value, IsCollection};
+ghost use Rattle.edn.specs.View.{value_of, list_of};
+
+use crate::equality::same;
+use crate::value::Edn;
+use std::alloc::{AllocError, Global};
+use std::collections::BTreeSet;
+
+/// What stands by its key among others: a pair of a map, or a member of a set.
+pub trait Keyed {
+    ghost key_value: { Self → Value };
+
+    fn key(&self) -> &Edn
+        ensures { value_of result.now ≡ key_value self.now };
+}
+
+impl Keyed for Edn {
+    ghost key_value = { value_of };
+
+    fn key(&self) -> &Edn {
+        self
+    }
+}
+
+impl Keyed for (Edn, Edn) {
+    ghost key_value = { λ p. value_of p.0 };
+
+    fn key(&self) -> &Edn {
+        &self.0
+    }
+}
+
+/// An atom or a string. Two are the same where they are equal, and they have an order.
+#[derive(Clone, Copy, PartialEq, Eq, PartialOrd, Ord)]
+pub enum Scalar<'a> {
+    Nil,
+    Bool(bool),
+    Int(i64),
+    Str(&'a str),
+    Keyword(&'a str),
+}
+
+// The atom or the string that an element is, if it is no collection.
+fn scalar_of(element: &Edn) -> Option<Scalar<'_>>
+    ensures { MatchOption result
+        (IsCollection (value_of element.now)) (λ s. value_of element.now ≡ scalar_value s) }
+{
+    match element {
+        Edn::Nil => Some(Scalar::Nil),
+        Edn::Bool(b) => Some(Scalar::Bool(*b)),
+        Edn::Int(n) => Some(Scalar::Int(*n)),
+        Edn::Str(text) => Some(Scalar::Str(text.as_str())),
+        Edn::Keyword(name) => Some(Scalar::Keyword(name.as_str())),
+        _ => None,
+    }
+}
+
+// Whether none of the items has the same key.
+fn is_not_among<T: Keyed>(key: &Edn, items: &[T]) -> bool
+    ensures { IsTrue result
+        ↔ IsNotAmong (value_of key.now) (list_of (map T.key_value items.now)) }
+{
+    for item in items {
+        if same(key, item.key()) {
+            return false;
+        }
+    }
+    true
+}
+
+/// Whether no two of the items have the same key. The time grows with the logarithm of their number for an atom or a
+/// string, and with their number for a collection.
+pub fn are_distinct<T: Keyed>(alloc: Global, items: &[T]) -> Result<bool, AllocError>
+    ensures { IfOk result
+        (λ yes. IsTrue yes ↔ AreDistinct (list_of (map T.key_value items.now))) }
+{
+    let mut scalars = BTreeSet::new(alloc);
+    for (i, item) in items.iter().enumerate() {
+        let key = item.key();
+        let is_new = match scalar_of(key) {
+            Some(scalar) => scalars.insert(scalar)?,
+            None => is_not_among(key, &items[..i]),
+        };
+        if !is_new {
+            return Ok(false);
+        }
+    }
+    Ok(true)
+}

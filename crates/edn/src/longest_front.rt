@@ -1,0 +1,56 @@
+//! How far an unreadable input is a text.
+
+ghost use Rattle.std.specs.Prelude.{IfOk};
+ghost use Rattle.edn.specs.Text.{IsLongestFront};
+ghost use Rattle.edn.specs.Reading.{OnUnreadable};
+
+use crate::atom::longest_atom;
+use crate::gap::{after, after_discard, after_white, line_end};
+use crate::read_error::ReadError;
+use crate::reader::{discarded, element};
+use std::alloc::Global;
+
+/// The length of the longest front that is a text, in one pass over the bytes.
+pub fn place_of(alloc: Global, bytes: &[u8]) -> Result<usize, ReadError>
+    ensures ok { IfOk result (λ n. IsLongestFront bytes.now n) }
+    ensures never { OnUnreadable result ⊥ }
+{
+    let mut best = 0;
+    let mut owed: usize = 0;
+    let mut rest = bytes;
+    'elements: while !rest.is_empty() {
+        if owed == 0 {
+            best = bytes.len() - rest.len();
+        }
+        if let Some(next) = after_white(rest) {
+            rest = next;
+        } else if let Some(line) = after(rest, b';') {
+            rest = line_end(line);
+        } else if let Some(next) = after_discard(rest) {
+            owed += 1;
+            rest = next;
+        } else {
+            match element(alloc, 0, rest) {
+                Ok((value, next)) => {
+                    discarded(value);
+                    owed = owed.saturating_sub(1);
+                    rest = next;
+                }
+                Err(ReadError::NoMemory) => return Err(ReadError::NoMemory),
+                Err(ReadError::Unreadable) => {
+                    if owed > 1 {
+                        return Ok(best);
+                    }
+                    let Some((_, left)) = longest_atom(rest) else {
+                        return Ok(best);
+                    };
+                    return Ok(bytes.len() - left.len());
+                }
+            }
+        }
+    }
+    if owed == 0 {
+        return Ok(bytes.len());
+    }
+    Ok(best)
+}

@@ -1,0 +1,171 @@
+//! The reader: functions from a text to what is read at its front and what is left of it.
+
+ghost use Rattle.std.specs.Prelude.{◌≡◌, ℕ, List, [], ◌∷◌, true, option_map, IfOk, IfErr};
+ghost use Rattle.edn.specs.Value.{Values};
+ghost use Rattle.edn.specs.View.{value_of, values_of};
+ghost use Rattle.edn.specs.Refusals.{IsWhy};
+ghost use Rattle.edn.specs.Text.{Reads, ReadsAll, IsText};
+ghost use Rattle.edn.specs.Reading.{OnUnreadable, HasNoElement, HasNoInside, FindsNext, ReadsCollection, closes};
+
+use crate::atom::{atom_of, token};
+use crate::collection::{map_of, set_of};
+use crate::gap::{after, after_discard, after_set_opening, after_white, closes, line_end};
+use crate::longest_front::place_of;
+use crate::read_error::ReadError;
+use crate::refusal::Refusal;
+use crate::string::string_of;
+use crate::value::Edn;
+use std::alloc::Global;
+
+/// At most so many collections are open at once, so that reading and dropping need little stack.
+const MAX_OPEN: u8 = 32;
+
+/// Drops an element. Dropped in a larger function, an enum gives that function's goals once for each variant.
+pub fn discarded(_value: Edn) {}
+
+/// The element at the front, and what follows it.
+#[cycle(reader)]
+pub fn element(alloc: Global, depth: u8, text: &[u8]) -> Result<(Edn, &[u8]), ReadError>
+    ensures ok { IfOk result (λ x. Reads depth text.now (value_of x.0) x.1.now) }
+    ensures unreadable { OnUnreadable result (HasNoElement depth text.now) }
+{
+    if let Some(inner) = after(text, b'[') {
+        let (found, rest) = collection(alloc, depth, b']', inner)?;
+        return Ok((Edn::Vector(found), rest));
+    }
+    if let Some(inner) = after(text, b'{') {
+        let (found, rest) = collection(alloc, depth, b'}', inner)?;
+        let map = map_of(alloc, found)?;
+        return Ok((map, rest));
+    }
+    if let Some(inner) = after_set_opening(text) {
+        let (found, rest) = collection(alloc, depth, b'}', inner)?;
+        let set = set_of(alloc, found)?;
+        return Ok((set, rest));
+    }
+    if let Some(inner) = after(text, b'"') {
+        let (string, rest) = string_of(alloc, inner)?;
+        return Ok((Edn::Str(string), rest));
+    }
+    let (word, rest) = token(text);
+    let atom = atom_of(alloc, word)?;
+    Ok((atom, rest))
+}
+
+// The elements of a collection behind its opening, and what follows the byte that closes it.
+#[cycle(reader)]
+fn collection(
+    alloc: Global,
+    depth: u8,
+    close: u8,
+    text: &[u8],
+) -> Result<(Vec<Edn>, &[u8]), ReadError>
+    requires { closes (close ∷ []) ≡ true }
+    ensures ok { IfOk result
+        (λ x. ReadsCollection close depth text.now (values_of x.0.items) x.1.now) }
+    ensures unreadable { OnUnreadable result
+        ((vs : Values) (r : List ℕ) → ¬ ReadsCollection close depth text.now vs r) }
+{
+    if depth >= MAX_OPEN {
+        return Err(ReadError::Unreadable);
+    }
+    let (found, left) = inside(alloc, depth + 1, text)?;
+    match after(left, close) {
+        Some(rest) => Ok((found, rest)),
+        None => Err(ReadError::Unreadable),
+    }
+}
+
+// The elements at the front, up to the end of the text or of a collection, and what follows them.
+#[cycle(reader)]
+fn inside(alloc: Global, depth: u8, text: &[u8]) -> Result<(Vec<Edn>, &[u8]), ReadError>
+    ensures ok { IfOk result (λ x. ReadsAll depth text.now (values_of x.0.items) x.1.now) }
+    ensures closed { IfOk result (λ x. closes x.1.now ≡ true) }
+    ensures unreadable { OnUnreadable result (HasNoInside depth text.now) }
+{
+    let mut found = Vec::new(alloc);
+    let mut rest = text;
+    'elements: loop {
+        let (next, left) = next_element(alloc, depth, rest)?;
+        rest = left;
+        match next {
+            Some(value) => found.push(value)?,
+            None => return Ok((found, rest)),
+        }
+    }
+}
+
+/// The next element behind a gap, and what follows it; or none where the text or a collection ends behind the gap.
+#[cycle(reader)]
+pub fn next_element(
+    alloc: Global,
+    depth: u8,
+    text: &[u8],
+) -> Result<(Option<Edn>, &[u8]), ReadError>
+    ensures ok { IfOk result (λ x. FindsNext depth text.now (option_map value_of x.0) x.1.now) }
+    ensures unreadable { OnUnreadable result (HasNoInside depth text.now) }
+{
+    let mut owed: usize = 0;
+    let mut rest = text;
+    'pieces: while !closes(rest) {
+        if let Some(next) = after_white(rest) {
+            rest = next;
+        } else if let Some(line) = after(rest, b';') {
+            rest = line_end(line);
+        } else if let Some(next) = after_discard(rest) {
+            owed += 1;
+            rest = next;
+        } else {
+            let (value, next) = element(alloc, depth, rest)?;
+            if owed == 0 {
+                return Ok((Some(value), next));
+            }
+            discarded(value);
+            owed -= 1;
+            rest = next;
+        }
+    }
+    if owed > 0 {
+        return Err(ReadError::Unreadable);
+    }
+    Ok((None, rest))
+}
+
+// The elements of a text.
+fn text_of(alloc: Global, bytes: &[u8]) -> Result<Vec<Edn>, ReadError>
+    ensures ok { IfOk result (λ v. IsText bytes.now (values_of v.items)) }
+    ensures unreadable { OnUnreadable result ((vs : Values) → ¬ IsText bytes.now vs) }
+{
+    let (found, rest) = inside(alloc, 0, bytes)?;
+    if rest.is_empty() {
+        Ok(found)
+    } else {
+        Err(ReadError::Unreadable)
+    }
+}
+
+/// The elements of a text, in order. A text is a profile of EDN: `nil`, `true`, `false`, integers of 64 bits, keywords
+/// without a namespace, strings, vectors, maps and sets, of which at most 32 are open at once, with white space,
+/// comments and discards between them. The keys of a map and the members of a set are distinct by
+/// [`same`](crate::same).
+///
+/// # Errors
+/// [`Refusal::Unreadable`] where the input is no text, with the length in bytes of the longest front of it that is
+/// one; [`Refusal::NoMemory`] where a growth was refused.
+///
+/// The time is that of one pass over the input, two where it is refused, and of finding repeated keys and members: it
+/// grows with n log n where n of them are atoms or strings, and with the product of the number of those that are
+/// collections and the number of all.
+pub fn read_all(alloc: Global, bytes: &[u8]) -> Result<Vec<Edn>, Refusal>
+    ensures read { IfOk result (λ v. IsText bytes.now (values_of v.items)) }
+    ensures refused { IfErr result (λ why. IsWhy bytes.now why) }
+{
+    match text_of(alloc, bytes) {
+        Ok(found) => Ok(found),
+        Err(ReadError::NoMemory) => Err(Refusal::NoMemory),
+        Err(ReadError::Unreadable) => match place_of(alloc, bytes) {
+            Ok(place) => Err(Refusal::Unreadable(place)),
+            Err(_) => Err(Refusal::NoMemory),
+        },
+    }
+}

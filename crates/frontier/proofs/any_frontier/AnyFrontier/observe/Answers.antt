@@ -1,0 +1,16 @@
+use Rattle.frontier.proofs.any_frontier.AnyFrontier.observe.Goals as goal
+
+pub returns-in-Register-clause-kept : goal.returns-in-Register-clause-kept
+returns-in-Register-clause-kept c = rw c.in-Register.is c.observe.ensures.kept
+
+pub returns-in-CasRegister-clause-kept : goal.returns-in-CasRegister-clause-kept
+returns-in-CasRegister-clause-kept c = rw c.in-CasRegister.is c.observe-in-CasRegister.ensures.kept
+
+pub returns-in-Mutex-clause-kept : goal.returns-in-Mutex-clause-kept
+returns-in-Mutex-clause-kept c = rw c.in-Mutex.is c.observe-in-Mutex.ensures.kept
+
+pub returns-in-FifoQueue-clause-kept : goal.returns-in-FifoQueue-clause-kept
+returns-in-FifoQueue-clause-kept c = rw c.in-FifoQueue.is c.observe-in-FifoQueue.ensures.kept
+
+pub returns-in-Set-clause-kept : goal.returns-in-Set-clause-kept
+returns-in-Set-clause-kept c = rw c.in-Set.is c.observe-in-Set.ensures.kept

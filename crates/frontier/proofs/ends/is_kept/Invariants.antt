@@ -1,6 +1,0 @@
-use Rattle.std.proofs.Common.{◌≢◌, ℕ, ◌<◌, get_or}
-use Rattle.frontier.specs.Standing.{end_kept}
-use Rattle.frontier.proofs.ends.is_kept.Given as goal
-
-abbrev pub invariant-loop-kept : goal.invariant-loop-kept
-invariant-loop-kept g l = (k : ℕ) → k < l.kept-index → end_kept (get_or l.ends k l.end) ≢ end_kept l.end

@@ -1,7 +1,0 @@
-use Rattle.std.proofs.Common.{map, take, []}
-use Rattle.frontier.specs.Standing.{end_kept}
-use Rattle.frontier.specs.Steps.{Crashes, Along, Adds}
-use Rattle.frontier.proofs.events.crashed_ends.Given as goal
-
-abbrev pub invariant-loop-kept : goal.invariant-loop-kept
-invariant-loop-kept g l = Adds (Along (Crashes l.id) (take l.kept-index (map end_kept l.ends))) [] (map end_kept l.after.items)

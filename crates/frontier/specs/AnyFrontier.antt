@@ -1,0 +1,32 @@
+-- Promise: a frontier of any kind, seen as that of its kind's object
+use Rattle.std.specs.Prelude.{ℕ, List}
+use Rattle.models.specs.declared.model_kind.ModelKind.{ModelKind}
+use Rattle.models.specs.declared.model_kind.ModelKind.TheVariants as kinds
+use Rattle.models.specs.Objects.{register, cas_register, mutex, fifo_queue, set_of_numbers}
+use Rattle.history.specs.Events.{Mark}
+use Rattle.frontier.specs.declared.any_frontier.AnyFrontier.{AnyFrontier}
+use Rattle.frontier.specs.declared.any_frontier.AnyFrontier.TheVariants.{Register, CasRegister, Mutex, FifoQueue, Set}
+use Rattle.frontier.specs.Meaning.{StandsFor, budget_of}
+
+abbrev pub kind_of_frontier : AnyFrontier → ModelKind
+kind_of_frontier (Register f) = kinds.Register
+kind_of_frontier (CasRegister f) = kinds.CasRegister
+kind_of_frontier (Mutex f) = kinds.Mutex
+kind_of_frontier (FifoQueue f) = kinds.FifoQueue
+kind_of_frontier (Set f) = kinds.Set
+
+-- the frontier stands for the history
+abbrev pub AnyStandsFor : AnyFrontier → List Mark → Type 0
+AnyStandsFor (Register f) marks = StandsFor register f marks
+AnyStandsFor (CasRegister f) marks = StandsFor cas_register f marks
+AnyStandsFor (Mutex f) marks = StandsFor mutex f marks
+AnyStandsFor (FifoQueue f) marks = StandsFor fifo_queue f marks
+AnyStandsFor (Set f) marks = StandsFor set_of_numbers f marks
+
+-- the greatest number of ends that an ok may meet
+abbrev pub any_budget_of : AnyFrontier → ℕ
+any_budget_of (Register f) = budget_of f
+any_budget_of (CasRegister f) = budget_of f
+any_budget_of (Mutex f) = budget_of f
+any_budget_of (FifoQueue f) = budget_of f
+any_budget_of (Set f) = budget_of f

@@ -1,0 +1,59 @@
+-- Invariant: how a frontier keeps ends, and the operations that may still take place
+use Rattle.std.specs.Prelude.{◌≢◌, ◌↔◌, ℕ, Option, List, map, Bool, IsTrue}
+use Rattle.std.specs.List.{Contains}
+use Rattle.std.specs.Ordering.{nat_cmp}
+use Rattle.std.specs.FinMap as finmap
+use Rattle.std.specs.FinSet as finset
+use Rattle.models.specs.declared.finding.Found.{Found}
+use Rattle.models.specs.declared.operation.Op.{Op}
+use Rattle.history.specs.Events.{Mark}
+use Rattle.history.specs.Events.Mark.{Invoked, Failed, Crashed}
+use Rattle.linspec.specs.Operations.{HasReturned}
+use Rattle.linspec.specs.Orders.{Pairwise}
+use Rattle.linspec.specs.Ends.{End}
+use Rattle.frontier.specs.declared.pending_op.PendingOp.{PendingOp}
+use Rattle.frontier.specs.declared.kept_end.KeptEnd.{KeptEnd}
+use Rattle.frontier.specs.declared.frontier.Frontier.{Frontier}
+
+-- what each open operation found, by the entries
+abbrev pub pending_in : List (ℕ × Found) → finmap.FinMap nat_cmp Found
+pending_in entries = finmap.from_entries entries
+
+-- what the operation found, where it is among the entries
+abbrev pub found_at : List (ℕ × Found) → ℕ → Option Found
+found_at entries id = finmap.get (pending_in entries) id
+
+abbrev pub crashed_in : List ℕ → finset.FinSet nat_cmp
+crashed_in ids = finset.from_list ids
+
+abbrev pub has_crashed : List ℕ → ℕ → Bool
+has_crashed ids id = finset.contains (crashed_in ids) id
+
+-- the end that is kept so
+abbrev pub end_kept : {S : Type 0} → KeptEnd S → End S
+end_kept kept = record {
+  state = kept.state;
+  pending = pending_in kept.pending.items;
+  crashed = crashed_in kept.crashed.items;
+}
+
+-- the ends that a frontier keeps
+abbrev pub ends_of : {M S : Type 0} → Frontier M S → List (End S)
+ends_of f = map end_kept f.ends.items
+
+-- the operation may still take place: it is invoked, and has neither returned nor failed
+pub record IsPending (marks : List Mark) (id : ℕ) (op : Op) : Type 0 where
+  pub invoked : Contains marks (Invoked id op)
+  pub not_returned : ¬ HasReturned marks id
+  pub not_failed : ¬ Contains marks (Failed id)
+
+-- the list has each operation that may still take place, and whether it has crashed
+abbrev pub ArePending : List PendingOp → List Mark → Type 0
+ArePending calls marks =
+    (c : PendingOp) → Contains calls c
+    ↔ (IsPending marks c.id c.op × (IsTrue c.crashed ↔ Contains marks (Crashed c.id)))
+
+-- each end is kept once, and the operations that may still take place are those of the history
+pub record IsWellKept {M S : Type 0} (f : Frontier M S) (marks : List Mark) : Type 0 where
+  pub once : Pairwise (λ d e. d ≢ e) (ends_of f)
+  pub pending : ArePending f.calls.items marks

@@ -1,0 +1,91 @@
+//! Frontiers of any kind of object.
+ghost use Rattle.std.specs.Prelude.{◌≡◌, ◌↔◌, List, [], IfOk, MatchResult};
+ghost use Rattle.models.specs.Objects.{object_of};
+ghost use Rattle.history.specs.Events.{Mark};
+ghost use Rattle.frontier.specs.Meaning.{Answers, Keeps, TakesUnlessOver, mark_by};
+ghost use Rattle.frontier.specs.AnyFrontier.{AnyStandsFor, any_budget_of, kind_of_frontier};
+
+use crate::frontier::{Frontier, Step};
+use history::EventKind;
+use models::{CasRegister, FifoQueue, ModelKind, Mutex, Op, Register, Set, each_kind};
+use std::alloc::{AllocError, Global};
+
+/// All ends of the legal orders of one key's history, kept as its events come, for a key whose kind of object is known
+/// only as the program runs: a [`Frontier`] of that kind.
+#[derive(Drop)]
+pub enum AnyFrontier {
+    /// Of a register.
+    Register(Frontier<Register>),
+    /// Of a register that also has compare and set.
+    CasRegister(Frontier<CasRegister>),
+    /// Of a mutex.
+    Mutex(Frontier<Mutex>),
+    /// Of a queue.
+    FifoQueue(Frontier<FifoQueue>),
+    /// Of a set.
+    Set(Frontier<Set>),
+}
+
+// The bodies below, for each kind of the list.
+macro_rules! start_of {
+    ($kind:expr, $alloc:expr, $budget:expr; $($K:ident $name:literal),*) => {
+        match $kind {
+            $(ModelKind::$K => Ok(AnyFrontier::$K(Frontier::<$K>::start($alloc, $budget)?)),)*
+        }
+    };
+}
+
+macro_rules! copy_of {
+    ($any:expr; $($K:ident $name:literal),*) => {
+        match $any {
+            $(AnyFrontier::$K(frontier) => Ok(AnyFrontier::$K(frontier.copy()?)),)*
+        }
+    };
+}
+
+macro_rules! observe_of {
+    ($any:expr, $id:expr, $event:expr, $op:expr; $($K:ident $name:literal),*) => {
+        match $any {
+            $(AnyFrontier::$K(frontier) => frontier.observe($id, $event, $op),)*
+        }
+    };
+}
+
+impl AnyFrontier {
+    /// The frontier of a history without events of an object of this kind. The budget is the greatest number of ends
+    /// that an ok may meet. `AllocError` where there is no memory for it.
+    pub fn start(alloc: Global, kind: ModelKind, budget: u32) -> Result<Self, AllocError>
+        ensures stands { IfOk result (λ f. AnyStandsFor f []) }
+        ensures kind { IfOk result (λ f. kind_of_frontier f ≡ kind) }
+        ensures budget { IfOk result (λ f. any_budget_of f ≡ budget) }
+    {
+        each_kind!(start_of; kind, alloc, budget)
+    }
+
+    /// An event of an operation: [`Frontier::observe`]. The id is the index of the operation's invocation, which is new
+    /// where the event is one, and else is that of an open operation; the part of an ok is the answer. Over where the
+    /// event is an ok and more ends than the budget stand just before it: then, and on `AllocError`, the frontier is
+    /// unchanged. An invocation and an info are answered Alive, since they kill nothing.
+    pub fn observe(&mut self, id: u32, kind: EventKind, op: &Op) -> Result<Step, AllocError>
+        ensures step { let object = object_of (kind_of_frontier self.old) in
+            let old = AnyStandsFor self.old in
+            IfOk result (Answers object (any_budget_of self.old) old (mark_by id kind op.now)) }
+        ensures kept { let old = AnyStandsFor self.old in let new = AnyStandsFor self.new in
+            MatchResult result (TakesUnlessOver old new (mark_by id kind op.now))
+            (λ _. Keeps old new) }
+        ensures kind { kind_of_frontier self.new ≡ kind_of_frontier self.old }
+        ensures budget { any_budget_of self.new ≡ any_budget_of self.old }
+    {
+        each_kind!(observe_of; self, id, kind, op)
+    }
+
+    /// An equal frontier, with memory of its own; `AllocError` where there is none.
+    pub fn copy(&self) -> Result<Self, AllocError>
+        ensures same { IfOk result (λ f. (marks : List Mark)
+            → AnyStandsFor f marks ↔ AnyStandsFor self.now marks) }
+        ensures kind { IfOk result (λ f. kind_of_frontier f ≡ kind_of_frontier self.now) }
+        ensures budget { IfOk result (λ f. any_budget_of f ≡ any_budget_of self.now) }
+    {
+        each_kind!(copy_of; self)
+    }
+}

@@ -1,0 +1,188 @@
+//! Frontiers, and what each event does to one.
+ghost use Rattle.std.specs.Prelude.{◌≡◌, ◌≢◌, ◌↔◌, List, [], IfOk, MatchResult};
+ghost use Rattle.models.specs.Objects.{of_table};
+ghost use Rattle.history.specs.Events.{Mark};
+ghost use Rattle.history.specs.Events.Mark.{Invoked, Returned, Failed, Crashed};
+ghost use Rattle.frontier.specs.Meaning.{StandsFor, Answers, Keeps, Takes, TakesUnlessOver};
+ghost use Rattle.frontier.specs.Meaning.{budget_of, mark_by};
+
+use crate::kept_end::KeptEnd;
+use crate::pending_op::{self, PendingOp};
+use crate::{ends, extend};
+use history::EventKind;
+use models::{Answer, Op, SeqObject};
+use std::alloc::{AllocError, Global};
+
+/// What an event leaves.
+#[derive(Clone, Copy, Debug, PartialEq, Eq)]
+pub enum Step {
+    /// Some end is left: the history is linearizable.
+    Alive,
+    /// No end is left: the history is not linearizable.
+    Dead,
+    /// There were more ends than the budget just before the event.
+    Over,
+}
+
+/// All ends of the legal orders of one key's history, kept as its events come (Herlihy and Wing 1990, section 2). It
+/// does not keep the events. An invocation finds at once what it may lead to; the just-in-time search of Lowe 2017,
+/// which waits for an ok, may take the place of this body without a change of the contract.
+#[derive(Drop)]
+pub struct Frontier<M: SeqObject> {
+    alloc: Global,
+    budget: u32,
+    calls: Vec<PendingOp>,
+    ends: Vec<KeptEnd<M::State>>,
+}
+
+// Alive where some end is left, else Dead.
+fn step_of(ends: usize) -> Step
+    ensures alive { (result ≡ Step.Alive) ↔ (ends ≢ 0) }
+    ensures dead { (result ≡ Step.Dead) ↔ (ends ≡ 0) }
+    ensures never_over { result ≢ Step.Over }
+{
+    if ends == 0 { Step::Dead } else { Step::Alive }
+}
+
+impl<M: SeqObject> Frontier<M> {
+    /// The frontier of a history without events. The budget is the greatest number of ends that an ok may meet.
+    /// `AllocError` where there is no memory for it.
+    pub fn start(alloc: Global, budget: u32) -> Result<Self, AllocError>
+        ensures stands { let object = of_table M.State M.start_state M.apply_to in
+            IfOk result (λ f. StandsFor object f []) }
+        ensures budget { IfOk result (λ f. budget_of f ≡ budget) }
+    {
+        let mut ends = Vec::new(alloc);
+        ends.push(KeptEnd {
+            state: M::start(alloc),
+            pending: Vec::new(alloc),
+            crashed: Vec::new(alloc),
+        })?;
+        Ok(Frontier {
+            alloc,
+            budget,
+            calls: Vec::new(alloc),
+            ends,
+        })
+    }
+
+    /// Any event of an operation: [`invoke`](Self::invoke), [`ok`](Self::ok), [`fail`](Self::fail) or
+    /// [`crash`](Self::crash) by the kind of the event. The id is the index of the operation's invocation, and the part
+    /// of an ok is the answer. An invocation and an info are answered Alive, since they kill nothing. On `AllocError`
+    /// the frontier is unchanged.
+    pub fn observe(&mut self, id: u32, kind: EventKind, op: &Op) -> Result<Step, AllocError>
+        ensures step { let object = of_table M.State M.start_state M.apply_to in
+            let old = StandsFor object self.old in
+            IfOk result (Answers object (budget_of self.old) old (mark_by id kind op.now)) }
+        ensures kept { let object = of_table M.State M.start_state M.apply_to in
+            let old = StandsFor object self.old in let new = StandsFor object self.new in
+            MatchResult result (TakesUnlessOver old new (mark_by id kind op.now))
+            (λ _. Keeps old new) }
+        ensures budget { budget_of self.new ≡ budget_of self.old }
+    {
+        match kind {
+            EventKind::Invoke => {
+                self.invoke(id, op.copy()?)?;
+                Ok(Step::Alive)
+            }
+            EventKind::Ok => {
+                let answer = Answer::of_part(op.part.copy()?);
+                self.ok(id, &answer)
+            }
+            EventKind::Fail => self.fail(id),
+            EventKind::Info => {
+                self.crash(id)?;
+                Ok(Step::Alive)
+            }
+        }
+    }
+
+    /// An operation is invoked, whose id (the index of its invocation) no event before it has. On `AllocError` the
+    /// frontier is unchanged. Tries each call on each new end, and compares each end that comes of it with those that
+    /// are there.
+    pub fn invoke(&mut self, id: u32, op: Op) -> Result<(), AllocError>
+        ensures kept { let object = of_table M.State M.start_state M.apply_to in
+            let old = StandsFor object self.old in let new = StandsFor object self.new in
+            MatchResult result (λ _. Takes old new (Invoked id op)) (λ _. Keeps old new) }
+        ensures budget { budget_of self.new ≡ budget_of self.old }
+    {
+        let before = self.ends.len();
+        self.calls.push(PendingOp {
+            id,
+            op,
+            crashed: false,
+        })?;
+        match extend::grow::<M>(&mut self.ends, &self.calls) {
+            Ok(()) => Ok(()),
+            Err(error) => {
+                self.ends.truncate(before);
+                let _ = self.calls.pop();
+                Err(error)
+            }
+        }
+    }
+
+    /// An open operation has returned with this answer. Over where more ends than the budget stand just before it: then,
+    /// and on `AllocError`, the frontier is unchanged. Compares the ends that are left with one another.
+    pub fn ok(&mut self, id: u32, answer: &Answer) -> Result<Step, AllocError>
+        ensures step { let object = of_table M.State M.start_state M.apply_to in
+            let old = StandsFor object self.old in
+            IfOk result (Answers object (budget_of self.old) old (Returned id answer.now)) }
+        ensures kept { let object = of_table M.State M.start_state M.apply_to in
+            let old = StandsFor object self.old in let new = StandsFor object self.new in
+            MatchResult result (TakesUnlessOver old new (Returned id answer.now))
+            (λ _. Keeps old new) }
+        ensures budget { budget_of self.new ≡ budget_of self.old }
+    {
+        if self.ends.len() > self.budget as usize {
+            return Ok(Step::Over);
+        }
+        self.ends = ends::settled_ends::<M>(self.alloc, &self.ends, id, answer)?;
+        pending_op::drop_call(&mut self.calls, id);
+        Ok(step_of(self.ends.len()))
+    }
+
+    /// An open operation did not take place. Never Over. On `AllocError` the frontier is unchanged. Goes through the
+    /// ends once.
+    pub fn fail(&mut self, id: u32) -> Result<Step, AllocError>
+        ensures step { let object = of_table M.State M.start_state M.apply_to in
+            let old = StandsFor object self.old in
+            IfOk result (Answers object (budget_of self.old) old (Failed id)) }
+        ensures kept { let object = of_table M.State M.start_state M.apply_to in
+            let old = StandsFor object self.old in let new = StandsFor object self.new in
+            MatchResult result (TakesUnlessOver old new (Failed id)) (λ _. Keeps old new) }
+        ensures budget { budget_of self.new ≡ budget_of self.old }
+    {
+        self.ends.retain(|kept| !kept.includes(id));
+        pending_op::drop_call(&mut self.calls, id);
+        Ok(step_of(self.ends.len()))
+    }
+
+    /// An open operation has crashed: it may take place at any later moment, or never. On `AllocError` the frontier is
+    /// unchanged. Compares the ends with one another.
+    pub fn crash(&mut self, id: u32) -> Result<(), AllocError>
+        ensures kept { let object = of_table M.State M.start_state M.apply_to in
+            let old = StandsFor object self.old in let new = StandsFor object self.new in
+            MatchResult result (λ _. Takes old new (Crashed id)) (λ _. Keeps old new) }
+        ensures budget { budget_of self.new ≡ budget_of self.old }
+    {
+        self.ends = ends::crashed_ends::<M>(self.alloc, &self.ends, id)?;
+        pending_op::mark_crashed(&mut self.calls, id);
+        Ok(())
+    }
+
+    /// An equal frontier, with memory of its own; `AllocError` where there is none.
+    pub fn copy(&self) -> Result<Self, AllocError>
+        ensures same { let object = of_table M.State M.start_state M.apply_to in
+            IfOk result (λ f. (marks : List Mark)
+            → StandsFor object f marks ↔ StandsFor object self.now marks) }
+        ensures budget { IfOk result (λ f. budget_of f ≡ budget_of self.now) }
+    {
+        Ok(Frontier {
+            alloc: self.alloc,
+            budget: self.budget,
+            calls: pending_op::copy_calls(self.alloc, &self.calls)?,
+            ends: ends::copied_ends::<M>(self.alloc, &self.ends)?,
+        })
+    }
+}

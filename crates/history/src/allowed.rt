@@ -1,0 +1,118 @@
+//! The tables of values that events may have.
+ghost use Rattle.std.specs.Prelude.{◌≡◌, ◌↔◌, IsTrue, List};
+ghost use Rattle.history.specs.declared.event.Event.{Event};
+ghost use Rattle.history.specs.WellFormed.{IsPart, IsOkPart, IsPartOf, IsFault, IsInTables, SharesKey, first_key, IsRepeat, Completes};
+
+use crate::event::{Body, EventKind, Fault, Process};
+use models::{Key, Name, Op, Part, each_name};
+
+/// The greatest number of a replica.
+const LAST_REPLICA: u8 = 6;
+
+// Whether the part is the one that the name's line has for an invocation.
+macro_rules! is_invoked {
+    ($name:expr, $part:expr; $($N:ident $text:literal $P:ident $how:ident [$($A:ident)*]),*) => {
+        match $name {
+            $(Name::$N => matches!($part, Part::$P { .. }),)*
+        }
+    };
+}
+
+// Whether the part is one of those that the name's line has for an ok.
+macro_rules! is_answer {
+    ($name:expr, $part:expr; $($N:ident $text:literal $P:ident $how:ident [$($A:ident)*]),*) => {
+        match $name {
+            $(Name::$N => matches!($part, $(Part::$A { .. })|*),)*
+        }
+    };
+}
+
+// Whether an ok of the name says what was found.
+macro_rules! is_answered {
+    ($name:expr; $($N:ident $text:literal $P:ident $how:ident [$($A:ident)*]),*) => {
+        match $name {
+            $(Name::$N => is_answered!($how),)*
+        }
+    };
+    (answers) => { true };
+    (repeats) => { false };
+}
+
+// Whether the part is one of an invocation, a fail or an info of this name.
+fn is_part(name: Name, part: &Part) -> bool
+    ensures { IsTrue result ↔ IsPart name part.now }
+{
+    each_name!(is_invoked; name, part)
+}
+
+// Whether the part is one of an ok of this name.
+fn is_ok_part(name: Name, part: &Part) -> bool
+    ensures { IsTrue result ↔ IsOkPart name part.now }
+{
+    each_name!(is_answer; name, part)
+}
+
+/// Whether the operation's part is one that an event of this kind may have.
+pub fn is_part_of(kind: EventKind, op: &Op) -> bool
+    ensures { IsTrue result ↔ IsPartOf kind op.now.name op.now.part }
+{
+    match kind {
+        EventKind::Ok => is_ok_part(op.name, &op.part),
+        _ => is_part(op.name, &op.part),
+    }
+}
+
+fn is_fault(fault: &Fault) -> bool
+    ensures { IsTrue result ↔ IsFault fault.now }
+{
+    match fault {
+        Fault::Partition(groups) => groups.are_apart(),
+        Fault::Heal => true,
+        Fault::Pause(replica) => *replica <= LAST_REPLICA,
+        Fault::Resume(replica) => *replica <= LAST_REPLICA,
+        Fault::Crash(replica) => *replica <= LAST_REPLICA,
+        Fault::Restart(replica) => *replica <= LAST_REPLICA,
+        Fault::LoseReplies(_) => true,
+    }
+}
+
+/// Whether an event of this kind and process may be about this.
+pub fn is_in_tables(kind: EventKind, process: Process, body: &Body) -> bool
+    ensures { IsTrue result ↔ IsInTables kind process body.now }
+{
+    match process {
+        Process::Client(_) => match body {
+            Body::Op(op) => is_part_of(kind, op),
+            Body::Fault(_) => false,
+        },
+        Process::Nemesis => match body {
+            Body::Op(_) => false,
+            Body::Fault(fault) => matches!(kind, EventKind::Info) && is_fault(fault),
+        },
+    }
+}
+
+/// Whether an operation of this key has the key of the first operation, if there is one.
+pub fn shares_key(first: Option<Key>, key: Option<Key>) -> bool
+    ensures { (events : List Event) → first ≡ first_key events →
+        IsTrue result ↔ SharesKey events key }
+{
+    match (key, first) {
+        (Some(key), Some(first)) => key == first,
+        _ => true,
+    }
+}
+
+// Whether the part of a completion is its own, as an answer, or that of the invocation.
+fn repeats(kind: EventKind, invoked: &Part, op: &Op) -> bool
+    ensures { IsTrue result ↔ IsRepeat kind op.now.name invoked.now op.now.part }
+{
+    (matches!(kind, EventKind::Ok) && each_name!(is_answered; op.name)) || op.part.same(invoked)
+}
+
+/// Whether a completion of this kind and operation completes the invoked one.
+pub fn completes(kind: EventKind, invoked: &Op, op: &Op) -> bool
+    ensures { IsTrue result ↔ Completes kind invoked.now op.now }
+{
+    op.name == invoked.name && op.key == invoked.key && repeats(kind, &invoked.part, op)
+}

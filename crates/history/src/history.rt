@@ -1,0 +1,272 @@
+//! Histories: events in order, each well-formed after those before it.
+ghost use Rattle.std.specs.Prelude.{◌≡◌, ℕ, ◌<◌, ◌≤◌, ◌++◌, ◌∷◌, ◌^◌, ◌↔◌, [], length, slice_get, IsTrue, IsSome, IfSome, option_map, OnOk, IfOk, IfErr, OnErr, IsErrOf};
+ghost use Rattle.std.specs.Option.{option_copied};
+ghost use Rattle.history.specs.WellFormed.{IsConcurrency, no_events, MayNotStart, Admits, idle, with_prepared, with_last, IsWellFormed, MayRefuse, IsHistoryOf, current_of, open_of, open_index, IsValue, IsCurrent, FollowsRule, BreaksRule, Refuses};
+ghost use Rattle.history.specs.HistoryInvariant.{row_of};
+
+use crate::allowed::{completes, is_in_tables, shares_key};
+use crate::event::{Body, Event, EventKind, Process};
+use crate::rows::{Row, move_on};
+use edn::Refusal;
+use models::Op;
+use std::alloc::{AllocError, Global};
+use std::marker::Model;
+
+/// The most threads of a history.
+const MOST_THREADS: u32 = 64;
+
+/// The most events of a history.
+const MOST_EVENTS: u32 = 1_048_576;
+
+/// A history of events, in the manner of Jepsen (<https://github.com/jepsen-io/jepsen>): an event enters it only where
+/// it is well-formed after those before it. The index of an event is its place, from 0. A history holds at most 2^20
+/// events, of 1 to 64 threads.
+///
+/// Each change has two halves: `prepare` tests an event and makes room for it, `commit` appends it.
+#[derive(Drop)]
+pub struct History {
+    concurrency: u32,
+    events: Vec<Event>,
+    rows: Vec<Row>,
+    key: Option<u16>,
+    prepared: Option<Event>,
+}
+
+impl Model for History {
+    ghost use Rattle.std.specs.Prelude.{vec_capacity};
+    ghost use Rattle.history.specs.WellFormed.{HistoryView};
+    ghost use Rattle.history.specs.HistoryInvariant.{IsSoundHistory, IsReady};
+
+    ghost Value = { HistoryView };
+
+    ghost view = { λ a. record {
+      concurrency = a.concurrency;
+      events = a.events.items;
+      prepared = a.prepared;
+    } };
+
+    ghost invariant = { λ a. IsSoundHistory a.concurrency a.events.items a.rows.items a.key
+        × IsReady a.concurrency a.events.items (vec_capacity a.events) a.prepared };
+}
+
+impl History {
+    /// The history without events, of threads 0 to `concurrency` - 1.
+    ///
+    /// # Errors
+    /// [`Refusal::BadConcurrency`] where the concurrency is not 1 to 64; else [`Refusal::NoMemory`] where a growth was
+    /// refused.
+    pub fn new(alloc: Global, concurrency: u32) -> Result<History, Refusal>
+        ensures limits { OnOk result (IsConcurrency concurrency) }
+        ensures opened { IfOk result (λ history. history ≡ no_events concurrency) }
+        ensures refused { IfErr result (MayNotStart concurrency) }
+    {
+        if concurrency < 1 || concurrency > MOST_THREADS {
+            return Err(Refusal::BadConcurrency);
+        }
+        let rows = rows_of(alloc, concurrency)?;
+        Ok(History {
+            concurrency,
+            events: Vec::new(alloc),
+            rows,
+            key: None,
+            prepared: None,
+        })
+    }
+
+    /// Tests an event and makes room for it; the events stay as they are. The next `prepare` or `push` drops it again.
+    ///
+    /// # Errors
+    /// The refusal of the first test that the event does not pass, in the order [`Refusal::BadValue`],
+    /// [`Refusal::BadIndex`], [`Refusal::HistoryFull`], then [`Refusal::WrongProcess`] and [`Refusal::Busy`] for an
+    /// invocation, or [`Refusal::NotOpen`] and [`Refusal::Mismatch`] for a completion; [`Refusal::NoMemory`] last.
+    /// Then no event is prepared.
+    ///
+    /// The time does not grow with the history, but where its memory grows.
+    pub fn prepare(&mut self, event: Event) -> Result<(), Refusal>
+        ensures well_formed { OnOk result (Admits self.old event) }
+        ensures prepared { OnOk result (self.new ≡ with_prepared event self.old) }
+        ensures refused { IfErr result (MayRefuse self.old.concurrency self.old.events event) }
+        ensures memory_last { IsErrOf result Refusal.NoMemory → Admits self.old event }
+        ensures err { OnErr result (self.new ≡ idle self.old) }
+    {
+        self.prepared = None;
+        self.test(&event)?;
+        self.events.reserve(1)?;
+        self.prepared = Some(event);
+        Ok(())
+    }
+
+    /// Appends the prepared event. It takes no memory and cannot fail, and its time does not grow with the history.
+    pub fn commit(&mut self)
+        requires { IsSome self.old.prepared }
+        ensures { IfSome self.old.prepared (λ event. self.new ≡ with_last event self.old) }
+    {
+        let Some(event) = self.prepared.take() else {
+            unreachable!()
+        };
+        let place = self.events.len();
+        move_on(&mut self.rows, place as u32, event.kind, event.process);
+        let added = event.key();
+        self.key = self.key.or(added);
+        self.events.push(event).unwrap();
+    }
+
+    /// Appends an event that is well-formed after those before it: [`prepare`](History::prepare) and
+    /// [`commit`](History::commit) in one.
+    ///
+    /// # Errors
+    /// Those of [`prepare`](History::prepare); the events are then as before, and no event is prepared.
+    pub fn push(&mut self, event: Event) -> Result<(), Refusal>
+        ensures well_formed { OnOk result (Admits self.old event) }
+        ensures pushed { OnOk result (self.new ≡ with_last event self.old) }
+        ensures refused { IfErr result (MayRefuse self.old.concurrency self.old.events event) }
+        ensures memory_last { IsErrOf result Refusal.NoMemory → Admits self.old event }
+        ensures err { OnErr result (self.new ≡ idle self.old) }
+    {
+        self.prepare(event)?;
+        self.commit();
+        Ok(())
+    }
+
+    // Tests an event, all but whether there is memory for it.
+    fn test(&self, event: &Event) -> Result<(), Refusal>
+        ensures ok { OnOk result (IsWellFormed self.now.concurrency self.now.events event.now) }
+        ensures refused { IfErr result (Refuses self.now.concurrency self.now.events event.now) }
+    {
+        if !self.may_have(event) {
+            return Err(Refusal::BadValue);
+        }
+        if event.index.is_some_and(|index| index != self.len()) {
+            return Err(Refusal::BadIndex);
+        }
+        if self.len() >= MOST_EVENTS {
+            return Err(Refusal::HistoryFull);
+        }
+        match (event.process, &event.body) {
+            (Process::Client(process), Body::Op(op)) => self.test_rule(event.kind, process, op),
+            _ => Ok(()),
+        }
+    }
+
+    // Whether the event is one of the tables.
+    fn may_have(&self, event: &Event) -> bool
+        ensures { IsTrue result ↔ IsValue self.now.events event.now }
+    {
+        is_in_tables(event.kind, event.process, &event.body) && shares_key(self.key, event.key())
+    }
+
+    // Whether the process is its thread's current one.
+    fn is_current(&self, process: u32) -> bool
+        ensures { IsTrue result ↔ IsCurrent self.now.concurrency self.now.events process }
+    {
+        self.current(process % self.concurrency) == process
+    }
+
+    // The open operation of a process.
+    fn open_operation(&self, process: u32) -> Option<&Op>
+        ensures { option_copied result ≡ option_map (λ x. x.1) (open_of self.now.events process) }
+    {
+        let thread = process % self.concurrency;
+        if self.current(thread) != process {
+            return None;
+        }
+        let index = self.open_at(thread)?;
+        match &self.events[index as usize].body {
+            Body::Op(op) => Some(op),
+            Body::Fault(_) => None,
+        }
+    }
+
+    // Tests an event by the process rule.
+    fn test_rule(&self, kind: EventKind, process: u32, op: &Op) -> Result<(), Refusal>
+        ensures ok { OnOk result
+            (FollowsRule self.now.concurrency self.now.events kind process op.now) }
+        ensures refused { IfErr result
+            (BreaksRule self.now.concurrency self.now.events kind process op.now) }
+    {
+        match kind {
+            EventKind::Invoke => {
+                if !self.is_current(process) {
+                    return Err(Refusal::WrongProcess);
+                }
+                if self.open_operation(process).is_some() {
+                    return Err(Refusal::Busy);
+                }
+                Ok(())
+            }
+            _ => {
+                let Some(invoked) = self.open_operation(process) else {
+                    return Err(Refusal::NotOpen);
+                };
+                if !completes(kind, invoked, op) {
+                    return Err(Refusal::Mismatch);
+                }
+                Ok(())
+            }
+        }
+    }
+
+    /// The number of threads, 1 to 64.
+    pub fn concurrency(&self) -> u32
+        ensures value { result ≡ self.now.concurrency }
+        ensures limits { IsConcurrency result }
+    {
+        self.concurrency
+    }
+
+    /// The number of events, at most 2^20, which is the index of the next event. What is said here of the events holds
+    /// of every history.
+    pub fn len(&self) -> u32
+        ensures value { result ≡ length self.now.events }
+        ensures limit { result ≤ 2 ^ 20 }
+        ensures history { IsHistoryOf self.now.concurrency self.now.events }
+    {
+        self.events.len() as u32
+    }
+
+    /// Whether there is no event.
+    pub fn is_empty(&self) -> bool
+        ensures { IsTrue result ↔ (self.now.events ≡ []) }
+    {
+        self.events.is_empty()
+    }
+
+    /// The events, in order.
+    pub fn events(&self) -> &[Event]
+        ensures { result.now ≡ self.now.events }
+    {
+        self.events.as_slice()
+    }
+
+    /// The process of which a thread's next invocation is.
+    pub fn current(&self, thread: u32) -> u32
+        requires { thread < self.now.concurrency }
+        ensures { result ≡ current_of self.now.concurrency self.now.events thread }
+    {
+        self.rows[thread as usize].process
+    }
+
+    /// The index of the invocation that a thread has open.
+    pub fn open_at(&self, thread: u32) -> Option<u32>
+        requires { thread < self.now.concurrency }
+        ensures { result ≡ open_index self.now.concurrency self.now.events thread }
+    {
+        self.rows[thread as usize].invocation
+    }
+}
+
+// The rows of the threads of a history without events.
+fn rows_of(alloc: Global, concurrency: u32) -> Result<Vec<Row>, AllocError>
+    ensures len { IfOk result (λ rows. length rows.items ≡ concurrency) }
+    ensures rows { IfOk result (λ rows. (t : ℕ) → t < concurrency →
+        slice_get rows.items t ≡ Some (row_of concurrency [] t)) }
+{
+    let mut rows = Vec::new(alloc);
+    for process in 0..concurrency {
+        rows.push(Row {
+            process,
+            invocation: None,
+        })?;
+    }
+    Ok(rows)
+}

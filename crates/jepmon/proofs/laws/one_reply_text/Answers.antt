@@ -1,5 +1,0 @@
-use Rattle.jepmon.proofs.OneCut.{one_reply_text_law}
-use Rattle.jepmon.proofs.laws.one_reply_text.Goals as goal
-
-pub returns : goal.returns
-returns g c = one_reply_text_law g.M.LineMachine.may_reply c.requires

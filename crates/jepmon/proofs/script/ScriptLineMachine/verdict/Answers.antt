@@ -1,6 +1,0 @@
-use Rattle.std.proofs.Common.{subst}
-use Rattle.harness.specs.Machine.{IsVerdictOn}
-use Rattle.jepmon.proofs.script.ScriptLineMachine.verdict.Goals as goal
-
-pub returns : goal.returns
-returns c = subst (λ m. IsVerdictOn m c.verdict.result) c.self.view_is c.verdict.ensures

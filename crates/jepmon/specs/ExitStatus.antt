@@ -1,0 +1,10 @@
+-- Promise: what the program ends with
+use Rattle.std.specs.Prelude.{ℕ}
+use Rattle.linspec.specs.declared.verdict.Verdict.{Verdict}
+use Rattle.linspec.specs.declared.verdict.Verdict.TheVariants.{Legal, Illegal, Unknown}
+
+-- the exit status that a verdict gives
+abbrev pub status_of : Verdict → ℕ
+status_of Legal = 0
+status_of (Illegal key index) = 1
+status_of (Unknown key index) = 2

@@ -1,0 +1,64 @@
+//! What the program ends with.
+ghost use Rattle.std.specs.Prelude.{◌≡◌, MatchResult};
+ghost use Rattle.jepmon.specs.ExitStatus.{status_of};
+
+use crate::command_line::Stop;
+use edn::Refusal;
+use line_loop::refusal_text;
+use linspec::Verdict;
+use std::alloc::Global;
+use std::io::{Eprint, Print};
+
+// The exit status of a refusal, of a usage fault and of a fault in printing.
+const REFUSED: u8 = 3;
+
+/// The exit status after a script: 0 legal, 1 illegal, 2 unknown, and 3 for a refusal, whose line goes to standard
+/// error.
+pub fn status_after<P: Eprint>(rt: &P, alloc: Global, outcome: Result<Verdict, Refusal>) -> u8
+    ensures { MatchResult outcome (λ verdict. result ≡ status_of verdict) (λ _. result ≡ 3) }
+{
+    match outcome {
+        Ok(verdict) => status_of_verdict(&verdict),
+        Err(refusal) => {
+            print_refusal(rt, alloc, &refusal);
+            REFUSED
+        }
+    }
+}
+
+// The exit status of a verdict.
+fn status_of_verdict(verdict: &Verdict) -> u8
+    ensures { result ≡ status_of verdict.now }
+{
+    match verdict {
+        Verdict::Legal => 0,
+        Verdict::Illegal { .. } => 1,
+        Verdict::Unknown { .. } => 2,
+    }
+}
+
+/// The exit status where there is no order: 0 for help, which goes to standard output, else 3. A usage fault and a
+/// refusal line go to standard error.
+pub fn status_of_stop<P: Print + Eprint>(rt: &P, alloc: Global, stop: &Stop) -> u8 {
+    match stop {
+        Stop::Help(help) => match help.print(rt) {
+            Ok(()) => 0,
+            Err(_) => REFUSED,
+        },
+        Stop::Usage(fault) => {
+            let _ = fault.print(rt);
+            REFUSED
+        }
+        Stop::Refused(refusal) => {
+            print_refusal(rt, alloc, refusal);
+            REFUSED
+        }
+    }
+}
+
+// Prints the line of a refusal on standard error, if that can be done.
+fn print_refusal<P: Eprint>(rt: &P, alloc: Global, refusal: &Refusal) {
+    if let Ok(line) = refusal_text(alloc, refusal) {
+        let _ = eprint!(rt; "{line}");
+    }
+}

@@ -1,0 +1,66 @@
+-- Invariant: what stands between two reads, and how a piece of the input leads on from there
+use Rattle.std.specs.Prelude.{◌≡◌, ◌≢◌, ℕ, ◌+◌, Bool, true, false, List, [], ◌++◌, take, Option, ◌⊎◌}
+use Rattle.std.specs.Io.KnownBytes.{Appends}
+use Rattle.edn.specs.declared.refusal.Refusal.{Refusal}
+use Rattle.edn.specs.declared.refusal.Refusal.TheVariants.{ReadFailed, WriteFailed}
+use Rattle.line_loop.specs.Lines.{Cuts}
+use Rattle.line_loop.specs.ReplyText.{line_limit, MayAnswer, Replies}
+use Rattle.line_loop.specs.Stopping.{MayStop, IsAnswered, IsPartlyAnswered}
+
+-- a machine, and what is held of the line that is being read
+pub record Reading (M : Type 0) : Type 0 where
+  pub machine : M
+  pub held : List ℕ
+
+-- what stands between two reads: what is held of a line, the machine's state, what the writer has taken
+pub record Between (S : Type 0) : Type 0 where
+  pub held : List ℕ
+  pub state : S
+  pub written : Option (List ℕ)
+
+abbrev pub between : {M S : Type 0} → (M → S) → Reading M → Option (List ℕ) → Between S
+between state reading written = record { held = reading.held; state = state reading.machine; written = written }
+
+-- why a step may be refused: it reads nothing, and says that the writer failed only where it has
+abbrev pub MayStopWriting : Refusal → Bool → Type 0
+MayStopWriting e has_failed = MayStop e × (e ≢ ReadFailed) × (e ≡ WriteFailed → has_failed ≡ true)
+
+module _ {S : Type 0} (may_reply : S → List ℕ → List ℕ → S → Type 0) where
+  -- the bytes seen so far are answered but for the line that is held, clipped to one byte over the limit
+  pub record Stands (old : S) (before : Option (List ℕ)) (seen : List ℕ) (here : Between S) : Type 0 where
+    pub lines : List (List ℕ)
+    pub rest : List ℕ
+    pub text : List ℕ
+    pub cut : Cuts seen lines rest
+    pub run : Replies may_reply old lines text here.state
+    pub held_is : here.held ≡ take (line_limit + 1) rest
+    pub grown : Appends before here.written text
+
+  -- this piece leads from what stands to what stands, whatever came before
+  abbrev pub GoesOn : List ℕ → Between S → Between S → Type 0
+  GoesOn piece here there = (old : S) (before : Option (List ℕ)) (seen : List ℕ) → Stands old before seen here → Stands old before (seen ++ piece) there
+
+  -- within this piece it stopped
+  abbrev pub StopsIn : List ℕ → Between S → Option (List ℕ) → Type 0
+  StopsIn piece here after = (old : S) (before : Option (List ℕ)) (seen : List ℕ) → Stands old before seen here → IsPartlyAnswered may_reply old before (seen ++ piece) false after
+
+  -- the end of the input leads to the whole text
+  abbrev pub Ends : Between S → Between S → Type 0
+  Ends here there = (old : S) (before : Option (List ℕ)) (seen : List ℕ) → Stands old before seen here → IsAnswered may_reply old before seen there.state there.written
+
+  -- at the end of the input it stopped
+  abbrev pub StopsAtEnd : Between S → Option (List ℕ) → Type 0
+  StopsAtEnd here after = (old : S) (before : Option (List ℕ)) (seen : List ℕ) → Stands old before seen here → IsPartlyAnswered may_reply old before seen true after
+
+  -- the line that is held got its reply, and none is held
+  pub record LineIsAnswered (here there : Between S) : Type 0 where
+    pub text : List ℕ
+    pub answered : MayAnswer may_reply here.state here.held text there.state
+    pub grown : Appends here.written there.written text
+    pub empty : there.held ≡ []
+
+  -- the line that is held got no reply, or the writer has grown by the beginning of one
+  pub record LineIsHalfAnswered (here : Between S) (after : Option (List ℕ)) : Type 0 where
+    pub part : List ℕ
+    pub grown : Appends here.written after part
+    pub cause : (part ≡ []) ⊎ ((more : List ℕ) × (new : S) × MayAnswer may_reply here.state here.held (part ++ more) new)

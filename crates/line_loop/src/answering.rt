@@ -1,0 +1,104 @@
+//! Bytes to bytes, over any machine of lines.
+ghost use Rattle.std.specs.Prelude.{◌≡◌, ◌<◌, ◌≤◌, ℕ, List, [], take, length, IfOk, OnOk, OnErr, IfErr, true, false, Ok, Err};
+ghost use Rattle.std.specs.Io.KnownBytes.{Consumes, IsAtEnd};
+ghost use Rattle.line_loop.specs.Stopping.{MayStop, Finishes, Stops, KeepsUp};
+
+use crate::line_machine::LineMachine;
+use crate::session::Session;
+use crate::watched::Failed;
+use edn::Refusal;
+use std::alloc::Global;
+use std::io::{Read, Write};
+use std::sync::Wait;
+
+// Bytes of one read at most.
+const PIECE: usize = 8192;
+
+// What one read brought.
+enum Brought {
+    Piece(usize),
+    End,
+}
+
+// One read. An error after which `failed()` is still false counts as 0 bytes.
+fn read_some<R: Read + Failed>(reader: &mut R, piece: &mut [u8]) -> Result<Brought, Refusal>
+    requires { 0 < length piece.old }
+    ensures bound { (n : ℕ) → result ≡ Ok (Brought.Piece n) → n ≤ length piece.new }
+    ensures piece { (n : ℕ) → result ≡ Ok (Brought.Piece n) →
+        Consumes (R.remaining reader.old) (R.remaining reader.new) (take n piece.new) }
+    ensures end { result ≡ Ok Brought.End → IsAtEnd (R.remaining reader.new)
+        × Consumes (R.remaining reader.old) (R.remaining reader.new) [] }
+    ensures unfailed { result ≡ Ok Brought.End → R.has_failed reader.new ≡ false }
+    ensures err { OnErr result (Consumes (R.remaining reader.old) (R.remaining reader.new) []) }
+    ensures cause { IfErr result (λ e. (e ≡ Refusal.ReadFailed)
+        × (R.has_failed reader.new ≡ true)) }
+{
+    match reader.read(piece) {
+        Ok(0) => {
+            if reader.failed() {
+                return Err(Refusal::ReadFailed);
+            }
+            Ok(Brought::End)
+        }
+        Ok(n) => Ok(Brought::Piece(n)),
+        Err(_) => {
+            if reader.failed() {
+                return Err(Refusal::ReadFailed);
+            }
+            Ok(Brought::Piece(0))
+        }
+    }
+}
+
+/// Reads lines, has the machine answer each, and writes the replies to the lines of one read before the next. At the
+/// reader's end it flushes the writer once and gives the machine's verdict.
+///
+/// A last line without a line feed counts where it has a byte. A line of more than 65,536 bytes, its line feed not
+/// counted, is answered by the line of `TooLong`, and the machine does not see it. Beside the machine it holds a piece of
+/// 8,192 bytes, one line and one reply.
+///
+/// # Errors
+///
+/// `ReadFailed` and `WriteFailed` where the reader or the writer has failed, and `NoMemory` where memory is refused. The
+/// writer has then taken a beginning of the replies.
+pub fn answer_lines<X: Wait, M: LineMachine, R: Read + Failed, W: Write + Failed>(
+    rt: &X,
+    alloc: Global,
+    machine: M,
+    reader: &mut R,
+    writer: &mut W,
+) -> Result<M::Verdict, Refusal>
+    requires reads { R.has_failed reader.old ≡ false }
+    requires writes { W.has_failed writer.old ≡ false }
+    // All that the reader had is consumed, and the writer grew by a reply text of it.
+    ensures done { IfOk result (λ verdict. (end : M.State) × M.shows end verdict
+        × Finishes M.may_reply (M.state machine) end
+        (R.remaining reader.old) (R.remaining reader.new)
+        (W.contents writer.old) (W.contents writer.new)) }
+    ensures unfailed { OnOk result ((R.has_failed reader.new ≡ false)
+        × (W.has_failed writer.new ≡ false)) }
+    // The writer grew by a beginning of a reply text of the lines that were read to their end.
+    ensures stopped { IfErr result (Stops M.may_reply (M.state machine)
+        (R.remaining reader.old) (R.remaining reader.new)
+        (W.contents writer.old) (W.contents writer.new)) }
+    // Where the reader failed, all lines that were read to their line feed had their replies.
+    ensures live { result ≡ Err Refusal.ReadFailed → KeepsUp M.may_reply (M.state machine)
+        (R.remaining reader.old) (R.remaining reader.new)
+        (W.contents writer.old) (W.contents writer.new) }
+    ensures kinds { IfErr result MayStop }
+    ensures read { result ≡ Err Refusal.ReadFailed → R.has_failed reader.new ≡ true }
+    ensures wrote { result ≡ Err Refusal.WriteFailed → W.has_failed writer.new ≡ true }
+{
+    let mut session = Session::new(alloc, machine);
+    let mut piece = [0u8; PIECE];
+    for _ in rt.forever() {
+        match read_some(reader, &mut piece[..])? {
+            Brought::Piece(n) => session.take_piece(rt, writer, &piece[..n])?,
+            Brought::End => {
+                session.finish(rt, writer)?;
+                return Ok(session.verdict());
+            }
+        }
+    }
+    unreachable!()
+}

@@ -1,0 +1,21 @@
+//! Bytes to lines to replies, over any machine that answers lines: [`answer_lines`] reads lines from a reader, has a
+//! [`LineMachine`] answer each, and writes the reply to each before it reads further.
+#![tactic(auto)]
+
+mod answering;
+mod laws;
+mod line_machine;
+mod refusal_line;
+mod session;
+mod watched;
+mod writing;
+
+pub use answering::answer_lines;
+pub use laws::{one_cut, one_reply_text};
+pub use line_machine::LineMachine;
+pub use refusal_line::{append_refusal, refusal_text};
+pub use session::LINE_LIMIT;
+pub use watched::{Failed, Watched};
+
+#[cfg(test)]
+mod tests;

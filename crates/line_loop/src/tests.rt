@@ -1,0 +1,169 @@
+//! Readers and writers that give or take little, stutter and fail. The built program shows the rest.
+ghost use Rattle.std.specs.Prelude.{◌≡◌, false};
+
+use crate::answering::answer_lines;
+use crate::line_machine::LineMachine;
+use crate::watched::{Failed, Watched};
+use std::alloc::{AllocError, Global};
+use std::io;
+use std::io::{ErrorKind, Read, Write};
+use std::sync::Wait;
+
+// Answers a line by itself, and an empty line by nothing. At the end it says how many lines there were.
+#[derive(Drop)]
+struct Echo {
+    lines: u32,
+}
+
+impl LineMachine for Echo {
+    type State = ();
+
+    type Verdict = u32;
+
+    ghost state = { λ _. record {} };
+
+    ghost may_reply = { λ _ _ _ _. Unit {0} };
+
+    ghost shows = { λ _ _. Unit {0} };
+
+    fn answer(&mut self, line: &[u8], reply: &mut Vec<u8>) -> Result<(), AllocError> {
+        self.lines = self.lines.saturating_add(1);
+        if !line.is_empty() {
+            reply.extend_from_slice(line)?;
+            reply.push(b'\n')?;
+        }
+        Ok(())
+    }
+
+    fn verdict(&self) -> u32 {
+        self.lines
+    }
+}
+
+// Gives one byte a read. At a place there is an error, once, after which it has failed or not.
+#[derive(Drop)]
+struct Drip<'a> {
+    bytes: &'a [u8],
+    at: usize,
+    error_at: usize,
+    is_failure: bool,
+    has_failed: bool,
+}
+
+impl<'a> Read for Drip<'a> {
+    fn read(&mut self, buf: &mut [u8]) -> io::Result<usize> {
+        if self.at == self.error_at {
+            self.error_at = usize::MAX;
+            self.has_failed = self.is_failure;
+            return Err(ErrorKind::Other.into());
+        }
+        if self.at >= self.bytes.len() || buf.is_empty() {
+            return Ok(0);
+        }
+        buf[0] = self.bytes[self.at];
+        self.at += 1;
+        Ok(1)
+    }
+}
+
+impl<'a> Failed for Drip<'a> {
+    ghost has_failed = { λ drip. drip.has_failed };
+
+    fn failed(&self) -> bool {
+        self.has_failed
+    }
+}
+
+// Takes so many bytes in all, and then none, or fails. It counts the flushes, and the bytes written before the last.
+#[derive(Drop)]
+struct Narrow {
+    held: Vec<u8>,
+    room: usize,
+    fails: bool,
+    flushes: u32,
+    flushed: usize,
+}
+
+impl Write for Narrow {
+    fn write(&mut self, buf: &[u8]) -> io::Result<usize> {
+        let n = buf.len().min(self.room);
+        if n == 0 && self.fails {
+            return Err(ErrorKind::Other.into());
+        }
+        self.held.extend_from_slice(&buf[..n])?;
+        self.room = self.room.saturating_sub(n);
+        Ok(n)
+    }
+
+    fn flush(&mut self) -> io::Result<()> {
+        self.flushes = self.flushes.saturating_add(1);
+        self.flushed = self.held.len();
+        Ok(())
+    }
+}
+
+fn narrow_writer(alloc: Global, room: usize, fails: bool) -> Watched<Narrow>
+    ensures { result.has_failed ≡ false }
+{
+    Watched::new(Narrow {
+        held: Vec::new(alloc),
+        room,
+        fails,
+        flushes: 0,
+        flushed: 0,
+    })
+}
+
+fn drip_reader(error_at: usize, is_failure: bool) -> Drip<'static>
+    ensures { result.has_failed ≡ false }
+{
+    Drip {
+        bytes: b"a\n\nb\nlast",
+        at: 0,
+        error_at,
+        is_failure,
+        has_failed: false,
+    }
+}
+
+// Where the reader has an error, and whether that is a failure; how much the writer takes, and whether it then fails;
+// the lines at the end or the refusal's number, what was written, and how often it was flushed.
+type Row = (
+    usize,
+    bool,
+    usize,
+    bool,
+    Result<u32, u8>,
+    &'static [u8],
+    u32,
+);
+
+const WHOLE: &[u8] = b"a\nb\nlast\n";
+
+const ROWS: [Row; 6] = [
+    (99, false, 99, false, Ok(4), WHOLE, 1),
+    (3, false, 99, false, Ok(4), WHOLE, 1),
+    (7, true, 99, false, Err(20), b"a\nb\n", 0),
+    (99, false, 3, true, Err(21), b"a\nb", 0),
+    (99, false, 3, false, Err(21), b"a\nb", 0),
+    (99, false, 0, false, Err(21), b"", 0),
+];
+
+fn goes<X: Wait>(rt: &X, alloc: Global, row: &Row) -> bool {
+    let (error_at, is_failure, room, fails, want, written, flushes) = *row;
+    let mut reader = drip_reader(error_at, is_failure);
+    let mut writer = narrow_writer(alloc, room, fails);
+    let outcome = answer_lines(rt, alloc, Echo { lines: 0 }, &mut reader, &mut writer);
+    let narrow = writer.inner();
+    outcome.map_err(|refusal| refusal.number()) == want
+        && narrow.held.as_slice() == written
+        && narrow.flushes == flushes
+        && (flushes == 0 || narrow.flushed == written.len())
+}
+
+#[test]
+fn readers_and_writers(rt: HostRuntime) {
+    for (i, row) in ROWS.iter().enumerate() {
+        assert!(rt; goes(&rt, rt.alloc(), row), "row {i}");
+    }
+}

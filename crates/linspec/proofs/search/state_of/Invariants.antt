@@ -1,6 +1,0 @@
-use Rattle.std.proofs.Common.{◌≡◌, drop}
-use Rattle.linspec.specs.States.{state_at}
-use Rattle.linspec.proofs.search.state_of.Given as goal
-
-abbrev pub invariant-loop-entry : goal.invariant-loop-entry
-invariant-loop-entry l = state_at l.states l.key ≡ state_at (drop l.entry-index l.states) l.key

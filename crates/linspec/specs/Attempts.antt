@@ -1,0 +1,70 @@
+-- Invariant: the states of the keys, as the search keeps them
+use Rattle.std.specs.Prelude.{◌≡◌, ℕ, Option, Some, None, List, [], ◌∷◌, ◌++◌, map, nat_eq, if◌then◌else◌}
+use Rattle.std.specs.List.{Contains}
+use Rattle.models.specs.declared.model_kind.ModelKind.{ModelKind}
+use Rattle.models.specs.declared.operation.Op.{Op}
+use Rattle.models.specs.declared.finding.Found.{Found}
+use Rattle.models.specs.declared.finding.Answer.{Answer}
+use Rattle.models.specs.declared.any_state.AnyState.{AnyState}
+use Rattle.models.specs.AnyState.{any}
+use Rattle.models.specs.Objects.{object_of, Fits}
+use Rattle.history.specs.Events.{Mark}
+use Rattle.history.specs.Events.Mark.{Invoked, Returned, Failed, Crashed}
+use Rattle.linspec.specs.Operations.{Precedes}
+use Rattle.linspec.specs.Finishing.{MayStandAfter}
+
+-- the state of a key
+abbrev pub Keyed : Type 0
+Keyed = ℕ × AnyState
+
+-- the state that the list gives the key first
+abbrev pub state_at : List Keyed → ℕ → Option AnyState
+state_at [] key = None
+state_at (e ∷ states) key = if nat_eq e.0 key then Some e.1 else state_at states key
+
+-- the states, but this one of the key
+abbrev pub state_beside : ℕ → AnyState → Keyed → AnyState
+state_beside key state e = if nat_eq e.0 key then state else e.1
+
+abbrev pub with_state : List Keyed → ℕ → AnyState → List Keyed
+with_state states key state = map (λ e. (e.0, state_beside key state e)) states
+
+abbrev pub start_of : ℕ × ModelKind → Keyed
+start_of e = (e.0, any e.1 (object_of e.1).start)
+
+-- a step of a state, by the object of its kind
+abbrev pub StepsBy : AnyState → Op → Found → AnyState → Type 0
+StepsBy a op found b =
+    (kind : ModelKind) × ((s t : (object_of kind).State)
+    × (a ≡ any kind s) × (object_of kind).Steps s op found t × (b ≡ any kind t))
+
+-- a step of the operation's key
+abbrev pub Steps : List Keyed → Op → Found → List Keyed → Type 0
+Steps states op found after =
+    (a b : AnyState) × (state_at states op.key ≡ Some a) × StepsBy a op found b
+    × (with_state states op.key b ≡ after)
+
+-- the front of an order: the operations that are taken, and the states that they leave
+pub record AttemptView : Type 0 where
+  pub taken : List ℕ
+  pub states : List Keyed
+
+-- the operation precedes one of these
+abbrev pub PrecedesSome : List Mark → ℕ → List ℕ → Type 0
+PrecedesSome marks id taken = (y : ℕ) × Contains taken y × Precedes marks id y
+
+-- the front with the operation, which may come next
+pub record FollowsBy (marks : List Mark) (front : AttemptView) (id : ℕ) (op : Op)
+    (after : AttemptView) : Type 0 where
+  pub stands : MayStandAfter marks front.taken id
+  pub found : Found
+  pub step : Steps front.states op found after.states
+  pub fits : (answer : Answer) → Contains marks (Returned id answer) → Fits found answer
+  pub taken : front.taken ++ id ∷ [] ≡ after.taken
+
+-- the front with the operation that the mark invokes
+abbrev pub Follows : List Mark → AttemptView → Mark → AttemptView → Type 0
+Follows marks front (Invoked id op) after = FollowsBy marks front id op after
+Follows marks front (Returned id answer) after = ⊥
+Follows marks front (Failed id) after = ⊥
+Follows marks front (Crashed id) after = ⊥

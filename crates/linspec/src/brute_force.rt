@@ -1,0 +1,213 @@
+//! Whether a history is linearizable, found by trying orders.
+ghost use Rattle.std.specs.Prelude.{◌≡◌, ◌↔◌, ℕ, [], ◌∷◌, ◌++◌, List, IsTrue, IfOk, IsSomeAnd, option_copied, map};
+ghost use Rattle.std.specs.List.{Contains};
+ghost use Rattle.models.specs.declared.model_kind.ModelKind.{ModelKind};
+ghost use Rattle.models.specs.declared.finding.Found.{Found};
+ghost use Rattle.history.specs.Events.{entries_of, indexed_from, marks};
+ghost use Rattle.linspec.specs.Orders.{IsLinearizable, product};
+ghost use Rattle.linspec.specs.KindsOf.{AgreeWith, HaveKinds};
+ghost use Rattle.linspec.specs.KeptMarks.{mark_of, marks_of_kept};
+ghost use Rattle.linspec.specs.Finishing.{MayStandAfter, CanFinish};
+ghost use Rattle.linspec.specs.Attempts.{Keyed, state_at, state_beside, with_state, start_of, Steps, AttemptView, Follows, FollowsBy, PrecedesSome};
+
+use crate::kept_marks::{
+    KeptMark, all_done, fits_answer, has_failed, is_among, marks_of, precedes,
+};
+use history::History;
+use models::{AnyState, Found, Key, ModelKind, Op};
+use std::alloc::{AllocError, Global};
+use std::marker::Model;
+
+/// The front of an order: its operations, and the state that they leave of each key.
+#[derive(Drop)]
+struct Attempt {
+    taken: Vec<usize>,
+    states: Vec<(Key, AnyState)>,
+}
+
+impl Model for Attempt {
+    ghost Value = { AttemptView };
+
+    ghost view = { λ a. record { taken = a.taken.items; states = a.states.items } };
+}
+
+/// The state of a key.
+fn state_of(states: &[(Key, AnyState)], key: Key) -> Option<&AnyState>
+    ensures { option_copied result ≡ state_at states.now key }
+{
+    for entry in states {
+        if entry.0 == key {
+            return Some(&entry.1);
+        }
+    }
+    None
+}
+
+/// The state of the entry's key, where the one of this key is now another.
+fn state_after(
+    alloc: Global,
+    entry: &(Key, AnyState),
+    key: Key,
+    state: &AnyState,
+) -> Result<AnyState, AllocError>
+    ensures { IfOk result (λ after. after ≡ state_beside key state.now entry.now) }
+{
+    if entry.0 == key {
+        state.copy(alloc)
+    } else {
+        entry.1.copy(alloc)
+    }
+}
+
+/// The states, but this one of the key.
+fn states_with(
+    alloc: Global,
+    states: &[(Key, AnyState)],
+    key: Key,
+    state: &AnyState,
+) -> Result<Vec<(Key, AnyState)>, AllocError>
+    ensures { IfOk result (λ after. after.items ≡ with_state states.now key state.now) }
+{
+    let mut after = Vec::new(alloc);
+    for entry in states {
+        let next = state_after(alloc, entry, key, state)?;
+        after.push((entry.0, next))?;
+    }
+    Ok(after)
+}
+
+/// The states after the operation, and what it finds; `None` where it cannot take place.
+fn step(
+    alloc: Global,
+    states: &[(Key, AnyState)],
+    op: &Op,
+) -> Result<Option<(Vec<(Key, AnyState)>, Found)>, AllocError>
+    ensures { IfOk result (λ outcome. (found : Found) (after : List Keyed) →
+        Steps states.now op.now found after
+        ↔ IsSomeAnd outcome (λ r. (r.0.items ≡ after) × (r.1 ≡ found))) }
+{
+    let Some(state) = state_of(states, op.key) else {
+        return Ok(None);
+    };
+    match state.apply(alloc, op)? {
+        None => Ok(None),
+        Some((next, found)) => {
+            let after = states_with(alloc, states, op.key, &next)?;
+            Ok(Some((after, found)))
+        }
+    }
+}
+
+/// Whether the operation precedes one of these.
+fn precedes_some(marks: &[KeptMark], id: usize, taken: &[usize]) -> bool
+    ensures { IsTrue result ↔ PrecedesSome (marks_of_kept marks.now) id taken.now }
+{
+    taken.iter().any(|other| precedes(marks, id, *other))
+}
+
+/// Whether the operation may stand after the taken ones.
+fn may_stand_after(marks: &[KeptMark], taken: &[usize], id: usize) -> bool
+    ensures { IsTrue result ↔ MayStandAfter (marks_of_kept marks.now) taken.now id }
+{
+    !is_among(taken, id) && !has_failed(marks, id) && !precedes_some(marks, id, taken)
+}
+
+/// The order with the operation, if it may come next.
+fn with_operation(
+    alloc: Global,
+    marks: &[KeptMark],
+    order: &Attempt,
+    id: usize,
+    op: &Op,
+) -> Result<Option<Attempt>, AllocError>
+    ensures { IfOk result (λ next. (after : AttemptView) →
+        FollowsBy (marks_of_kept marks.now) order.now id op.now after
+        ↔ IsSomeAnd next (λ n. n ≡ after)) }
+{
+    if !may_stand_after(marks, &order.taken, id) {
+        return Ok(None);
+    }
+    let Some((states, found)) = step(alloc, &order.states, op)? else {
+        return Ok(None);
+    };
+    if !fits_answer(marks, id, &found) {
+        return Ok(None);
+    }
+    let mut taken = order.taken.clone()?;
+    taken.push(id)?;
+    Ok(Some(Attempt { taken, states }))
+}
+
+/// The order with the operation that the mark invokes, if it may come next.
+fn with_invoked(
+    alloc: Global,
+    marks: &[KeptMark],
+    order: &Attempt,
+    mark: &KeptMark,
+) -> Result<Option<Attempt>, AllocError>
+    ensures { IfOk result (λ next. (after : AttemptView) →
+        Follows (marks_of_kept marks.now) order.now (mark_of mark.now) after
+        ↔ IsSomeAnd next (λ n. n ≡ after)) }
+{
+    match mark {
+        KeptMark::Invoked(id, op) => with_operation(alloc, marks, order, *id, op),
+        _ => Ok(None),
+    }
+}
+
+/// Whether the operations that are left may follow, until every one that has returned is taken.
+fn can_finish(alloc: Global, marks: &[KeptMark], order: &Attempt) -> Result<bool, AllocError>
+    ensures { IfOk result (λ b. IsTrue b
+        ↔ CanFinish Steps (marks_of_kept marks.now) order.now.taken order.now.states) }
+{
+    if all_done(marks, &order.taken) {
+        return Ok(true);
+    }
+    for mark in marks {
+        if let Some(next) = with_invoked(alloc, marks, order, mark)? {
+            if can_finish(alloc, marks, &next)? {
+                return Ok(true);
+            }
+        }
+    }
+    Ok(false)
+}
+
+/// The start states of the keys.
+fn start_states(
+    alloc: Global,
+    kinds: &[(Key, ModelKind)],
+) -> Result<Vec<(Key, AnyState)>, AllocError>
+    ensures { IfOk result (λ states. states.items ≡ map start_of kinds.now) }
+{
+    let mut states = Vec::new(alloc);
+    for entry in kinds {
+        states.push((entry.0, AnyState::start(alloc, entry.1)))?;
+    }
+    Ok(states)
+}
+
+/// Whether the history is linearizable (Herlihy and Wing 1990, section 2.3), where the object of each key is of the kind
+/// that the list gives it. It tries each order in which the operations can take place one after another, and nothing
+/// else, so that it may serve as the measure of quicker ways. Nothing is said where the list lacks a key of the history,
+/// or gives one two kinds.
+///
+/// Meant for at most eight operations: the time grows with the number of their orders, and beyond that it is out of
+/// reach. `AllocError` where there is no memory.
+pub fn brute(
+    alloc: Global,
+    history: &History,
+    kinds: &[(Key, ModelKind)],
+) -> Result<bool, AllocError>
+    ensures { let all = marks (entries_of (indexed_from 0 history.now.events)) in
+        IfOk result (λ b. (by : ℕ → ModelKind) →
+        AgreeWith by kinds.now → HaveKinds kinds.now all
+        → IsTrue b ↔ IsLinearizable (product by) all) }
+{
+    let marks = marks_of(alloc, history.events())?;
+    let order = Attempt {
+        taken: Vec::new(alloc),
+        states: start_states(alloc, kinds)?,
+    };
+    can_finish(alloc, &marks, &order)
+}

@@ -1,0 +1,18 @@
+use Rattle.models.specs.declared.model_kind.ModelKind.TheVariants.{Register, CasRegister, Mutex, FifoQueue, Set}
+use Rattle.models.proofs.AnyStates.{start_at}
+use Rattle.models.proofs.any_state.AnyState.start.Goals as goal
+
+pub returns-in-Register : goal.returns-in-Register
+returns-in-Register c = start_at Register c.start.result c.args.kind c.start.ensures c.in-Register.is
+
+pub returns-in-CasRegister : goal.returns-in-CasRegister
+returns-in-CasRegister c = start_at CasRegister c.start-in-CasRegister.result c.args.kind c.start-in-CasRegister.ensures c.in-CasRegister.is
+
+pub returns-in-Mutex : goal.returns-in-Mutex
+returns-in-Mutex c = start_at Mutex c.start-in-Mutex.result c.args.kind c.start-in-Mutex.ensures c.in-Mutex.is
+
+pub returns-in-FifoQueue : goal.returns-in-FifoQueue
+returns-in-FifoQueue c = start_at FifoQueue c.start-in-FifoQueue.result c.args.kind c.start-in-FifoQueue.ensures c.in-FifoQueue.is
+
+pub returns-in-Set : goal.returns-in-Set
+returns-in-Set c = start_at Set c.start-in-Set.result c.args.kind c.start-in-Set.ensures c.in-Set.is

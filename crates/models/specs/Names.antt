@@ -1,0 +1,29 @@
+-- Promise: the names of kinds and of operations, as texts
+use Rattle.std.specs.Prelude.{ℕ, List, codes, Option, MatchOption}
+use Rattle.models.specs.declared.model_kind.ModelKind.{ModelKind}
+use Rattle.models.specs.declared.model_kind.ModelKind.TheVariants.{Register, CasRegister, Mutex, FifoQueue, Set}
+use Rattle.models.specs.declared.operation.Name.{Name}
+use Rattle.models.specs.declared.operation.Name.TheVariants.{Read, Write, Cas, Acquire, Release, Enqueue, Dequeue, Add}
+
+-- the name of each kind
+abbrev pub name_of : ModelKind → List ℕ
+name_of Register = codes "register"
+name_of CasRegister = codes "cas-register"
+name_of Mutex = codes "mutex"
+name_of FifoQueue = codes "fifo-queue"
+name_of Set = codes "set"
+
+-- how each name of an operation is spelled
+abbrev pub text_of : Name → List ℕ
+text_of Read = codes "read"
+text_of Write = codes "write"
+text_of Cas = codes "cas"
+text_of Acquire = codes "acquire"
+text_of Release = codes "release"
+text_of Enqueue = codes "enqueue"
+text_of Dequeue = codes "dequeue"
+text_of Add = codes "add"
+
+-- what was found is such a thing; or there is none
+abbrev pub Finds : {X : Type 0} → Option X → (X → Type 0) → Type 0
+Finds {X} found P = MatchOption found ((x : X) → ¬ P x) P

@@ -1,0 +1,120 @@
+//! A state of an object of any kind.
+ghost use Rattle.std.specs.Prelude.{◌≡◌, ◌↔◌, IsTrue, IfOk};
+ghost use Rattle.models.specs.declared.model_kind.ModelKind.{ModelKind};
+ghost use Rattle.models.specs.Objects.{object_of};
+ghost use Rattle.models.specs.AnyState.{any, kind_of_state, IsOutcome, IsOwnOutcome};
+
+use crate::cas_register::CasRegister;
+use crate::each_kind;
+use crate::fifo_queue::FifoQueue;
+use crate::finding::Found;
+use crate::items::Items;
+use crate::members::Members;
+use crate::model_kind::ModelKind;
+use crate::mutex::Mutex;
+use crate::object::SeqObject;
+use crate::operation::Op;
+use crate::register::Register;
+use crate::set::Set;
+use std::alloc::{AllocError, Global};
+
+/// A state of an object of some kind, where the kind is known only as the program runs.
+#[derive(Drop)]
+pub enum AnyState {
+    Register(Option<i64>),
+    CasRegister(Option<i64>),
+    Mutex(bool),
+    FifoQueue(Items),
+    Set(Members),
+}
+
+macro_rules! start_of {
+    ($alloc:expr, $kind:expr; $($K:ident $name:literal),*) => {
+        match $kind {
+            $(ModelKind::$K => AnyState::$K($K::start($alloc)),)*
+        }
+    };
+}
+
+macro_rules! state_kind {
+    ($state:expr; $($K:ident $name:literal),*) => {
+        match $state {
+            $(AnyState::$K(_) => ModelKind::$K,)*
+        }
+    };
+}
+
+macro_rules! copy_of_state {
+    ($state:expr, $alloc:expr; $($K:ident $name:literal),*) => {
+        match $state {
+            $(AnyState::$K(state) => Ok(AnyState::$K($K::copy($alloc, state)?)),)*
+        }
+    };
+}
+
+macro_rules! same_state {
+    ($a:expr, $b:expr; $($K:ident $name:literal),*) => {
+        match ($a, $b) {
+            $((AnyState::$K(a), AnyState::$K(b)) => $K::same(a, b),)*
+            _ => false,
+        }
+    };
+}
+
+macro_rules! outcome_of {
+    ($state:expr, $alloc:expr, $op:expr; $($K:ident $name:literal),*) => {
+        match $state {
+            $(AnyState::$K(state) => match $K::apply($alloc, state, $op)? {
+                None => Ok(None),
+                Some((after, found)) => Ok(Some((AnyState::$K(after), found))),
+            },)*
+        }
+    };
+}
+
+impl AnyState {
+    /// The start state of an object of this kind. Takes no memory.
+    pub fn start(alloc: Global, kind: ModelKind) -> AnyState
+        ensures { result ≡ any kind (object_of kind).start }
+    {
+        each_kind!(start_of; alloc, kind)
+    }
+
+    /// The kind of the object whose state this is.
+    pub fn kind(&self) -> ModelKind
+        ensures { result ≡ kind_of_state self.now }
+    {
+        each_kind!(state_kind; self)
+    }
+
+    /// An equal state, with memory of its own; `AllocError` where there is none. Takes the time of the items or members.
+    pub fn copy(&self, alloc: Global) -> Result<AnyState, AllocError>
+        ensures { IfOk result (λ other. other ≡ self.now) }
+    {
+        each_kind!(copy_of_state; self, alloc)
+    }
+
+    /// Whether both are the same state of the same kind. Takes no memory.
+    pub fn same(&self, other: &AnyState) -> bool
+        ensures { IsTrue result ↔ (self.now ≡ other.now) }
+    {
+        each_kind!(same_state; self, other)
+    }
+
+    /// The only outcome of the operation in the state, which is the state after it and what it finds, or `None` where
+    /// it can't take place; `AllocError` where there is no memory for the new state. Leaves the state as it was. Takes
+    /// the time of the items or members.
+    pub fn apply(&self, alloc: Global, op: &Op) -> Result<Option<(AnyState, Found)>, AllocError>
+        ensures { (kind : ModelKind) (s : (object_of kind).State) → self.now ≡ any kind s
+            → IfOk result (IsOutcome kind s op.now) }
+    {
+        self.outcome(alloc, op)
+    }
+
+    // The same, by the state's own kind.
+    fn outcome(&self, alloc: Global, op: &Op) -> Result<Option<(AnyState, Found)>, AllocError>
+        ensures { IfOk result (IsOwnOutcome self.now op.now) }
+    {
+        each_kind!(outcome_of; self, alloc, op)
+    }
+}

@@ -1,0 +1,50 @@
+//! The register with compare and set.
+ghost use Rattle.std.specs.Prelude.{None};
+ghost use Rattle.models.specs.Comparisons.{option_eq-exact};
+
+use crate::finding::Found;
+use crate::object::SeqObject;
+use crate::operation::{Name, Op, Part};
+use crate::register::Register;
+use std::alloc::{AllocError, Global};
+
+/// A register, nil at first, that also has compare and set: a cas takes place where the state is its first value, and
+/// leaves its second.
+pub struct CasRegister;
+
+impl SeqObject for CasRegister {
+    type State = Option<i64>;
+
+    ghost use Rattle.models.specs.Objects.{cas_register_apply};
+
+    ghost start_state = { None };
+
+    ghost apply_to = { λ op s. cas_register_apply op.name op.part s };
+
+    fn start(_alloc: Global) -> Option<i64> {
+        None
+    }
+
+    fn copy(_alloc: Global, state: &Option<i64>) -> Result<Option<i64>, AllocError> {
+        Ok(*state)
+    }
+
+    fn apply(
+        alloc: Global,
+        state: &Option<i64>,
+        op: &Op,
+    ) -> Result<Option<(Option<i64>, Found)>, AllocError> {
+        match (op.name, &op.part, *state) {
+            (Name::Cas, Part::Pair(from, to), Some(value)) => {
+                if value == *from {
+                    Ok(Some((Some(*to), Found::Unit)))
+                } else {
+                    Ok(None)
+                }
+            }
+            _ => Register::apply(alloc, state, op),
+        }
+    }
+
+    ghost exact = { option_eq-exact };
+}

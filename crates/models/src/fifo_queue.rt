@@ -1,0 +1,49 @@
+//! The queue.
+ghost use Rattle.std.specs.Prelude.{[]};
+ghost use Rattle.models.specs.Comparisons.{ints_eq-exact};
+
+use crate::finding::Found;
+use crate::items::Items;
+use crate::object::SeqObject;
+use crate::operation::{Name, Op, Part};
+use std::alloc::{AllocError, Global};
+
+/// A queue, empty at first: an enqueue adds its value at the back, a dequeue takes the front off and finds it.
+pub struct FifoQueue;
+
+impl SeqObject for FifoQueue {
+    type State = Items;
+
+    ghost use Rattle.models.specs.Objects.{queue_apply};
+
+    ghost start_state = { [] };
+
+    ghost apply_to = { λ op s. queue_apply op.name op.part s };
+
+    fn start(alloc: Global) -> Items {
+        Items::new(alloc)
+    }
+
+    fn copy(_alloc: Global, state: &Items) -> Result<Items, AllocError> {
+        state.copy()
+    }
+
+    fn apply(alloc: Global, state: &Items, op: &Op) -> Result<Option<(Items, Found)>, AllocError> {
+        match (op.name, &op.part) {
+            (Name::Enqueue, Part::Int(value)) => {
+                let longer = state.with(*value)?;
+                Ok(Some((longer, Found::Unit)))
+            }
+            (Name::Dequeue, Part::Nil) => match state.as_slice().split_first() {
+                Some((front, others)) => {
+                    let others = Items::of_slice(alloc, others)?;
+                    Ok(Some((others, Found::Item(*front))))
+                }
+                None => Ok(None),
+            },
+            _ => Ok(None),
+        }
+    }
+
+    ghost exact = { ints_eq-exact };
+}

@@ -1,0 +1,71 @@
+//! The kinds of sequential object.
+ghost use Rattle.std.specs.Prelude.{◌≡◌};
+ghost use Rattle.models.specs.Names.{name_of, Finds};
+
+/// The kinds of sequential object, named as in Knossos. What the operations of each do is this project's own table
+/// (`Objects` of the crate's definitions); nothing rests on what a model of Knossos does.
+#[derive(Clone, Copy, Debug, PartialEq, Eq)]
+pub enum ModelKind {
+    /// Holds a value, nil at first: read, write.
+    Register,
+    /// A register that also has compare and set: read, write, cas.
+    CasRegister,
+    /// Free at first: acquire, release.
+    Mutex,
+    /// Empty at first: enqueue, dequeue, in order.
+    FifoQueue,
+    /// Empty at first: add, and a read of all members.
+    Set,
+}
+
+/// The list of the kinds: `each_kind!(callback; args)` is `callback!(args; KIND "name", ..)`. KIND is the kind's variant in
+/// each enum that has one for each kind, and its [`SeqObject`](crate::SeqObject).
+///
+/// Each function that tells the kinds apart, here and in the crates above, is such a callback. So a further kind is a line
+/// here, an implementation of `SeqObject`, a variant in each of these enums, and its table and name among the definitions
+/// (with its case where a proof goes by kinds).
+#[macro_export]
+macro_rules! each_kind {
+    ($callback:ident; $($args:tt)*) => {
+        $callback! { $($args)*;
+            Register "register",
+            CasRegister "cas-register",
+            Mutex "mutex",
+            FifoQueue "fifo-queue",
+            Set "set"
+        }
+    };
+}
+
+macro_rules! name_of_kind {
+    ($kind:expr; $($K:ident $name:literal),*) => {
+        match $kind {
+            $(ModelKind::$K => $name,)*
+        }
+    };
+}
+
+macro_rules! kind_of_name {
+    ($text:expr; $($K:ident $name:literal),*) => {{
+        $(if $text == $name {
+            return Some(ModelKind::$K);
+        })*
+        None
+    }};
+}
+
+impl ModelKind {
+    /// The kind's name, as a command line and a script give it. Takes no memory.
+    pub fn name(self) -> &'static str
+        ensures { result.now ≡ name_of self }
+    {
+        each_kind!(name_of_kind; self)
+    }
+
+    /// The kind of this name, or `None` where there is none. Takes no memory.
+    pub fn of_name(text: &str) -> Option<ModelKind>
+        ensures { Finds result (λ kind. text.now ≡ name_of kind) }
+    {
+        each_kind!(kind_of_name; text)
+    }
+}

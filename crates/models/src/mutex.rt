@@ -1,0 +1,40 @@
+//! The mutex.
+ghost use Rattle.std.specs.Prelude.{false};
+ghost use Rattle.models.specs.Comparisons.{bool_eq-exact};
+
+use crate::finding::Found;
+use crate::object::SeqObject;
+use crate::operation::{Name, Op, Part};
+use std::alloc::{AllocError, Global};
+
+/// A mutex, free at first: an acquire takes place where it is free, a release where it is held. Its state is whether it
+/// is held.
+pub struct Mutex;
+
+impl SeqObject for Mutex {
+    type State = bool;
+
+    ghost use Rattle.models.specs.Objects.{mutex_apply};
+
+    ghost start_state = { false };
+
+    ghost apply_to = { λ op s. mutex_apply op.name op.part s };
+
+    fn start(_alloc: Global) -> bool {
+        false
+    }
+
+    fn copy(_alloc: Global, state: &bool) -> Result<bool, AllocError> {
+        Ok(*state)
+    }
+
+    fn apply(_alloc: Global, state: &bool, op: &Op) -> Result<Option<(bool, Found)>, AllocError> {
+        match (op.name, &op.part, *state) {
+            (Name::Acquire, Part::Nil, false) => Ok(Some((true, Found::Unit))),
+            (Name::Release, Part::Nil, true) => Ok(Some((false, Found::Unit))),
+            _ => Ok(None),
+        }
+    }
+
+    ghost exact = { bool_eq-exact };
+}

@@ -1,0 +1,43 @@
+//! The register.
+ghost use Rattle.std.specs.Prelude.{None};
+ghost use Rattle.models.specs.Comparisons.{option_eq-exact};
+
+use crate::finding::Found;
+use crate::object::SeqObject;
+use crate::operation::{Name, Op, Part};
+use std::alloc::{AllocError, Global};
+
+/// A register, nil at first: a write leaves its value, a read finds the state.
+pub struct Register;
+
+impl SeqObject for Register {
+    type State = Option<i64>;
+
+    ghost use Rattle.models.specs.Objects.{register_apply};
+
+    ghost start_state = { None };
+
+    ghost apply_to = { λ op s. register_apply op.name op.part s };
+
+    fn start(_alloc: Global) -> Option<i64> {
+        None
+    }
+
+    fn copy(_alloc: Global, state: &Option<i64>) -> Result<Option<i64>, AllocError> {
+        Ok(*state)
+    }
+
+    fn apply(
+        _alloc: Global,
+        state: &Option<i64>,
+        op: &Op,
+    ) -> Result<Option<(Option<i64>, Found)>, AllocError> {
+        match (op.name, &op.part) {
+            (Name::Write, Part::Int(v)) => Ok(Some((Some(*v), Found::Unit))),
+            (Name::Read, Part::Nil) => Ok(Some((*state, Found::Reg(*state)))),
+            _ => Ok(None),
+        }
+    }
+
+    ghost exact = { option_eq-exact };
+}

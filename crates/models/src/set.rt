@@ -1,0 +1,51 @@
+//! The set.
+ghost use Rattle.std.specs.Prelude.{[]};
+ghost use Rattle.models.specs.Comparisons.{ints_eq-exact};
+
+use crate::finding::Found;
+use crate::members::Members;
+use crate::object::SeqObject;
+use crate::operation::{Name, Op, Part};
+use std::alloc::{AllocError, Global};
+
+/// A set of integers, empty at first: an add puts its value in, a read finds all members.
+pub struct Set;
+
+impl SeqObject for Set {
+    type State = Members;
+
+    ghost use Rattle.models.specs.Objects.{set_apply};
+
+    ghost start_state = { [] };
+
+    ghost apply_to = { λ op s. set_apply op.name op.part s };
+
+    fn start(alloc: Global) -> Members {
+        Members::new(alloc)
+    }
+
+    fn copy(_alloc: Global, state: &Members) -> Result<Members, AllocError> {
+        state.copy()
+    }
+
+    fn apply(
+        _alloc: Global,
+        state: &Members,
+        op: &Op,
+    ) -> Result<Option<(Members, Found)>, AllocError> {
+        match (op.name, &op.part) {
+            (Name::Add, Part::Int(value)) => {
+                let more = state.with(*value)?;
+                Ok(Some((more, Found::Unit)))
+            }
+            (Name::Read, Part::Nil) => {
+                let members = state.copy()?;
+                let found = state.copy()?;
+                Ok(Some((members, Found::Elements(found))))
+            }
+            _ => Ok(None),
+        }
+    }
+
+    ghost exact = { ints_eq-exact };
+}

@@ -1,0 +1,98 @@
+#!/usr/bin/env python3
+"""Compares the clauses of public calls with docs/DEFINITIONS.md: each definition of this repository that such a clause cites
+must be named there, in backticks. Prints what is left out, and ends with 'N passed, M failed', one for each crate.
+
+A call is public where its crate's root gives it: an item of a `pub mod`, or one that `pub use` names. What a clause cites
+is found by the file's `ghost use` lines; generated modules (`specs.declared`) are types of the code and no definitions.
+"""
+import pathlib
+import re
+import sys
+
+TOP = pathlib.Path(__file__).resolve().parent.parent
+CRATES = [line.split(":")[0].split()[0] for line in (TOP / "crates.txt").read_text().splitlines()
+          if line.strip() and not line.startswith("#")]
+# A file of definitions, and not a type within one, whose variants go by their type's name.
+IMPORT = re.compile(r"ghost use Rattle\.(\w+)\.specs\.(?!declared|contracts)\w+\.\{([^}]*)\};")
+WORD = re.compile(r"[A-Za-z_][A-Za-z0-9_]*")
+
+
+def named():
+    """The names that the document has in backticks."""
+    text = (TOP / "docs" / "DEFINITIONS.md").read_text()
+    return {word for quoted in re.findall(r"`([^`\n]+)`", text) for word in WORD.findall(quoted)}
+
+
+def given(root):
+    """What a crate's root gives: the modules that are public, and the items that are brought out of the others."""
+    modules = set(re.findall(r"(?m)^pub mod (\w+);", root))
+    items = set()
+    for module, names in re.findall(r"pub use (\w+)::(\{[^}]*\}|\w+)", root):
+        items |= {(module, name) for name in WORD.findall(names)}
+    return modules, items
+
+
+def imported(text):
+    """The definitions of this repository that a file brings in for its clauses, by the name that they have there."""
+    names = set()
+    for crate, listed in IMPORT.findall(text):
+        if crate in CRATES:
+            for entry in listed.split(","):
+                parts = entry.split(" as ")
+                names.add((parts[-1].strip(), parts[0].strip()))
+    return names
+
+
+def clauses(text, module, modules, items):
+    """The text of the clauses of public functions, and of what public types show of themselves."""
+    found, holder, in_trait, lines = [], None, False, text.splitlines()
+    at = 0
+    while at < len(lines):
+        line = lines[at]
+        head = re.match(r"impl(?:<.*?>)?\s+(?:[\w:<>, ]+ for )?(?:\w+::)*(\w+)", line)
+        if head:
+            holder, in_trait = head.group(1), False
+        trait = re.match(r"pub trait (\w+)", line)
+        if trait:
+            holder, in_trait = trait.group(1), True
+        if line == "}":
+            holder, in_trait = None, False
+        call = re.match(r"\s*(pub )?(?:final )?(?:const )?fn (\w+)", line)
+        ghost = re.match(r"\s+ghost (?!use|view|invariant|inverse|laws|total|exact|matches)\w+\s*[:=]", line)
+        is_public = module in modules or (module, holder if holder else (call.group(2) if call else "")) in items
+        if is_public and (call and (call.group(1) or in_trait) or ghost and holder):
+            while at < len(lines):
+                found.append(lines[at])
+                if ghost or lines[at].strip() == "{" or re.search(r"[{;]\s*$", lines[at]) and "ensures" not in lines[at] and "requires" not in lines[at]:
+                    break
+                at += 1
+        at += 1
+    return "\n".join(found)
+
+
+def left_out(crate, names):
+    """The definitions that a public clause of the crate cites and the document does not name."""
+    src = TOP / "crates" / crate / "src"
+    root = src / "lib.rt" if (src / "lib.rt").exists() else src / "main.rt"
+    modules, items = given(root.read_text())
+    missing = set()
+    for path in sorted(src.glob("*.rt")):
+        text = path.read_text()
+        words = set(WORD.findall(clauses(text, path.stem, modules, items)))
+        missing |= {(path.name, name) for local, name in imported(text) if local in words and name not in names}
+    return sorted(missing)
+
+
+def main():
+    names, failed = named(), 0
+    for crate in CRATES:
+        missing = left_out(crate, names)
+        failed += bool(missing)
+        for path, name in missing:
+            print(f"docs/DEFINITIONS.md does not name `{name}`, which a public clause of {crate}/src/{path} cites")
+    print(f"{len(CRATES) - failed} passed, {failed} failed")
+    return 1 if failed else 0
+
+
+if __name__ == "__main__":
+    sys.exit(main())
