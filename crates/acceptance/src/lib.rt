@@ -18,3 +18,5 @@ mod objects;
 mod one_thread;
 #[cfg(test)]
 mod plain_checker;
+#[cfg(test)]
+mod texts;

@@ -26,6 +26,3 @@ pub use laws::{discards_are_skipped, one_reading, sameness_is_an_equivalence};
 pub use reader::read_all;
 pub use refusal::Refusal;
 pub use value::Edn;
-
-#[cfg(test)]
-mod tests;

@@ -1,4 +1,5 @@
-use super::*;
+//! Texts and their elements, and the places at which texts stop being any.
+use edn::{Edn, Refusal, read_all, same};
 use std::test::Fail;
 
 // The one element of a text.
