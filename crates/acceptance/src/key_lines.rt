@@ -29,11 +29,11 @@ fn event(process: u32, kind: EventKind, name: Name, part: Part) -> Event
 fn prepared_events(rt: HostRuntime) -> Result<(), Fail> {
     let mut line = KeyLine::new(rt.alloc(), ModelKind::Mutex, 4096)?;
     line.push(0, event(0, EventKind::Invoke, Name::Release, Part::Nil))?;
-    let crashed = line.prepare(1, event(0, EventKind::Info, Name::Release, Part::Nil))?;
+    let crashed = line.prepare_push(1, event(0, EventKind::Info, Name::Release, Part::Nil))?;
     assert!(rt; matches!(crashed, KeyStatus::Alive));
-    let failed = line.prepare(1, event(0, EventKind::Fail, Name::Release, Part::Nil))?;
+    let failed = line.prepare_push(1, event(0, EventKind::Fail, Name::Release, Part::Nil))?;
     assert!(rt; matches!(failed, KeyStatus::Alive));
-    let returned = line.prepare(1, event(0, EventKind::Ok, Name::Release, Part::Nil))?;
+    let returned = line.prepare_push(1, event(0, EventKind::Ok, Name::Release, Part::Nil))?;
     assert!(rt; matches!(returned, KeyStatus::Dead(1)));
     assert!(rt; matches!(line.status(), KeyStatus::Alive));
     line.commit();
@@ -55,5 +55,51 @@ fn fault_changes_nothing(rt: HostRuntime) -> Result<(), Fail> {
     line.push(2, event(0, EventKind::Ok, Name::Write, Part::Int(1)))?;
     assert!(rt; matches!(line.status(), KeyStatus::Alive));
     assert_eq!(rt; line.len(), 3);
+    Ok(())
+}
+
+// A cas takes place on a cas-register, and never on a plain register: another kind judges the same events anew.
+#[test]
+fn model_changes(rt: HostRuntime) -> Result<(), Fail> {
+    let mut line = KeyLine::new(rt.alloc(), ModelKind::Register, 4096)?;
+    line.push(0, event(0, EventKind::Invoke, Name::Write, Part::Int(1)))?;
+    line.push(1, event(0, EventKind::Ok, Name::Write, Part::Int(1)))?;
+    line.push(2, event(0, EventKind::Invoke, Name::Cas, Part::Pair(1, 2)))?;
+    line.push(3, event(0, EventKind::Ok, Name::Cas, Part::Pair(1, 2)))?;
+    assert!(rt; matches!(line.status(), KeyStatus::Dead(3)));
+    let other = line.prepare_rebuild(ModelKind::CasRegister, 4096)?;
+    assert!(rt; matches!(other, KeyStatus::Alive));
+    assert!(rt; matches!(line.status(), KeyStatus::Dead(3)));
+    line.commit();
+    assert!(rt; matches!(line.status(), KeyStatus::Alive));
+    line.rebuild(ModelKind::Register, 4096)?;
+    assert!(rt; matches!(line.status(), KeyStatus::Dead(3)));
+    line.rebuild(ModelKind::CasRegister, 1)?;
+    assert!(rt; matches!(line.status(), KeyStatus::Over(1)));
+    Ok(())
+}
+
+// A cut brings back what was known before the events that it takes away.
+#[test]
+fn rewind_revives(rt: HostRuntime) -> Result<(), Fail> {
+    let mut line = KeyLine::new(rt.alloc(), ModelKind::Register, 4096)?;
+    line.push(0, event(0, EventKind::Invoke, Name::Write, Part::Int(1)))?;
+    line.push(1, event(0, EventKind::Ok, Name::Write, Part::Int(1)))?;
+    line.push(4, event(0, EventKind::Invoke, Name::Read, Part::Nil))?;
+    line.push(5, event(0, EventKind::Ok, Name::Read, Part::Int(2)))?;
+    assert!(rt; matches!(line.status(), KeyStatus::Dead(5)));
+    line.cut(6)?;
+    assert!(rt; matches!(line.status(), KeyStatus::Dead(5)));
+    assert_eq!(rt; line.len(), 4);
+    let cut = line.prepare_cut(5)?;
+    assert!(rt; matches!(cut, KeyStatus::Alive));
+    assert_eq!(rt; line.len(), 4);
+    line.commit();
+    assert_eq!(rt; line.len(), 3);
+    line.push(5, event(0, EventKind::Ok, Name::Read, Part::Int(1)))?;
+    assert!(rt; matches!(line.status(), KeyStatus::Alive));
+    line.cut(2)?;
+    assert_eq!(rt; line.len(), 2);
+    assert!(rt; matches!(line.status(), KeyStatus::Alive));
     Ok(())
 }

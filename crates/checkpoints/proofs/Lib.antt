@@ -3,3 +3,4 @@ pub mod Pushes
 pub mod Statuses
 pub mod Judging
 pub mod Copies
+pub mod Cutting

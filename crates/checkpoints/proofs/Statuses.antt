@@ -3,17 +3,15 @@ use Rattle.std.proofs.Common.{◌≡◌, ℕ, ◌+◌, ◌≤◌, ◌<◌, ◌�
 use Rattle.std.specs.List.{Contains}
 use Rattle.std.proofs.lemmas.List.{append-nil}
 use Rattle.std.proofs.lemmas.List.Elements.{Contains-append_right}
-use Rattle.models.specs.declared.operation.Op.{Op}
 use Rattle.models.specs.declared.finding.Answer.{Answer}
 use Rattle.models.specs.Objects.{Object}
 use Rattle.history.specs.Events.{Mark, Entry, marks, IsFront}
-use Rattle.history.specs.Events.Mark.{Invoked, Returned, Crashed}
-use Rattle.linspec.specs.MarkRule.{IsNew, AreWellFormed}
+use Rattle.history.specs.Events.Mark.{Returned}
+use Rattle.linspec.specs.MarkRule.{AreWellFormed}
 use Rattle.linspec.specs.Orders.{IsLinearizable}
 use Rattle.linspec.specs.Ends.{End, IsEnd, HasMoreThan, IsBlownAt, IsBlownIndex, IsWithinBudget}
 use Rattle.linspec.specs.Verdicts.{EndsShortestBadFront, EveryFrontIsLinearizable, IsRising}
 use Rattle.linspec.proofs.Lists.{Contains-nil, Contains-head, snoc_cut, Pairwise-across}
-use Rattle.linspec.proofs.Marks.{IsLegalOrder-more}
 use Rattle.linspec.proofs.Fronts.{marks-append, IsLinearizable-end, IsLinearizable-front}
 
 -- the empty list of entries

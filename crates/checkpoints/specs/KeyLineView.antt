@@ -1,12 +1,44 @@
 -- Promise: the line of one key, as a caller sees it
-use Rattle.std.specs.Prelude.{ℕ, Option, List}
+use Rattle.std.specs.Prelude.{ℕ, Option, Some, None, List, [], ◌∷◌, ◌++◌, nat_lt}
+use Rattle.std.specs.List.{filter}
 use Rattle.models.specs.declared.model_kind.ModelKind.{ModelKind}
+use Rattle.models.specs.Objects.{object_of}
 use Rattle.history.specs.declared.event.Event.{Event}
+use Rattle.history.specs.Events.{entries_of}
+use Rattle.linspec.specs.declared.verdict.KeyStatus.{KeyStatus}
+use Rattle.linspec.specs.Verdicts.{IsKeyStatus}
 
--- the kind of its key's object, the budget, the events with their indices in the order in which they
--- came, and the event that is prepared
-pub record KeyLineView : Type 0 where
+-- what is judged of one key: the kind of its object, the budget, and its events with their indices, in the order in which
+-- they came
+pub record KeyHistory : Type 0 where
   pub kind : ModelKind
   pub budget : ℕ
   pub events : List (ℕ × Event)
-  pub prepared : Option (ℕ × Event)
+
+-- what a line has, and what commit will bring, where a change is prepared
+pub record KeyLineView : Type 0 where
+  pub now : KeyHistory
+  pub next : Option KeyHistory
+
+abbrev pub at_rest : KeyHistory → KeyLineView
+at_rest h = record { now = h; next = None }
+
+abbrev pub with_next : KeyHistory → KeyLineView → KeyLineView
+with_next next line = record { now = line.now; next = Some next }
+
+-- from scratch, how the key stands
+abbrev pub IsStatusOf : KeyHistory → KeyStatus → Type 0
+IsStatusOf h status = IsKeyStatus (object_of h.kind) h.budget (entries_of h.events) status
+
+-- the changes: one more event; only the events of index below n; another kind and budget
+abbrev pub with_pushed : ℕ → Event → KeyHistory → KeyHistory
+with_pushed index event h = record h { events = h.events ++ (index, event) ∷ [] }
+
+abbrev pub events_below : ℕ → List (ℕ × Event) → List (ℕ × Event)
+events_below n events = filter (λ x. nat_lt x.0 n) events
+
+abbrev pub cut_at : ℕ → KeyHistory → KeyHistory
+cut_at n h = record h { events = events_below n h.events }
+
+abbrev pub judged_by : ModelKind → ℕ → KeyHistory → KeyHistory
+judged_by kind budget h = record { kind = kind; budget = budget; events = h.events }

@@ -1,9 +1,7 @@
 //! The line of one key.
-ghost use Rattle.std.specs.Prelude.{◌≡◌, None, Some, [], ◌∷◌, ◌++◌, length, IsSome, IfSome, IfOk, OnOk, OnErr};
-ghost use Rattle.models.specs.Objects.{object_of};
-ghost use Rattle.history.specs.Events.{entries_of};
+ghost use Rattle.std.specs.Prelude.{◌≡◌, ◌≤◌, [], ◌∷◌, ◌++◌, take, length, IsSome, IfSome, IfOk, OnOk, OnErr};
 ghost use Rattle.history.specs.ProcessRule.{IsHistory};
-ghost use Rattle.linspec.specs.Verdicts.{IsKeyStatus};
+ghost use Rattle.checkpoints.specs.KeyLineView.{IsStatusOf, at_rest, with_next, with_pushed, cut_at, judged_by, events_below};
 
 use crate::key_state::KeyState;
 use history::Event;
@@ -12,11 +10,14 @@ use models::ModelKind;
 use std::alloc::{AllocError, Global};
 use std::marker::Model;
 
-/// An event that may be committed, and how the key stands with it.
+/// What may be committed: the first so many events stay, one may follow, and the key, judged by this kind and budget, then
+/// stands so.
 #[derive(Drop)]
 struct Prepared {
-    index: u32,
-    event: Event,
+    kind: ModelKind,
+    budget: u32,
+    kept: usize,
+    added: Option<(u32, Event)>,
     state: KeyState,
 }
 
@@ -26,8 +27,12 @@ struct Prepared {
 /// key is over at that ok, whatever else is known of it (this project's own).
 ///
 /// A line is that of one key because it is given that key's events alone; it looks at no key itself.
+///
+/// Each change is prepared, which may fail and changes nothing but what is prepared, and then committed. What was prepared
+/// before is dropped.
 #[derive(Drop)]
 pub struct KeyLine {
+    alloc: Global,
     kind: ModelKind,
     budget: u32,
     events: Vec<(u32, Event)>,
@@ -39,15 +44,13 @@ impl Model for KeyLine {
     ghost use Rattle.std.specs.Prelude.{vec_capacity};
     ghost use Rattle.std.specs.Option.{option_map};
     ghost use Rattle.checkpoints.specs.KeyLineView.{KeyLineView};
-    ghost use Rattle.checkpoints.specs.SoundLine.{IsSoundLine};
+    ghost use Rattle.checkpoints.specs.SoundLine.{IsSoundLine, brought};
 
     ghost Value = { KeyLineView };
 
     ghost view = { λ a. record {
-      kind = a.kind;
-      budget = a.budget;
-      events = a.events.items;
-      prepared = option_map (λ p. (p.index, p.event)) a.prepared;
+      now = record { kind = a.kind; budget = a.budget; events = a.events.items };
+      next = option_map (brought a.events.items) a.prepared;
     } };
 
     ghost invariant = { λ a.
@@ -62,15 +65,15 @@ impl KeyLine {
     ///
     /// `AllocError` where memory was refused.
     pub fn new(alloc: Global, kind: ModelKind, budget: u32) -> Result<Self, AllocError>
-        ensures { IfOk result (λ line. line ≡ record {
+        ensures { IfOk result (λ line. line ≡ at_rest (record {
           kind = kind;
           budget = budget;
           events = [];
-          prepared = None;
-        }) }
+        })) }
     {
         let state = KeyState::start(alloc, kind, budget)?;
         Ok(KeyLine {
+            alloc,
             kind,
             budget,
             events: Vec::new(alloc),
@@ -80,82 +83,170 @@ impl KeyLine {
     }
 
     /// Prepares to append this event, and gives the status that [`commit`](Self::commit) will bring. The index is the
-    /// event's place in the whole history. What was prepared before is dropped. It takes the time of a copy of the ends
-    /// of the events so far, and of what the event does to them: see [`Frontier`](frontier::Frontier)'s `invoke`, `ok`,
-    /// `fail` and `crash`.
+    /// event's place in the whole history. It takes the time of a copy of the ends of the events so far, and of what the
+    /// event does to them: see [`Frontier`](frontier::Frontier)'s `invoke`, `ok`, `fail` and `crash`.
     ///
     /// # Errors
     ///
     /// `AllocError` where memory was refused: then nothing is prepared, and the rest is as it was.
-    pub fn prepare(&mut self, index: u32, event: Event) -> Result<KeyStatus, AllocError>
-        requires { IsHistory (self.old.events ++ (index, event) ∷ []) }
-        ensures status { let entries = entries_of (self.old.events ++ (index, event) ∷ []) in
-            IfOk result (IsKeyStatus (object_of self.old.kind) self.old.budget entries) }
+    pub fn prepare_push(&mut self, index: u32, event: Event) -> Result<KeyStatus, AllocError>
+        requires { IsHistory (self.old.now.events ++ (index, event) ∷ []) }
+        ensures status { IfOk result (IsStatusOf (with_pushed index event self.old.now)) }
         ensures prepared { OnOk result
-            (self.new ≡ record self.old { prepared = Some (index, event) }) }
-        ensures err { OnErr result (self.new ≡ record self.old { prepared = None }) }
+            (self.new ≡ with_next (with_pushed index event self.old.now) self.old) }
+        ensures err { OnErr result (self.new ≡ at_rest self.old.now) }
     {
         self.prepared = None;
-        let state = self.state.after(index, &event)?;
+        let state = self.state.copy()?.after(index, &event)?;
         self.events.reserve(1)?;
         let status = state.status();
         self.prepared = Some(Prepared {
-            index,
-            event,
+            kind: self.kind,
+            budget: self.budget,
+            kept: self.events.len(),
+            added: Some((index, event)),
             state,
         });
         Ok(status)
     }
 
-    /// Carries out what is prepared: the event is then the last of the line. Takes no memory.
+    /// Prepares to keep the events whose index is below `n` alone, and gives the status that [`commit`](Self::commit) will
+    /// bring. It takes the time of all kept events, each given to a fresh frontier.
+    ///
+    /// # Errors
+    ///
+    /// `AllocError` where memory was refused: then nothing is prepared, and the rest is as it was.
+    pub fn prepare_cut(&mut self, n: u32) -> Result<KeyStatus, AllocError>
+        ensures status { IfOk result (IsStatusOf (cut_at n self.old.now)) }
+        ensures prepared { OnOk result (self.new ≡ with_next (cut_at n self.old.now) self.old) }
+        ensures err { OnErr result (self.new ≡ at_rest self.old.now) }
+    {
+        self.prepared = None;
+        let kept = count_below(&self.events, n);
+        let state = KeyState::replayed(self.alloc, self.kind, self.budget, &self.events[..kept])?;
+        let status = state.status();
+        self.prepared = Some(Prepared {
+            kind: self.kind,
+            budget: self.budget,
+            kept,
+            added: None,
+            state,
+        });
+        Ok(status)
+    }
+
+    /// Prepares to judge the same events by another kind of object and another budget, and gives the status that
+    /// [`commit`](Self::commit) will bring. It takes the time of all events, each given to a fresh frontier.
+    ///
+    /// # Errors
+    ///
+    /// `AllocError` where memory was refused: then nothing is prepared, and the rest is as it was.
+    pub fn prepare_rebuild(&mut self, kind: ModelKind, budget: u32) -> Result<KeyStatus, AllocError>
+        ensures status { IfOk result (IsStatusOf (judged_by kind budget self.old.now)) }
+        ensures prepared { OnOk result
+            (self.new ≡ with_next (judged_by kind budget self.old.now) self.old) }
+        ensures err { OnErr result (self.new ≡ at_rest self.old.now) }
+    {
+        self.prepared = None;
+        let state = KeyState::replayed(self.alloc, kind, budget, &self.events)?;
+        let status = state.status();
+        self.prepared = Some(Prepared {
+            kind,
+            budget,
+            kept: self.events.len(),
+            added: None,
+            state,
+        });
+        Ok(status)
+    }
+
+    /// Carries out what is prepared. Takes no memory.
     pub fn commit(&mut self)
-        requires { IsSome self.old.prepared }
-        ensures { IfSome self.old.prepared (λ change. self.new ≡ record self.old {
-          events = self.old.events ++ change ∷ [];
-          prepared = None;
-        }) }
+        requires { IsSome self.old.next }
+        ensures { IfSome self.old.next (λ next. self.new ≡ at_rest next) }
     {
         if let Some(next) = self.prepared.take() {
             let Prepared {
-                index,
-                event,
+                kind,
+                budget,
+                kept,
+                added,
                 state,
             } = next;
-            self.events.push_reserved((index, event));
+            self.events.truncate(kept);
+            if let Some(event) = added {
+                self.events.push_reserved(event);
+            }
+            self.kind = kind;
+            self.budget = budget;
             self.state = state;
         }
     }
 
-    /// Appends this event: [`prepare`](Self::prepare) and [`commit`](Self::commit) in one.
+    /// Appends this event: [`prepare_push`](Self::prepare_push) and [`commit`](Self::commit) in one.
     ///
     /// # Errors
     ///
     /// `AllocError` where memory was refused: then nothing is prepared, and the rest is as it was.
     pub fn push(&mut self, index: u32, event: Event) -> Result<(), AllocError>
-        requires { IsHistory (self.old.events ++ (index, event) ∷ []) }
-        ensures ok { OnOk result (self.new ≡ record self.old {
-          events = self.old.events ++ (index, event) ∷ [];
-          prepared = None;
-        }) }
-        ensures err { OnErr result (self.new ≡ record self.old { prepared = None }) }
+        requires { IsHistory (self.old.now.events ++ (index, event) ∷ []) }
+        ensures ok { OnOk result (self.new ≡ at_rest (with_pushed index event self.old.now)) }
+        ensures err { OnErr result (self.new ≡ at_rest self.old.now) }
     {
-        self.prepare(index, event)?;
+        self.prepare_push(index, event)?;
+        self.commit();
+        Ok(())
+    }
+
+    /// Keeps the events whose index is below `n` alone: [`prepare_cut`](Self::prepare_cut) and [`commit`](Self::commit) in
+    /// one.
+    ///
+    /// # Errors
+    ///
+    /// `AllocError` where memory was refused: then nothing is prepared, and the rest is as it was.
+    pub fn cut(&mut self, n: u32) -> Result<(), AllocError>
+        ensures ok { OnOk result (self.new ≡ at_rest (cut_at n self.old.now)) }
+        ensures err { OnErr result (self.new ≡ at_rest self.old.now) }
+    {
+        self.prepare_cut(n)?;
+        self.commit();
+        Ok(())
+    }
+
+    /// Judges the same events by another kind of object and another budget: [`prepare_rebuild`](Self::prepare_rebuild) and
+    /// [`commit`](Self::commit) in one.
+    ///
+    /// # Errors
+    ///
+    /// `AllocError` where memory was refused: then nothing is prepared, and the rest is as it was.
+    pub fn rebuild(&mut self, kind: ModelKind, budget: u32) -> Result<(), AllocError>
+        ensures ok { OnOk result (self.new ≡ at_rest (judged_by kind budget self.old.now)) }
+        ensures err { OnErr result (self.new ≡ at_rest self.old.now) }
+    {
+        self.prepare_rebuild(kind, budget)?;
         self.commit();
         Ok(())
     }
 
     /// What is known of the key. Takes no memory.
     pub fn status(&self) -> KeyStatus
-        ensures { let entries = entries_of self.now.events in
-            IsKeyStatus (object_of self.now.kind) self.now.budget entries result }
+        ensures { IsStatusOf self.now.now result }
     {
         self.state.status()
     }
 
     /// How many events the line has. Takes no memory.
     pub fn len(&self) -> usize
-        ensures { result ≡ length self.now.events }
+        ensures { result ≡ length self.now.now.events }
     {
         self.events.len()
     }
+}
+
+// How many of the events, whose indices rise, have an index below n.
+fn count_below(events: &[(u32, Event)], n: u32) -> usize
+    ensures first { IsHistory events.now → take result events.now ≡ events_below n events.now }
+    ensures within { result ≤ length events.now }
+{
+    events.partition_point(|event| event.0 < n)
 }

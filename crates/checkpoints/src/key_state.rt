@@ -40,13 +40,42 @@ impl KeyState {
     }
 
     /// How the key stands with one more event.
-    pub(crate) fn after(&self, index: u32, event: &Event) -> Result<Self, AllocError>
+    pub(crate) fn after(self, index: u32, event: &Event) -> Result<Self, AllocError>
         ensures { (kind : ModelKind) (budget : ℕ) (events : List (ℕ × Event))
-            → IsKeyState kind budget events self.now → IsHistory (events ++ (index, event.now) ∷ [])
+            → IsKeyState kind budget events self → IsHistory (events ++ (index, event.now) ∷ [])
             → IfOk result (IsKeyState kind budget (events ++ (index, event.now) ∷ [])) }
     {
         match self {
-            KeyState::Alive(live) => live.copy()?.after(index, event),
+            KeyState::Alive(live) => live.after(index, event),
+            KeyState::Dead(index) => Ok(KeyState::Dead(index)),
+            KeyState::Over(index) => Ok(KeyState::Over(index)),
+        }
+    }
+
+    /// How the key stands after these events, from a key without events on.
+    pub(crate) fn replayed(
+        alloc: Global,
+        kind: ModelKind,
+        budget: u32,
+        events: &[(u32, Event)],
+    ) -> Result<Self, AllocError>
+        ensures { IsHistory events.now → IfOk result (IsKeyState kind budget events.now) }
+    {
+        let mut state = KeyState::start(alloc, kind, budget)?;
+        for (index, event) in events {
+            state = state.after(*index, event)?;
+        }
+        Ok(state)
+    }
+
+    /// A key that stands the same.
+    pub(crate) fn copy(&self) -> Result<Self, AllocError>
+        ensures { (kind : ModelKind) (budget : ℕ) (events : List (ℕ × Event))
+            → IsKeyState kind budget events self.now
+            → IfOk result (IsKeyState kind budget events) }
+    {
+        match self {
+            KeyState::Alive(live) => Ok(KeyState::Alive(live.copy()?)),
             KeyState::Dead(index) => Ok(KeyState::Dead(*index)),
             KeyState::Over(index) => Ok(KeyState::Over(*index)),
         }

@@ -10,7 +10,7 @@ use Rattle.history.specs.declared.event.Event.{Event}
 use Rattle.history.specs.Events.{OpEvent, op_event, key_of, Entry, entries_of, indexed_from, op_events}
 use Rattle.history.specs.ProcessRule.{IsHistory}
 use Rattle.history.specs.WellFormed.{HistoryView, no_events, IsHistoryOf, IsWellFormed, first_key}
-use Rattle.checkpoints.specs.KeyLineView.{KeyLineView}
+use Rattle.checkpoints.specs.KeyLineView.{KeyHistory, KeyLineView, at_rest, with_next, with_pushed}
 use Rattle.linspec.specs.declared.verdict.KeyStatus.{KeyStatus}
 use Rattle.linspec.specs.declared.verdict.Verdict.{Verdict}
 use Rattle.linspec.specs.Verdicts.{IsKeyStatus, IsVerdict, IsJoin}
@@ -62,20 +62,20 @@ may_come (Ok x) event events line index has is same at may =
 may_come (Err e) event events line index has is same at may = tt
 
 pub readies : (copy : Result Event AllocError) (event : Event) (history history' : HistoryView) (line line' : KeyLineView) (index : ℕ) (status : KeyStatus)
-    → is_some (op_event event) ≡ true → IfOk copy (λ x. x ≡ event) → IsOk copy → line.events ≡ op_events (indexed_from 0 history.events) → index ≡ length history.events
+    → is_some (op_event event) ≡ true → IfOk copy (λ x. x ≡ event) → IsOk copy → line.now.events ≡ op_events (indexed_from 0 history.events) → index ≡ length history.events
     → IsWellFormed history.concurrency history.events event → IsHistoryOf history.concurrency (history.events ++ event ∷ [])
     → history' ≡ record history { prepared = Some event }
-    → IfOk copy (λ x. line' ≡ record line { prepared = Some (index, x) })
-    → IfOk copy (λ x. IsKeyStatus (object_of line.kind) line.budget (entries_of (line.events ++ (index, x) ∷ [])) status)
+    → IfOk copy (λ x. line' ≡ with_next (with_pushed index x line.now) line)
+    → IfOk copy (λ x. IsKeyStatus (object_of line.now.kind) line.now.budget (entries_of (line.now.events ++ (index, x) ∷ [])) status)
     → Prepares history history' line line' event status
 readies (Ok x) event history history' line line' index status has is ok same at well after in_history in_line is_status = record {
   well_formed = well;
   in_history = in_history;
-  in_line = in_line ∙ ap (λ (i : ℕ × Event). record line { prepared = Some i }) (ap (λ (i : ℕ). (i, x)) at ∙ ap (λ (e : Event). (length history.events, e)) is);
+  in_line = in_line ∙ ap (λ (i : ℕ). with_next (with_pushed i x line.now) line) at ∙ ap (λ (e : Event). with_next (with_pushed (length history.events) e line.now) line) is;
   after = after;
-  is_status = subst (λ (l : List Entry). IsKeyStatus (object_of line.kind) line.budget l status) (entries_of-op_events (indexed_from 0 (history.events ++ event ∷ [])))
-      (subst (λ (l : List (ℕ × Event)). IsKeyStatus (object_of line.kind) line.budget (entries_of l) status) (next_event history.events event index line.events has same at)
-      (subst (λ (e : Event). IsKeyStatus (object_of line.kind) line.budget (entries_of (line.events ++ (index, e) ∷ [])) status) is is_status));
+  is_status = subst (λ (l : List Entry). IsKeyStatus (object_of line.now.kind) line.now.budget l status) (entries_of-op_events (indexed_from 0 (history.events ++ event ∷ [])))
+      (subst (λ (l : List (ℕ × Event)). IsKeyStatus (object_of line.now.kind) line.now.budget (entries_of l) status) (next_event history.events event index line.now.events has same at)
+      (subst (λ (e : Event). IsKeyStatus (object_of line.now.kind) line.now.budget (entries_of (line.now.events ++ (index, e) ∷ [])) status) is is_status));
 }
 readies (Err e) event history history' line line' index status has is ok same at well after in_history in_line is_status = cc
 
@@ -93,7 +93,7 @@ pub verdict_after : Laws → (history history' : HistoryView) (line line' : KeyL
     → IsJoin ((unwrap_or key 0, status) ∷ []) v → IsJudged (with_event event (machine_of history line)) (record { key = key; verdict = v })
 verdict_after laws history history' line line' judged change event status key v kept readies is_key joined = (
   first ∙ sym is_key,
-  verdict_on laws history.concurrency line.kind line.budget (history.events ++ event ∷ []) status v readies.after readies.is_status
+  verdict_on laws history.concurrency line.now.kind line.now.budget (history.events ++ event ∷ []) status v readies.after readies.is_status
       (subst (λ (o : Option ℕ). IsJoin ((unwrap_or o 0, status) ∷ []) v) (is_key ∙ sym first) joined),
 )
   where
@@ -111,12 +111,12 @@ readied history history' line line' judged after change event status has kept re
 -- what is kept once the event is carried out
 pub committed : (history history' : HistoryView) (line line' : KeyLineView) (judged next : Judged) → IsSoundCore history line judged (Append next)
     → IfSome history.prepared (λ event. history' ≡ record history { events = history.events ++ event ∷ []; prepared = None })
-    → IfSome line.prepared (λ change. line' ≡ record line { events = line.events ++ change ∷ []; prepared = None })
+    → IfSome line.next (λ next. line' ≡ at_rest next)
     → IsSoundCore history' line' next Nothing
 committed history history' line line' judged next kept history_is line_is =
     subst (λ (h : HistoryView). IsSoundCore h line' next Nothing) (sym now)
     (subst (λ (l : KeyLineView). IsSoundCore (record history { events = history.events ++ event ∷ []; prepared = None }) l next Nothing) (sym line_now)
-    (record { same_events = next_event history.events event (length history.events) line.events kept.readied.4 kept.same_events refl; is_judged = kept.readied.3; readied = tt }))
+    (record { same_events = next_event history.events event (length history.events) line.now.events kept.readied.4 kept.same_events refl; is_judged = kept.readied.3; readied = tt }))
   where
     event : Event
     event = kept.readied.0
@@ -124,18 +124,18 @@ committed history history' line line' judged next kept history_is line_is =
     now : history' ≡ record history { events = history.events ++ event ∷ []; prepared = None }
     now = subst (λ (o : Option Event). IfSome o (λ e. history' ≡ record history { events = history.events ++ e ∷ []; prepared = None })) kept.readied.1 history_is
 
-    line_now : line' ≡ record line { events = line.events ++ (length history.events, event) ∷ []; prepared = None }
-    line_now = subst (λ (o : Option (ℕ × Event)). IfSome o (λ change. line' ≡ record line { events = line.events ++ change ∷ []; prepared = None })) kept.readied.2 line_is
+    line_now : line' ≡ at_rest (with_pushed (length history.events) event line.now)
+    line_now = subst (λ (o : Option KeyHistory). IfSome o (λ next. line' ≡ at_rest next)) kept.readied.2 line_is
 
 -- what is kept at the opening
-pub opened : Laws → (c : ℕ) (kind : ModelKind) (budget : ℕ) (history : HistoryView) (line : KeyLineView) (status : KeyStatus) (v : Verdict) → history ≡ no_events c → line ≡ record { kind = kind; budget = budget; events = []; prepared = None }
-    → IsKeyStatus (object_of line.kind) line.budget (entries_of line.events) status → IsJoin ((0, status) ∷ []) v → IsSoundCore history line (record { key = None; verdict = v }) Nothing
+pub opened : Laws → (c : ℕ) (kind : ModelKind) (budget : ℕ) (history : HistoryView) (line : KeyLineView) (status : KeyStatus) (v : Verdict) → history ≡ no_events c → line ≡ at_rest (record { kind = kind; budget = budget; events = [] })
+    → IsKeyStatus (object_of line.now.kind) line.now.budget (entries_of line.now.events) status → IsJoin ((0, status) ∷ []) v → IsSoundCore history line (record { key = None; verdict = v }) Nothing
 opened laws c kind budget history line status v history_is line_is is joined =
     subst (λ (h : HistoryView). IsSoundCore h line (record { key = None; verdict = v }) Nothing) (sym history_is)
     (subst (λ (l : KeyLineView). IsSoundCore (no_events c) l (record { key = None; verdict = v }) Nothing) (sym line_is)
     (record {
       same_events = refl;
-      is_judged = (refl, verdict_on laws c kind budget [] status v none (subst (λ (l : KeyLineView). IsKeyStatus (object_of l.kind) l.budget (entries_of l.events) status) line_is is) joined);
+      is_judged = (refl, verdict_on laws c kind budget [] status v none (subst (λ (l : KeyLineView). IsKeyStatus (object_of l.now.kind) l.now.budget (entries_of l.now.events) status) line_is is) joined);
       readied = tt;
     }))
   where

@@ -4,7 +4,7 @@ use Rattle.history.specs.declared.event.Event.{Event}
 use Rattle.models.specs.Objects.{object_of}
 use Rattle.history.specs.Events.{entries_of, indexed_from, op_event, op_events}
 use Rattle.history.specs.WellFormed.{HistoryView, IsWellFormed, IsHistoryOf, first_key}
-use Rattle.checkpoints.specs.KeyLineView.{KeyLineView}
+use Rattle.checkpoints.specs.KeyLineView.{KeyHistory, KeyLineView, with_next, with_pushed}
 use Rattle.linspec.specs.declared.verdict.KeyStatus.{KeyStatus}
 use Rattle.linspec.specs.Verdicts.{IsKeyStatus}
 use Rattle.harness.specs.declared.core_object.Change.{Change}
@@ -14,7 +14,7 @@ use Rattle.harness.specs.Machine.{Machine, IsVerdictOn, with_event}
 
 -- the machine that a history and a line stand for
 abbrev pub machine_of : HistoryView → KeyLineView → Machine
-machine_of history line = record { concurrency = history.concurrency; kind = line.kind; budget = line.budget; events = history.events }
+machine_of history line = record { concurrency = history.concurrency; kind = line.now.kind; budget = line.now.budget; events = history.events }
 
 -- the machine that the change leads to
 abbrev pub next_of : HistoryView → KeyLineView → Change → Option Machine
@@ -31,14 +31,14 @@ IsJudged m judged = (first_key m.events ≡ judged.key) × IsVerdictOn m judged.
 -- that speaks of no operation
 abbrev pub IsReadied : HistoryView → KeyLineView → Change → Type 0
 IsReadied history line (Append judged) = (event : Event) × (history.prepared ≡ Some event)
-    × (line.prepared ≡ Some (length history.events, event)) × IsJudged (with_event event (machine_of history line)) judged
+    × (line.next ≡ Some (with_pushed (length history.events) event line.now)) × IsJudged (with_event event (machine_of history line)) judged
     × (is_some (op_event event) ≡ true)
 IsReadied history line Fault = (event : Event) × (history.prepared ≡ Some event) × (op_event event ≡ None)
 IsReadied history line _ = Unit {0}
 
 pub record IsSoundCore (history : HistoryView) (line : KeyLineView) (judged : Judged) (change : Change) : Type 0 where
   -- the line has the events that speak of an operation, and no fault
-  pub same_events : line.events ≡ op_events (indexed_from 0 history.events)
+  pub same_events : line.now.events ≡ op_events (indexed_from 0 history.events)
   pub is_judged : IsJudged (machine_of history line) judged
   pub readied : IsReadied history line change
 
@@ -46,13 +46,13 @@ pub record IsSoundCore (history : HistoryView) (line : KeyLineView) (judged : Ju
 pub record Prepares (history history' : HistoryView) (line line' : KeyLineView) (event : Event) (status : KeyStatus) : Type 0 where
   pub well_formed : IsWellFormed history.concurrency history.events event
   pub in_history : history' ≡ record history { prepared = Some event }
-  pub in_line : line' ≡ record line { prepared = Some (length history.events, event) }
+  pub in_line : line' ≡ with_next (with_pushed (length history.events) event line.now) line
   pub after : IsHistoryOf history.concurrency (history.events ++ event ∷ [])
-  pub is_status : IsKeyStatus (object_of line.kind) line.budget (entries_of (indexed_from 0 (history.events ++ event ∷ []))) status
+  pub is_status : IsKeyStatus (object_of line.now.kind) line.now.budget (entries_of (indexed_from 0 (history.events ++ event ∷ []))) status
 
 -- the line is as it was, but for what is prepared
 abbrev pub KeepsLine : KeyLineView → KeyLineView → Type 0
-KeepsLine line line' = (prepared : Option (ℕ × Event)) × (line' ≡ record line { prepared = prepared })
+KeepsLine line line' = (next : Option KeyHistory) × (line' ≡ record line { next = next })
 
 -- history and line are as they were, but for what is prepared
 pub record Keeps (history history' : HistoryView) (line line' : KeyLineView) : Type 0 where

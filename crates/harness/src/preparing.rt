@@ -1,10 +1,9 @@
 //! One event, prepared in the history and in the key's line.
 ghost use Rattle.std.specs.Prelude.{◌≡◌, ◌≢◌, ◌++◌, ◌∷◌, [], Some, None, IfOk, IfErr, IsOk, OnOk, OnErr, IsErrOf};
-ghost use Rattle.models.specs.Objects.{object_of};
-ghost use Rattle.history.specs.Events.{key_of, entries_of, indexed_from, op_events};
+ghost use Rattle.history.specs.Events.{key_of, indexed_from, op_events};
 ghost use Rattle.history.specs.ProcessRule.{IsHistory};
 ghost use Rattle.history.specs.WellFormed.{Admits, MayRefuse};
-ghost use Rattle.linspec.specs.Verdicts.{IsKeyStatus};
+ghost use Rattle.checkpoints.specs.KeyLineView.{IsStatusOf, with_next, with_pushed};
 ghost use Rattle.harness.specs.CoreInvariant.{Prepares, Keeps, KeepsLine};
 
 use checkpoints::KeyLine;
@@ -21,7 +20,7 @@ pub(crate) fn prepare_event(
     event: Event,
 ) -> Result<KeyStatus, Refusal>
     requires operation { key_of event ≢ None }
-    requires same { line.old.events ≡ op_events (indexed_from 0 history.old.events) }
+    requires same { line.old.now.events ≡ op_events (indexed_from 0 history.old.events) }
     ensures readied { IfOk result (Prepares history.old history.new line.old line.new event) }
     ensures refused { IfErr result (MayRefuse history.old.concurrency history.old.events event) }
     ensures memory_last { IsErrOf result Refusal.NoMemory → Admits history.old event }
@@ -42,14 +41,13 @@ fn prepare_in_line(
     index: u32,
     copy: Result<Event, AllocError>,
 ) -> Result<KeyStatus, AllocError>
-    requires { IfOk copy (λ event. IsHistory (line.old.events ++ (index, event) ∷ [])) }
+    requires { IfOk copy (λ event. IsHistory (line.old.now.events ++ (index, event) ∷ [])) }
     ensures prepared { OnOk result (IfOk copy
-        (λ event. line.new ≡ record line.old { prepared = Some (index, event) })) }
+        (λ event. line.new ≡ with_next (with_pushed index event line.old.now) line.old)) }
     ensures status { IfOk result (λ status. IfOk copy (λ event.
-        let entries = entries_of (line.old.events ++ (index, event) ∷ []) in
-        IsKeyStatus (object_of line.old.kind) line.old.budget entries status)) }
+        IsStatusOf (with_pushed index event line.old.now) status)) }
     ensures copied { OnOk result (IsOk copy) }
     ensures kept { OnErr result (KeepsLine line.old line.new) }
 {
-    line.prepare(index, copy?)
+    line.prepare_push(index, copy?)
 }

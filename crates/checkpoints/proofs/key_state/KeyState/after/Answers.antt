@@ -1,10 +1,10 @@
 use Rattle.checkpoints.proofs.Judging.{dead_after, over_after, is_alive, is_dead, is_over}
 use Rattle.checkpoints.proofs.key_state.KeyState.after.Goals as goal
 
-pub returns-in_ok-copy-in-Alive : goal.returns-in_ok-copy-in-Alive
-returns-in_ok-copy-in-Alive c kind budget events stands history =
+pub returns-in-Alive : goal.returns-in-Alive
+returns-in-Alive c kind budget events stands history =
     let h = is_alive kind budget events _ stands c.in-Alive.live c.in-Alive.is in
-    c.after.ensures kind budget events (c.in_ok-copy-in-Alive.ensures kind budget events h.1) h.0 history
+    c.after.ensures kind budget events h.1 h.0 history
 
 pub returns-in-Dead : goal.returns-in-Dead
 returns-in-Dead c kind budget events stands history = dead_after _ budget events _ history _ (is_dead kind budget events _ stands c.in-Dead.index c.in-Dead.is)
