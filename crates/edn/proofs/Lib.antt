@@ -16,3 +16,5 @@ pub mod Deciding
 pub mod Views
 pub mod Extend
 pub mod Fronts
+pub mod Profiles
+pub mod ReadsBack

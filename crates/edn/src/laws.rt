@@ -3,6 +3,8 @@
 ghost use Rattle.std.specs.Prelude.{◌≡◌, ℕ, [], ◌∷◌, pos, List};
 ghost use Rattle.edn.specs.Value.{Value, Values, int, none, more, Same};
 ghost use Rattle.edn.specs.Text.{IsText};
+ghost use Rattle.edn.specs.Profile.{IsInProfile};
+ghost use Rattle.edn.specs.Canonical.{canonical};
 
 /// A text has one reading.
 pub fn one_reading()
@@ -20,4 +22,11 @@ pub fn sameness_is_an_equivalence()
     ensures reflexive { (v : Value) → Same v v }
     ensures symmetric { (v w : Value) → Same v w → Same w v }
     ensures transitive { (u v w : Value) → Same u v → Same v w → Same u w }
+{}
+
+/// The canonical text of a value in the profile reads as that value, and as nothing else.
+pub fn canonical_text_reads_back()
+    ensures reads { (v : Value) → IsInProfile v → IsText (canonical v) (more v none) }
+    ensures alone { (v : Value) (vs : Values) → IsInProfile v → IsText (canonical v) vs
+        → vs ≡ more v none }
 {}

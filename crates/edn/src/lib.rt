@@ -14,6 +14,7 @@ mod gap;
 mod gate;
 mod laws;
 mod longest_front;
+mod profile;
 mod read_error;
 mod reader;
 mod refusal;
@@ -22,7 +23,10 @@ mod value;
 
 pub use equality::same;
 pub use gate::{Gate, OpenGate};
-pub use laws::{discards_are_skipped, one_reading, sameness_is_an_equivalence};
+pub use laws::{
+    canonical_text_reads_back, discards_are_skipped, one_reading, sameness_is_an_equivalence,
+};
+pub use profile::in_profile;
 pub use reader::read_all;
 pub use refusal::Refusal;
 pub use value::Edn;
