@@ -18,3 +18,4 @@ pub mod Extend
 pub mod Fronts
 pub mod Profiles
 pub mod ReadsBack
+pub mod Appending

@@ -20,6 +20,7 @@ mod reader;
 mod refusal;
 mod string;
 mod value;
+mod writer;
 
 pub use equality::same;
 pub use gate::{Gate, OpenGate};
@@ -30,3 +31,4 @@ pub use profile::in_profile;
 pub use reader::read_all;
 pub use refusal::Refusal;
 pub use value::Edn;
+pub use writer::write;
