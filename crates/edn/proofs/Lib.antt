@@ -19,3 +19,4 @@ pub mod Fronts
 pub mod Profiles
 pub mod ReadsBack
 pub mod Appending
+pub mod OneByOne

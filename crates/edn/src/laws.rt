@@ -2,13 +2,18 @@
 
 ghost use Rattle.std.specs.Prelude.{◌≡◌, ℕ, [], ◌∷◌, pos, List};
 ghost use Rattle.edn.specs.Value.{Value, Values, int, none, more, Same};
-ghost use Rattle.edn.specs.Text.{IsText};
+ghost use Rattle.edn.specs.Text.{IsText, IsLongestFront};
 ghost use Rattle.edn.specs.Profile.{IsInProfile};
 ghost use Rattle.edn.specs.Canonical.{canonical};
 
 /// A text has one reading.
 pub fn one_reading()
     ensures { (bytes : List ℕ) (v w : Values) → IsText bytes v → IsText bytes w → v ≡ w }
+{}
+
+/// An input has one longest front that is a text, so there is one place at which it is refused.
+pub fn one_place()
+    ensures { (bytes : List ℕ) (m n : ℕ) → IsLongestFront bytes m → IsLongestFront bytes n → m ≡ n }
 {}
 
 /// `#_ [] 1;x` reads as 1.
