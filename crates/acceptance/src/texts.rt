@@ -1,5 +1,5 @@
 //! Texts and their elements, and the places at which texts stop being any.
-use edn::{Edn, Refusal, read_all, same};
+use edn::{Edn, Elements, Refusal, check_text, in_profile, read_all, same, write};
 use std::test::Fail;
 
 // The one element of a text.
@@ -102,4 +102,85 @@ fn numbers_and_names_of_refusals(rt: HostRuntime) {
     assert_eq!(rt; Refusal::Busy.number(), 1);
     assert_eq!(rt; Refusal::TooLong.number(), 22);
     assert_eq!(rt; Refusal::Unreadable(7).name(), "Unreadable");
+}
+
+// The canonical text of the one element of a text.
+fn rewritten(rt: &HostRuntime, text: &[u8]) -> Result<Vec<u8>, Fail> {
+    let spelled = element(rt, text)?;
+    let mut written = Vec::from_slice(rt.alloc(), b"> ")?;
+    if in_profile(&spelled) {
+        write(&spelled, &mut written)?;
+    }
+    Ok(written)
+}
+
+#[test]
+fn canonical_text(rt: HostRuntime) -> Result<(), Fail> {
+    assert_eq!(rt;
+        rewritten(&rt, b"{:b #{2 1} , :a \"x\\\"y\"}")?.as_slice(),
+        b"> {:b #{2 1}, :a \"x\\\"y\"}".as_slice()
+    );
+    assert_eq!(rt;
+        rewritten(&rt, b"[nil true,false\t-0 +7 [ ] #{ } { } :a.b]")?.as_slice(),
+        b"> [nil true false 0 7 [] #{} {} :a.b]".as_slice()
+    );
+    assert_eq!(rt;
+        rewritten(&rt, b"\"\t\\r\n\\\\\xc3\xa9;\"")?.as_slice(),
+        b"> \"\\t\\r\\n\\\\\xc3\xa9;\"".as_slice()
+    );
+    assert_eq!(rt;
+        rewritten(&rt, b"-9223372036854775808")?.as_slice(),
+        b"> -9223372036854775808".as_slice()
+    );
+    assert_eq!(rt; rewritten(&rt, DEEPEST)?.len(), DEEPEST.len() + 2);
+    Ok(())
+}
+
+#[test]
+fn values_without_a_text(rt: HostRuntime) -> Result<(), Fail> {
+    let digit_first = Edn::Keyword(String::from_str(rt.alloc(), "9")?);
+    assert!(rt; !in_profile(&digit_first));
+    let twice = Edn::Set(vec![in rt.alloc(); Edn::Int(1), Edn::Int(1)]?);
+    assert!(rt; !in_profile(&twice));
+    let deepest = element(&rt, DEEPEST)?;
+    assert!(rt; in_profile(&deepest));
+    let too_deep = Edn::Vector(vec![in rt.alloc(); deepest]?);
+    assert!(rt; !in_profile(&too_deep));
+    Ok(())
+}
+
+// The integers that come before the end, or before the place at which the input is refused.
+fn integers_and_place(
+    rt: &HostRuntime,
+    text: &[u8],
+) -> Result<(Vec<i64>, Option<usize>), Fail> {
+    let mut integers = Vec::new(rt.alloc());
+    let mut elements = Elements::new(text);
+    for _ in 0..text.len() {
+        match elements.next(rt.alloc()) {
+            Ok(Some(element)) => integers.push(element.as_int().ok_or("no integer")?)?,
+            Ok(None) => break,
+            Err(Refusal::Unreadable(place)) => return Ok((integers, Some(place))),
+            Err(why) => return Err(why.into()),
+        }
+    }
+    Ok((integers, None))
+}
+
+#[test]
+fn elements_one_after_the_other(rt: HostRuntime) -> Result<(), Fail> {
+    let text = b"1 #_ [2 3] +4, ; x";
+    assert_eq!(rt; check_text(rt.alloc(), text)?, 2);
+    let (integers, place) = integers_and_place(&rt, text)?;
+    assert_eq!(rt; integers.as_slice(), [1, 4].as_slice());
+    assert_eq!(rt; place, None);
+    let (integers, place) = integers_and_place(&rt, b"1 2 007")?;
+    assert_eq!(rt; integers.as_slice(), [1, 2].as_slice());
+    assert_eq!(rt; place, Some(5));
+    let (integers, place) = integers_and_place(&rt, b"1 ]")?;
+    assert_eq!(rt; integers.as_slice(), [1].as_slice());
+    assert_eq!(rt; place, Some(2));
+    assert_eq!(rt; check_text(rt.alloc(), b"1 2 007").err(), Some(Refusal::Unreadable(5)));
+    assert_eq!(rt; check_text(rt.alloc(), b"1 ]").err(), Some(Refusal::Unreadable(2)));
+    Ok(())
 }

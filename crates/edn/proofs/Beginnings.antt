@@ -1,5 +1,5 @@
 -- An element by its first byte
-use Rattle.std.proofs.Common.{◌≡◌, ℕ, ◌+◌, ◌<◌, ◌≤◌, Bool, true, false, List, [], ◌∷◌, ◌++◌, length, ◌⊎◌, inl, inr, refl, sym, ap, ap₂, ◌∙◌, subst, arith}
+use Rattle.std.proofs.Common.{◌≡◌, ℕ, ◌+◌, ◌<◌, ◌≤◌, Bool, true, false, List, [], ◌∷◌, ◌++◌, length, refl, sym, ap, ap₂, ◌∙◌, subst, arith}
 use Rattle.edn.specs.Value.{Value, text, vector, pairs, members, Values, Pairs, in_text, keys, AreDistinct}
 use Rattle.edn.specs.Bytes.{is_white, IsAtom, MayFollowAtom}
 use Rattle.edn.specs.Reading.{closes, IsToken}

@@ -1,8 +1,8 @@
 -- Keys and members of which none stands twice
 use Rattle.std.proofs.Common.{◌≡◌, ℕ, zero, suc, ◌+◌, ◌<◌, ◌≤◌, ◌⊎◌, inl, inr, List, [], ◌∷◌, ◌++◌, refl, sym, ap, ◌∙◌, subst, arith, take, length, get_or, map}
 use Rattle.std.proofs.lemmas.List.{take_more}
-use Rattle.edn.specs.Value.{Value, Values, none, more, joined, Pairs, no_pairs, pair, keys, Same, IsNotAmong, AreDistinct}
-use Rattle.edn.specs.View.{value_of, values_of, entries_of, list_of}
+use Rattle.edn.specs.Value.{Value, Values, none, more, joined, keys, Same, IsNotAmong, AreDistinct}
+use Rattle.edn.specs.View.{value_of, entries_of, list_of}
 use Rattle.edn.specs.declared.value.Edn.{Edn}
 use Rattle.edn.proofs.Equivalence.{same_sym}
 

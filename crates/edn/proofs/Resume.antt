@@ -75,13 +75,13 @@ over_gap d t s g stop u end h = subst (λ x. SkipsGap d t x) (one_gap no_gap h s
 behind_gap : (d : ℕ) (t s : List ℕ) → SkipsGap d t s → begins_gap s ≡ false → (u : List ℕ) → begins_gap u ≡ false → SkipsGap d t u → SkipsGap d s u
 behind_gap d t s g stop u end h = subst (λ x. SkipsGap d s x) (one_gap g h stop end) no_gap
 
-so_far_gap : (d : ℕ) (text : List ℕ) (read : Values) (t s : List ℕ) → SkipsGap d t s → begins_gap s ≡ false → SoFar d text read t → SoFar d text read s
+pub so_far_gap : (d : ℕ) (text : List ℕ) (read : Values) (t s : List ℕ) → SkipsGap d t s → begins_gap s ≡ false → SoFar d text read t → SoFar d text read s
 so_far_gap d text read t s g stop h = record {
   sound = λ vs r c o. h.sound vs r c (moved d 0 s t (over_gap d t s g stop) vs r c o);
   complete = λ vs r c o. let a = h.complete vs r c o in (a.0, a.1, moved d 0 t s (behind_gap d t s g stop) a.0 r c a.2);
 }
 
-joined_more : (vs ws : Values) (v : Value) → joined (joined vs (more v none)) ws ≡ joined vs (more v ws)
+pub joined_more : (vs ws : Values) (v : Value) → joined (joined vs (more v none)) ws ≡ joined vs (more v ws)
 joined_more none ws v = refl
 joined_more (more x vs) ws v = ap (more x) (joined_more vs ws v)
 

@@ -1,7 +1,6 @@
 -- Atoms and strings by their order, and a set of them
-use Rattle.std.proofs.Common.{◌≡◌, ℕ, ◌⊎◌, inl, inr, Bool, true, false, cond, not, refl, sym, ap, ◌∙◌, subst, rules}
+use Rattle.std.proofs.Common.{◌≡◌, ◌⊎◌, inl, inr, Bool, true, false, cond, not, refl, sym, ap, ◌∙◌, subst, rules}
 use Rattle.std.specs.Ordering.{is_eq}
-use Rattle.std.specs.Str.{bytes_eq}
 use Rattle.std.specs.BTreeMap.{is_at}
 use Rattle.std.specs.BTreeSet.{BTreeSet, IsEmpty, contains}
 use Rattle.std.proofs.lemmas.Map.Text.{is_eq-slice_cmp}
@@ -9,7 +8,7 @@ use Rattle.std.proofs.lemmas.Slice.Eq.{bytes_eq-Decides}
 use Rattle.edn.specs.declared.distinct.Scalar.{Scalar}
 use Rattle.edn.specs.declared.distinct.Scalar.TheVariants.{Nil, Bool as B, Int, Str, Keyword}
 use Rattle.edn.specs.contracts.distinct.ScalarOrd.TheImpl.{cmp-value}
-use Rattle.edn.specs.Value.{Value, Values, none, more, joined, text, keyword, int, bool, Same, IsNotAmong}
+use Rattle.edn.specs.Value.{Value, Values, none, more, joined, text, keyword, Same, IsNotAmong}
 use Rattle.edn.specs.Scalar.{scalar_value, IsCollection}
 use Rattle.edn.proofs.Repeats.{Among, not_among, among_not, among_push, among_pushed}
 

@@ -1,5 +1,5 @@
 -- Strings that are read byte by byte
-use Rattle.std.proofs.Common.{◌≡◌, ℕ, List, [], ◌∷◌, ◌++◌, refl, sym, ap, ◌∙◌, subst, append_assoc, append-nil}
+use Rattle.std.proofs.Common.{◌≡◌, ℕ, List, [], ◌∷◌, ◌++◌, refl, sym, subst, append_assoc, append-nil}
 use Rattle.std.specs.Str.{IsUtf8}
 use Rattle.edn.specs.Bytes.{SpellsByte}
 use Rattle.edn.specs.Text.{ReadsString}

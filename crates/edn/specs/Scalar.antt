@@ -1,5 +1,4 @@
 -- Invariant: atoms and strings, which are ordered, for the functions that find repeated keys
-use Rattle.std.specs.Prelude.{ℕ, List}
 use Rattle.edn.specs.Value.{Value, nil, bool, int, text, keyword, vector, pairs, members}
 use Rattle.edn.specs.declared.distinct.Scalar.{Scalar}
 

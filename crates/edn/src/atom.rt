@@ -116,8 +116,8 @@ fn after_name_byte(text: &[u8]) -> Option<&[u8]>
     if goes_on(*first) { Some(rest) } else { None }
 }
 
-// The longest name of a keyword at the front, and what follows it.
-fn longest_name(text: &[u8]) -> Option<(&[u8], &[u8])>
+/// The longest name of a keyword at the front, and what follows it.
+pub fn longest_name(text: &[u8]) -> Option<(&[u8], &[u8])>
     ensures found { IfSome result (λ x. IsLongest IsName text.now x.0.now x.1.now) }
     ensures none { IfNone result (HasNone IsName text.now) }
 {

@@ -91,3 +91,15 @@ pub fn are_distinct<T: Keyed>(alloc: Global, items: &[T]) -> Result<bool, AllocE
     }
     Ok(true)
 }
+
+/// Whether no two of the items have the same key, found without memory. The time grows with the square of their number.
+pub fn all_differ<T: Keyed>(items: &[T]) -> bool
+    ensures { IsTrue result ↔ AreDistinct (list_of (map T.key_value items.now)) }
+{
+    for (i, item) in items.iter().enumerate() {
+        if !is_not_among(item.key(), &items[..i]) {
+            return false;
+        }
+    }
+    true
+}

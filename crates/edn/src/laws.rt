@@ -2,11 +2,18 @@
 
 ghost use Rattle.std.specs.Prelude.{◌≡◌, ℕ, [], ◌∷◌, pos, List};
 ghost use Rattle.edn.specs.Value.{Value, Values, int, none, more, Same};
-ghost use Rattle.edn.specs.Text.{IsText};
+ghost use Rattle.edn.specs.Text.{IsText, IsLongestFront};
+ghost use Rattle.edn.specs.Profile.{IsInProfile};
+ghost use Rattle.edn.specs.Canonical.{canonical};
 
 /// A text has one reading.
 pub fn one_reading()
     ensures { (bytes : List ℕ) (v w : Values) → IsText bytes v → IsText bytes w → v ≡ w }
+{}
+
+/// An input has one longest front that is a text, so there is one place at which it is refused.
+pub fn one_place()
+    ensures { (bytes : List ℕ) (m n : ℕ) → IsLongestFront bytes m → IsLongestFront bytes n → m ≡ n }
 {}
 
 /// `#_ [] 1;x` reads as 1.
@@ -20,4 +27,11 @@ pub fn sameness_is_an_equivalence()
     ensures reflexive { (v : Value) → Same v v }
     ensures symmetric { (v w : Value) → Same v w → Same w v }
     ensures transitive { (u v w : Value) → Same u v → Same v w → Same u w }
+{}
+
+/// The canonical text of a value in the profile reads as that value, and as nothing else.
+pub fn canonical_text_reads_back()
+    ensures reads { (v : Value) → IsInProfile v → IsText (canonical v) (more v none) }
+    ensures alone { (v : Value) (vs : Values) → IsInProfile v → IsText (canonical v) vs
+        → vs ≡ more v none }
 {}

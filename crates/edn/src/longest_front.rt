@@ -1,13 +1,16 @@
 //! How far an unreadable input is a text.
 
 ghost use Rattle.std.specs.Prelude.{IfOk};
-ghost use Rattle.edn.specs.Text.{IsLongestFront};
+ghost use Rattle.edn.specs.Value.{Values};
+ghost use Rattle.edn.specs.Refusals.{IsWhy};
+ghost use Rattle.edn.specs.Text.{IsText, IsLongestFront};
 ghost use Rattle.edn.specs.Reading.{OnUnreadable};
 
 use crate::atom::longest_atom;
 use crate::gap::{after, after_discard, after_white, line_end};
 use crate::read_error::ReadError;
 use crate::reader::{discarded, element};
+use crate::refusal::Refusal;
 use std::alloc::Global;
 
 /// The length of the longest front that is a text, in one pass over the bytes.
@@ -53,4 +56,15 @@ pub fn place_of(alloc: Global, bytes: &[u8]) -> Result<usize, ReadError>
         return Ok(bytes.len());
     }
     Ok(best)
+}
+
+/// Why an input that is no text is refused.
+pub fn unreadable(alloc: Global, bytes: &[u8]) -> Refusal
+    requires { (values : Values) → IsText bytes.now values → ⊥ }
+    ensures { IsWhy bytes.now result }
+{
+    match place_of(alloc, bytes) {
+        Ok(place) => Refusal::Unreadable(place),
+        Err(_) => Refusal::NoMemory,
+    }
 }

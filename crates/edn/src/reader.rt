@@ -18,7 +18,7 @@ use crate::value::Edn;
 use std::alloc::Global;
 
 /// At most so many collections are open at once, so that reading and dropping need little stack.
-const MAX_OPEN: u8 = 32;
+pub const MAX_OPEN: u8 = 32;
 
 /// Drops an element. Dropped in a larger function, an enum gives that function's goals once for each variant.
 pub fn discarded(_value: Edn) {}

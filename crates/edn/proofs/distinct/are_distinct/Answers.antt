@@ -1,5 +1,5 @@
-use Rattle.std.proofs.Common.{◌≡◌, ◌∙◌, ◌+◌, sym, subst, take, arith}
-use Rattle.edn.specs.Value.{IsNotAmong, AreDistinct}
+use Rattle.std.proofs.Common.{◌∙◌, ◌+◌, sym, subst, take, arith}
+use Rattle.edn.specs.Value.{IsNotAmong}
 use Rattle.edn.specs.Scalar.{IsCollection}
 use Rattle.edn.specs.View.{value_of}
 use Rattle.edn.proofs.Deciding.{off, none_here, all_here}

@@ -1,4 +1,4 @@
-use Rattle.std.proofs.Common.{◌≡◌, sym, subst, arith}
+use Rattle.std.proofs.Common.{subst, arith}
 use Rattle.edn.specs.Value.{Value, Same}
 use Rattle.edn.specs.View.{value_of}
 use Rattle.edn.proofs.Deciding.{off, none_here, all_here}

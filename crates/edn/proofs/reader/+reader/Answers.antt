@@ -1,4 +1,4 @@
-use Rattle.std.proofs.Common.{◌≡◌, ◌+◌, ◌-◌, suc, Some, None, [], ◌∷◌, ◌++◌, length, option_map, refl, sym, ap, ◌∙◌, subst, arith, rules, add-one}
+use Rattle.std.proofs.Common.{◌≡◌, ◌+◌, ◌-◌, suc, [], ◌∷◌, ◌++◌, length, option_map, refl, sym, ap, ◌∙◌, subst, arith, rules, add-one}
 use Rattle.std.proofs.lemmas.Result.{err_from_is_err_and}
 use Rattle.std.proofs.lemmas.Str.{IsUtf8-string_bytes}
 use Rattle.std.specs.Prelude.{string_bytes}
@@ -6,7 +6,7 @@ use Rattle.edn.specs.Value.{text, vector, pairs, members, in_text, AreDistinct}
 use Rattle.edn.specs.View.{value_of, values_of}
 use Rattle.edn.specs.Text.{Reads, ReadsAll}
 use Rattle.edn.specs.Text.Reads.{atom, in_quotes, in_brackets, in_braces, in_hash_braces}
-use Rattle.edn.specs.Reading.{FindsNext, ReadsCollection}
+use Rattle.edn.specs.Reading.{FindsNext}
 use Rattle.edn.proofs.Beginnings.{OpensNothing, brace_off, hash_brace_off, no_element, other_close, no_piece, line_shorter, gap_shorter, reads_shorter}
 use Rattle.edn.proofs.Deciding.{same_error}
 use Rattle.edn.proofs.Resume.{SoFar, so_far_next, so_far_done, GapSoFar, gap_white, gap_comment, gap_discard, gap_paid, gap_found, gap_done, gap_owing, gap_stuck}

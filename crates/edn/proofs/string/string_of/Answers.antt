@@ -1,4 +1,4 @@
-use Rattle.std.proofs.Common.{◌≡◌, List, ℕ, [], ◌∷◌, ◌++◌, sym, ap, subst, rules}
+use Rattle.std.proofs.Common.{◌≡◌, [], ◌∷◌, ◌++◌, sym, ap, subst, rules}
 use Rattle.std.specs.Str.{IsUtf8}
 use Rattle.edn.specs.Text.{ReadsString}
 use Rattle.edn.proofs.Strings.{string_more, string_closed, string_stuck, string_alone}

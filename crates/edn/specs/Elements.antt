@@ -1,0 +1,18 @@
+-- Promise: a text of which elements are given one after the other
+use Rattle.std.specs.Prelude.{◌≡◌, ℕ, ◌+◌, List}
+use Rattle.edn.specs.Value.{Values, none, more, joined}
+use Rattle.edn.specs.Text.{IsText}
+
+-- the whole input, and what is left of it behind the elements that were given
+pub record Reading : Type 0 where
+  pub bytes : List ℕ
+  pub left : List ℕ
+
+-- the bytes are a text exactly where left is one, and then of the values that were given and behind them those of left
+pub record IsLeftBehind (bytes : List ℕ) (given : Values) (left : List ℕ) : Type 0 where
+  pub sound : (values : Values) → IsText left values → IsText bytes (joined given values)
+  pub complete : (values : Values) → IsText bytes values → (others : Values) × (values ≡ joined given others) × IsText left others
+
+abbrev pub count_of : Values → ℕ
+count_of none = 0
+count_of (more v vs) = count_of vs + 1

@@ -1,0 +1,114 @@
+//! The elements of a text, one after the other.
+
+ghost use Rattle.std.specs.Prelude.{◌≡◌, ◌<◌, [], length, option_map, IfOk, IfErr, IfSome, IfNone, OnErr};
+ghost use Rattle.edn.specs.Value.{Values, none, more, joined};
+ghost use Rattle.edn.specs.Text.{IsText};
+ghost use Rattle.edn.specs.Elements.{Reading, IsLeftBehind, count_of};
+ghost use Rattle.edn.specs.Reading.{FindsNext};
+ghost use Rattle.edn.specs.Refusals.{IsWhy};
+ghost use Rattle.edn.specs.View.{value_of};
+
+use crate::longest_front::unreadable;
+use crate::read_error::ReadError;
+use crate::reader::{discarded, next_element};
+use crate::refusal::Refusal;
+use crate::value::Edn;
+use std::alloc::Global;
+use std::marker::Model;
+
+/// The elements of a text, given one after the other. They are those that [`read_all`](crate::read_all) gives, and only
+/// the one that is being read takes memory.
+#[derive(Drop)]
+pub struct Elements<'a> {
+    bytes: &'a [u8],
+    rest: &'a [u8],
+}
+
+impl<'a> Model for Elements<'a> {
+    ghost Value = { Reading };
+
+    ghost view = { λ e. record { bytes = e.bytes.now; left = e.rest.now } };
+
+    ghost invariant = { λ e. (given : Values) × IsLeftBehind e.bytes.now given e.rest.now };
+}
+
+impl<'a> Elements<'a> {
+    /// Reads nothing yet.
+    pub fn new(bytes: &'a [u8]) -> Self
+        ensures bytes { result.bytes ≡ bytes.now }
+        ensures left { result.left ≡ bytes.now }
+        ensures start { IsLeftBehind bytes.now none result.left }
+    {
+        Elements { bytes, rest: bytes }
+    }
+
+    /// The next element, or none at the end of the text.
+    ///
+    /// # Errors
+    /// [`Refusal::Unreadable`] where the input is no text, with the same place as
+    /// [`read_all`](crate::read_all): at the latest where the next element or the end of the text should stand, and then
+    /// at each further call. [`Refusal::NoMemory`] where a growth was refused; the element can be asked for again.
+    ///
+    /// The time is that of one pass over the element and the gap in front of it, and two over the input where it is
+    /// refused.
+    pub fn next(&mut self, alloc: Global) -> Result<Option<Edn>, Refusal>
+        ensures bytes { self.new.bytes ≡ self.old.bytes }
+        ensures given { IfOk result (λ found. IfSome found (λ e. (given : Values)
+            → IsLeftBehind self.old.bytes given self.old.left
+            → IsLeftBehind self.old.bytes (joined given (more (value_of e) none)) self.new.left)) }
+        ensures shorter { IfOk result (λ found. IfSome found
+            (λ e. length self.new.left < length self.old.left)) }
+        ensures end { IfOk result (λ found. IfNone found ((given : Values)
+            → IsLeftBehind self.old.bytes given self.old.left → IsText self.old.bytes given)) }
+        ensures refused { IfErr result (λ why. IsWhy self.old.bytes why) }
+        ensures unchanged { OnErr result (self.new ≡ self.old) }
+    {
+        let (found, left) = found_in(alloc, self.bytes, self.rest)?;
+        self.rest = left;
+        Ok(found)
+    }
+}
+
+// The next element of the input, and what is left behind it; or none and nothing.
+fn found_in<'a>(
+    alloc: Global,
+    bytes: &[u8],
+    rest: &'a [u8],
+) -> Result<(Option<Edn>, &'a [u8]), Refusal>
+    requires { (given : Values) × IsLeftBehind bytes.now given rest.now }
+    ensures ok { IfOk result (λ x. FindsNext 0 rest.now (option_map value_of x.0) x.1.now) }
+    ensures end { IfOk result (λ x. IfNone x.0 (x.1.now ≡ [])) }
+    ensures refused { IfErr result (λ why. IsWhy bytes.now why) }
+{
+    let (found, left) = match next_element(alloc, 0, rest) {
+        Ok(next) => next,
+        Err(ReadError::NoMemory) => return Err(Refusal::NoMemory),
+        Err(ReadError::Unreadable) => return Err(unreadable(alloc, bytes)),
+    };
+    match found {
+        Some(element) => Ok((Some(element), left)),
+        None if left.is_empty() => Ok((None, left)),
+        None => Err(unreadable(alloc, bytes)),
+    }
+}
+
+/// The number of elements of a text, of which none is kept: after it each of them can be taken from [`Elements`] and no
+/// place is refused.
+///
+/// # Errors
+/// Those of [`read_all`](crate::read_all), with the same place.
+///
+/// The time is that of reading the text.
+pub fn check_text(alloc: Global, bytes: &[u8]) -> Result<usize, Refusal>
+    ensures read { IfOk result (λ count. (values : Values) × IsText bytes.now values
+        × (count ≡ count_of values)) }
+    ensures refused { IfErr result (λ why. IsWhy bytes.now why) }
+{
+    let mut elements = Elements::new(bytes);
+    let mut count: usize = 0;
+    'elements: while let Some(element) = elements.next(alloc)? {
+        discarded(element);
+        count += 1;
+    }
+    Ok(count)
+}
