@@ -1,0 +1,15 @@
+-- Invariant: answers as the search for an item finds them. These are the code's own; callers see only what generators
+-- answer
+use Rattle.std.specs.Prelude.{ℕ, ◌<◌, Bool, ◌||◌, ◌∷◌}
+use Rattle.generators.specs.declared.search_result.SearchResult.{SearchResult}
+use Rattle.generators.specs.declared.search_result.SearchResult.TheVariants.{Gives, Declines}
+
+-- the answer of a child at a place as that of the generator above it
+abbrev pub under : ℕ → Bool → SearchResult → SearchResult
+under i others (Gives x path) = Gives x (i ∷ path)
+under i others (Declines later) = Declines (later || others)
+
+-- an item comes from one of the first n
+abbrev pub IsBelow : ℕ → ℕ → SearchResult → Type 0
+IsBelow n i (Gives x path) = i < n
+IsBelow n i (Declines later) = Unit {0}

@@ -1,0 +1,47 @@
+//! Laws of what generators answer.
+ghost use Rattle.std.specs.Prelude.{◌≡◌, ℕ, Bool, List, true};
+ghost use Rattle.generators.specs.declared.item.Item.{Item};
+ghost use Rattle.generators.specs.declared.item.Drawn.{Drawn};
+ghost use Rattle.generators.specs.Generators.{Generator, AllItems};
+ghost use Rattle.generators.specs.Draws.{Ask, Draws, DrawOutcome, gives, is_for, MayAnswer, AreVain};
+
+/// An ask comes to one outcome, which the generator, the asker, the idle threads and the random words determine.
+pub fn one_outcome()
+    ensures { (words : ℕ → ℕ) (ask : Ask) (g : Generator) (p : ℕ)
+        (o u : DrawOutcome Generator)
+        → Draws words ask g p o → Draws words ask g p u → o ≡ u }
+{}
+
+/// Each ask comes to an outcome.
+pub fn some_outcome()
+    ensures { (words : ℕ → ℕ) (ask : Ask) (g : Generator) (p : ℕ)
+        → (o : DrawOutcome Generator) × Draws words ask g p o }
+{}
+
+/// To a list of asks, one after another, there is one list of answers, and they leave one generator at one place.
+pub fn one_run()
+    ensures { (words : ℕ → ℕ) (asks : List Ask) (g : Generator) (p : ℕ) (ds es : List Drawn)
+        (h k : Generator) (q r : ℕ)
+        → MayAnswer words g p asks ds h q → MayAnswer words g p asks es k r
+        → (ds ≡ es) × (h ≡ k) × (q ≡ r) }
+{}
+
+/// Draws that are answered without an item leave the generator and its place as they were.
+pub fn vain_asks_move_nothing()
+    ensures { (words : ℕ → ℕ) (asks : List Ask) (g : Generator) (p : ℕ) (ds : List Drawn)
+        (h : Generator) (q : ℕ)
+        → AreVain ds → MayAnswer words g p asks ds h q → (h ≡ g) × (q ≡ p) }
+{}
+
+/// What holds of each item of a generator holds of what it gives, and of each item of the generator afterwards.
+pub fn items_stay()
+    ensures { (good : Item → Bool) (words : ℕ → ℕ) (ask : Ask) (g h : Generator) (p q : ℕ)
+        (x : Item) → Draws words ask g p (gives x h q) → AllItems (λ y. good y ≡ true) g
+        → (good x ≡ true) × AllItems (λ y. good y ≡ true) h }
+{}
+
+/// A thread is given operations, the nemesis faults.
+pub fn items_are_for_the_asker()
+    ensures { (words : ℕ → ℕ) (ask : Ask) (g h : Generator) (p q : ℕ) (x : Item)
+        → Draws words ask g p (gives x h q) → is_for ask.asker x ≡ true }
+{}

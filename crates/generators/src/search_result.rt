@@ -1,0 +1,29 @@
+//! What a generator answers, as the search for an item finds it.
+ghost use Rattle.std.specs.Prelude.{◌≡◌, IfOk};
+ghost use Rattle.generators.specs.SearchResults.{under};
+
+use crate::item::Item;
+use crate::path::Path;
+use std::alloc::AllocError;
+
+/// What a generator answers. It says nothing of the generator afterwards, which has not moved yet.
+#[derive(Drop)]
+pub enum SearchResult {
+    /// An item, and the path to it.
+    Gives(Item, Path),
+    /// None, and whether one may come later.
+    Declines(bool),
+}
+
+impl SearchResult {
+    /// The answer of a child at a place as that of the generator above it. Where the child declines, an item may come
+    /// later also where `others` says so.
+    pub fn under(self, place: usize, others: bool) -> Result<SearchResult, AllocError>
+        ensures { IfOk result (λ answer. answer ≡ under place others self) }
+    {
+        match self {
+            SearchResult::Gives(item, path) => Ok(SearchResult::Gives(item, path.under(place)?)),
+            SearchResult::Declines(later) => Ok(SearchResult::Declines(later || others)),
+        }
+    }
+}

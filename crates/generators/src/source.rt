@@ -1,0 +1,145 @@
+//! A generator and its place in the stream of random words.
+ghost use Rattle.std.specs.Prelude.{◌≡◌, ◌<◌, ◌^◌, None, IfOk, OnErr};
+
+use crate::asking::ask;
+use crate::form::Gen;
+use crate::item::{Asker, Drawn};
+use crate::moving::advance;
+use crate::path::Path;
+use crate::search_result::SearchResult;
+use crate::words::Words;
+use std::alloc::{AllocError, Global};
+use std::marker::Model;
+
+/// A generator, and its place in the stream of random words of a seed: the words of 32 bits of the ChaCha8 generator that
+/// the seed gives.
+///
+/// A draw has two halves: [`prepare`](Source::prepare) finds the item and changes nothing else, and
+/// [`commit`](Source::commit) moves on behind it. Neither copies the generator.
+#[derive(Drop)]
+pub struct Source {
+    alloc: Global,
+    generator: Gen,
+    words: Words,
+    prepared: Option<(Path, Words)>,
+}
+
+impl Model for Source {
+    ghost use Rattle.std.specs.Prelude.{◌≡◌, IfSome};
+    ghost use Rattle.generators.specs.Generators.{generator_of};
+    ghost use Rattle.generators.specs.Sources.{SourceView, source_view_code, next_along};
+
+    ghost Value = { SourceView };
+
+    ghost coded = { source_view_code };
+
+    ghost view = { λ a. record {
+      generator = generator_of a.generator;
+      seed = a.words.seed;
+      place = a.words.place;
+      next = next_along (generator_of a.generator) a.prepared;
+    } };
+
+    ghost invariant = { λ a. IfSome a.prepared (λ found. found.1.seed ≡ a.words.seed) };
+}
+
+impl Source {
+    ghost use Rattle.generators.specs.Generators.{generator_of};
+    ghost use Rattle.generators.specs.Draws.{MayDraw, ask_of};
+    ghost use Rattle.generators.specs.Words.{word};
+    ghost use Rattle.generators.specs.Sources.{upcoming, committed};
+
+    /// The generator, at the beginning of the stream of the seed. Takes no memory.
+    pub fn new(alloc: Global, generator: Gen, seed: u64) -> Source
+        ensures { result ≡ record {
+          generator = generator_of generator;
+          seed = seed;
+          place = 0;
+          next = None;
+        } }
+    {
+        Source {
+            alloc,
+            generator,
+            words: Words::new(seed),
+            prepared: None,
+        }
+    }
+
+    /// The place of the next word in the stream, modulo 2^68. Takes no memory.
+    pub fn place(&self) -> u128
+        ensures value { result ≡ self.now.place }
+        ensures bound { result < 2 ^ 68 }
+    {
+        self.words.place()
+    }
+
+    /// Draws for the asker, where `idle` says for each thread whether it has no open operation. Only an item changes the
+    /// generator and its place in the stream.
+    ///
+    /// # Errors
+    /// `AllocError` where there is no memory for the item and the path to it; then all is as it was.
+    ///
+    /// The time is that of the generators that are asked, of the children that are over on the way, and of the item.
+    pub fn draw(&mut self, idle: &[bool], asker: Asker) -> Result<Drawn, AllocError>
+        ensures answer { IfOk result (λ drawn.
+            MayDraw (word self.old.seed) (ask_of asker idle.now) self.old.generator self.old.place
+            drawn self.new.generator self.new.place) }
+        ensures seed { self.new.seed ≡ self.old.seed }
+        ensures next { self.new.next ≡ None }
+        ensures err { OnErr result (self.new ≡ record self.old { next = None }) }
+    {
+        let drawn = self.prepare(idle, asker)?;
+        self.commit();
+        Ok(drawn)
+    }
+
+    /// The answer that [`draw`](Source::draw) would give. The generator and its place stay as they are; the next `prepare`
+    /// or `draw` drops what is prepared.
+    ///
+    /// # Errors
+    /// `AllocError` where there is no memory for the item and the path to it; then nothing is prepared.
+    pub fn prepare(&mut self, idle: &[bool], asker: Asker) -> Result<Drawn, AllocError>
+        ensures answer { IfOk result (λ drawn.
+            MayDraw (word self.old.seed) (ask_of asker idle.now) self.old.generator self.old.place
+            drawn (upcoming self.new).0 (upcoming self.new).1) }
+        ensures kept { self.new ≡ record self.old { next = self.new.next } }
+        ensures err { OnErr result (self.new.next ≡ None) }
+    {
+        self.prepared = None;
+        let mut words = self.words.copy()?;
+        match ask(self.alloc, &self.generator, &mut words, asker, idle)? {
+            SearchResult::Gives(item, path) => {
+                self.prepared = Some((path, words));
+                Ok(Drawn::Op(item))
+            }
+            SearchResult::Declines(true) => Ok(Drawn::Pending),
+            SearchResult::Declines(false) => Ok(Drawn::Done),
+        }
+    }
+
+    /// Brings what is prepared, if a draw is. Takes no memory and cannot fail.
+    pub fn commit(&mut self)
+        ensures { self.new ≡ committed self.old }
+    {
+        if let Some((path, words)) = self.prepared.take() {
+            advance(&mut self.generator, path.as_slice());
+            self.words = words;
+        }
+    }
+
+    /// The same generator at the same place, with memory of its own and nothing prepared; `AllocError` where there is no
+    /// memory. Takes the time of the whole generator.
+    pub fn copy(&self) -> Result<Source, AllocError>
+        ensures { IfOk result (λ other. other ≡ record self.now { next = None }) }
+    {
+        let generator = self.generator.copy(self.alloc)?;
+        let words = self.words.copy()?;
+        Ok(Source {
+            alloc: self.alloc,
+            generator,
+            words,
+            prepared: None,
+        })
+    }
+}

@@ -1,0 +1,68 @@
+//! Random words.
+ghost use Rattle.std.specs.Prelude.{◌≡◌, ◌<◌, ◌^◌, IfOk};
+ghost use Rattle.generators.specs.Draws.{next_place};
+ghost use Rattle.generators.specs.Words.{word};
+
+use rand_chacha::ChaCha8Rng;
+use rand_core::SeedableRng;
+use rand_core::utils::NextWord;
+use std::alloc::AllocError;
+use std::marker::Model;
+
+/// A place in the stream of random words of a seed: the words of 32 bits of the ChaCha8 generator that the seed gives,
+/// from its first one on.
+#[derive(Drop)]
+pub struct Words {
+    seed: u64,
+    rng: ChaCha8Rng,
+}
+
+impl Model for Words {
+    ghost use Rattle.std.specs.Prelude.{◌≡◌, ◌<◌, ◌^◌};
+    ghost use Rattle.generators.specs.Words.{WordsView, rng_at};
+
+    ghost Value = { WordsView };
+
+    ghost view = { λ a. record { seed = a.seed; place = a.rng.word_pos } };
+
+    ghost invariant = { λ a. a.rng ≡ rng_at a.seed a.rng.word_pos };
+}
+
+impl Words {
+    /// The beginning of the stream of a seed. Takes no memory.
+    pub fn new(seed: u64) -> Words
+        ensures { result ≡ record { seed = seed; place = 0 } }
+    {
+        Words {
+            seed,
+            rng: ChaCha8Rng::seed_from_u64(seed),
+        }
+    }
+
+    /// The place of the next word, below 2^68. Takes no memory.
+    pub fn place(&self) -> u128
+        ensures value { result ≡ self.now.place }
+        ensures bound { result < 2 ^ 68 }
+    {
+        self.rng.get_word_pos()
+    }
+
+    /// The word at this place; the next place is modulo 2^68. Takes no memory.
+    pub fn next(&mut self) -> u32
+        ensures word { result ≡ word self.old.seed self.old.place }
+        ensures place { self.new ≡ record self.old { place = next_place self.old.place } }
+    {
+        self.rng.next_word()
+    }
+
+    /// The same place of the same stream.
+    pub fn copy(&self) -> Result<Words, AllocError>
+        ensures { IfOk result (λ other. other ≡ self.now) }
+    {
+        let rng = self.rng.clone()?;
+        Ok(Words {
+            seed: self.seed,
+            rng,
+        })
+    }
+}

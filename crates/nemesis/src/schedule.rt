@@ -1,0 +1,56 @@
+//! Faults, each at a length of the history.
+ghost use Rattle.std.specs.Prelude.{◌≡◌, ℕ, map, Option};
+ghost use Rattle.std.specs.Option.{option_copied};
+ghost use Rattle.nemesis.specs.Schedules.{NeverFalls, due_at, after_first};
+
+use history::Fault;
+use std::marker::Model;
+
+/// Faults that are to come, in order, each with the length of the history from which it is due. A clause sees them as
+/// the list of those that were not taken.
+#[derive(Drop)]
+pub struct Schedule {
+    faults: Vec<(u32, Fault)>,
+    taken: usize,
+}
+
+impl Model for Schedule {
+    ghost use Rattle.std.specs.Prelude.{List, ℕ, ◌≤◌, drop, vec_len};
+    ghost use Rattle.history.specs.declared.event.Fault.{Fault};
+
+    ghost Value = { List (ℕ × Fault) };
+
+    ghost view = { λ a. drop a.taken a.faults.items };
+
+    ghost invariant = { λ a. a.taken ≤ vec_len a.faults };
+}
+
+impl Schedule {
+    /// These faults, each with the length of the history from which it is due, which never falls. Takes no memory.
+    pub fn new(faults: Vec<(u32, Fault)>) -> Schedule
+        requires { NeverFalls faults.items }
+        ensures { result ≡ faults.items }
+    {
+        Schedule { faults, taken: 0 }
+    }
+
+    /// The first fault that was not taken, if it is due at this length of the history. Takes no memory.
+    pub fn due(&self, length: u32) -> Option<&Fault>
+        ensures { option_copied result ≡ due_at length self.now }
+    {
+        if self.taken >= self.faults.len() {
+            return None;
+        }
+        let (at, fault) = &self.faults[self.taken];
+        if *at <= length { Some(fault) } else { None }
+    }
+
+    /// Takes the first fault that was not taken, if there is one. Takes no memory.
+    pub fn advance(&mut self)
+        ensures { self.new ≡ after_first self.old }
+    {
+        if self.taken < self.faults.len() {
+            self.taken += 1;
+        }
+    }
+}
