@@ -1,0 +1,4 @@
+pub mod Pushing
+pub mod Following
+pub mod Standing
+pub mod Refused

@@ -1,0 +1,2 @@
+pub mod MoveRule
+pub mod Threads

@@ -1,0 +1,11 @@
+//! Which process a thread goes on with, and which is busy: the process rule of the Jepsen documentation
+//! (<https://github.com/jepsen-io/jepsen>).
+#![tactic(auto)]
+
+mod laws;
+mod threads;
+
+pub use laws::{
+    crashed_process_stays_away, processes_are_sequential, rule_is_refused_for_one_reason,
+};
+pub use threads::{Thread, Threads};
