@@ -1,10 +1,9 @@
 -- What is appended piece by piece
-use Rattle.std.proofs.Common.{◌≡◌, ℕ, zero, suc, ◌+◌, ◌<◌, ◌≤◌, Bool, true, false, cond, Result, Ok, Err, List, [], ◌∷◌, ◌++◌, length, get_or, take, map, refl, sym, ap, ◌∙◌, subst, arith, append_assoc, append-nil}
+use Rattle.std.proofs.Common.{◌≡◌, ℕ, zero, suc, ◌+◌, ◌<◌, ◌≤◌, cond, Result, Ok, Err, List, [], ◌∷◌, ◌++◌, length, get_or, take, map, refl, sym, ap, ◌∙◌, subst, arith, append_assoc, append-nil}
 use Rattle.std.specs.Prelude.{◌==◌}
 use Rattle.std.specs.List.{flat_map}
 use Rattle.std.proofs.lemmas.List.{take_more, flat_map_more}
 use Rattle.std.proofs.lemmas.Bool.{ne_eqb}
-use Rattle.edn.specs.Value.{Value}
 use Rattle.edn.specs.View.{value_of, values_of, entries_of}
 use Rattle.edn.specs.Canonical.{spelling, separated_by, canonical, texts_of, pair_texts_of}
 use Rattle.edn.specs.Writing.{BeginsWith, Appends}

@@ -20,3 +20,4 @@ pub mod Profiles
 pub mod ReadsBack
 pub mod Appending
 pub mod OneByOne
+pub mod InProfile

@@ -1,9 +1,9 @@
 -- Elements of a text that are given one after the other
-use Rattle.std.proofs.Common.{◌≡◌, ℕ, ◌+◌, ◌<◌, ◌≤◌, true, Option, Some, None, option_map, IfSome, IfNone, List, [], ◌∷◌, length, refl, sym, ap, ◌∙◌, subst, arith}
+use Rattle.std.proofs.Common.{◌≡◌, ℕ, ◌+◌, ◌<◌, Option, Some, None, option_map, IfSome, IfNone, List, [], length, refl, sym, ap, ◌∙◌, subst, arith}
 use Rattle.edn.specs.Value.{Value, Values, none, more, joined}
-use Rattle.edn.specs.Text.{SkipsGap, Reads, ReadsAll, IsText}
+use Rattle.edn.specs.Text.{SkipsGap, IsText}
 use Rattle.edn.specs.Text.ReadsAll.{no_more, one_more}
-use Rattle.edn.specs.Reading.{closes, HasNoInside, FindsNext}
+use Rattle.edn.specs.Reading.{HasNoInside, FindsNext}
 use Rattle.edn.specs.Elements.{IsLeftBehind, count_of}
 use Rattle.edn.specs.View.{value_of}
 use Rattle.edn.specs.declared.value.Edn.{Edn}

@@ -1,19 +1,18 @@
 -- The canonical text of a value reads as that value
-use Rattle.std.proofs.Common.{◌≡◌, ℕ, ℤ, pos, negsuc, zero, suc, ◌+◌, ◌-◌, ◌*◌, ◌^◌, ◌<◌, ◌≤◌, ◌⊎◌, inl, inr, Bool, true, false, cond, IsTrue, List, [], ◌∷◌, ◌++◌, length, get_or, refl, sym, ap, ◌∙◌, subst, arith, append_assoc, append-nil}
+use Rattle.std.proofs.Common.{◌≡◌, ℕ, ℤ, pos, negsuc, zero, suc, ◌+◌, ◌^◌, ◌<◌, ◌≤◌, inl, inr, Bool, true, false, cond, IsTrue, List, [], ◌∷◌, ◌++◌, length, get_or, refl, sym, ◌∙◌, subst, arith, append_assoc, append-nil}
 use Rattle.std.specs.Prelude.{◌==◌, neg_ℤ}
-use Rattle.std.specs.Str.{IsUtf8}
 use Rattle.std.specs.List.{AllByRecursion, flat_map}
 use Rattle.std.specs.Fmt.{decimal, signed_decimal}
 use Rattle.std.specs.Str.Parse.{digits_value}
 use Rattle.std.proofs.lemmas.Fmt.{decimal_is_IsNumeral, decimal_digit, first_decimal, decimal_nonempty}
 use Rattle.std.proofs.lemmas.Str.Parse.{digit_at}
 use Rattle.std.proofs.lemmas.Bool.Decides.{nat_tests}
-use Rattle.edn.specs.Value.{Value, nil, bool, int, text, keyword, vector, pairs, members, Values, none, more, Pairs, no_pairs, pair, in_text, keys, AreDistinct}
+use Rattle.edn.specs.Value.{Value, nil, bool, int, text, keyword, vector, pairs, members, Values, none, more, Pairs, no_pairs, pair, in_text}
 use Rattle.edn.specs.Bytes.{is_digit, IsNumeral, IsAtom, IsEscape, SpellsByte, MayFollowAtom}
 use Rattle.edn.specs.Bytes.IsAtom.{spelled_nil, spelled_true, spelled_false, plain, minus, named}
 use Rattle.edn.specs.Bytes.IsEscape.{tab, carriage_return, line_feed, backslash, quote}
 use Rattle.edn.specs.Bytes.SpellsByte.{itself, escaped}
-use Rattle.edn.specs.Text.{SkipsGap, ReadsString, Reads, ReadsAll, IsText}
+use Rattle.edn.specs.Text.{ReadsString, Reads, ReadsAll, IsText}
 use Rattle.edn.specs.Text.ReadsString.{closing, one_byte}
 use Rattle.edn.specs.Text.SkipsGap.{no_gap, white}
 use Rattle.edn.specs.Text.Reads.{atom, in_quotes, in_brackets, in_braces, in_hash_braces}

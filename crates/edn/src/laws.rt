@@ -3,7 +3,7 @@
 ghost use Rattle.std.specs.Prelude.{◌≡◌, ℕ, [], ◌∷◌, pos, List};
 ghost use Rattle.edn.specs.Value.{Value, Values, int, none, more, Same};
 ghost use Rattle.edn.specs.Text.{IsText, IsLongestFront};
-ghost use Rattle.edn.specs.Profile.{IsInProfile};
+ghost use Rattle.edn.specs.Profile.{IsInProfile, AreInProfileAt};
 ghost use Rattle.edn.specs.Canonical.{canonical};
 
 /// A text has one reading.
@@ -34,4 +34,9 @@ pub fn canonical_text_reads_back()
     ensures reads { (v : Value) → IsInProfile v → IsText (canonical v) (more v none) }
     ensures alone { (v : Value) (vs : Values) → IsInProfile v → IsText (canonical v) vs
         → vs ≡ more v none }
+{}
+
+/// Each value that is read is in the profile.
+pub fn what_is_read_has_a_text()
+    ensures { (bytes : List ℕ) (values : Values) → IsText bytes values → AreInProfileAt 0 values }
 {}

@@ -30,7 +30,7 @@ pub use equality::same;
 pub use gate::{Gate, OpenGate};
 pub use laws::{
     canonical_text_reads_back, discards_are_skipped, one_place, one_reading,
-    sameness_is_an_equivalence,
+    sameness_is_an_equivalence, what_is_read_has_a_text,
 };
 pub use profile::in_profile;
 pub use reader::read_all;

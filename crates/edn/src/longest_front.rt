@@ -13,8 +13,8 @@ use crate::reader::{discarded, element};
 use crate::refusal::Refusal;
 use std::alloc::Global;
 
-/// The length of the longest front that is a text, in one pass over the bytes.
-pub fn place_of(alloc: Global, bytes: &[u8]) -> Result<usize, ReadError>
+// The length of the longest front that is a text, in one pass over the bytes.
+fn place_of(alloc: Global, bytes: &[u8]) -> Result<usize, ReadError>
     ensures ok { IfOk result (λ n. IsLongestFront bytes.now n) }
     ensures never { OnUnreadable result ⊥ }
 {

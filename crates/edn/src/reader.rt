@@ -10,7 +10,7 @@ ghost use Rattle.edn.specs.Reading.{OnUnreadable, HasNoElement, HasNoInside, Fin
 use crate::atom::{atom_of, token};
 use crate::collection::{map_of, set_of};
 use crate::gap::{after, after_discard, after_set_opening, after_white, closes, line_end};
-use crate::longest_front::place_of;
+use crate::longest_front::unreadable;
 use crate::read_error::ReadError;
 use crate::refusal::Refusal;
 use crate::string::string_of;
@@ -163,9 +163,6 @@ pub fn read_all(alloc: Global, bytes: &[u8]) -> Result<Vec<Edn>, Refusal>
     match text_of(alloc, bytes) {
         Ok(found) => Ok(found),
         Err(ReadError::NoMemory) => Err(Refusal::NoMemory),
-        Err(ReadError::Unreadable) => match place_of(alloc, bytes) {
-            Ok(place) => Err(Refusal::Unreadable(place)),
-            Err(_) => Err(Refusal::NoMemory),
-        },
+        Err(ReadError::Unreadable) => Err(unreadable(alloc, bytes)),
     }
 }

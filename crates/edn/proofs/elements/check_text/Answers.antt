@@ -1,4 +1,4 @@
-use Rattle.std.proofs.Common.{◌≡◌, ◌+◌, ◌<◌, length, refl, sym, ap, ◌∙◌, subst, arith, IfSome}
+use Rattle.std.proofs.Common.{◌+◌, ◌<◌, length, refl, sym, ap, ◌∙◌, subst, arith, IfSome}
 use Rattle.edn.specs.Value.{Values, none, more, joined}
 use Rattle.edn.specs.Elements.{IsLeftBehind}
 use Rattle.edn.specs.View.{value_of}

@@ -1,4 +1,4 @@
-use Rattle.std.proofs.Common.{◌≡◌, None, length, option_map, ap, subst, arith}
+use Rattle.std.proofs.Common.{option_map, subst, arith}
 use Rattle.edn.specs.Reading.{FindsNext}
 use Rattle.edn.specs.View.{value_of}
 use Rattle.edn.proofs.OneByOne.{left_closed}

@@ -1,5 +1,4 @@
-use Rattle.std.proofs.Common.{◌≡◌, ℕ, ◌<◌, List, arith}
-use Rattle.edn.specs.Text.{IsLongestFront}
+use Rattle.std.proofs.Common.{◌≡◌, ℕ, ◌<◌, arith}
 use Rattle.edn.proofs.laws.one_place.Goals as goal
 
 neither_more : (m n : ℕ) → (m < n → ⊥) → (n < m → ⊥) → m ≡ n

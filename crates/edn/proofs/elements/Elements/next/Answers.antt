@@ -1,4 +1,4 @@
-use Rattle.std.proofs.Common.{ap, sym, subst, option_map}
+use Rattle.std.proofs.Common.{ap, subst, option_map}
 use Rattle.edn.specs.Reading.{FindsNext}
 use Rattle.edn.specs.View.{value_of}
 use Rattle.edn.proofs.OneByOne.{left_behind, found_next, found_shorter, found_end}
