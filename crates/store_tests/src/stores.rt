@@ -209,3 +209,11 @@ fn bad_faults(rt: HostRuntime) {
         )
     );
 }
+
+#[test]
+fn copies_of_outcomes(rt: HostRuntime) {
+    let found = Outcome::Done(Found::Reg(Some(5)));
+    assert_eq!(rt; told(found.copy()), Said::Found(Some(5)));
+    assert_eq!(rt; told(Outcome::Refused.copy()), Said::Refused);
+    assert_eq!(rt; told(Outcome::Lost.copy()), Said::Lost);
+}
