@@ -207,3 +207,18 @@ fn prepared_draw_changes_nothing(rt: HostRuntime) -> Result<(), Fail> {
     }
     Ok(())
 }
+
+// A cycle has its items whatever was given, and a copy of a generator is as far as the generator.
+#[test]
+fn copies_of_generators(rt: HostRuntime) -> Result<(), Fail> {
+    let alloc = rt.alloc();
+    let mut cycle = Cycle::new(vec![in alloc; write(), read()]?);
+    cycle.turn();
+    assert_eq!(rt; cycle.items().len(), 2);
+    let generator = limit(alloc, 1, Gen::Ops(cycle.copy()?))?;
+    let mut source = Source::new(alloc, generator.copy(alloc)?, 0);
+    assert_eq!(rt; drawn(&mut source, &BOTH, ZERO)?, "read");
+    assert_eq!(rt; drawn(&mut source, &BOTH, ZERO)?, "done");
+    assert!(rt; !generator.is_over());
+    Ok(())
+}

@@ -1,8 +1,10 @@
-//! Worked rows of what a run draws from: generators and schedules. Each answer follows from the definitions by hand. It has
-//! tests alone.
+//! Worked rows of what a run draws from and serves by: generators, schedules, and stores under faults. Each answer follows
+//! from the definitions by hand. It has tests alone.
 #![tactic(auto)]
 
 #[cfg(test)]
 mod draws;
 #[cfg(test)]
 mod schedules;
+#[cfg(test)]
+mod stores;

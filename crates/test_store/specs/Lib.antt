@@ -1,0 +1,6 @@
+pub mod Copies
+pub mod Reach
+pub mod Store
+pub mod Marked
+pub mod StoreInvariant
+pub mod Truth

@@ -1,0 +1,115 @@
+//! Which faults may strike a store.
+ghost use Rattle.std.specs.Prelude.{◌≡◌, ◌↔◌, ◌<◌, ◌≤◌, ℕ, List, ◌++◌, length, IsTrue, MatchBool, OnOk, IfErr};
+ghost use Rattle.std.specs.List.{concat};
+ghost use Rattle.test_store.specs.Store.{AreOnce, AreBelow, are_below, MayStrike, FaultRefused, losing_after, numbers_of};
+ghost use Rattle.test_store.specs.Marked.{HasMarked};
+ghost use Rattle.edn.specs.declared.refusal.Refusal.{Refusal};
+
+use edn::Refusal;
+use history::{Fault, Groups};
+
+/// Tests whether a fault names replicas of a store with so many, each once.
+///
+/// # Errors
+/// [`Refusal::BadValue`] where one is named twice, else [`Refusal::NoSuchReplica`] where one is none of the store.
+pub(crate) fn test(replicas: u8, fault: &Fault) -> Result<(), Refusal>
+    ensures ok { OnOk result (MayStrike replicas fault.now) }
+    ensures refused { IfErr result (FaultRefused replicas fault.now) }
+{
+    if !names_once(fault) {
+        return Err(Refusal::BadValue);
+    }
+    if !names_present(replicas, fault) {
+        return Err(Refusal::NoSuchReplica);
+    }
+    Ok(())
+}
+
+/// Whether a fault names no replica twice. Takes no memory.
+pub fn names_once(fault: &Fault) -> bool
+    ensures { IsTrue result ↔ AreOnce (numbers_of fault.now) }
+{
+    match fault {
+        Fault::Partition(groups) => are_once(groups),
+        _ => true,
+    }
+}
+
+/// Whether a fault names replicas below this number alone. Takes no memory.
+pub fn names_present(replicas: u8, fault: &Fault) -> bool
+    ensures { result ≡ are_below replicas (numbers_of fault.now) }
+{
+    match fault {
+        Fault::Partition(groups) => are_below(groups, replicas),
+        Fault::Pause(replica) => *replica < replicas,
+        Fault::Resume(replica) => *replica < replicas,
+        Fault::Crash(replica) => *replica < replicas,
+        Fault::Restart(replica) => *replica < replicas,
+        Fault::Heal => true,
+        Fault::LoseReplies(_) => true,
+    }
+}
+
+/// How many replies are still to be lost after a fault.
+pub(crate) fn losing_after(fault: &Fault, losing: u16) -> u16
+    ensures { result ≡ losing_after fault.now losing }
+{
+    match fault {
+        Fault::LoseReplies(count) => *count,
+        _ => losing,
+    }
+}
+
+// Whether each number stands in the groups at most once.
+fn are_once(groups: &Groups) -> bool
+    ensures { IsTrue result ↔ AreOnce (concat groups.now) }
+{
+    let mut seen = [false; 256];
+    for group in groups.groups() {
+        if !mark(group.as_slice(), &mut seen) {
+            return false;
+        }
+    }
+    true
+}
+
+// Marks the numbers. It answers false where one is marked already.
+fn mark(numbers: &[u8], seen: &mut [bool]) -> bool
+    requires { length seen.old ≡ 256 }
+    ensures { (before : List ℕ) → HasMarked seen.old before → MatchBool result
+        (HasMarked seen.new (before ++ numbers.now))
+        ((after : List ℕ) → ¬ AreOnce ((before ++ numbers.now) ++ after)) }
+{
+    for number in numbers {
+        let place = usize::from(*number);
+        if seen[place] {
+            return false;
+        }
+        seen[place] = true;
+    }
+    true
+}
+
+// Whether each number in the groups is below n.
+fn are_below(groups: &Groups, n: u8) -> bool
+    ensures { result ≡ are_below n (concat groups.now) }
+{
+    for group in groups.groups() {
+        if !all_below(group.as_slice(), n) {
+            return false;
+        }
+    }
+    true
+}
+
+// Whether each number is below n.
+fn all_below(numbers: &[u8], n: u8) -> bool
+    ensures { result ≡ are_below n numbers.now }
+{
+    for number in numbers {
+        if *number >= n {
+            return false;
+        }
+    }
+    true
+}

@@ -1,0 +1,133 @@
+//! What replicas hold of one key.
+ghost use Rattle.std.specs.Prelude.{◌≡◌, false, slice_index_or, IfOk};
+ghost use Rattle.std.specs.Option.{option_copied};
+ghost use Rattle.test_store.specs.Copies.{newest, taken_over, fresh_row};
+
+use models::{AnyState, ModelKind};
+use std::alloc::{AllocError, Global};
+use std::marker::Model;
+
+/// What one replica holds of one key.
+#[derive(Drop)]
+pub struct Held {
+    /// How often the key was changed, as far as the replica knows.
+    pub version: u64,
+    pub state: AnyState,
+}
+
+impl Held {
+    /// An equal copy, with memory of its own; `AllocError` where there is none.
+    pub fn copy(&self, alloc: Global) -> Result<Held, AllocError>
+        ensures { IfOk result (λ other. other ≡ self.now) }
+    {
+        let state = self.state.copy(alloc)?;
+        Ok(Held {
+            version: self.version,
+            state,
+        })
+    }
+}
+
+/// What each replica holds of one key, by the replicas' numbers.
+#[derive(Drop)]
+pub struct Row {
+    held: Vec<Held>,
+}
+
+impl Model for Row {
+    ghost use Rattle.std.specs.Prelude.{List};
+    ghost use Rattle.test_store.specs.declared.held.Held.{Held};
+
+    ghost Value = { List Held };
+
+    ghost view = { λ a. a.held.items };
+}
+
+impl Row {
+    /// The row of a key that was never changed.
+    pub(crate) fn fresh(alloc: Global, replicas: usize, kind: ModelKind) -> Result<Row, AllocError>
+        ensures { IfOk result (λ row. row ≡ fresh_row replicas kind) }
+    {
+        let mut held = Vec::new(alloc);
+        for _ in 0..replicas {
+            held.push(Held {
+                version: 0,
+                state: AnyState::start(alloc, kind),
+            })?;
+        }
+        Ok(Row { held })
+    }
+
+    /// What the replicas hold, by their numbers.
+    pub(crate) fn held(&self) -> &[Held]
+        ensures { result.now ≡ self.now }
+    {
+        self.held.as_slice()
+    }
+
+    /// An equal row, with memory of its own; `AllocError` where there is none.
+    pub(crate) fn copy(&self, alloc: Global) -> Result<Row, AllocError>
+        ensures { IfOk result (λ other. other ≡ self.now) }
+    {
+        let mut held = Vec::new(alloc);
+        for old in &self.held {
+            held.push(old.copy(alloc)?)?;
+        }
+        Ok(Row { held })
+    }
+}
+
+/// Of what the chosen replicas hold, the copy with the greatest version; of equal ones that of the lowest number.
+pub(crate) fn newest<'a>(chosen: &[bool], row: &'a [Held]) -> Option<&'a Held>
+    ensures { option_copied result ≡ newest chosen.now row.now }
+{
+    let (flag, flags) = chosen.split_first()?;
+    let (held, rest) = row.split_first()?;
+    let best = newest(flags, rest);
+    if !*flag {
+        return best;
+    }
+    match best {
+        Some(other) => {
+            if held.version < other.version {
+                Some(other)
+            } else {
+                Some(held)
+            }
+        }
+        None => Some(held),
+    }
+}
+
+/// The row in which each chosen replica has taken over this version and state.
+pub(crate) fn taken_over(
+    alloc: Global,
+    chosen: &[bool],
+    version: u64,
+    state: &AnyState,
+    row: &[Held],
+) -> Result<Row, AllocError>
+    ensures { IfOk result (λ new. new ≡
+        taken_over chosen.now (record { version = version; state = state.now }) row.now) }
+{
+    let mut held = Vec::new(alloc);
+    for i in 0..row.len() {
+        let next = if stands(chosen, i) {
+            Held {
+                version,
+                state: state.copy(alloc)?,
+            }
+        } else {
+            row[i].copy(alloc)?
+        };
+        held.push(next)?;
+    }
+    Ok(Row { held })
+}
+
+// Whether the flag with this number stands.
+fn stands(flags: &[bool], number: usize) -> bool
+    ensures { result ≡ slice_index_or flags.now number false }
+{
+    number < flags.len() && flags[number]
+}

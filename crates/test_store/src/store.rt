@@ -1,0 +1,373 @@
+//! The replicated store.
+ghost use Rattle.std.specs.Prelude.{◌≡◌, ◌≢◌, ◌^◌, ◌-◌, ◌<◌, ◌≤◌, None, Some, IfOk, IfErr, IfSome, IsSome, OnOk, OnErr, MatchOption, length, if◌then◌else◌};
+ghost use Rattle.models.specs.declared.finding.Found.{Found};
+ghost use Rattle.test_store.specs.declared.held.Held.{Held};
+ghost use Rattle.test_store.specs.Store.{Cluster, opening, at_rest, row_of, row_in, may_serve, servers, is_majority, MayServe, TakesPlace, TakesNoPlace, VersionsOf, after_fault, rows_after, MayStrike, FaultRefused, IsCount, MayNotOpenStore};
+ghost use Rattle.test_store.specs.Truth.{KeepsTruth, LeavesTruth};
+ghost use Rattle.test_store.specs.StoreInvariant.{AreRows};
+ghost use Rattle.test_store.specs.declared.outcome.Outcome.{Outcome};
+
+use crate::fault::{losing_after, test};
+use crate::held::{Held, Row, newest, taken_over};
+use crate::laws::strict_law;
+use crate::links::{Links, alone, count};
+use crate::outcome::{Mode, Outcome};
+use crate::rows::Rows;
+use edn::Refusal;
+use history::Fault;
+use models::{Found, Key, ModelKind, Op};
+use std::alloc::{AllocError, Global};
+use std::marker::Model;
+
+/// The most replicas of a store.
+const MOST_REPLICAS: u8 = 7;
+
+/// What is prepared.
+#[derive(Drop)]
+enum Change {
+    Nothing,
+    Same,
+    Serve { key: Key, row: Row, lost: bool },
+    Strike { fault: Fault, rows: Option<Rows> },
+}
+
+/// A replicated store in the process. Each replica holds a copy of each key with a version; a serve goes through one
+/// replica, its entry, and a fault cuts, stops or crashes replicas, or loses replies. A key that was never changed takes
+/// no memory.
+///
+/// Each change has two halves: `prepare_serve` or `prepare_fault` says what it comes to, `commit` carries it out.
+#[derive(Drop)]
+pub struct Store {
+    alloc: Global,
+    mode: Mode,
+    kind: ModelKind,
+    replicas: u8,
+    rows: Rows,
+    links: Links,
+    losing: u16,
+    change: Change,
+}
+
+impl Model for Store {
+    ghost use Rattle.test_store.specs.Store.{StoreView};
+
+    ghost Value = { StoreView };
+
+    ghost use Rattle.test_store.specs.StoreInvariant.{cluster_of, next_of, IsSound};
+
+    ghost view = { λ a. record {
+      now = cluster_of a.mode a.kind a.replicas a.rows a.links a.losing;
+      next = next_of (cluster_of a.mode a.kind a.replicas a.rows a.links a.losing) a.change;
+    } };
+
+    ghost invariant = { λ a. IsSound a.replicas a.rows a.losing a.change };
+}
+
+impl Store {
+    /// A store of so many replicas, all up, in one group, with no key changed yet. Each key is an object of this kind.
+    ///
+    /// # Errors
+    /// [`Refusal::NoSuchReplica`] where the number is not 1 to 7.
+    pub fn new(alloc: Global, replicas: u8, mode: Mode, kind: ModelKind) -> Result<Store, Refusal>
+        ensures limits { OnOk result (IsCount replicas) }
+        ensures opened { IfOk result (λ store. store ≡ at_rest (opening replicas mode kind)) }
+        ensures refused { IfErr result (MayNotOpenStore replicas) }
+    {
+        if replicas < 1 || replicas > MOST_REPLICAS {
+            return Err(Refusal::NoSuchReplica);
+        }
+        Ok(Store {
+            alloc,
+            mode,
+            kind,
+            replicas,
+            rows: Rows::new(alloc),
+            links: Links::new(),
+            losing: 0,
+            change: Change::Nothing,
+        })
+    }
+
+    /// How many replicas it has.
+    pub fn replicas(&self) -> u8
+        ensures value { result ≡ self.now.now.replicas }
+        ensures limits { IsCount result }
+    {
+        self.replicas
+    }
+
+    /// Prepares a serve of the operation at the entry, and gives the outcome that [`commit`](Store::commit) will bring. The
+    /// store stays as it is. It takes the time of the replicas and of the state, and not that of the keys.
+    ///
+    /// # Errors
+    /// `AllocError` where a growth was refused; then nothing is prepared.
+    pub fn prepare_serve(&mut self, entry: u8, op: &Op) -> Result<Outcome, AllocError>
+        requires entry { entry < self.old.now.replicas }
+        requires versions { VersionsOf (row_of self.old.now op.now.key) (2 ^ 64 - 2) }
+        ensures served { IfOk result (λ outcome. (next : Cluster)
+            × MayServe self.old.now entry op.now outcome next
+            × (self.new ≡ record { now = self.old.now; next = Some next })) }
+        ensures err { OnErr result (self.new ≡ at_rest self.old.now) }
+    {
+        self.change = Change::Nothing;
+        let taken = attempt(
+            self.alloc,
+            self.mode,
+            self.kind,
+            self.replicas,
+            &self.links,
+            &self.rows,
+            entry,
+            op,
+        )?;
+        let Some((row, found)) = taken else {
+            self.change = Change::Same;
+            return Ok(Outcome::Refused);
+        };
+        self.rows.reserve()?;
+        let lost = self.losing > 0;
+        self.change = Change::Serve {
+            key: op.key,
+            row,
+            lost,
+        };
+        Ok(outcome_of(lost, found))
+    }
+
+    /// Prepares a fault. The store stays as it is. It takes the time of the fault, and for [`Fault::Heal`] in sloppy mode
+    /// that of all keys that were changed.
+    ///
+    /// # Errors
+    /// [`Refusal::BadValue`] where a replica is named twice, else [`Refusal::NoSuchReplica`] where one is none of the
+    /// store, else [`Refusal::NoMemory`] where a growth was refused. Then nothing is prepared.
+    pub fn prepare_fault(&mut self, fault: &Fault) -> Result<(), Refusal>
+        ensures may { OnOk result (MayStrike self.old.now.replicas fault.now) }
+        ensures prepared { OnOk result (self.new ≡ record {
+          now = self.old.now;
+          next = Some (after_fault fault.now self.old.now);
+        }) }
+        ensures refused { IfErr result (FaultRefused self.old.now.replicas fault.now) }
+        ensures err { OnErr result (self.new ≡ at_rest self.old.now) }
+    {
+        self.change = Change::Nothing;
+        test(self.replicas, fault)?;
+        let rows = rows_after(
+            self.alloc,
+            self.mode,
+            self.replicas,
+            &self.links,
+            fault,
+            &self.rows,
+        )?;
+        let fault = fault.copy()?;
+        self.change = Change::Strike { fault, rows };
+        Ok(())
+    }
+
+    /// Carries out what is prepared. It takes no memory and cannot fail.
+    pub fn commit(&mut self)
+        requires { IsSome self.old.next }
+        ensures { IfSome self.old.next (λ next. self.new ≡ at_rest next) }
+    {
+        match std::mem::replace(&mut self.change, Change::Nothing) {
+            Change::Nothing => (),
+            Change::Same => (),
+            Change::Serve { key, row, lost } => {
+                self.rows.put(key, row);
+                if lost {
+                    self.losing -= 1;
+                }
+            }
+            Change::Strike { fault, rows } => {
+                if let Some(rows) = rows {
+                    self.rows = rows;
+                }
+                self.losing = losing_after(&fault, self.losing);
+                self.links.strike(fault);
+            }
+        }
+    }
+
+    /// Serves the operation at the entry: [`prepare_serve`](Store::prepare_serve) and [`commit`](Store::commit) in one.
+    ///
+    /// # Errors
+    /// `AllocError` where a growth was refused; the store is then as it was.
+    pub fn serve(&mut self, entry: u8, op: &Op) -> Result<Outcome, AllocError>
+        requires entry { entry < self.old.now.replicas }
+        requires versions { VersionsOf (row_of self.old.now op.now.key) (2 ^ 64 - 2) }
+        ensures served { IfOk result (λ outcome.
+            MayServe self.old.now entry op.now outcome self.new.now) }
+        // In strict mode: as one copy would.
+        ensures truth { IfOk result (λ outcome.
+            KeepsTruth self.old.now op.now outcome self.new.now) }
+        ensures rests { self.new ≡ at_rest self.new.now }
+        ensures err { OnErr result (self.new.now ≡ self.old.now) }
+    {
+        strict_law();
+        let outcome = self.prepare_serve(entry, op)?;
+        self.commit();
+        Ok(outcome)
+    }
+
+    /// Lets a fault strike: [`prepare_fault`](Store::prepare_fault) and [`commit`](Store::commit) in one.
+    ///
+    /// # Errors
+    /// Those of [`prepare_fault`](Store::prepare_fault); the store is then as it was.
+    pub fn fault(&mut self, fault: &Fault) -> Result<(), Refusal>
+        ensures may { OnOk result (MayStrike self.old.now.replicas fault.now) }
+        ensures struck { OnOk result (self.new.now ≡ after_fault fault.now self.old.now) }
+        // In strict mode: no fault changes the true states.
+        ensures truth { OnOk result (LeavesTruth self.old.now self.new.now) }
+        ensures refused { IfErr result (FaultRefused self.old.now.replicas fault.now) }
+        ensures rests { self.new ≡ at_rest self.new.now }
+        ensures err { OnErr result (self.new.now ≡ self.old.now) }
+    {
+        strict_law();
+        self.prepare_fault(fault)?;
+        self.commit();
+        Ok(())
+    }
+
+    /// An equal store with nothing prepared, and memory of its own; `AllocError` where there is none. It takes the time of
+    /// all keys that were changed.
+    pub fn copy(&self) -> Result<Store, AllocError>
+        ensures { IfOk result (λ other. other ≡ at_rest self.now.now) }
+    {
+        let rows = self.rows.copy(self.alloc)?;
+        let links = self.links.copy()?;
+        Ok(Store {
+            alloc: self.alloc,
+            mode: self.mode,
+            kind: self.kind,
+            replicas: self.replicas,
+            rows,
+            links,
+            losing: self.losing,
+            change: Change::Nothing,
+        })
+    }
+}
+
+// What the outcome is of an operation that found this.
+fn outcome_of(lost: bool, found: Found) -> Outcome
+    ensures { result ≡ (if lost then Outcome.Lost else Outcome.Done found) }
+{
+    if lost {
+        Outcome::Lost
+    } else {
+        Outcome::Done(found)
+    }
+}
+
+// What the operation comes to: nothing where it can't take place, else the row that it leaves and what it finds.
+fn attempt(
+    alloc: Global,
+    mode: Mode,
+    kind: ModelKind,
+    replicas: u8,
+    links: &Links,
+    rows: &Rows,
+    entry: u8,
+    op: &Op,
+) -> Result<Option<(Row, Found)>, AllocError>
+    requires entry { entry < 7 }
+    requires versions { VersionsOf (row_in rows.now.rows replicas kind op.now.key) (2 ^ 64 - 2) }
+    ensures { let row = row_in rows.now.rows replicas kind op.now.key in IfOk result (λ taken.
+        MatchOption taken
+        (TakesNoPlace mode replicas links.now entry op.now row)
+        (λ r. TakesPlace mode replicas links.now entry op.now row r.1 r.0)) }
+{
+    match rows.find(op.key) {
+        Some(row) => take(alloc, mode, replicas, links, entry, op, row.held()),
+        None => {
+            let fresh = Row::fresh(alloc, usize::from(replicas), kind)?;
+            take(alloc, mode, replicas, links, entry, op, fresh.held())
+        }
+    }
+}
+
+// What the operation comes to where the replicas hold these copies of its key: nothing where it can't take place, else
+// the row that it leaves and what it finds.
+fn take(
+    alloc: Global,
+    mode: Mode,
+    replicas: u8,
+    links: &Links,
+    entry: u8,
+    op: &Op,
+    row: &[Held],
+) -> Result<Option<(Row, Found)>, AllocError>
+    requires entry { entry < 7 }
+    requires versions { VersionsOf row.now (2 ^ 64 - 2) }
+    ensures { IfOk result (λ taken. MatchOption taken
+        (TakesNoPlace mode replicas links.now entry op.now row.now)
+        (λ r. TakesPlace mode replicas links.now entry op.now row.now r.1 r.0)) }
+{
+    let n = usize::from(replicas);
+    let place = usize::from(entry);
+    if !may_serve(mode, n, links, place) {
+        return Ok(None);
+    }
+    let chosen = servers(mode, n, links, place);
+    let Some(held) = newest(&chosen, row) else {
+        return Ok(None);
+    };
+    let Some((state, found)) = held.state.apply(alloc, op)? else {
+        return Ok(None);
+    };
+    let next = taken_over(alloc, &chosen, held.version + 1, &state, row)?;
+    Ok(Some((next, found)))
+}
+
+// Whether the entry may serve.
+fn may_serve(mode: Mode, replicas: usize, links: &Links, entry: usize) -> bool
+    requires { entry < 7 }
+    ensures { result ≡ may_serve mode replicas links.now entry }
+{
+    match mode {
+        Mode::Strict => links.is_up(entry)
+            && is_majority(replicas, &links.reached(replicas, entry)),
+        Mode::Sloppy => links.is_up(entry),
+    }
+}
+
+// The replicas that serve.
+fn servers(mode: Mode, replicas: usize, links: &Links, entry: usize) -> [bool; 7]
+    requires { entry < 7 }
+    ensures { result ≡ servers mode replicas links.now entry }
+{
+    match mode {
+        Mode::Strict => links.reached(replicas, entry),
+        Mode::Sloppy => alone(replicas, entry),
+    }
+}
+
+// Whether the flags are those of more than half of the replicas.
+fn is_majority(replicas: usize, chosen: &[bool]) -> bool
+    requires { length chosen.now ≡ 7 }
+    ensures { result ≡ is_majority replicas chosen.now }
+{
+    replicas < 2 * count(chosen)
+}
+
+// The rows after a fault, where it changes any.
+fn rows_after(
+    alloc: Global,
+    mode: Mode,
+    replicas: u8,
+    links: &Links,
+    fault: &Fault,
+    rows: &Rows,
+) -> Result<Option<Rows>, AllocError>
+    ensures { IfOk result (λ changed.
+        AreRows rows.now changed
+        (rows_after mode replicas links.now fault.now rows.now.rows)) }
+{
+    match (mode, fault) {
+        (Mode::Sloppy, Fault::Heal) => {
+            let healed = rows.healed(alloc, &links.ups(usize::from(replicas)))?;
+            Ok(Some(healed))
+        }
+        _ => Ok(None),
+    }
+}
