@@ -9,3 +9,4 @@ pub mod Values
 pub mod OneEvent
 pub mod OneRefusal
 pub mod OpEvents
+pub mod ReadEach
