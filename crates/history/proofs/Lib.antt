@@ -10,3 +10,4 @@ pub mod OneEvent
 pub mod OneRefusal
 pub mod OpEvents
 pub mod ReadEach
+pub mod Written

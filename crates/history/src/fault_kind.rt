@@ -2,6 +2,9 @@
 ghost use Rattle.std.specs.Prelude.{◌≡◌};
 ghost use Rattle.models.specs.Names.{Finds};
 ghost use Rattle.history.specs.Spelling.{text_of_fault};
+ghost use Rattle.history.specs.EventMap.{kind_of_fault};
+
+use crate::event::Fault;
 
 /// What a fault does, without whom it befalls.
 #[derive(Clone, Copy)]
@@ -42,5 +45,35 @@ impl FaultKind {
             return Some(FaultKind::LoseReplies);
         }
         None
+    }
+
+    /// The kind of a fault.
+    pub fn of(fault: &Fault) -> FaultKind
+        ensures { result ≡ kind_of_fault fault.now }
+    {
+        match fault {
+            Fault::Partition(_) => FaultKind::Partition,
+            Fault::Heal => FaultKind::Heal,
+            Fault::Pause(_) => FaultKind::Pause,
+            Fault::Resume(_) => FaultKind::Resume,
+            Fault::Crash(_) => FaultKind::Crash,
+            Fault::Restart(_) => FaultKind::Restart,
+            Fault::LoseReplies(_) => FaultKind::LoseReplies,
+        }
+    }
+
+    /// The kind as a text spells it.
+    pub fn text(self) -> &'static str
+        ensures { result.now ≡ text_of_fault self }
+    {
+        match self {
+            FaultKind::Partition => "partition",
+            FaultKind::Heal => "heal",
+            FaultKind::Pause => "pause",
+            FaultKind::Resume => "resume",
+            FaultKind::Crash => "crash",
+            FaultKind::Restart => "restart",
+            FaultKind::LoseReplies => "lose-replies",
+        }
     }
 }

@@ -5,6 +5,7 @@ mod allowed;
 mod collections;
 mod elements;
 pub mod event;
+mod event_map;
 mod fault_kind;
 mod groups;
 mod history;
