@@ -1,5 +1,5 @@
 //! Worked histories, with the answers that the rule gives.
-use edn::{Refusal, read_all};
+use edn::{Refusal, read_all, same};
 use history::{Body, Event, EventKind, Fault, Groups, History, Process, from_edn};
 use models::{Name, Op, Part};
 use std::alloc::Global;
@@ -222,5 +222,55 @@ fn prepared_events(rt: HostRuntime) -> Result<(), Fail> {
     );
     history.push(write(EventKind::Ok, 0, 4))?;
     assert_eq!(rt; history.open_at(0), None);
+    Ok(())
+}
+
+#[test]
+fn event_text_and_events_of(rt: HostRuntime) -> Result<(), Fail> {
+    let alloc = rt.alloc();
+    let mut history = History::new(alloc, 2)?;
+    for line in [
+        "{:type :invoke, :process 0, :f :write, :value [7 3]}",
+        "{:type :ok, :process 0, :f :write, :value [7 3]}",
+        "{:type :invoke, :process 0, :f :read, :value [7 nil]}",
+        "{:type :ok, :process 0, :f :read, :value [7 3]}",
+    ] {
+        assert_eq!(rt; answer(alloc, &mut history, line), Ok(()), "{line}");
+    }
+    assert_eq!(rt; history.len(), 4);
+    let written = history.to_edn(3)?;
+    let text = b"{:index 3, :type :ok, :process 0, :f :read, :value [7 3]}";
+    let elements = read_all(alloc, text)?;
+    let wanted = elements.first().ok_or("no element")?;
+    assert!(rt; same(&written, wanted));
+    let events = history.events_of(7)?;
+    assert_eq!(rt; events.len(), 4);
+    let kinds = [
+        EventKind::Invoke,
+        EventKind::Ok,
+        EventKind::Invoke,
+        EventKind::Ok,
+    ];
+    let mut index = 0;
+    for (event, kind) in events.iter().zip(kinds.iter()) {
+        assert_eq!(rt; event.0, index);
+        assert_eq!(rt; event.1.kind, *kind);
+        index = event.0.saturating_add(1);
+    }
+    assert_eq!(rt; history.events_of(8)?.len(), 0);
+    Ok(())
+}
+
+#[test]
+fn set_answers_are_kept_ascending(rt: HostRuntime) -> Result<(), Fail> {
+    let alloc = rt.alloc();
+    let op = operation(
+        alloc,
+        "{:type :ok, :process 0, :f :read, :value [7 #{3 -1 2}]}",
+    )?;
+    let Part::Set(members) = &op.part else {
+        return Err(Fail::new("the answer is a set"));
+    };
+    assert_eq!(rt; members.as_slice(), [-1, 2, 3].as_slice());
     Ok(())
 }

@@ -9,3 +9,5 @@ pub mod Values
 pub mod OneEvent
 pub mod OneRefusal
 pub mod OpEvents
+pub mod ReadEach
+pub mod Written

@@ -1,5 +1,5 @@
 -- An element spells at most one event
-use Rattle.std.proofs.Common.{◌≡◌, ℕ, ◌^◌, pos, Option, Some, None, List, codes, refl, sym, ap, ◌∙◌, subst}
+use Rattle.std.proofs.Common.{◌≡◌, ℕ, ℤ, ◌^◌, pos, Option, Some, None, List, codes, refl, sym, ap, ◌∙◌, subst}
 use Rattle.std.specs.Prelude.{IsSomeAnd, if◌then◌else◌}
 use Rattle.std.specs.Str.{bytes_eq}
 use Rattle.edn.specs.Value.{Value, int, keyword, nil, vector, pairs, none, more, Pairs}
@@ -10,13 +10,16 @@ use Rattle.models.specs.declared.operation.Part.TheVariants.{Nil, Int, Pair, Set
 use Rattle.models.specs.declared.operation.Op.{Op}
 use Rattle.models.specs.Names.{text_of}
 use Rattle.history.specs.declared.event.EventKind.{EventKind}
-use Rattle.history.specs.declared.event.EventKind.TheVariants.{Invoke, Ok}
+use Rattle.history.specs.declared.event.EventKind.TheVariants.{Invoke, Ok, Fail, Info}
 use Rattle.history.specs.declared.event.Process.{Process}
 use Rattle.history.specs.declared.event.Process.TheVariants.{Client, Nemesis}
 use Rattle.history.specs.declared.event.Body.{Body}
 use Rattle.history.specs.declared.event.Body.TheVariants.{Op as AnOp, Fault as AFault}
 use Rattle.history.specs.declared.event.Event.{Event}
-use Rattle.history.specs.Spelling.{IsNumber, SpellsIndex, SpellsKind, SpellsProcess, SpellsName, SpellsPart, SpellsBody, PairsSpell, Spells, value_at}
+use Rattle.history.specs.declared.event.Fault.{Fault}
+use Rattle.history.specs.declared.fault_kind.FaultKind.{FaultKind}
+use Rattle.history.specs.Spelling.{IsNumber, SpellsIndex, text_of_kind, SpellsKind, SpellsProcess, SpellsName, set_in, SpellsPart, SpellsOp, text_of_fault, fault_by, SpellsFault, SpellsBody, SpellsHead, SpellsAbout, PairsSpell, Spells, value_at}
+use Rattle.history.specs.WellFormed.{IsInTables}
 
 one_number : (m : ℕ) (v : Value) (n k : ℕ) → IsNumber m v n → IsNumber m v k → n ≡ k
 one_number m v n k a b = (let both : int (pos n) ≡ int (pos k) = sym a.0 ∙ b.0 in cc)
@@ -33,19 +36,29 @@ one_index None None None a b = refl
 two_names : (v : Value) (x y : List ℕ) → v ≡ keyword x → v ≡ keyword y → x ≡ y
 two_names v x y a b = (let both : keyword x ≡ keyword y = sym a ∙ b in cc)
 
+-- the kind of a text
+kind_at : List ℕ → EventKind
+kind_at t =
+    if bytes_eq t (codes "invoke") then Invoke
+    else if bytes_eq t (codes "ok") then Ok
+    else if bytes_eq t (codes "fail") then Fail
+    else Info
+
+kind_at-text : (k : EventKind) → kind_at (text_of_kind k) ≡ k
+unfolding kind_at
+kind_at-text Invoke = refl
+kind_at-text Ok = refl
+kind_at-text Fail = refl
+kind_at-text Info = refl
+
 one_kind : (v : Value) (k j : EventKind) → SpellsKind v k → SpellsKind v j → k ≡ j
-one_kind v Invoke Invoke a b = refl
-one_kind v Ok Ok a b = refl
-one_kind v Invoke Ok a b = (let same : codes "invoke" ≡ codes "ok" = two_names v (codes "invoke") (codes "ok") a b in cc)
-one_kind v Ok Invoke a b = (let same : codes "ok" ≡ codes "invoke" = two_names v (codes "ok") (codes "invoke") a b in cc)
-one_kind v Invoke _ a b = absurd b
-one_kind v Ok _ a b = absurd b
-one_kind v _ j a b = absurd a
+one_kind v k j a b = sym (kind_at-text k) ∙ ap kind_at (two_names v (text_of_kind k) (text_of_kind j) a b) ∙ kind_at-text j
 
 one_process : (v : Value) (p q : Process) → SpellsProcess v p → SpellsProcess v q → p ≡ q
 one_process v (Client n) (Client k) a b = ap Client (one_number (2 ^ 32) v n k a b)
-one_process v (Client n) Nemesis a b = absurd b
-one_process v Nemesis q a b = absurd a
+one_process v (Client n) Nemesis a b = (let both : int (pos n) ≡ keyword (codes "nemesis") = sym a.0 ∙ b in cc)
+one_process v Nemesis (Client k) a b = (let both : int (pos k) ≡ keyword (codes "nemesis") = sym b.0 ∙ a in cc)
+one_process v Nemesis Nemesis a b = refl
 
 -- the name of a text
 name_at : List ℕ → Option Name
@@ -88,41 +101,101 @@ one_part v (Pair w x) (Pair y z) a b =
     let first : w ≡ y = cc in
     let second : x ≡ z = cc in
     ap (λ l. Pair l x) first ∙ ap (Pair y) second)
-one_part v (Set x) y a b = absurd a
-one_part v _ (Set y) a b = absurd b
+one_part v (Set x) (Set y) a b = (let both : Some x ≡ Some y = sym a ∙ b in let same : x ≡ y = cc in ap Set same)
+one_part v (Set x) Nil a b = (let none : ◌≡◌ {A = Option (List ℤ)} None (Some x) = ap set_in (sym b) ∙ a in cc)
+one_part v (Set x) (Int y) a b = (let none : ◌≡◌ {A = Option (List ℤ)} None (Some x) = ap set_in (sym b) ∙ a in cc)
+one_part v (Set x) (Pair y z) a b = (let none : ◌≡◌ {A = Option (List ℤ)} None (Some x) = ap set_in (sym b) ∙ a in cc)
+one_part v Nil (Set x) a b = (let none : ◌≡◌ {A = Option (List ℤ)} None (Some x) = ap set_in (sym a) ∙ b in cc)
+one_part v (Int y) (Set x) a b = (let none : ◌≡◌ {A = Option (List ℤ)} None (Some x) = ap set_in (sym a) ∙ b in cc)
+one_part v (Pair y z) (Set x) a b = (let none : ◌≡◌ {A = Option (List ℤ)} None (Some x) = ap set_in (sym a) ∙ b in cc)
 
 op_same : (n m : Name) (k j : ℕ) (x y : Part) → n ≡ m → k ≡ j → x ≡ y → ◌≡◌ {A = Op} (record { name = n; key = k; part = x }) (record { name = m; key = j; part = y })
 op_same n m k j x y a b d =
     ap (λ (w : Name). let op : Op = record { name = w; key = k; part = x } in op) a ∙ ap (λ (w : ℕ). let op : Op = record { name = m; key = w; part = x } in op) b
     ∙ ap (λ (w : Part). let op : Op = record { name = m; key = j; part = w } in op) d
 
-one_body : (f v : Value) (x y : Body) → SpellsBody f v x → SpellsBody f v y → x ≡ y
-one_body f v (AnOp x) (AnOp y) a b =
+one_op : (f v : Value) (x y : Op) → SpellsOp f v x → SpellsOp f v y → x ≡ y
+one_op f v x y a b =
     (let names : x.name ≡ y.name = one_name f x.name y.name a.0 b.0 in
     let both : vector (more a.1.0 (more a.1.1 none)) ≡ vector (more b.1.0 (more b.1.1 none)) = sym a.1.2 ∙ b.1.2 in
     let keys : a.1.0 ≡ b.1.0 = cc in
     let parts : a.1.1 ≡ b.1.1 = cc in
     let other : SpellsPart a.1.1 y.part = subst (λ w. SpellsPart w y.part) (sym parts) b.1.4 in
-    ap AnOp (op_same x.name y.name x.key y.key x.part y.part names (one_number (2 ^ 16) a.1.0 x.key y.key a.1.3 (subst (λ w. IsNumber (2 ^ 16) w y.key) (sym keys) b.1.3)) (one_part a.1.1 x.part y.part a.1.4 other)))
-one_body f v (AnOp x) (AFault fault) a b = absurd b
-one_body f v (AFault fault) y a b = absurd a
+    op_same x.name y.name x.key y.key x.part y.part names (one_number (2 ^ 16) a.1.0 x.key y.key a.1.3 (subst (λ w. IsNumber (2 ^ 16) w y.key) (sym keys) b.1.3)) (one_part a.1.1 x.part y.part a.1.4 other))
+
+-- the kind of fault of a text
+fault_at : List ℕ → FaultKind
+fault_at t =
+    if bytes_eq t (codes "partition") then FaultKind.Partition
+    else if bytes_eq t (codes "heal") then FaultKind.Heal
+    else if bytes_eq t (codes "pause") then FaultKind.Pause
+    else if bytes_eq t (codes "resume") then FaultKind.Resume
+    else if bytes_eq t (codes "crash") then FaultKind.Crash
+    else if bytes_eq t (codes "restart") then FaultKind.Restart
+    else FaultKind.LoseReplies
+
+fault_at-text : (k : FaultKind) → fault_at (text_of_fault k) ≡ k
+unfolding fault_at
+fault_at-text FaultKind.Partition = refl
+fault_at-text FaultKind.Heal = refl
+fault_at-text FaultKind.Pause = refl
+fault_at-text FaultKind.Resume = refl
+fault_at-text FaultKind.Crash = refl
+fault_at-text FaultKind.Restart = refl
+fault_at-text FaultKind.LoseReplies = refl
+
+pub one_fault_kind : (v : Value) (k j : FaultKind) → v ≡ keyword (text_of_fault k) → v ≡ keyword (text_of_fault j) → k ≡ j
+one_fault_kind v k j a b = sym (fault_at-text k) ∙ ap fault_at (two_names v (text_of_fault k) (text_of_fault j) a b) ∙ fault_at-text j
+
+one_fault : (f v : Value) (x y : Fault) → SpellsFault f v x → SpellsFault f v y → x ≡ y
+one_fault f v x y a b =
+    (let both : Some x ≡ Some y = sym a.2 ∙ ap (λ k. fault_by k v) (one_fault_kind f a.0 b.0 a.1 b.1) ∙ b.2 in cc)
+
+one_body : (p : Process) (f v : Value) (x y : Body) → SpellsBody p f v x → SpellsBody p f v y → x ≡ y
+one_body (Client p) f v (AnOp x) (AnOp y) a b = ap AnOp (one_op f v x y a b)
+one_body (Client p) f v (AnOp x) (AFault y) a b = absurd b
+one_body (Client p) f v (AFault x) y a b = absurd a
+one_body Nemesis f v (AFault x) (AFault y) a b = ap AFault (one_fault f v x y a b)
+one_body Nemesis f v (AFault x) (AnOp y) a b = absurd b
+one_body Nemesis f v (AnOp x) y a b = absurd a
+
+pub no_fault : (p : Process) (f v : Value) → p ≡ Nemesis → ((x : Fault) → ¬ SpellsFault f v x) → (b : Body) → ¬ SpellsBody p f v b
+no_fault p f v is other (AFault x) h = other x (subst (λ q. SpellsBody q f v (AFault x)) is h)
+no_fault p f v is other (AnOp x) h = subst (λ q. SpellsBody q f v (AnOp x)) is h
 
 at_one : {X : Type 0} (P : Value → X → Type 0) → ((v : Value) (x y : X) → P v x → P v y → x ≡ y) → (o : Option Value) (x y : X) → IsSomeAnd o (λ v. P v x) → IsSomeAnd o (λ v. P v y) → x ≡ y
 at_one P one (Some v) x y a b = one v x y a b
 at_one P one None x y a b = absurd a
 
-at_two : (f v : Option Value) (x y : Body) → IsSomeAnd f (λ g. IsSomeAnd v (λ w. SpellsBody g w x)) → IsSomeAnd f (λ g. IsSomeAnd v (λ w. SpellsBody g w y)) → x ≡ y
-at_two (Some g) (Some w) x y a b = one_body g w x y a b
-at_two (Some g) None x y a b = absurd a
-at_two None v x y a b = absurd a
+at_two : (p : Process) (f v : Option Value) (x y : Body) → IsSomeAnd f (λ g. IsSomeAnd v (λ w. SpellsBody p g w x)) → IsSomeAnd f (λ g. IsSomeAnd v (λ w. SpellsBody p g w y)) → x ≡ y
+at_two p (Some g) (Some w) x y a b = one_body p g w x y a b
+at_two p (Some g) None x y a b = absurd a
+at_two p None v x y a b = absurd a
+
+-- what the pairs spell is about what they spell with the process of their head, and in the tables with its kind
+pub process_of_head : (ps : Pairs) (e : Event) (index : Option ℕ) (kind : EventKind) (process : Process) → SpellsHead ps index kind process → PairsSpell ps e → e.process ≡ process
+process_of_head ps e index kind process head h = at_one SpellsProcess one_process (value_at (codes "process") ps) e.process process h.head.2 head.2
+
+pub about_by_head : (ps : Pairs) (e : Event) (index : Option ℕ) (kind : EventKind) (process : Process) → SpellsHead ps index kind process → PairsSpell ps e → SpellsAbout ps process e.body
+about_by_head ps e index kind process head h = subst (λ p. SpellsAbout ps p e.body) (process_of_head ps e index kind process head h) h.body
+
+pub tables_by_head : (ps : Pairs) (e : Event) (index : Option ℕ) (kind : EventKind) (process : Process) (body : Body) → SpellsHead ps index kind process → SpellsAbout ps process body → PairsSpell ps e
+    → IsInTables kind process body
+tables_by_head ps e index kind process body head about h =
+    subst (λ b. IsInTables kind process b) (at_two process (value_at (codes "f") ps) (value_at (codes "value") ps) e.body body (about_by_head ps e index kind process head h) about)
+    (subst (λ p. IsInTables kind p e.body) (process_of_head ps e index kind process head h)
+    (subst (λ k. IsInTables k e.process e.body) (at_one SpellsKind one_kind (value_at (codes "type") ps) e.kind kind h.head.1 head.1) h.in_tables))
 
 pairs_spell_one : (ps : Pairs) (e f : Event) → PairsSpell ps e → PairsSpell ps f → e ≡ f
 pairs_spell_one ps e f a b =
-    ap (λ (w : Option ℕ). let g : Event = record { index = w; kind = e.kind; process = e.process; body = e.body } in g) (one_index (value_at (codes "index") ps) e.index f.index a.index b.index)
-    ∙ ap (λ (w : EventKind). let g : Event = record { index = f.index; kind = w; process = e.process; body = e.body } in g) (at_one SpellsKind one_kind (value_at (codes "type") ps) e.kind f.kind a.kind b.kind)
-    ∙ ap (λ (w : Process). let g : Event = record { index = f.index; kind = f.kind; process = w; body = e.body } in g) (at_one SpellsProcess one_process (value_at (codes "process") ps) e.process f.process a.process b.process)
+    ap (λ (w : Option ℕ). let g : Event = record { index = w; kind = e.kind; process = e.process; body = e.body } in g) (one_index (value_at (codes "index") ps) e.index f.index a.head.0 b.head.0)
+    ∙ ap (λ (w : EventKind). let g : Event = record { index = f.index; kind = w; process = e.process; body = e.body } in g) (at_one SpellsKind one_kind (value_at (codes "type") ps) e.kind f.kind a.head.1 b.head.1)
+    ∙ ap (λ (w : Process). let g : Event = record { index = f.index; kind = f.kind; process = w; body = e.body } in g) same
     ∙ ap (λ (w : Body). let g : Event = record { index = f.index; kind = f.kind; process = f.process; body = w } in g)
-    (at_two (value_at (codes "f") ps) (value_at (codes "value") ps) e.body f.body a.body b.body)
+    (at_two f.process (value_at (codes "f") ps) (value_at (codes "value") ps) e.body f.body (subst (λ p. SpellsAbout ps p e.body) same a.body) b.body)
+  where
+    same : e.process ≡ f.process
+    same = at_one SpellsProcess one_process (value_at (codes "process") ps) e.process f.process a.head.2 b.head.2
 
 pub spell_one : (v : Value) (e f : Event) → Spells v e → Spells v f → e ≡ f
 spell_one v e f a b =

@@ -6,7 +6,7 @@ use Rattle.edn.specs.View.{value_of, values_of, entries_of}
 use Rattle.edn.specs.declared.value.Edn.{Edn, Map, the_lemmas}
 use Rattle.models.specs.declared.operation.Part.{Part}
 use Rattle.models.specs.declared.operation.Part.TheVariants.{Nil, Int, Pair, Set}
-use Rattle.history.specs.Spelling.{is_keyword, value_at, int_in, two_in, SpellsPart}
+use Rattle.history.specs.Spelling.{is_keyword, value_at, int_in, two_in, set_in, SpellsPart}
 
 pub not_two : (vs : List Edn) → length vs ≢ 2 → None ≡ two_in (vector (values_of vs))
 not_two [] h = refl
@@ -31,9 +31,9 @@ value_at_none name ps i h = ap (λ l. value_at name (entries_of l)) (drop_all i 
 pub view-Map : (v : Vec (Edn × Edn) Global) → value_of (Map v) ≡ pairs (entries_of v.items)
 view-Map v = search (rules, the_lemmas)
 
--- what is not nil, no integer and no vector of two integers spells no part
-pub no_part : (v : Value) → v ≢ nil → int_in v ≡ None → ((p : ℤ × ℤ) → v ≢ vector (more (int p.0) (more (int p.1) none))) → (part : Part) → ¬ SpellsPart v part
-no_part v is_nil is_int are_ints Nil spelled = is_nil spelled
-no_part v is_nil is_int are_ints (Int a) spelled = (let found : Some a ≡ None = ap int_in (sym spelled) ∙ is_int in cc)
-no_part v is_nil is_int are_ints (Pair a b) spelled = are_ints (a, b) spelled
-no_part v is_nil is_int are_ints (Set members) spelled = spelled
+-- what is not nil, no integer, no vector of two integers and no set of them spells no part
+pub no_part : (v : Value) → v ≢ nil → int_in v ≡ None → ((p : ℤ × ℤ) → v ≢ vector (more (int p.0) (more (int p.1) none))) → set_in v ≡ None → (part : Part) → ¬ SpellsPart v part
+no_part v is_nil is_int are_ints is_set Nil spelled = is_nil spelled
+no_part v is_nil is_int are_ints is_set (Int a) spelled = (let found : Some a ≡ None = ap int_in (sym spelled) ∙ is_int in cc)
+no_part v is_nil is_int are_ints is_set (Pair a b) spelled = are_ints (a, b) spelled
+no_part v is_nil is_int are_ints is_set (Set xs) spelled = (let found : Some xs ≡ None = sym spelled ∙ is_set in cc)

@@ -8,9 +8,9 @@ use Rattle.models.specs.Objects.{answer_of}
 use Rattle.history.specs.declared.event.EventKind.{EventKind}
 use Rattle.history.specs.declared.event.EventKind.TheVariants.{Invoke, Ok, Fail, Info}
 use Rattle.history.specs.declared.event.Process.{Process}
-use Rattle.history.specs.declared.event.Process.TheVariants.{Client, Nemesis}
+use Rattle.history.specs.declared.event.Process.TheVariants.{Client}
 use Rattle.history.specs.declared.event.Body.{Body}
-use Rattle.history.specs.declared.event.Body.TheVariants.{Op as AnOp, Fault as AFault}
+use Rattle.history.specs.declared.event.Body.TheVariants.{Op as AnOp}
 use Rattle.history.specs.declared.event.Event.{Event}
 
 -- what happens to an operation: it is invoked, has returned with an answer, has failed, has crashed

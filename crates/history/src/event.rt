@@ -1,6 +1,6 @@
 //! Events.
 ghost use Rattle.std.specs.Prelude.{◌≡◌, IfOk};
-ghost use Rattle.history.specs.Events.{key_of};
+ghost use Rattle.history.specs.Events.{key_of, is_event_of};
 
 use crate::groups::Groups;
 use models::{Key, Op};
@@ -102,6 +102,16 @@ impl Event {
         match (self.process, &self.body) {
             (Process::Client(_), Body::Op(op)) => Some(op.key),
             _ => None,
+        }
+    }
+
+    /// Whether the event speaks of an operation on this key. Takes no memory.
+    pub fn is_of_key(&self, key: Key) -> bool
+        ensures { result ≡ is_event_of key self.now }
+    {
+        match (self.process, &self.body) {
+            (Process::Client(_), Body::Op(op)) => op.key == key,
+            _ => false,
         }
     }
 }

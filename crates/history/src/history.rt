@@ -2,13 +2,18 @@
 ghost use Rattle.std.specs.Prelude.{◌≡◌, ℕ, ◌<◌, ◌≤◌, ◌++◌, ◌∷◌, ◌^◌, ◌↔◌, [], length, slice_get, IsTrue, IsSome, IfSome, option_map, OnOk, IfOk, IfErr, OnErr, IsErrOf};
 ghost use Rattle.std.specs.Option.{option_copied};
 ghost use Rattle.history.specs.WellFormed.{IsConcurrency, no_events, MayNotStart, Admits, idle, with_prepared, with_last, IsWellFormed, MayRefuse, IsHistoryOf, current_of, open_of, open_index, IsValue, IsCurrent, FollowsRule, BreaksRule, Refuses};
+ghost use Rattle.edn.specs.View.{value_of};
+ghost use Rattle.history.specs.Events.{indexed_from, events_of_key};
+ghost use Rattle.history.specs.Spelling.{Spells};
+ghost use Rattle.history.specs.EventMap.{map_of, with_index};
 ghost use Rattle.history.specs.HistoryInvariant.{row_of};
 
 use crate::allowed::{completes, is_in_tables, shares_key};
 use crate::event::{Body, Event, EventKind, Process};
+use crate::event_map::map_of_event;
 use crate::rows::{Row, move_on};
-use edn::Refusal;
-use models::Op;
+use edn::{Edn, Refusal};
+use models::{Key, Op};
 use std::alloc::{AllocError, Global};
 use std::marker::Model;
 
@@ -236,6 +241,44 @@ impl History {
         ensures { result.now ≡ self.now.events }
     {
         self.events.as_slice()
+    }
+
+    /// The events of a key, in order, each with its index, copied into memory of their own. Takes the time of all events.
+    ///
+    /// # Errors
+    /// `AllocError` where a growth was refused.
+    pub fn events_of(&self, key: Key) -> Result<Vec<(u32, Event)>, AllocError>
+        ensures { IfOk result (λ found.
+            found.items ≡ events_of_key key (indexed_from 0 self.now.events)) }
+    {
+        let mut found = Vec::new(*self.events.allocator());
+        for i in 0..self.events.len() {
+            let event = &self.events[i];
+            if event.is_of_key(key) {
+                let copy = event.copy()?;
+                found.push((i as u32, copy))?;
+            }
+        }
+        Ok(found)
+    }
+
+    /// The map of an event: its index, type, process, name and value, in this order. What it spells is the event, which
+    /// states its index.
+    ///
+    /// # Errors
+    /// `AllocError` where a growth was refused.
+    pub fn to_edn(&self, index: u32) -> Result<Edn, AllocError>
+        requires { index < length self.now.events }
+        ensures value { IfOk result (λ element. IfSome (slice_get self.now.events index)
+            (λ event. value_of element ≡ map_of index event)) }
+        ensures spells { IfOk result (λ element. IfSome (slice_get self.now.events index)
+            (λ event. Spells (value_of element) (with_index index event))) }
+    {
+        map_of_event(
+            *self.events.allocator(),
+            index,
+            &self.events[index as usize],
+        )
     }
 
     /// The process of which a thread's next invocation is.

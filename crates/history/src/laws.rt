@@ -1,7 +1,9 @@
 //! Laws that show that the definitions say what they should.
-ghost use Rattle.std.specs.Prelude.{◌≡◌, ℕ, List};
+ghost use Rattle.std.specs.Prelude.{◌≡◌, ◌↔◌, ℕ, ℤ, List};
+ghost use Rattle.std.specs.List.{Contains};
+ghost use Rattle.models.specs.Members.{IsAscending};
 ghost use Rattle.edn.specs.Value.{Value};
-ghost use Rattle.history.specs.Spelling.{Spells};
+ghost use Rattle.history.specs.Spelling.{ascending, Spells};
 ghost use Rattle.edn.specs.declared.refusal.Refusal.{Refusal};
 ghost use Rattle.edn.specs.declared.refusal.Refusal.TheVariants.{Busy, WrongProcess, NotOpen, Mismatch};
 ghost use Rattle.models.specs.declared.operation.Part.TheVariants.{Nil};
@@ -36,6 +38,12 @@ pub fn process_rule_law()
 /// An element spells at most one event.
 pub fn one_event()
     ensures { (v : Value) (e f : Event) → Spells v e → Spells v f → e ≡ f }
+{}
+
+/// Integers put in their places are ascending, in whatever order they stand, and no other than they were.
+pub fn order_of_a_set_says_nothing()
+    ensures ascending { (zs : List ℤ) → IsAscending (ascending zs) }
+    ensures members { (zs : List ℤ) (x : ℤ) → Contains (ascending zs) x ↔ Contains zs x }
 {}
 
 /// An event is refused for one reason at most, and a well-formed one for none.

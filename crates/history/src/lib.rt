@@ -2,8 +2,11 @@
 #![tactic(auto)]
 
 mod allowed;
+mod collections;
 mod elements;
 pub mod event;
+mod event_map;
+mod fault_kind;
 mod groups;
 mod history;
 mod laws;
@@ -14,6 +17,7 @@ pub use event::{Body, Event, EventKind, Fault, Process};
 pub use groups::Groups;
 pub use history::History;
 pub use laws::{
-    crashed_process_is_replaced, one_event, one_refusal, process_rule_law, refusals_in_order,
+    crashed_process_is_replaced, one_event, one_refusal, order_of_a_set_says_nothing,
+    process_rule_law, refusals_in_order,
 };
 pub use spelling::from_edn;

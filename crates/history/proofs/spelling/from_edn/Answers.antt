@@ -10,4 +10,4 @@ returns-in-None-clause-refused c e h =
     let both : pairs h.0 ≡ pairs (entries_of c.as_slice.result.now) =
     sym h.1 ∙ ap value_of c.in-Map.is ∙ view-Map c.in-Map.pairs ∙ ap (λ l. pairs (entries_of l)) (sym c.as_slice.ensures.value) in
     let same : h.0 ≡ entries_of c.as_slice.result.now = cc in
-    c.in-None.ensures e (subst (λ ps. PairsSpell ps e) same h.2)
+    (rw c.in-None.is at c.in_ok-event.ensures) e (subst (λ ps. PairsSpell ps e) same h.2)

@@ -1,0 +1,9 @@
+use Rattle.std.proofs.Common.{◌≡◌, drop}
+use Rattle.edn.specs.View.{values_of}
+use Rattle.history.specs.Spelling.{int_in, each_in}
+use Rattle.history.proofs.ReadEach.{after}
+use Rattle.history.proofs.collections.integers_of.Given as goal
+
+abbrev pub invariant-loop-element : goal.invariant-loop-element
+invariant-loop-element l =
+    each_in int_in (values_of l.elements) ≡ after l.integers.items (each_in int_in (values_of (drop l.element-index l.elements)))

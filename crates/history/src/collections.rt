@@ -1,0 +1,98 @@
+//! What vectors and sets of a text are.
+ghost use Rattle.std.specs.Prelude.{◌≡◌, ◌^◌, ℕ, IfOk, option_map, map, List};
+ghost use Rattle.edn.specs.View.{value_of, values_of};
+ghost use Rattle.history.specs.Spelling.{int_in, number_in, numbers_in, groups_in, each_in, ascending, set_in};
+
+use crate::elements::integer;
+use crate::groups::Groups;
+use edn::Edn;
+use models::Members;
+use std::alloc::{AllocError, Global};
+
+/// The integer of 0 to 255 that an element is.
+pub fn byte_of(element: &Edn) -> Option<u8>
+    ensures { result ≡ number_in (2 ^ 8) (value_of element.now) }
+{
+    u8::try_from(integer(element)?).ok()
+}
+
+/// The integer of 0 to 65,535 that an element is.
+pub fn count_of(element: &Edn) -> Option<u16>
+    ensures { result ≡ number_in (2 ^ 16) (value_of element.now) }
+{
+    u16::try_from(integer(element)?).ok()
+}
+
+/// The set of integers that an element is, ascending, in whatever order it was spelled. Takes the square of its members.
+pub fn set_of(alloc: Global, element: &Edn) -> Result<Option<Members>, AllocError>
+    ensures { IfOk result (λ found. found ≡ set_in (value_of element.now)) }
+{
+    let Edn::Set(elements) = element else {
+        return Ok(None);
+    };
+    let Some(integers) = integers_of(alloc, elements.as_slice())? else {
+        return Ok(None);
+    };
+    Ok(Some(members_of(alloc, integers.as_slice())?))
+}
+
+// The integers, if each element is one.
+fn integers_of(alloc: Global, elements: &[Edn]) -> Result<Option<Vec<i64>>, AllocError>
+    ensures { IfOk result (λ found. option_map (λ v. v.items) found
+        ≡ each_in int_in (values_of elements.now)) }
+{
+    let mut integers = Vec::new(alloc);
+    for element in elements {
+        let Some(value) = integer(element) else {
+            return Ok(None);
+        };
+        integers.push(value)?;
+    }
+    Ok(Some(integers))
+}
+
+// The set of these integers.
+fn members_of(alloc: Global, integers: &[i64]) -> Result<Members, AllocError>
+    ensures { IfOk result (λ members. members ≡ ascending integers.now) }
+{
+    let mut members = Members::new(alloc);
+    for i in (0..integers.len()).rev() {
+        members = members.with(integers[i])?;
+    }
+    Ok(members)
+}
+
+/// The groups of numbers that an element is, a vector of vectors.
+pub fn groups_of(alloc: Global, element: &Edn) -> Result<Option<Groups>, AllocError>
+    ensures { IfOk result (λ found. found ≡ groups_in (value_of element.now)) }
+{
+    let Edn::Vector(elements) = element else {
+        return Ok(None);
+    };
+    let mut groups = Vec::new(alloc);
+    for element in elements {
+        let Some(numbers) = numbers_of(alloc, element)? else {
+            return Ok(None);
+        };
+        groups.push(numbers)?;
+    }
+    Ok(Some(Groups::new(groups)))
+}
+
+// The numbers that an element is, a vector of them.
+fn numbers_of(alloc: Global, element: &Edn) -> Result<Option<Vec<u8>>, AllocError>
+    ensures { IfOk result (λ found. option_map (λ v. v.items) found
+        ≡ numbers_in (value_of element.now)) }
+{
+    let Edn::Vector(elements) = element else {
+        return Ok(None);
+    };
+    let mut numbers = Vec::new(alloc);
+    for element in elements {
+        let Some(number) = byte_of(element) else {
+            return Ok(None);
+        };
+        numbers.push(number)?;
+    }
+    Ok(Some(numbers))
+}
