@@ -237,3 +237,60 @@ fn set_members(rt: HostRuntime) -> Result<(), Fail> {
     }
     Ok(())
 }
+
+// An invocation tries nothing. The ok finds five ends: it tries both enqueues on the empty queue, the other one on each end
+// with one, and none on the two ends with both.
+#[test]
+fn ok_applies_few(rt: HostRuntime) -> Result<(), Fail> {
+    let mut frontier = AnyFrontier::start(rt.alloc(), ModelKind::FifoQueue, 5)?;
+    for (id, value) in [(0, 5), (1, 6)] {
+        let enqueue = Op {
+            name: Name::Enqueue,
+            key: 7,
+            part: Part::Int(value),
+        };
+        assert_eq!(rt; frontier.observe(id, Invoke, &enqueue)?, Step::Alive);
+    }
+    assert_eq!(rt; frontier.applied(), 0);
+    let answer = Op {
+        name: Name::Enqueue,
+        key: 7,
+        part: Part::Int(5),
+    };
+    assert_eq!(rt; frontier.observe(0, Done, &answer)?, Step::Alive);
+    assert_eq!(rt; frontier.applied(), 4);
+    assert_eq!(rt; frontier.copy()?.applied(), 4);
+    Ok(())
+}
+
+// A read just after so many crashed writes of the same value: each end is a set of writes, and the read found nil, 1 or is
+// out. Ten leave 3,071 ends, and eleven 6,143.
+#[test]
+fn crashed_writes_blow_at_eleven(rt: HostRuntime) -> Result<(), Fail> {
+    for (writes, want) in [(10, Step::Alive), (11, Step::Over)] {
+        let mut frontier = AnyFrontier::start(rt.alloc(), ModelKind::Register, 4096)?;
+        for at in 0..writes {
+            let write = Op {
+                name: Name::Write,
+                key: 7,
+                part: Part::Int(1),
+            };
+            assert_eq!(rt; frontier.observe(2 * at, Invoke, &write)?, Step::Alive);
+            assert_eq!(rt; frontier.observe(2 * at, Info, &write)?, Step::Alive);
+        }
+        let read = Op {
+            name: Name::Read,
+            key: 7,
+            part: Part::Nil,
+        };
+        assert_eq!(rt; frontier.observe(1, Invoke, &read)?, Step::Alive);
+        assert_eq!(rt; frontier.applied(), 0);
+        let answer = Op {
+            name: Name::Read,
+            key: 7,
+            part: Part::Int(1),
+        };
+        assert_eq!(rt; frontier.observe(1, Done, &answer)?, want);
+    }
+    Ok(())
+}

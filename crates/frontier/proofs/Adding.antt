@@ -83,7 +83,7 @@ module _ {C Y : Type 0} (R : C → Y → Type 0) (cs : List C) (xs ys zs : List 
       (λ y h. Along-push R cs c y h)
       (Adds-then (Along R cs) (R c) xs ys zs a b)
 
-one_more : {C : Type 0} (cs : List C) (i : ℕ) (c : C) → i < length cs → c ≡ get_or cs i c → take (i + 1) cs ≡ take i cs ++ c ∷ []
+pub one_more : {C : Type 0} (cs : List C) (i : ℕ) (c : C) → i < length cs → c ≡ get_or cs i c → take (i + 1) cs ≡ take i cs ++ c ∷ []
 one_more cs i c l is = take_more cs i c l ∙ ap (λ x. take i cs ++ x ∷ []) (sym is)
 
 -- at a place of a list that is gone through

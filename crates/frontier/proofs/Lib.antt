@@ -4,6 +4,10 @@ pub mod Adding
 pub mod Changes
 pub mod CallsInTurn
 pub mod Rounds
+pub mod JustInTime
+pub mod Reaching
 pub mod AfterEvents
+pub mod Generating
+pub mod Standing
+pub mod Growing
 pub mod Pending
-pub mod AfterInvoke

@@ -6,7 +6,7 @@ use Rattle.models.specs.Objects.{register, cas_register, mutex, fifo_queue, set_
 use Rattle.history.specs.Events.{Mark}
 use Rattle.frontier.specs.declared.any_frontier.AnyFrontier.{AnyFrontier}
 use Rattle.frontier.specs.declared.any_frontier.AnyFrontier.TheVariants.{Register, CasRegister, Mutex, FifoQueue, Set}
-use Rattle.frontier.specs.Meaning.{StandsFor, budget_of}
+use Rattle.frontier.specs.Meaning.{StandsFor, applied_of, budget_of}
 
 abbrev pub kind_of_frontier : AnyFrontier → ModelKind
 kind_of_frontier (Register f) = kinds.Register
@@ -30,3 +30,11 @@ any_budget_of (CasRegister f) = budget_of f
 any_budget_of (Mutex f) = budget_of f
 any_budget_of (FifoQueue f) = budget_of f
 any_budget_of (Set f) = budget_of f
+
+-- how many steps were made so far
+abbrev pub any_applied_of : AnyFrontier → ℕ
+any_applied_of (Register f) = applied_of f
+any_applied_of (CasRegister f) = applied_of f
+any_applied_of (Mutex f) = applied_of f
+any_applied_of (FifoQueue f) = applied_of f
+any_applied_of (Set f) = applied_of f

@@ -1,5 +1,5 @@
 -- Invariant: what the events do to an end, and to lists of ends
-use Rattle.std.specs.Prelude.{◌≡◌, ◌≢◌, ◌↔◌, ℕ, zero, suc, ◌≤◌, ◌⊎◌, Bool, true, false, not, nat_eq, if◌then◌else◌, Option, Some, None, List}
+use Rattle.std.specs.Prelude.{◌≡◌, ◌≢◌, ◌↔◌, ℕ, zero, suc, ◌⊎◌, Bool, true, false, not, nat_eq, if◌then◌else◌, Option, Some, None, List}
 use Rattle.std.specs.List.{Contains}
 use Rattle.std.specs.FinMap as finmap
 use Rattle.std.specs.FinSet as finset
@@ -75,16 +75,23 @@ abbrev pub ReachesIn : (o : Object) → List PendingOp → ℕ → End o.State �
 ReachesIn o calls zero e f = e ≡ f
 ReachesIn o calls (suc n) e f = (mid : End o.State) × ReachesIn o calls n e mid × Next o calls mid f
 
--- f is reached from one of the ends by at most n calls
-abbrev pub Reached : (o : Object) → List PendingOp → ℕ → List (End o.State) → End o.State → Type 0
-Reached o calls n ends f =
-    (m : ℕ) × (m ≤ n) × ((e : End o.State) × Contains ends e × ReachesIn o calls m e f)
+-- f is reached from one of the ends by calls, one after another
+abbrev pub IsReached : (o : Object) → List PendingOp → List (End o.State) → End o.State → Type 0
+IsReached o calls ends f =
+    (n : ℕ) × (e : End o.State) × Contains ends e × ReachesIn o calls n e f
 
 -- ys has what xs has and what P says, and nothing else; where nothing stands in xs twice, nothing
 -- does in ys
 pub record Adds {Y : Type 0} (P : Y → Type 0) (xs ys : List Y) : Type 0 where
   pub each : (y : Y) → Contains ys y ↔ (Contains xs y ⊎ P y)
   pub once : Pairwise (λ x y. x ≢ y) xs → Pairwise (λ x y. x ≢ y) ys
+
+-- ys has what xs has, and beside it only what is reached from xs; where nothing stands in xs twice,
+-- nothing does in ys
+pub record Grows (o : Object) (calls : List PendingOp) (xs ys : List (End o.State)) : Type 0 where
+  pub kept : (e : End o.State) → Contains xs e → Contains ys e
+  pub reached : (e : End o.State) → Contains ys e → IsReached o calls xs e
+  pub once : Pairwise (λ d e. d ≢ e) xs → Pairwise (λ d e. d ≢ e) ys
 
 -- the calls of other operations
 abbrev pub is_other : ℕ → PendingOp → Bool

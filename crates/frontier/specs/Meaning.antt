@@ -1,5 +1,5 @@
 -- Promise: which histories of one key a frontier stands for, and what an event makes of them
-use Rattle.std.specs.Prelude.{◌≡◌, ◌≢◌, ◌↔◌, ℕ, List, [], ◌∷◌, ◌++◌}
+use Rattle.std.specs.Prelude.{◌≡◌, ◌≢◌, ◌↔◌, ℕ, ◌+◌, ◌*◌, ◌≤◌, ◌⊎◌, List, [], ◌∷◌, ◌++◌, length}
 use Rattle.std.specs.List.{Contains}
 use Rattle.models.specs.declared.operation.Op.{Op}
 use Rattle.models.specs.Objects.{Object, answer_of}
@@ -8,16 +8,18 @@ use Rattle.history.specs.declared.event.EventKind.TheVariants.{Invoke, Ok, Fail,
 use Rattle.history.specs.Events.{Mark}
 use Rattle.history.specs.Events.Mark.{Invoked, Returned, Failed, Crashed}
 use Rattle.linspec.specs.MarkRule.{MayFollow}
+use Rattle.linspec.specs.Operations.{IsOpen}
 use Rattle.linspec.specs.Orders.{IsLinearizable}
 use Rattle.linspec.specs.Ends.{End, IsEnd, HasMoreThan}
 use Rattle.frontier.specs.declared.frontier.Frontier.{Frontier}
 use Rattle.frontier.specs.declared.frontier.Step.{Step}
 use Rattle.frontier.specs.declared.frontier.Step.TheVariants.{Alive, Dead, Over}
 use Rattle.frontier.specs.KeptEnds.{ends_of, IsWellKept}
+use Rattle.frontier.specs.EndSteps.{IsReached}
 
--- the frontier represents the end
+-- the frontier represents the end: pending operations lead to it from an end that is kept (Lowe 2017)
 abbrev pub Represents : {M : Type 0} (o : Object) → Frontier M o.State → End o.State → Type 0
-Represents o f e = Contains (ends_of f) e
+Represents o f e = IsReached o f.calls.items (ends_of f) e
 
 -- the frontier stands for the history: it represents exactly the ends of the history. How it keeps
 -- them is its own, and no layer above cites it
@@ -29,6 +31,10 @@ pub record StandsFor {M : Type 0} (o : Object) (f : Frontier M o.State) (marks :
 -- the greatest number of ends that an ok may meet
 abbrev pub budget_of : {M S : Type 0} → Frontier M S → ℕ
 budget_of f = f.budget
+
+-- how many steps were made so far: how often an operation was tried in a state
+abbrev pub applied_of : {M S : Type 0} → Frontier M S → ℕ
+applied_of f = f.applied
 
 -- the mark that an event of this kind makes of the operation with this id. The part of an ok is the
 -- answer
@@ -68,6 +74,26 @@ IsReturn (Returned id answer) = Unit {0}
 IsReturn (Invoked id op) = ⊥
 IsReturn (Failed id) = ⊥
 IsReturn (Crashed id) = ⊥
+
+-- no more than n operations may still take place: those that are open or have crashed
+pub record HasAtMostPending (marks : List Mark) (n : ℕ) : Type 0 where
+  pub ids : List ℕ
+  pub many : length ids ≤ n
+  pub each : (id : ℕ) → IsOpen marks id ⊎ Contains marks (Crashed id) → Contains ids id
+
+-- the most steps that the mark may cost where n operations may still take place just before it: an ok costs one for
+-- each of these on each end of the budget and on one more, and another mark none
+abbrev pub most_steps : ℕ → ℕ → Mark → ℕ
+most_steps budget n (Returned id answer) = (budget + 1) * n
+most_steps budget n (Invoked id op) = 0
+most_steps budget n (Failed id) = 0
+most_steps budget n (Crashed id) = 0
+
+-- the mark costs no more steps than that, by how many were made before it and after it
+abbrev pub CostsAtMost : ℕ → (List Mark → Type 0) → Mark → ℕ → ℕ → Type 0
+CostsAtMost budget old mark before after =
+    (marks : List Mark) → old marks → (n : ℕ) → HasAtMostPending marks n
+    → after ≤ before + most_steps budget n mark
 
 -- what an event makes of the histories that are stood for: those before it and those after it
 module _ (old new : List Mark → Type 0) where

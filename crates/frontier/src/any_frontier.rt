@@ -2,16 +2,17 @@
 ghost use Rattle.std.specs.Prelude.{◌≡◌, ◌↔◌, List, [], IfOk, MatchResult};
 ghost use Rattle.models.specs.Objects.{object_of};
 ghost use Rattle.history.specs.Events.{Mark};
-ghost use Rattle.frontier.specs.Meaning.{Answers, Keeps, TakesUnlessOver, mark_by};
-ghost use Rattle.frontier.specs.AnyFrontier.{AnyStandsFor, any_budget_of, kind_of_frontier};
+ghost use Rattle.frontier.specs.Meaning.{Answers, CostsAtMost, Keeps, TakesUnlessOver, mark_by};
+ghost use Rattle.frontier.specs.AnyFrontier.{AnyStandsFor, any_applied_of, any_budget_of};
+ghost use Rattle.frontier.specs.AnyFrontier.{kind_of_frontier};
 
 use crate::frontier::{Frontier, Step};
 use history::EventKind;
 use models::{CasRegister, FifoQueue, ModelKind, Mutex, Op, Register, Set, each_kind};
 use std::alloc::{AllocError, Global};
 
-/// All ends of the legal orders of one key's history, kept as its events come, for a key whose kind of object is known
-/// only as the program runs: a [`Frontier`] of that kind.
+/// The ends of the legal orders of one key's history, for a key whose kind of object is known only as the program runs: a
+/// [`Frontier`] of that kind.
 #[derive(Drop)]
 pub enum AnyFrontier {
     /// Of a register.
@@ -43,6 +44,14 @@ macro_rules! copy_of {
     };
 }
 
+macro_rules! applied_of {
+    ($any:expr; $($K:ident $name:literal),*) => {
+        match $any {
+            $(AnyFrontier::$K(frontier) => frontier.applied(),)*
+        }
+    };
+}
+
 macro_rules! observe_of {
     ($any:expr, $id:expr, $event:expr, $op:expr; $($K:ident $name:literal),*) => {
         match $any {
@@ -58,14 +67,15 @@ impl AnyFrontier {
         ensures stands { IfOk result (λ f. AnyStandsFor f []) }
         ensures kind { IfOk result (λ f. kind_of_frontier f ≡ kind) }
         ensures budget { IfOk result (λ f. any_budget_of f ≡ budget) }
+        ensures applied { IfOk result (λ f. any_applied_of f ≡ 0) }
     {
         each_kind!(start_of; kind, alloc, budget)
     }
 
     /// An event of an operation: [`Frontier::observe`]. The id is the index of the operation's invocation, which is new
     /// where the event is one, and else is that of an open operation; the part of an ok is the answer. Over where the
-    /// event is an ok and more ends than the budget stand just before it: then, and on `AllocError`, the frontier is
-    /// unchanged. An invocation and an info are answered Alive, since they kill nothing.
+    /// event is an ok and more ends than the budget stand just before it: then, and on `AllocError`, the frontier stands
+    /// for what it stood for. An invocation and an info are answered Alive, since they kill nothing.
     pub fn observe(&mut self, id: u32, kind: EventKind, op: &Op) -> Result<Step, AllocError>
         ensures step { let object = object_of (kind_of_frontier self.old) in
             let old = AnyStandsFor self.old in
@@ -75,8 +85,18 @@ impl AnyFrontier {
             (λ _. Keeps old new) }
         ensures kind { kind_of_frontier self.new ≡ kind_of_frontier self.old }
         ensures budget { any_budget_of self.new ≡ any_budget_of self.old }
+        ensures cost { let old = AnyStandsFor self.old in
+            CostsAtMost (any_budget_of self.old) old (mark_by id kind op.now)
+            (any_applied_of self.old) (any_applied_of self.new) }
     {
         each_kind!(observe_of; self, id, kind, op)
+    }
+
+    /// How many steps were made so far: [`Frontier::applied`].
+    pub fn applied(&self) -> u64
+        ensures { result ≡ any_applied_of self.now }
+    {
+        each_kind!(applied_of; self)
     }
 
     /// An equal frontier, with memory of its own; `AllocError` where there is none.
@@ -85,6 +105,7 @@ impl AnyFrontier {
             → AnyStandsFor f marks ↔ AnyStandsFor self.now marks) }
         ensures kind { IfOk result (λ f. kind_of_frontier f ≡ kind_of_frontier self.now) }
         ensures budget { IfOk result (λ f. any_budget_of f ≡ any_budget_of self.now) }
+        ensures applied { IfOk result (λ f. any_applied_of f ≡ any_applied_of self.now) }
     {
         each_kind!(copy_of; self)
     }

@@ -4,7 +4,7 @@ ghost use Rattle.models.specs.Objects.{of_table};
 ghost use Rattle.history.specs.Events.{Mark};
 ghost use Rattle.history.specs.Events.Mark.{Invoked, Returned, Failed, Crashed};
 ghost use Rattle.frontier.specs.Meaning.{StandsFor, Answers, Keeps, Takes, TakesUnlessOver};
-ghost use Rattle.frontier.specs.Meaning.{budget_of, mark_by};
+ghost use Rattle.frontier.specs.Meaning.{CostsAtMost, applied_of, budget_of, mark_by};
 
 use crate::kept_end::KeptEnd;
 use crate::pending_op::{self, PendingOp};
@@ -24,13 +24,15 @@ pub enum Step {
     Over,
 }
 
-/// All ends of the legal orders of one key's history, kept as its events come (Herlihy and Wing 1990, section 2). It
-/// does not keep the events. An invocation finds at once what it may lead to; the just-in-time search of Lowe 2017,
-/// which waits for an ok, may take the place of this body without a change of the contract.
+/// The ends of the legal orders of one key's history (Herlihy and Wing 1990, section 2), found just in time (Lowe 2017).
+/// It does not keep the events. It keeps some ends, from which pending operations lead to all others, and only an ok
+/// tries operations: it finds all ends there are just before it, and keeps those that include the operation with what
+/// fits the answer.
 #[derive(Drop)]
 pub struct Frontier<M: SeqObject> {
     alloc: Global,
     budget: u32,
+    applied: u64,
     calls: Vec<PendingOp>,
     ends: Vec<KeptEnd<M::State>>,
 }
@@ -51,6 +53,7 @@ impl<M: SeqObject> Frontier<M> {
         ensures stands { let object = of_table M.State M.start_state M.apply_to in
             IfOk result (λ f. StandsFor object f []) }
         ensures budget { IfOk result (λ f. budget_of f ≡ budget) }
+        ensures applied { IfOk result (λ f. applied_of f ≡ 0) }
     {
         let mut ends = Vec::new(alloc);
         ends.push(KeptEnd {
@@ -61,6 +64,7 @@ impl<M: SeqObject> Frontier<M> {
         Ok(Frontier {
             alloc,
             budget,
+            applied: 0,
             calls: Vec::new(alloc),
             ends,
         })
@@ -79,6 +83,10 @@ impl<M: SeqObject> Frontier<M> {
             MatchResult result (TakesUnlessOver old new (mark_by id kind op.now))
             (λ _. Keeps old new) }
         ensures budget { budget_of self.new ≡ budget_of self.old }
+        ensures cost { let object = of_table M.State M.start_state M.apply_to in
+            let old = StandsFor object self.old in
+            CostsAtMost (budget_of self.old) old (mark_by id kind op.now)
+            (applied_of self.old) (applied_of self.new) }
     {
         match kind {
             EventKind::Invoke => {
@@ -98,32 +106,26 @@ impl<M: SeqObject> Frontier<M> {
     }
 
     /// An operation is invoked, whose id (the index of its invocation) no event before it has. On `AllocError` the
-    /// frontier is unchanged. Tries each call on each new end, and compares each end that comes of it with those that
-    /// are there.
+    /// frontier is unchanged. Tries nothing.
     pub fn invoke(&mut self, id: u32, op: Op) -> Result<(), AllocError>
         ensures kept { let object = of_table M.State M.start_state M.apply_to in
             let old = StandsFor object self.old in let new = StandsFor object self.new in
             MatchResult result (λ _. Takes old new (Invoked id op)) (λ _. Keeps old new) }
         ensures budget { budget_of self.new ≡ budget_of self.old }
+        ensures cost { applied_of self.new ≡ applied_of self.old }
     {
-        let before = self.ends.len();
         self.calls.push(PendingOp {
             id,
             op,
             crashed: false,
         })?;
-        match extend::grow::<M>(&mut self.ends, &self.calls) {
-            Ok(()) => Ok(()),
-            Err(error) => {
-                self.ends.truncate(before);
-                let _ = self.calls.pop();
-                Err(error)
-            }
-        }
+        Ok(())
     }
 
     /// An open operation has returned with this answer. Over where more ends than the budget stand just before it: then,
-    /// and on `AllocError`, the frontier is unchanged. Compares the ends that are left with one another.
+    /// and on `AllocError`, the frontier stands for what it stood for. Tries each operation that may still take place
+    /// once on each end, and compares what comes of it with the ends that are there; goes on with no end once these are
+    /// more than the budget.
     pub fn ok(&mut self, id: u32, answer: &Answer) -> Result<Step, AllocError>
         ensures step { let object = of_table M.State M.start_state M.apply_to in
             let old = StandsFor object self.old in
@@ -133,13 +135,26 @@ impl<M: SeqObject> Frontier<M> {
             MatchResult result (TakesUnlessOver old new (Returned id answer.now))
             (λ _. Keeps old new) }
         ensures budget { budget_of self.new ≡ budget_of self.old }
+        ensures cost { let object = of_table M.State M.start_state M.apply_to in
+            let old = StandsFor object self.old in
+            CostsAtMost (budget_of self.old) old (Returned id answer.now)
+            (applied_of self.old) (applied_of self.new) }
     {
-        if self.ends.len() > self.budget as usize {
+        let all = extend::extend::<M>(&mut self.ends, &self.calls, self.budget, &mut self.applied)?;
+        if !all {
             return Ok(Step::Over);
         }
         self.ends = ends::settled_ends::<M>(self.alloc, &self.ends, id, answer)?;
         pending_op::drop_call(&mut self.calls, id);
         Ok(step_of(self.ends.len()))
+    }
+
+    /// How many steps were made so far: how often an operation was tried in a state, also in an ok that was answered Over
+    /// or found no memory. Stops at the greatest u64. Takes no memory.
+    pub fn applied(&self) -> u64
+        ensures { result ≡ applied_of self.now }
+    {
+        self.applied
     }
 
     /// An open operation did not take place. Never Over. On `AllocError` the frontier is unchanged. Goes through the
@@ -152,6 +167,7 @@ impl<M: SeqObject> Frontier<M> {
             let old = StandsFor object self.old in let new = StandsFor object self.new in
             MatchResult result (TakesUnlessOver old new (Failed id)) (λ _. Keeps old new) }
         ensures budget { budget_of self.new ≡ budget_of self.old }
+        ensures cost { applied_of self.new ≡ applied_of self.old }
     {
         self.ends.retain(|kept| !kept.includes(id));
         pending_op::drop_call(&mut self.calls, id);
@@ -165,6 +181,7 @@ impl<M: SeqObject> Frontier<M> {
             let old = StandsFor object self.old in let new = StandsFor object self.new in
             MatchResult result (λ _. Takes old new (Crashed id)) (λ _. Keeps old new) }
         ensures budget { budget_of self.new ≡ budget_of self.old }
+        ensures cost { applied_of self.new ≡ applied_of self.old }
     {
         self.ends = ends::crashed_ends::<M>(self.alloc, &self.ends, id)?;
         pending_op::mark_crashed(&mut self.calls, id);
@@ -177,10 +194,12 @@ impl<M: SeqObject> Frontier<M> {
             IfOk result (λ f. (marks : List Mark)
             → StandsFor object f marks ↔ StandsFor object self.now marks) }
         ensures budget { IfOk result (λ f. budget_of f ≡ budget_of self.now) }
+        ensures applied { IfOk result (λ f. applied_of f ≡ applied_of self.now) }
     {
         Ok(Frontier {
             alloc: self.alloc,
             budget: self.budget,
+            applied: self.applied,
             calls: pending_op::copy_calls(self.alloc, &self.calls)?,
             ends: ends::copied_ends::<M>(self.alloc, &self.ends)?,
         })

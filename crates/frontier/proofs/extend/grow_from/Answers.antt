@@ -14,15 +14,17 @@ loop-call-preserved g c =
     elim c.match-branch-2.branch [
       | in-Some+in_ok-keep w ↦ record {
         adds = subst (λ ends. Adds (Next o (take (c.loop-call.call-index + 1) c.args.calls.now) (end_kept c.args.kept.now)) (map end_kept c.args.ends.now.items) (map end_kept ends.items)) (sym w.ends-is)
-            (one_call (TakesLast o (end_kept c.args.kept.now)) end_kept c.call-item.result c.in_ok-next.field-0 c.in_ok-next.ensures
+            (one_call (TakesLast o (end_kept c.args.kept.now)) end_kept c.call-item.result c.in_ok-next.field-0 c.in_ok-next.ensures.next
             c.args.calls.now c.loop-call.call-index (omega arith) c.call-item.is w.in-Some.next (map end_kept c.args.ends.now.items) (map end_kept c.loop-call.ends.items) (map end_kept w.keep.new.ends.items) w.in-Some.is c.loop-call.invariant.adds w.in_ok-keep.ensures.adds);
+        cost = (let b = c.in_ok-next.ensures.cost in let d = c.loop-call.invariant.cost in omega arith);
         front = subst (λ ends. IsFront c.args.ends.now.items ends.items) (sym w.ends-is)
             (IsFront-trans c.args.ends.now.items c.loop-call.ends.items w.keep.new.ends.items c.loop-call.invariant.front w.in_ok-keep.ensures.front);
       }
       | in_default w ↦ record {
         adds = subst (λ ends. Adds (Next o (take (c.loop-call.call-index + 1) c.args.calls.now) (end_kept c.args.kept.now)) (map end_kept c.args.ends.now.items) (map end_kept ends.items)) (sym w.ends-is)
-            (no_call (TakesLast o (end_kept c.args.kept.now)) end_kept c.call-item.result c.in_ok-next.field-0 c.in_ok-next.ensures
+            (no_call (TakesLast o (end_kept c.args.kept.now)) end_kept c.call-item.result c.in_ok-next.field-0 c.in_ok-next.ensures.next
             c.args.calls.now c.loop-call.call-index (omega arith) c.call-item.is (map end_kept c.args.ends.now.items) (map end_kept c.loop-call.ends.items) w.in_default.is c.loop-call.invariant.adds);
+        cost = (let b = c.in_ok-next.ensures.cost in let d = c.loop-call.invariant.cost in omega arith);
         front = subst (λ ends. IsFront c.args.ends.now.items ends.items) (sym w.ends-is) c.loop-call.invariant.front;
       }
     ]

@@ -1,4 +1,4 @@
-use Rattle.std.proofs.Common.{map, take}
+use Rattle.std.proofs.Common.{◌≤◌, ◌+◌, map, take}
 use Rattle.models.specs.Objects.{of_table}
 use Rattle.history.specs.Events.{IsFront}
 use Rattle.frontier.specs.KeptEnds.{end_kept}
@@ -10,4 +10,5 @@ invariant-loop-call g l =
     record {
       adds : Adds (Next (of_table g.row.M-State.Denot g.M.SeqObject.start_state g.M.SeqObject.apply_to) (take l.call-index l.calls) (end_kept l.kept)) (map end_kept l.initial.ends.items) (map end_kept l.ends.items);
       front : IsFront l.initial.ends.items l.ends.items;
+      cost : l.applied ≤ l.initial.applied + l.call-index;
     }

@@ -14,3 +14,18 @@ returns-in-FifoQueue-clause-kept c = rw c.in-FifoQueue.is c.observe-in-FifoQueue
 
 pub returns-in-Set-clause-kept : goal.returns-in-Set-clause-kept
 returns-in-Set-clause-kept c = rw c.in-Set.is c.observe-in-Set.ensures.kept
+
+pub returns-in-Register-clause-cost : goal.returns-in-Register-clause-cost
+returns-in-Register-clause-cost c = rw c.in-Register.is c.observe.ensures.cost
+
+pub returns-in-CasRegister-clause-cost : goal.returns-in-CasRegister-clause-cost
+returns-in-CasRegister-clause-cost c = rw c.in-CasRegister.is c.observe-in-CasRegister.ensures.cost
+
+pub returns-in-Mutex-clause-cost : goal.returns-in-Mutex-clause-cost
+returns-in-Mutex-clause-cost c = rw c.in-Mutex.is c.observe-in-Mutex.ensures.cost
+
+pub returns-in-FifoQueue-clause-cost : goal.returns-in-FifoQueue-clause-cost
+returns-in-FifoQueue-clause-cost c = rw c.in-FifoQueue.is c.observe-in-FifoQueue.ensures.cost
+
+pub returns-in-Set-clause-cost : goal.returns-in-Set-clause-cost
+returns-in-Set-clause-cost c = rw c.in-Set.is c.observe-in-Set.ensures.cost

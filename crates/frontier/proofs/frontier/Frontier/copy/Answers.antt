@@ -1,7 +1,7 @@
 use Rattle.std.proofs.Common.{ap, map, ◌∙◌, sym}
 use Rattle.models.specs.Objects.{of_table}
 use Rattle.frontier.specs.KeptEnds.{end_kept}
-use Rattle.frontier.proofs.TheEnds.{stands_too}
+use Rattle.frontier.proofs.Standing.{stands_too}
 use Rattle.frontier.proofs.frontier.Frontier.copy.Goals as goal
 
 pub returns-clause-same : goal.returns-clause-same

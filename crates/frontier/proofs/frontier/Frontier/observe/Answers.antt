@@ -13,3 +13,6 @@ returns-in_ok-crash-in-Info-clause-kept g c =
       over = λ over. cc;
       taken = λ _. c.in_ok-crash-in-Info.ensures.kept;
     })
+
+pub returns-in_ok-copy-in-Ok-clause-cost : goal.returns-in_ok-copy-in-Ok-clause-cost
+returns-in_ok-copy-in-Ok-clause-cost g c = rw c.in-Ok.is c.ok.ensures.cost
