@@ -1,5 +1,5 @@
 //! Generators.
-ghost use Rattle.std.specs.Prelude.{◌≡◌, ℕ, List, IfOk, ◌↔◌, IsTrue};
+ghost use Rattle.std.specs.Prelude.{◌≡◌, IfOk};
 ghost use Rattle.generators.specs.Generators.{generator_of, generators_of, each_thread, copies, is_over, all_over};
 
 use crate::cycle::Cycle;

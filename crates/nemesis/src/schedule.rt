@@ -1,5 +1,5 @@
 //! Faults, each at a length of the history.
-ghost use Rattle.std.specs.Prelude.{◌≡◌, ℕ, map, Option};
+ghost use Rattle.std.specs.Prelude.{◌≡◌};
 ghost use Rattle.std.specs.Option.{option_copied};
 ghost use Rattle.nemesis.specs.Schedules.{NeverFalls, due_at, after_first};
 

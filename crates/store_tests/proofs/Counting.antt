@@ -5,7 +5,6 @@ use Rattle.edn.specs.declared.refusal.Refusal.{Refusal}
 use Rattle.models.specs.declared.operation.Op.{Op}
 use Rattle.models.specs.declared.model_kind.ModelKind.{ModelKind}
 use Rattle.history.specs.declared.event.Fault.{Fault}
-use Rattle.test_store.specs.declared.held.Held.{Held}
 use Rattle.test_store.specs.declared.outcome.Mode.{Mode}
 use Rattle.test_store.specs.declared.outcome.Outcome.{Outcome}
 use Rattle.test_store.specs.declared.outcome.Outcome.TheVariants.{Done, Refused, Lost}

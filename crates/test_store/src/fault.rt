@@ -1,7 +1,7 @@
 //! Which faults may strike a store.
-ghost use Rattle.std.specs.Prelude.{◌≡◌, ◌↔◌, ◌<◌, ◌≤◌, ℕ, List, ◌++◌, length, IsTrue, MatchBool, OnOk, IfErr};
+ghost use Rattle.std.specs.Prelude.{◌≡◌, ◌↔◌, ℕ, List, ◌++◌, length, IsTrue, MatchBool, OnOk, IfErr};
 ghost use Rattle.std.specs.List.{concat};
-ghost use Rattle.test_store.specs.Store.{AreOnce, AreBelow, are_below, MayStrike, FaultRefused, losing_after, numbers_of};
+ghost use Rattle.test_store.specs.Store.{AreOnce, are_below, MayStrike, FaultRefused, losing_after, numbers_of};
 ghost use Rattle.test_store.specs.Marked.{HasMarked};
 ghost use Rattle.edn.specs.declared.refusal.Refusal.{Refusal};
 

@@ -1,5 +1,5 @@
 //! The replicated store.
-ghost use Rattle.std.specs.Prelude.{◌≡◌, ◌≢◌, ◌^◌, ◌-◌, ◌<◌, ◌≤◌, None, Some, IfOk, IfErr, IfSome, IsSome, OnOk, OnErr, MatchOption, length, if◌then◌else◌};
+ghost use Rattle.std.specs.Prelude.{◌≡◌, ◌^◌, ◌-◌, ◌<◌, None, Some, IfOk, IfErr, IfSome, IsSome, OnOk, OnErr, MatchOption, length, if◌then◌else◌};
 ghost use Rattle.models.specs.declared.finding.Found.{Found};
 ghost use Rattle.test_store.specs.declared.held.Held.{Held};
 ghost use Rattle.test_store.specs.Store.{Cluster, opening, at_rest, row_of, row_in, may_serve, servers, is_majority, MayServe, TakesPlace, TakesNoPlace, VersionsOf, after_fault, rows_after, MayStrike, FaultRefused, IsCount, MayNotOpenStore};

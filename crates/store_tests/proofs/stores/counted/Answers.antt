@@ -1,4 +1,4 @@
-use Rattle.std.proofs.Common.{ℕ, ◌≤◌, ◌∙◌, arith}
+use Rattle.std.proofs.Common.{◌≤◌, ◌∙◌, arith}
 use Rattle.store_tests.proofs.Counting.{serve_counted, replicas_counted}
 use Rattle.store_tests.proofs.stores.counted.Goals as goal
 
