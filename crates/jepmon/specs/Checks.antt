@@ -20,7 +20,7 @@ abbrev pub IsPut : List ℕ → ℕ → Option (List ℕ) → Option (List ℕ) 
 IsPut line line_status before after has_failed status =
     (Appends before after line × (status ≡ line_status))
     ⊎ ((part : List ℕ) × (more : List ℕ) × (line ≡ part ++ more) × Appends before after part
-      × (has_failed ≡ true) × (status ≡ 3))
+    × (has_failed ≡ true) × (status ≡ 3))
 
 -- a writer was told of what was found
 abbrev pub IsTold : Findings → Option (List ℕ) → Option (List ℕ) → Bool → ℕ → Type 0

@@ -1,12 +1,12 @@
 -- Promise: what a recorded history comes to. Its elements are events, which the machine takes in turn, up to the first that it
 -- refuses (this project's own)
-use Rattle.std.specs.Prelude.{◌≡◌, ◌≢◌, ℕ, List, [], ◌∷◌, ◌++◌, ◌⊎◌, codes, decimal, Result, Ok, Err}
+use Rattle.std.specs.Prelude.{◌≡◌, ℕ, List, [], ◌∷◌, ◌⊎◌, codes, decimal, Ok, Err}
 use Rattle.edn.specs.Value.{Value, Values, none, more, joined}
 use Rattle.edn.specs.Text.{IsText}
 use Rattle.edn.specs.Elements.{count_of}
 use Rattle.edn.specs.Refusals.{number_of, name_of, IsWhy}
 use Rattle.edn.specs.declared.refusal.Refusal.{Refusal}
-use Rattle.edn.specs.declared.refusal.Refusal.TheVariants.{BadValue, NoMemory}
+use Rattle.edn.specs.declared.refusal.Refusal.TheVariants.{BadValue}
 use Rattle.history.specs.declared.event.Event.{Event}
 use Rattle.history.specs.Spelling.{Spells}
 use Rattle.harness.specs.Machine.{Machine, MayStep, IsVerdictOn, opening, MayNotOpen}

@@ -7,8 +7,10 @@ use crate::exit_status::REFUSED;
 use crate::recorded::{Findings, findings_text, judge_text, status_of_findings};
 use edn::Refusal;
 use harness::Config;
-use line_loop::{Failed, flush_all, read_whole, write_text};
+use line_loop::{Failed, Watched, flush_all, read_whole, write_text};
 use std::alloc::Global;
+use std::fs;
+use std::fs::Files;
 use std::io::{Read, Write};
 use std::sync::Wait;
 
@@ -41,9 +43,26 @@ pub fn check_text<X: Wait, R: Read + Failed, W: Write + Failed>(
     tell(rt, alloc, &findings, writer)
 }
 
-/// Writes the line of what was found, or that of want of memory where there is none for it, and gives the exit status: 3
-/// where the writer has failed.
-pub fn tell<X: Wait, W: Write + Failed>(
+/// Judges the recorded history in a file: [`check_text`] of what the file has. A file that can't be opened is told as
+/// `ReadFailed`.
+pub fn check_file<X: Wait + Files, W: Write + Failed>(
+    rt: &X,
+    alloc: Global,
+    path: &str,
+    config: Config,
+    writer: &mut W,
+) -> u8
+    requires { W.has_failed writer.old ≡ false }
+{
+    match fs::open(rt, path) {
+        Ok(file) => check_text(rt, alloc, config, &mut Watched::new(file), writer),
+        Err(_) => tell(rt, alloc, &Findings::Refused(Refusal::ReadFailed), writer),
+    }
+}
+
+// Writes the line of what was found, or that of want of memory where there is none for it, and gives the exit status: 3
+// where the writer has failed.
+fn tell<X: Wait, W: Write + Failed>(
     rt: &X,
     alloc: Global,
     findings: &Findings,

@@ -61,7 +61,8 @@ Exit status: 0 legal, 1 illegal, 2 unknown, 3 refused";
 
 const CHECK: &str = "Judges a recorded history, whose elements are events";
 
-const CHECK_LONG: &str = "Reads a file of events, one after the other, judges all of them, and prints one line:
+const CHECK_LONG: &str =
+    "Reads a file of events, one after the other, judges all of them, and prints one line:
 
   legal                        the history is linearizable
   illegal key K index I        it is not, and event I of key K is the first that shows it
@@ -71,7 +72,8 @@ const CHECK_LONG: &str = "Reads a file of events, one after the other, judges al
 
 const CHECK_MORE: &str = "Exit status: 0 legal, 1 illegal, 2 unknown, 3 refused";
 
-const FILE: &str = "The file; its events stand in it as in the lines of script, cut into lines or not";
+const FILE: &str =
+    "The file; its events stand in it as in the lines of script, cut into lines or not";
 
 const WORKERS: &str = "Threads that judge keys, 1 to 64; for now one does it";
 
@@ -140,7 +142,7 @@ fn check_of(
     };
     match number(options, "workers") {
         Some(workers) if (1..=MOST_WORKERS).contains(&workers) => Ok(Order::Check {
-            path: String::from_str_in(alloc, path)?,
+            path: String::from_str(alloc, path)?,
             workers,
             config,
         }),

@@ -12,18 +12,15 @@ pub mod recorded;
 pub mod script;
 pub mod verdict_line;
 
-use check::{check_text, tell};
+use check::check_file;
 use command_line::{Order, Stop, no_text, order_of};
 use edn::Refusal;
 use exit_status::{status_after, status_of_stop};
-use harness::Config;
 pub use line_loop::{Failed, Watched};
-use recorded::Findings;
 use script::run_script;
 use std::alloc::{AllocError, Global};
 use std::env;
 use std::env::Args;
-use std::fs::File;
 use std::io::ErrorKind;
 use std::process::ExitCode;
 use std::rt::Env;
@@ -54,21 +51,17 @@ fn main(rt: HostRuntime) -> ExitCode {
             let outcome = run_script(&rt, alloc, config, &mut reader, &mut writer);
             status_after(&rt, alloc, outcome)
         }
-        Ok(Order::Check {
-            path,
-            workers: _,
-            config,
-        }) => check_file(&rt, alloc, &path, config),
+        Ok(
+            Order::Check {
+                path,
+                workers: _,
+                config,
+            },
+        ) => {
+            let mut writer = Watched::new(rt.stdout());
+            check_file(&rt, alloc, path.as_str(), config, &mut writer)
+        },
         Err(stop) => status_of_stop(&rt, alloc, &stop),
     };
     ExitCode::from(status)
-}
-
-// Judges the recorded history in a file.
-fn check_file(rt: &HostRuntime, alloc: Global, path: &str, config: Config) -> u8 {
-    let mut writer = Watched::new(rt.stdout());
-    match File::open(rt, path) {
-        Ok(file) => check_text(rt, alloc, config, &mut Watched::new(file), &mut writer),
-        Err(_) => tell(rt, alloc, &Findings::Refused(Refusal::ReadFailed), &mut writer),
-    }
 }

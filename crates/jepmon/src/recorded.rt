@@ -1,8 +1,9 @@
 //! Recorded histories: texts whose elements are events.
-ghost use Rattle.std.specs.Prelude.{◌≡◌, ◌≢◌, IfOk, IfErr, OnOk, string_bytes};
+ghost use Rattle.std.specs.Prelude.{◌≡◌, ◌≢◌, ◌⊎◌, IfOk, IfErr, OnOk, string_bytes};
 ghost use Rattle.edn.specs.Value.{Values};
 ghost use Rattle.edn.specs.Text.{IsText};
 ghost use Rattle.edn.specs.View.{value_of};
+ghost use Rattle.jepmon.specs.declared.recorded.Findings.{Findings};
 ghost use Rattle.jepmon.specs.Recorded.{TakesElement, RefusesElement, ComesTo, findings_line, findings_status};
 
 use crate::exit_status::{REFUSED, status_of_verdict};
@@ -57,8 +58,7 @@ fn judge_elements(alloc: Global, config: Config, bytes: &[u8]) -> Findings
         };
         match take_element(alloc, &mut core, element) {
             Ok(()) => taken += 1,
-            Err(Refusal::NoMemory) => return Findings::Refused(Refusal::NoMemory),
-            Err(refusal) => return Findings::RefusedEvent(taken, refusal),
+            Err(refusal) => return refused_at(taken, refusal),
         }
     }
 }
@@ -73,6 +73,17 @@ fn take_element(alloc: Global, core: &mut Core, element: Edn) -> Result<(), Refu
     let event = from_edn(alloc, &element)?;
     core.step(Command::Append(event))?;
     Ok(())
+}
+
+// What a refusal comes to where so many elements were taken. Want of memory is no element's.
+fn refused_at(taken: usize, refusal: Refusal) -> Findings
+    ensures { ((refusal ≡ Refusal.NoMemory) × (result ≡ Findings.Refused Refusal.NoMemory))
+        ⊎ ((refusal ≢ Refusal.NoMemory) × (result ≡ Findings.RefusedEvent taken refusal)) }
+{
+    match refusal {
+        Refusal::NoMemory => Findings::Refused(Refusal::NoMemory),
+        refusal => Findings::RefusedEvent(taken, refusal),
+    }
 }
 
 /// The line that says what was found, with its line feed, as `illegal key 7 index 5` or `refused 6 BadIndex event 1`.
