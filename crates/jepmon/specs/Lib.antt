@@ -4,3 +4,5 @@ pub mod ExitStatus
 pub mod Reply
 pub mod VerdictLine
 pub mod Unopened
+pub mod Recorded
+pub mod Checks

@@ -1,5 +1,6 @@
 //! The words of the command line.
 ghost use Rattle.std.specs.Prelude.{◌≡◌, length, IfOk, Ok};
+ghost use Rattle.harness.specs.Limits.{HasLimits};
 ghost use Rattle.jepmon.specs.CommandLine.{default_config, IsWithinLimits};
 
 use clap::error::ErrorKind;
@@ -9,11 +10,23 @@ use harness::Config;
 use models::{ModelKind, each_kind};
 use std::alloc::{AllocError, Global};
 
+// Workers at most.
+const MOST_WORKERS: u32 = 64;
+
 /// What the words ask the program to do.
 #[derive(Drop)]
 pub enum Order {
     /// Answers the lines of standard input.
     Script(Config),
+    /// Judges a recorded history.
+    Check {
+        /// The file that it stands in.
+        path: String,
+        /// Threads that judge its keys.
+        workers: u32,
+        /// How the one-thread object is opened.
+        config: Config,
+    },
 }
 
 /// Why there is no order.
@@ -45,6 +58,24 @@ const SCRIPT_MORE: &str = "A line of input:
   {:type :invoke, :process 0, :f :write, :value [7 3]}
 
 Exit status: 0 legal, 1 illegal, 2 unknown, 3 refused";
+
+const CHECK: &str = "Judges a recorded history, whose elements are events";
+
+const CHECK_LONG: &str =
+    "Reads a file of events, one after the other, judges all of them, and prints one line:
+
+  legal                        the history is linearizable
+  illegal key K index I        it is not, and event I of key K is the first that shows it
+  unknown key K index I        the budget of key K did not suffice at event I
+  refused NUMBER NAME event I  event I is none that may come there
+  refused NUMBER NAME          the file can't be read, or is no text";
+
+const CHECK_MORE: &str = "Exit status: 0 legal, 1 illegal, 2 unknown, 3 refused";
+
+const FILE: &str =
+    "The file; its events stand in it as in the lines of script, cut into lines or not";
+
+const WORKERS: &str = "Threads that judge keys, 1 to 64; for now one does it";
 
 const CONCURRENCY: &str = "Threads of the clients, 1 to 64; process P belongs to thread P mod N";
 
@@ -84,12 +115,39 @@ pub fn order_of(alloc: Global, words: &[String]) -> Result<Order, Stop>
         Ok(matches) => matches,
         Err(error) => return Err(stop_of(error)),
     };
-    let Some((_, options)) = matches.subcommand() else {
+    let Some((name, options)) = matches.subcommand() else {
         return Err(usage(&mut command, "no command was given"));
     };
     let config = config_of(&mut command, options)?;
     config.check()?;
-    Ok(Order::Script(config))
+    if name == "check" {
+        check_of(alloc, &mut command, options, config)
+    } else {
+        Ok(Order::Script(config))
+    }
+}
+
+// The order to judge a recorded history.
+fn check_of(
+    alloc: Global,
+    command: &mut Command,
+    options: &ArgMatches,
+    config: Config,
+) -> Result<Order, Stop>
+    requires { HasLimits config }
+    ensures { IfOk result IsWithinLimits }
+{
+    let Some(path) = options.get_str("FILE") else {
+        return Err(usage(command, "check takes a file"));
+    };
+    match number(options, "workers") {
+        Some(workers) if (1..=MOST_WORKERS).contains(&workers) => Ok(Order::Check {
+            path: String::from_str(alloc, path)?,
+            workers,
+            config,
+        }),
+        _ => Err(usage(command, "--workers takes a number, 1 to 64")),
+    }
 }
 
 // How the options of a command open the one-thread object. Their limits are not tested yet.
@@ -118,8 +176,8 @@ pub fn no_text(alloc: Global) -> Stop {
     }
 }
 
-// The program's commands and options, with their help.
-fn program<'a>(alloc: Global) -> Result<Command<'a>, AllocError> {
+// A command with the options by which the one-thread object is opened.
+fn with_config<'a>(alloc: Global, command: Command<'a>) -> Result<Command<'a>, AllocError> {
     let concurrency = Arg::new(alloc, "concurrency")
         .long("concurrency")
         .value_name("N")
@@ -137,13 +195,28 @@ fn program<'a>(alloc: Global) -> Result<Command<'a>, AllocError> {
         .default_value("4096")
         .allow_negative_numbers(true)
         .help(BUDGET);
+    command.arg(concurrency)?.arg(model)?.arg(budget)
+}
+
+// The program's commands and options, with their help.
+fn program<'a>(alloc: Global) -> Result<Command<'a>, AllocError> {
     let script = Command::new(alloc, "script")
         .about(SCRIPT)
         .long_about(SCRIPT_LONG)
-        .after_help(SCRIPT_MORE)
-        .arg(concurrency)?
-        .arg(model)?
-        .arg(budget)?;
+        .after_help(SCRIPT_MORE);
+    let file = Arg::new(alloc, "FILE").required(true).help(FILE);
+    let workers = Arg::new(alloc, "workers")
+        .long("workers")
+        .value_name("N")
+        .default_value("1")
+        .allow_negative_numbers(true)
+        .help(WORKERS);
+    let check = Command::new(alloc, "check")
+        .about(CHECK)
+        .long_about(CHECK_LONG)
+        .after_help(CHECK_MORE)
+        .arg(file)?
+        .arg(workers)?;
     Command::new(alloc, "jepmon")
         .no_binary_name(true)
         .bin_name("jepmon")?
@@ -151,7 +224,8 @@ fn program<'a>(alloc: Global) -> Result<Command<'a>, AllocError> {
         .after_help(
             "Without a command it is script, with its defaults. Its options: jepmon script --help",
         )
-        .subcommand(script)
+        .subcommand(with_config(alloc, script)?)?
+        .subcommand(with_config(alloc, check)?)
 }
 
 // The value of an option that is a number, however long. One past the ends of 0 to 2^32 - 1 counts as that end, which

@@ -9,8 +9,8 @@ use linspec::Verdict;
 use std::alloc::Global;
 use std::io::{Eprint, Print};
 
-// The exit status of a refusal, of a usage fault and of a fault in printing.
-const REFUSED: u8 = 3;
+/// The exit status of a refusal, of a usage fault and of a fault in printing.
+pub(crate) const REFUSED: u8 = 3;
 
 /// The exit status after a script: 0 legal, 1 illegal, 2 unknown, and 3 for a refusal, whose line goes to standard
 /// error.
@@ -26,8 +26,8 @@ pub fn status_after<P: Eprint>(rt: &P, alloc: Global, outcome: Result<Verdict, R
     }
 }
 
-// The exit status of a verdict.
-fn status_of_verdict(verdict: &Verdict) -> u8
+/// The exit status of a verdict.
+pub(crate) fn status_of_verdict(verdict: &Verdict) -> u8
     ensures { result ≡ status_of verdict.now }
 {
     match verdict {

@@ -1,14 +1,18 @@
 //! `jepmon script` reads events of a store's clients, a line each, and answers each by the verdict on all of them:
-//! whether what the clients saw is linearizable (Herlihy and Wing, TOPLAS 1990).
+//! whether what the clients saw is linearizable (Herlihy and Wing, TOPLAS 1990). `jepmon check FILE` judges a recorded
+//! history.
 #![tactic(auto)]
 
+pub mod check;
 pub mod command;
 pub mod command_line;
 pub mod exit_status;
 pub mod laws;
+pub mod recorded;
 pub mod script;
 pub mod verdict_line;
 
+use check::check_file;
 use command_line::{Order, Stop, no_text, order_of};
 use edn::Refusal;
 use exit_status::{status_after, status_of_stop};
@@ -47,6 +51,16 @@ fn main(rt: HostRuntime) -> ExitCode {
             let outcome = run_script(&rt, alloc, config, &mut reader, &mut writer);
             status_after(&rt, alloc, outcome)
         }
+        Ok(
+            Order::Check {
+                path,
+                workers: _,
+                config,
+            },
+        ) => {
+            let mut writer = Watched::new(rt.stdout());
+            check_file(&rt, alloc, path.as_str(), config, &mut writer)
+        },
         Err(stop) => status_of_stop(&rt, alloc, &stop),
     };
     ExitCode::from(status)

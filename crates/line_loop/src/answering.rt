@@ -1,54 +1,15 @@
 //! Bytes to bytes, over any machine of lines.
-ghost use Rattle.std.specs.Prelude.{◌≡◌, ◌<◌, ◌≤◌, ℕ, List, [], take, length, IfOk, OnOk, OnErr, IfErr, true, false, Ok, Err};
-ghost use Rattle.std.specs.Io.KnownBytes.{Consumes, IsAtEnd};
+ghost use Rattle.std.specs.Prelude.{◌≡◌, IfOk, OnOk, IfErr, true, false, Err};
 ghost use Rattle.line_loop.specs.Stopping.{MayStop, Finishes, Stops, KeepsUp};
 
 use crate::line_machine::LineMachine;
+use crate::reading::{Brought, PIECE, read_some};
 use crate::session::Session;
 use crate::watched::Failed;
 use edn::Refusal;
 use std::alloc::Global;
 use std::io::{Read, Write};
 use std::sync::Wait;
-
-// Bytes of one read at most.
-const PIECE: usize = 8192;
-
-// What one read brought.
-enum Brought {
-    Piece(usize),
-    End,
-}
-
-// One read. An error after which `failed()` is still false counts as 0 bytes.
-fn read_some<R: Read + Failed>(reader: &mut R, piece: &mut [u8]) -> Result<Brought, Refusal>
-    requires { 0 < length piece.old }
-    ensures bound { (n : ℕ) → result ≡ Ok (Brought.Piece n) → n ≤ length piece.new }
-    ensures piece { (n : ℕ) → result ≡ Ok (Brought.Piece n) →
-        Consumes (R.remaining reader.old) (R.remaining reader.new) (take n piece.new) }
-    ensures end { result ≡ Ok Brought.End → IsAtEnd (R.remaining reader.new)
-        × Consumes (R.remaining reader.old) (R.remaining reader.new) [] }
-    ensures unfailed { result ≡ Ok Brought.End → R.has_failed reader.new ≡ false }
-    ensures err { OnErr result (Consumes (R.remaining reader.old) (R.remaining reader.new) []) }
-    ensures cause { IfErr result (λ e. (e ≡ Refusal.ReadFailed)
-        × (R.has_failed reader.new ≡ true)) }
-{
-    match reader.read(piece) {
-        Ok(0) => {
-            if reader.failed() {
-                return Err(Refusal::ReadFailed);
-            }
-            Ok(Brought::End)
-        }
-        Ok(n) => Ok(Brought::Piece(n)),
-        Err(_) => {
-            if reader.failed() {
-                return Err(Refusal::ReadFailed);
-            }
-            Ok(Brought::Piece(0))
-        }
-    }
-}
 
 /// Reads lines, has the machine answer each, and writes the replies to the lines of one read before the next. At the
 /// reader's end it flushes the writer once and gives the machine's verdict.

@@ -1,10 +1,12 @@
 //! Bytes to lines to replies, over any machine that answers lines: [`answer_lines`] reads lines from a reader, has a
-//! [`LineMachine`] answer each, and writes the reply to each before it reads further.
+//! [`LineMachine`] answer each, and writes the reply to each before it reads further. [`read_whole`] reads all that a reader
+//! has, and [`write_text`] writes a whole text.
 #![tactic(auto)]
 
 mod answering;
 mod laws;
 mod line_machine;
+mod reading;
 mod refusal_line;
 mod session;
 mod watched;
@@ -13,9 +15,11 @@ mod writing;
 pub use answering::answer_lines;
 pub use laws::{one_cut, one_reply_text};
 pub use line_machine::LineMachine;
+pub use reading::read_whole;
 pub use refusal_line::{append_refusal, refusal_text};
 pub use session::LINE_LIMIT;
 pub use watched::{Failed, Watched};
+pub use writing::{flush_all, write_text};
 
 #[cfg(test)]
 mod tests;

@@ -1,7 +1,6 @@
 -- The piece was taken as far as the rest.
 use Rattle.std.proofs.Common.{◌≡◌, ℕ, List, ◌++◌, length}
 use Rattle.line_loop.specs.BetweenReads.{between, GoesOn}
-use Rattle.line_loop.specs.Lines.{IsLine}
 use Rattle.line_loop.proofs.session.Session.take_piece.Given as goal
 
 abbrev pub invariant-loop-front : goal.invariant-loop-front

@@ -1,0 +1,94 @@
+//! A recorded history, from its bytes to the line that says what it comes to.
+ghost use Rattle.std.specs.Prelude.{◌≡◌, ◌⊎◌, false};
+ghost use Rattle.jepmon.specs.declared.recorded.Findings.{Findings};
+ghost use Rattle.jepmon.specs.Checks.{Checks, IsPut, IsTold};
+
+use crate::exit_status::REFUSED;
+use crate::recorded::{Findings, findings_text, judge_text, status_of_findings};
+use edn::Refusal;
+use harness::Config;
+use line_loop::{Failed, Watched, flush_all, read_whole, write_text};
+use std::alloc::Global;
+use std::fs;
+use std::fs::Files;
+use std::io::{Read, Write};
+use std::sync::Wait;
+
+// The line of want of memory, for which none may be left.
+const NO_MEMORY: &[u8] = b"refused 13 NoMemory\n";
+
+/// Reads a recorded history to its end, judges it, writes one line, and gives the exit status.
+///
+/// The line is that of the verdict; or `refused NUMBER NAME event I`, where I elements were taken and the next one was
+/// refused; or `refused NUMBER NAME` for what is no element's refusal: `ReadFailed` where the reader has failed,
+/// `Unreadable` with its place, `NoMemory`. The status is that of the verdict, else 3, and 3 too where the writer has
+/// failed. The bytes are held once, and one element at a time.
+pub fn check_text<X: Wait, R: Read + Failed, W: Write + Failed>(
+    rt: &X,
+    alloc: Global,
+    config: Config,
+    reader: &mut R,
+    writer: &mut W,
+) -> u8
+    requires reads { R.has_failed reader.old ≡ false }
+    requires writes { W.has_failed writer.old ≡ false }
+    ensures { Checks config
+        (R.remaining reader.old) (R.remaining reader.new) (R.has_failed reader.new)
+        (W.contents writer.old) (W.contents writer.new) (W.has_failed writer.new) result }
+{
+    let findings = match read_whole(rt, alloc, reader) {
+        Ok(bytes) => judge_text(alloc, config, bytes.as_slice()),
+        Err(refusal) => Findings::Refused(refusal),
+    };
+    tell(rt, alloc, &findings, writer)
+}
+
+/// Judges the recorded history in a file: [`check_text`] of what the file has. A file that can't be opened is told as
+/// `ReadFailed`.
+pub fn check_file<X: Wait + Files, W: Write + Failed>(
+    rt: &X,
+    alloc: Global,
+    path: &str,
+    config: Config,
+    writer: &mut W,
+) -> u8
+    requires { W.has_failed writer.old ≡ false }
+{
+    match fs::open(rt, path) {
+        Ok(file) => check_text(rt, alloc, config, &mut Watched::new(file), writer),
+        Err(_) => tell(rt, alloc, &Findings::Refused(Refusal::ReadFailed), writer),
+    }
+}
+
+// Writes the line of what was found, or that of want of memory where there is none for it, and gives the exit status: 3
+// where the writer has failed.
+fn tell<X: Wait, W: Write + Failed>(
+    rt: &X,
+    alloc: Global,
+    findings: &Findings,
+    writer: &mut W,
+) -> u8
+    ensures { (told : Findings)
+        × ((told ≡ findings.now) ⊎ (told ≡ Findings.Refused Refusal.NoMemory))
+        × IsTold told
+        (W.contents writer.old) (W.contents writer.new) (W.has_failed writer.new) result }
+{
+    match findings_text(alloc, findings) {
+        Ok(line) => put_line(rt, line.as_bytes(), status_of_findings(findings), writer),
+        Err(_) => put_line(rt, NO_MEMORY, REFUSED, writer),
+    }
+}
+
+// Writes a line whole, and gives this status; or 3, where the writer has failed.
+fn put_line<X: Wait, W: Write + Failed>(rt: &X, line: &[u8], status: u8, writer: &mut W) -> u8
+    ensures { IsPut line.now status
+        (W.contents writer.old) (W.contents writer.new) (W.has_failed writer.new) result }
+{
+    if write_text(rt, writer, line).is_err() {
+        return REFUSED;
+    }
+    if flush_all(rt, writer).is_err() {
+        return REFUSED;
+    }
+    status
+}

@@ -1,0 +1,80 @@
+//! What a reader has.
+ghost use Rattle.std.specs.Prelude.{◌≡◌, ◌<◌, ◌≤◌, ◌⊎◌, ℕ, List, [], take, length, IfOk, OnOk, OnErr, IfErr, true, false, Ok};
+ghost use Rattle.std.specs.Io.KnownBytes.{Consumes, IsAtEnd};
+
+use crate::watched::Failed;
+use edn::Refusal;
+use std::alloc::Global;
+use std::io::Read;
+use std::sync::Wait;
+
+/// Bytes of one read at most.
+pub(crate) const PIECE: usize = 8192;
+
+/// What one read brought.
+pub(crate) enum Brought {
+    Piece(usize),
+    End,
+}
+
+/// One read. An error after which `failed()` is still false counts as 0 bytes.
+pub(crate) fn read_some<R: Read + Failed>(
+    reader: &mut R,
+    piece: &mut [u8],
+) -> Result<Brought, Refusal>
+    requires { 0 < length piece.old }
+    ensures bound { (n : ℕ) → result ≡ Ok (Brought.Piece n) → n ≤ length piece.new }
+    ensures piece { (n : ℕ) → result ≡ Ok (Brought.Piece n) →
+        Consumes (R.remaining reader.old) (R.remaining reader.new) (take n piece.new) }
+    ensures end { result ≡ Ok Brought.End → IsAtEnd (R.remaining reader.new)
+        × Consumes (R.remaining reader.old) (R.remaining reader.new) [] }
+    ensures unfailed { result ≡ Ok Brought.End → R.has_failed reader.new ≡ false }
+    ensures err { OnErr result (Consumes (R.remaining reader.old) (R.remaining reader.new) []) }
+    ensures cause { IfErr result (λ e. (e ≡ Refusal.ReadFailed)
+        × (R.has_failed reader.new ≡ true)) }
+{
+    match reader.read(piece) {
+        Ok(0) => {
+            if reader.failed() {
+                return Err(Refusal::ReadFailed);
+            }
+            Ok(Brought::End)
+        }
+        Ok(n) => Ok(Brought::Piece(n)),
+        Err(_) => {
+            if reader.failed() {
+                return Err(Refusal::ReadFailed);
+            }
+            Ok(Brought::Piece(0))
+        }
+    }
+}
+
+/// All that the reader has, read to its end in pieces of 8,192 bytes.
+///
+/// # Errors
+///
+/// `ReadFailed` where the reader has failed, and `NoMemory` where memory is refused. Some of the bytes were then read.
+pub fn read_whole<X: Wait, R: Read + Failed>(
+    rt: &X,
+    alloc: Global,
+    reader: &mut R,
+) -> Result<Vec<u8>, Refusal>
+    ensures bytes { IfOk result (λ bytes.
+        Consumes (R.remaining reader.old) (R.remaining reader.new) bytes.items) }
+    ensures end { OnOk result (IsAtEnd (R.remaining reader.new)) }
+    ensures some { OnErr result ((seen : List ℕ)
+        × Consumes (R.remaining reader.old) (R.remaining reader.new) seen) }
+    ensures cause { IfErr result (λ e. (e ≡ Refusal.NoMemory)
+        ⊎ ((e ≡ Refusal.ReadFailed) × (R.has_failed reader.new ≡ true))) }
+{
+    let mut bytes = Vec::new(alloc);
+    let mut piece = [0u8; PIECE];
+    for _ in rt.forever() {
+        match read_some(reader, &mut piece[..])? {
+            Brought::Piece(n) => bytes.extend_from_slice(&piece[..n])?,
+            Brought::End => return Ok(bytes),
+        }
+    }
+    unreachable!()
+}
