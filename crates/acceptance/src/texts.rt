@@ -150,10 +150,7 @@ fn values_without_a_text(rt: HostRuntime) -> Result<(), Fail> {
 }
 
 // The integers that come before the end, or before the place at which the input is refused.
-fn integers_and_place(
-    rt: &HostRuntime,
-    text: &[u8],
-) -> Result<(Vec<i64>, Option<usize>), Fail> {
+fn integers_and_place(rt: &HostRuntime, text: &[u8]) -> Result<(Vec<i64>, Option<usize>), Fail> {
     let mut integers = Vec::new(rt.alloc());
     let mut elements = Elements::new(text);
     for _ in 0..text.len() {
@@ -180,7 +177,13 @@ fn elements_one_after_the_other(rt: HostRuntime) -> Result<(), Fail> {
     let (integers, place) = integers_and_place(&rt, b"1 ]")?;
     assert_eq!(rt; integers.as_slice(), [1].as_slice());
     assert_eq!(rt; place, Some(2));
-    assert_eq!(rt; check_text(rt.alloc(), b"1 2 007").err(), Some(Refusal::Unreadable(5)));
-    assert_eq!(rt; check_text(rt.alloc(), b"1 ]").err(), Some(Refusal::Unreadable(2)));
+    assert_eq!(rt;
+        check_text(rt.alloc(), b"1 2 007").err(),
+        Some(Refusal::Unreadable(5))
+    );
+    assert_eq!(rt;
+        check_text(rt.alloc(), b"1 ]").err(),
+        Some(Refusal::Unreadable(2))
+    );
     Ok(())
 }
