@@ -1,39 +1,23 @@
--- A well-formed event keeps what a history keeps: the rows of its threads and the key of its first operation
-use Rattle.std.proofs.Common.{◌≡◌, ◌≢◌, ℕ, ◌+◌, ◌*◌, ◌<◌, ◌≤◌, Option, Some, None, List, [], ◌∷◌, ◌++◌, length, count_by, option_map, false, refl, sym, ap, ◌∙◌, subst, ⊎_elim, arith}
-use Rattle.std.proofs.lemmas.Bool.{cases_eq, eq-eqb, ne_eqb}
+-- A well-formed event keeps what a history keeps: its threads, and what each has open
+use Rattle.std.proofs.Common.{◌≡◌, ◌≢◌, ℕ, ◌+◌, ◌*◌, ◌^◌, ◌<◌, ◌≤◌, Option, Some, None, is_some, List, [], ◌∷◌, ◌++◌, length, count_by, option_map, false, refl, sym, ap, ◌∙◌, arith}
+use Rattle.std.proofs.lemmas.Bool.{eq-eqb, ne_eqb}
 use Rattle.std.proofs.lemmas.List.Sums.{count_by-le-length}
-use Rattle.std.proofs.Math.Nat.{add-mul-mod_self_left, add-mod_right, mod-eq_of_lt, mul-le-mul_left}
+use Rattle.std.proofs.Math.Nat.{add-mod_right, mod-lt, mul-le-mul_left}
 use Rattle.models.specs.declared.operation.Op.{Op}
+use Rattle.processes.specs.MoveRule.{process_of, thread_of, is_crash_on, current_of, IsCurrent, MayMove, FollowMoveRule}
+use Rattle.processes.specs.MoveRule.Move.{Crashes}
+use Rattle.processes.proofs.Pushing.{current_of-same, current_of-crashed, thread_of_current}
+use Rattle.processes.proofs.Following.{busy_is_current}
 use Rattle.history.specs.declared.event.EventKind.{EventKind}
 use Rattle.history.specs.declared.event.EventKind.TheVariants.{Invoke, Ok, Fail, Info}
+use Rattle.history.specs.declared.event.Process.{Process}
 use Rattle.history.specs.declared.event.Process.TheVariants.{Client, Nemesis}
 use Rattle.history.specs.declared.event.Body.{Body}
-use Rattle.history.specs.declared.event.Body.TheVariants.{Op as AnOp}
+use Rattle.history.specs.declared.event.Body.TheVariants.{Op as AnOp, Fault as AFault}
 use Rattle.history.specs.declared.event.Event.{Event}
-use Rattle.history.specs.declared.rows.Row.{Row}
-use Rattle.history.specs.WellFormed.{thread_of, crashes, current_of, is_client, open_of, IsCurrent, IsWellFormed}
-use Rattle.history.specs.HistoryInvariant.{row_of, row_after}
-use Rattle.history.proofs.Appending.{open_of-own, open_of-other, current_of-same, current_of-crashed}
-
--- the thread of a thread's current process
-pub thread_of_current : (c : ℕ) (events : List Event) (t : ℕ) → t < c → thread_of c (current_of c events t) ≡ t
-thread_of_current c events t h = add-mul-mod_self_left t c (count_by (crashes c t) events) ∙ mod-eq_of_lt h
-
--- a current process is far below 2^32
-pub current_of-le : (c : ℕ) (events : List Event) (t : ℕ) → current_of c events t ≤ t + c * length events
-current_of-le c events t =
-    (let few : count_by (crashes c t) events ≤ length events = count_by-le-length (crashes c t) events in let m : c * count_by (crashes c t) events ≤ c * length events = mul-le-mul_left c few in omega arith)
-
--- only current processes have open operations
-abbrev pub OpenIsCurrent : ℕ → List Event → Type 0
-OpenIsCurrent c events = (p : ℕ) (x : ℕ × Op) → open_of events p ≡ Some x → IsCurrent c events p
-
-pub none_open : (c : ℕ) (events : List Event) (p : ℕ) → OpenIsCurrent c events → ¬ IsCurrent c events p → open_of events p ≡ None
-none_open c events p kept ne = by_cases (open_of events p) refl
-  where
-    by_cases : (o : Option (ℕ × Op)) → open_of events p ≡ o → o ≡ None
-    by_cases None is = refl
-    by_cases (Some x) is = absurd (ne (kept p x is))
+use Rattle.history.specs.WellFormed.{move_by, moves_of, invoked_at, open_of, open_index, IsWellFormed}
+use Rattle.history.specs.HistoryInvariant.{open_after, HasNext}
+use Rattle.history.proofs.Appending.{open_of-own, open_of-other, moves_of-some, moves_of-none, moves_len, busy_is_open}
 
 abbrev pub by_client : Option ℕ → EventKind → ℕ → Op → Event
 by_client index kind p op = record { index = index; kind = kind; process = Client p; body = AnOp op }
@@ -41,112 +25,114 @@ by_client index kind p op = record { index = index; kind = kind; process = Clien
 abbrev pub by_nemesis : Option ℕ → Body → Event
 by_nemesis index body = record { index = index; kind = Info; process = Nemesis; body = body }
 
--- a well-formed event of a client is of a current process
-client_is_current : (c : ℕ) (events : List Event) (index : Option ℕ) (kind : EventKind) (p : ℕ) (op : Op) → OpenIsCurrent c events → IsWellFormed c events (by_client index kind p op) → IsCurrent c events p
-client_is_current c events index Invoke p op kept well = well.3.0
-client_is_current c events index Ok p op kept well = kept p (well.3.0, well.3.1) well.3.2
-client_is_current c events index Fail p op kept well = kept p (well.3.0, well.3.1) well.3.2
-client_is_current c events index Info p op kept well = kept p (well.3.0, well.3.1) well.3.2
+-- only current processes have open operations
+pub open_is_current : (c : ℕ) (events : List Event) → FollowMoveRule c (moves_of events) → (p : ℕ) (x : ℕ × Op) → open_of events p ≡ Some x → IsCurrent c (moves_of events) p
+open_is_current c events rule p x h = busy_is_current c (moves_of events) rule p (busy_is_open events p ∙ ap is_some h)
 
-row_same : (a b : ℕ) (x y : Option ℕ) → a ≡ b → x ≡ y → ◌≡◌ {A = Row} (record { process = a; invocation = x }) (record { process = b; invocation = y })
-row_same a b x y p q =
-    ap (λ (k : ℕ). let row : Row = record { process = k; invocation = x } in row) p ∙ ap (λ (o : Option ℕ). let row : Row = record { process = b; invocation = o } in row) q
-
--- the row of a thread none of whose processes the event is of
-other_row : (c : ℕ) (events : List Event) (e : Event) (t : ℕ) → crashes c t e ≡ false → is_client (current_of c events t) e.process ≡ false → row_of c (events ++ e ∷ []) t ≡ row_of c events t
-other_row c events e t here other =
-    row_same _ _ _ _ same (ap (λ p. option_map (λ (x : ℕ × Op). x.0) (open_of (events ++ e ∷ []) p)) same ∙ ap (option_map (λ (x : ℕ × Op). x.0)) (open_of-other events e (current_of c events t) other))
+pub none_open : (c : ℕ) (events : List Event) (p : ℕ) → FollowMoveRule c (moves_of events) → ¬ IsCurrent c (moves_of events) p → open_of events p ≡ None
+none_open c events p rule ne = by_cases (open_of events p) refl
   where
-    same : current_of c (events ++ e ∷ []) t ≡ current_of c events t
-    same = current_of-same c events e t here
+    by_cases : (o : Option (ℕ × Op)) → open_of events p ≡ o → o ≡ None
+    by_cases None is = refl
+    by_cases (Some x) is = absurd (ne (open_is_current c events rule p x is))
 
--- the row of the event's own thread, where the process stays current
-own_row : (c : ℕ) (events : List Event) (e : Event) (p : ℕ) (now : Option ℕ) → e.process ≡ Client p → IsCurrent c events p → crashes c (thread_of c p) e ≡ false → option_map (λ (x : ℕ × Op). x.0) (open_of (events ++ e ∷ []) p) ≡ now
-    → ◌≡◌ {A = Row} (record { process = current_of c events (thread_of c p); invocation = now }) (row_of c (events ++ e ∷ []) (thread_of c p))
-own_row c events e p now is current here new =
-    row_same _ _ _ _ (sym same) (sym new ∙ ap (λ q. option_map (λ (x : ℕ × Op). x.0) (open_of (events ++ e ∷ []) q)) (current ∙ sym same))
+-- the move of a well-formed event may come
+pub may_move : (c : ℕ) (events : List Event) (index : Option ℕ) (kind : EventKind) (p : ℕ) (op : Op) → IsWellFormed c events (by_client index kind p op) → MayMove c (moves_of events) (move_by kind p)
+may_move c events index Invoke p op well = well.3
+may_move c events index Ok p op well = busy_is_open events p ∙ ap is_some well.3.2
+may_move c events index Fail p op well = busy_is_open events p ∙ ap is_some well.3.2
+may_move c events index Info p op well = busy_is_open events p ∙ ap is_some well.3.2
+
+client_is_current : (c : ℕ) (events : List Event) (index : Option ℕ) (kind : EventKind) (p : ℕ) (op : Op) → FollowMoveRule c (moves_of events) → IsWellFormed c events (by_client index kind p op) → IsCurrent c (moves_of events) p
+client_is_current c events index Invoke p op rule well = well.3.0
+client_is_current c events index Ok p op rule well = open_is_current c events rule p (well.3.0, well.3.1) well.3.2
+client_is_current c events index Fail p op rule well = open_is_current c events rule p (well.3.0, well.3.1) well.3.2
+client_is_current c events index Info p op rule well = open_is_current c events rule p (well.3.0, well.3.1) well.3.2
+
+-- a current process is far below 2^32
+client_has_next : (c : ℕ) (events : List Event) (index : Option ℕ) (kind : EventKind) (p : ℕ) (op : Op) → 0 < c → c ≤ 64 → length events ≤ 2 ^ 20 → FollowMoveRule c (moves_of events) → IsWellFormed c events (by_client index kind p op) → p + 64 < 2 ^ 32
+client_has_next c events index kind p op pos most few rule well =
+    (let t : ℕ = thread_of c p in
+    let below : thread_of c p < c = mod-lt p pos in
+    let is : p ≡ current_of c (moves_of events) (thread_of c p) = client_is_current c events index kind p op rule well in
+    let crashes : count_by (is_crash_on c (thread_of c p)) (moves_of events) ≤ length (moves_of events) = count_by-le-length (is_crash_on c (thread_of c p)) (moves_of events) in
+    let moves : length (moves_of events) ≤ length events = moves_len events in
+    let all : count_by (is_crash_on c (thread_of c p)) (moves_of events) ≤ 2 ^ 20 = omega arith in
+    let product : c * count_by (is_crash_on c (thread_of c p)) (moves_of events) ≤ c * 2 ^ 20 = mul-le-mul_left c all in
+    omega arith)
+
+pub has_next : (c : ℕ) (events : List Event) (e : Event) → 0 < c → c ≤ 64 → length events ≤ 2 ^ 20 → FollowMoveRule c (moves_of events) → IsWellFormed c events e → HasNext e.process
+has_next c events e pos most few rule well = by_event e.index e.kind e.process e.body well
   where
-    same : current_of c (events ++ e ∷ []) (thread_of c p) ≡ current_of c events (thread_of c p)
-    same = current_of-same c events e (thread_of c p) here
+    by_event : (index : Option ℕ) (kind : EventKind) (process : Process) (body : Body) → IsWellFormed c events (record { index = index; kind = kind; process = process; body = body }) → HasNext process
+    by_event index kind (Client p) (AnOp op) w = client_has_next c events index kind p op pos most few rule w
+    by_event index Info Nemesis (AFault fault) w = tt
+    by_event index _ _ _ w = absurd w.0.0
 
--- the row of the event's own thread, where the process crashes
-crashed_row : (c : ℕ) (events : List Event) (index : Option ℕ) (p : ℕ) (op : Op) → 0 < c → OpenIsCurrent c events → IsCurrent c events p
-    → ◌≡◌ {A = Row} (record { process = current_of c events (thread_of c p) + c; invocation = None }) (row_of c (events ++ by_client index Info p op ∷ []) (thread_of c p))
-crashed_row c events index p op pos kept current =
-    row_same _ _ _ _ (sym next) (sym (ap (option_map (λ (x : ℕ × Op). x.0)) (ap (open_of (events ++ e ∷ [])) at ∙ open_of-other events e (p + c) other ∙ idle)))
+abbrev at_of : Option (ℕ × Op) → Option ℕ
+at_of o = option_map (λ (x : ℕ × Op). x.0) o
+
+process_of_move : (kind : EventKind) (p : ℕ) → process_of (move_by kind p) ≡ p
+process_of_move Invoke p = refl
+process_of_move Ok p = refl
+process_of_move Fail p = refl
+process_of_move Info p = refl
+
+-- what the event's own thread has open, where the process stays current
+stays_own : (c : ℕ) (events : List Event) (index : Option ℕ) (kind : EventKind) (p : ℕ) (op : Op) → IsCurrent c (moves_of events) p → is_crash_on c (thread_of c p) (move_by kind p) ≡ false
+    → open_index c (events ++ by_client index kind p op ∷ []) (thread_of c p) ≡ at_of (invoked_at (length events, by_client index kind p op))
+stays_own c events index kind p op current here =
+    ap (λ q. at_of (open_of (events ++ e ∷ []) q)) at ∙ ap at_of (open_of-own events e p (eq-eqb p (process_of (move_by kind p)) (sym (process_of_move kind p))))
+  where
+    e : Event
+    e = by_client index kind p op
+
+    at : current_of c (moves_of (events ++ e ∷ [])) (thread_of c p) ≡ p
+    at = ap (λ l. current_of c l (thread_of c p)) (moves_of-some events e (move_by kind p) refl) ∙ current_of-same c (thread_of c p) (moves_of events) (move_by kind p) here ∙ sym current
+
+-- and where it crashes
+crashed_own : (c : ℕ) (events : List Event) (index : Option ℕ) (p : ℕ) (op : Op) → 0 < c → FollowMoveRule c (moves_of events) → IsCurrent c (moves_of events) p
+    → open_index c (events ++ by_client index Info p op ∷ []) (thread_of c p) ≡ None
+crashed_own c events index p op pos rule current =
+    ap (λ q. at_of (open_of (events ++ e ∷ []) q)) at ∙ ap at_of (open_of-other events e (p + c) (ne_eqb (p + c) p (λ q. omega arith)) ∙ idle)
   where
     e : Event
     e = by_client index Info p op
 
-    next : current_of c (events ++ e ∷ []) (thread_of c p) ≡ current_of c events (thread_of c p) + c
-    next = current_of-crashed c events e (thread_of c p) (eq-eqb (thread_of c p) (thread_of c p) refl)
-
-    at : current_of c (events ++ e ∷ []) (thread_of c p) ≡ p + c
-    at = next ∙ ap (λ k. k + c) (sym current)
-
-    other : is_client (p + c) e.process ≡ false
-    other = ne_eqb (p + c) p (λ q. omega arith)
+    at : current_of c (moves_of (events ++ e ∷ [])) (thread_of c p) ≡ p + c
+    at = ap (λ l. current_of c l (thread_of c p)) (moves_of-some events e (Crashes p) refl)
+        ∙ current_of-crashed c (thread_of c p) (moves_of events) (Crashes p) (eq-eqb (thread_of c p) (thread_of c p) refl) ∙ ap (λ k. k + c) (sym current)
 
     idle : open_of events (p + c) ≡ None
-    idle = none_open c events (p + c) kept (λ is. (let q : p + c ≡ p = is ∙ ap (current_of c events) (add-mod_right p c) ∙ sym current in omega arith))
+    idle = none_open c events (p + c) rule (λ is. (let q : p + c ≡ p = is ∙ ap (current_of c (moves_of events)) (add-mod_right p c) ∙ sym current in omega arith))
 
--- the row of the thread of a client's event
-pub own_row_after : (c : ℕ) (events : List Event) (index : Option ℕ) (kind : EventKind) (p : ℕ) (op : Op) → 0 < c → OpenIsCurrent c events → IsWellFormed c events (by_client index kind p op)
-    → row_after c (length events) kind (row_of c events (thread_of c p)) ≡ row_of c (events ++ by_client index kind p op ∷ []) (thread_of c p)
-own_row_after c events index Invoke p op pos kept well =
-    own_row c events (by_client index Invoke p op) p (Some (length events)) refl (client_is_current c events index Invoke p op kept well) refl
-    (ap (option_map (λ (x : ℕ × Op). x.0)) (open_of-own events (by_client index Invoke p op) p (eq-eqb p p refl)))
-own_row_after c events index Ok p op pos kept well =
-    own_row c events (by_client index Ok p op) p None refl (client_is_current c events index Ok p op kept well) refl
-    (ap (option_map (λ (x : ℕ × Op). x.0)) (open_of-own events (by_client index Ok p op) p (eq-eqb p p refl)))
-own_row_after c events index Fail p op pos kept well =
-    own_row c events (by_client index Fail p op) p None refl (client_is_current c events index Fail p op kept well) refl
-    (ap (option_map (λ (x : ℕ × Op). x.0)) (open_of-own events (by_client index Fail p op) p (eq-eqb p p refl)))
-own_row_after c events index Info p op pos kept well = crashed_row c events index p op pos kept (client_is_current c events index Info p op kept well)
+pub own_open : (c : ℕ) (events : List Event) (index : Option ℕ) (kind : EventKind) (p : ℕ) (op : Op) → 0 < c → FollowMoveRule c (moves_of events) → IsWellFormed c events (by_client index kind p op)
+    → open_index c (events ++ by_client index kind p op ∷ []) (thread_of c p) ≡ open_after (length events) kind
+own_open c events index Invoke p op pos rule well = stays_own c events index Invoke p op (client_is_current c events index Invoke p op rule well) refl
+own_open c events index Ok p op pos rule well = stays_own c events index Ok p op (client_is_current c events index Ok p op rule well) refl
+own_open c events index Fail p op pos rule well = stays_own c events index Fail p op (client_is_current c events index Fail p op rule well) refl
+own_open c events index Info p op pos rule well = crashed_own c events index p op pos rule (client_is_current c events index Info p op rule well)
 
-crashes_elsewhere : (c : ℕ) (t : ℕ) (index : Option ℕ) (kind : EventKind) (p : ℕ) (op : Op) → thread_of c p ≢ t → crashes c t (by_client index kind p op) ≡ false
-crashes_elsewhere c t index Info p op ne = ne_eqb (thread_of c p) t ne
-crashes_elsewhere c t index Invoke p op ne = refl
-crashes_elsewhere c t index Ok p op ne = refl
-crashes_elsewhere c t index Fail p op ne = refl
+elsewhere : (c t : ℕ) (kind : EventKind) (p : ℕ) → thread_of c p ≢ t → is_crash_on c t (move_by kind p) ≡ false
+elsewhere c t Invoke p ne = refl
+elsewhere c t Ok p ne = refl
+elsewhere c t Fail p ne = refl
+elsewhere c t Info p ne = ne_eqb (thread_of c p) t ne
 
--- the rows of the other threads
-pub other_row_after : (c : ℕ) (events : List Event) (index : Option ℕ) (kind : EventKind) (p : ℕ) (op : Op) (t : ℕ) → t < c → thread_of c p ≢ t → row_of c (events ++ by_client index kind p op ∷ []) t ≡ row_of c events t
-other_row_after c events index kind p op t h ne =
-    other_row c events (by_client index kind p op) t (crashes_elsewhere c t index kind p op ne)
-    (ne_eqb (current_of c events t) p (λ q. ne (ap (thread_of c) (sym q) ∙ thread_of_current c events t h)))
-
-pub nemesis_row_after : (c : ℕ) (events : List Event) (index : Option ℕ) (body : Body) (t : ℕ) → row_of c (events ++ by_nemesis index body ∷ []) t ≡ row_of c events t
-nemesis_row_after c events index body t = other_row c events (by_nemesis index body) t refl refl
-
--- a process that is current stays so where its thread does not crash
-stays_current : (c : ℕ) (events : List Event) (e : Event) (p : ℕ) → crashes c (thread_of c p) e ≡ false → IsCurrent c events p → IsCurrent c (events ++ e ∷ []) p
-stays_current c events e p here is = is ∙ sym (current_of-same c events e (thread_of c p) here)
-
--- an event of another process crashes no process that is current
-other_crashes : (c : ℕ) (events : List Event) (index : Option ℕ) (kind : EventKind) (q : ℕ) (op : Op) (p : ℕ) → p ≢ q → IsCurrent c events q → IsCurrent c events p → crashes c (thread_of c p) (by_client index kind q op) ≡ false
-other_crashes c events index kind q op p ne cq cp = crashes_elsewhere c (thread_of c p) index kind q op (λ same. ne (cp ∙ ap (current_of c events) (sym same) ∙ sym cq))
-
-own_open : (c : ℕ) (events : List Event) (index : Option ℕ) (kind : EventKind) (q : ℕ) (op : Op) (p : ℕ) (x : ℕ × Op) → OpenIsCurrent c events → IsWellFormed c events (by_client index kind q op) → p ≡ q
-    → open_of (events ++ by_client index kind q op ∷ []) p ≡ Some x → crashes c (thread_of c p) (by_client index kind q op) ≡ false
-own_open c events index Info q op p x kept well same h = (let none : None ≡ Some x = sym (open_of-own events (by_client index Info q op) p (eq-eqb p q same)) ∙ h in cc)
-own_open c events index Invoke q op p x kept well same h = refl
-own_open c events index Ok q op p x kept well same h = refl
-own_open c events index Fail q op p x kept well same h = refl
-
-pub client_keeps_current : (c : ℕ) (events : List Event) (index : Option ℕ) (kind : EventKind) (q : ℕ) (op : Op) → OpenIsCurrent c events → IsWellFormed c events (by_client index kind q op) → OpenIsCurrent c (events ++ by_client index kind q op ∷ [])
-client_keeps_current c events index kind q op kept well p x h =
-    ⊎_elim
-    (λ same. stays_current c events e p (own_open c events index kind q op p x kept well same h) (subst (IsCurrent c events) (sym same) is_current))
-    (λ ne. (let now = kept p x (sym (open_of-other events e p (ne_eqb p q ne)) ∙ h) in stays_current c events e p (other_crashes c events index kind q op p ne is_current now) now))
-    (cases_eq p q)
+-- what the other threads have open
+pub other_open : (c : ℕ) (events : List Event) (index : Option ℕ) (kind : EventKind) (p : ℕ) (op : Op) (t : ℕ) → t < c → thread_of c p ≢ t → open_index c (events ++ by_client index kind p op ∷ []) t ≡ open_index c events t
+other_open c events index kind p op t below ne =
+    ap (λ q. at_of (open_of (events ++ e ∷ []) q)) at
+    ∙ ap at_of (open_of-other events e (current_of c (moves_of events) t) (ne_eqb (current_of c (moves_of events) t) (process_of (move_by kind p))
+    (λ q. ne (ap (thread_of c) (sym (q ∙ process_of_move kind p)) ∙ thread_of_current c t (moves_of events) below))))
   where
     e : Event
-    e = by_client index kind q op
+    e = by_client index kind p op
 
-    is_current : IsCurrent c events q
-    is_current = client_is_current c events index kind q op kept well
+    at : current_of c (moves_of (events ++ e ∷ [])) t ≡ current_of c (moves_of events) t
+    at = ap (λ l. current_of c l t) (moves_of-some events e (move_by kind p) refl) ∙ current_of-same c t (moves_of events) (move_by kind p) (elsewhere c t kind p ne)
 
-pub nemesis_keeps_current : (c : ℕ) (events : List Event) (index : Option ℕ) (body : Body) → OpenIsCurrent c events → OpenIsCurrent c (events ++ by_nemesis index body ∷ [])
-nemesis_keeps_current c events index body kept p x h =
-    stays_current c events (by_nemesis index body) p refl (kept p x (sym (open_of-other events (by_nemesis index body) p refl) ∙ h))
+pub nemesis_open : (c : ℕ) (events : List Event) (index : Option ℕ) (body : Body) (t : ℕ) → open_index c (events ++ by_nemesis index body ∷ []) t ≡ open_index c events t
+nemesis_open c events index body t =
+    ap (λ l. at_of (open_of (events ++ by_nemesis index body ∷ []) (current_of c l t))) (moves_of-none events (by_nemesis index body) refl)
+    ∙ ap at_of (open_of-other events (by_nemesis index body) (current_of c (moves_of events) t) refl)

@@ -1,11 +1,14 @@
 -- What a history keeps, before any event and after one more
-use Rattle.std.proofs.Common.{◌≡◌, ◌≢◌, ℕ, ◌+◌, ◌*◌, ◌^◌, ◌<◌, ◌≤◌, Option, Some, None, List, [], ◌∷◌, ◌++◌, length, slice_get, slice_set, get_or, take, drop, All, refl, sym, ap, ◌∙◌, subst, length-append, ⊎_elim, ◌⊎◌, inl, inr, arith}
+use Rattle.std.proofs.Common.{◌≡◌, ◌≢◌, ℕ, ◌+◌, ◌^◌, ◌<◌, Option, Some, None, List, [], ◌∷◌, ◌++◌, length, slice_get, slice_set, refl, sym, ap, ◌∙◌, subst, length-append, ⊎_elim, ◌⊎◌, inl, inr, arith}
 use Rattle.std.specs.Option.{option_or}
 use Rattle.std.proofs.lemmas.Bool.{cases_eq}
-use Rattle.std.proofs.lemmas.Option.{same_Some, slice_get-get_or, get_or_from_slice_get, slice_get_within}
-use Rattle.std.proofs.lemmas.List.{take_at, length-set, get_or-set_same, get_or-set_other}
-use Rattle.std.proofs.Math.Nat.{mod-lt, mul-le-mul_left}
+use Rattle.std.proofs.lemmas.Option.{slice_get-get_or, get_or_from_slice_get, slice_get_within}
+use Rattle.std.proofs.lemmas.List.{length-set, get_or-set_same, get_or-set_other}
+use Rattle.std.proofs.Math.Nat.{mod-lt}
 use Rattle.models.specs.declared.operation.Op.{Op}
+use Rattle.processes.specs.declared.threads.Thread.{Thread}
+use Rattle.processes.specs.MoveRule.{thread_of, MayMove, FollowMoveRule}
+use Rattle.processes.specs.Threads.{StandAfter}
 use Rattle.history.specs.declared.event.EventKind.{EventKind}
 use Rattle.history.specs.declared.event.EventKind.TheVariants.{Info}
 use Rattle.history.specs.declared.event.Process.{Process}
@@ -13,12 +16,11 @@ use Rattle.history.specs.declared.event.Process.TheVariants.{Client, Nemesis}
 use Rattle.history.specs.declared.event.Body.{Body}
 use Rattle.history.specs.declared.event.Body.TheVariants.{Op as AnOp, Fault as AFault}
 use Rattle.history.specs.declared.event.Event.{Event}
-use Rattle.history.specs.declared.rows.Row.{Row}
 use Rattle.history.specs.Events.{key_of}
-use Rattle.history.specs.WellFormed.{thread_of, current_of, IsConcurrency, IsWellFormed, IsHistoryOf}
-use Rattle.history.specs.HistoryInvariant.{row_of, row_after, MovesOn, IsSoundHistory}
-use Rattle.history.proofs.Appending.{first_key-push}
-use Rattle.history.proofs.Keeping.{OpenIsCurrent, by_client, by_nemesis, current_of-le, own_row_after, other_row_after, nemesis_row_after, client_keeps_current, nemesis_keeps_current}
+use Rattle.history.specs.WellFormed.{IsConcurrency, IsWellFormed, IsHistoryOf, move_by, moves_of, open_index}
+use Rattle.history.specs.HistoryInvariant.{open_after, MovesOn, HasNext, IsSoundHistory}
+use Rattle.history.proofs.Appending.{first_key-push, moves_of-some, moves_of-none}
+use Rattle.history.proofs.Keeping.{by_client, by_nemesis, may_move, has_next, own_open, other_open, nemesis_open}
 
 no_more : {X : Type 0} (xs ys : List X) → xs ++ ys ≡ [] → ys ≡ []
 no_more [] ys h = h
@@ -57,94 +59,93 @@ get_set_other xs i j v x ne h =
     (let within : j < length xs = slice_get_within xs j x h in let len : length (slice_set xs i v) ≡ length xs = length-set xs i v in
     slice_get-get_or (slice_set xs i v) j x (omega arith) ∙ ap Some (get_or-set_other xs i j v x ne ∙ get_or_from_slice_get xs j x x h))
 
-abbrev RowsAre : ℕ → List Event → List Row → Type 0
-RowsAre c events rows = (t : ℕ) → t < c → slice_get rows t ≡ Some (row_of c events t)
+abbrev OpensAre : ℕ → List Event → List (Option ℕ) → Type 0
+OpensAre c events opened = (t : ℕ) → t < c → slice_get opened t ≡ Some (open_index c events t)
 
-client_rows : (c : ℕ) (events : List Event) (index : Option ℕ) (kind : EventKind) (p : ℕ) (op : Op) (rows rows' : List Row) → 0 < c → OpenIsCurrent c events → RowsAre c events rows → IsWellFormed c events (by_client index kind p op)
-    → MovesOn c (length events) kind (Client p) rows rows' → RowsAre c (events ++ by_client index kind p op ∷ []) rows'
-client_rows c events index kind p op rows rows' pos kept are well moves t h =
-    ap (λ l. slice_get l t) moves.2 ∙ ⊎_elim
-    (λ same. ap (slice_get after) same ∙ get_set_same rows (thread_of c p) (row_after c (length events) kind moves.0) moves.0 moves.1 ∙ ap Some (ap (row_after c (length events) kind) old ∙ own_row_after c events index kind p op pos kept well)
-    ∙ ap (λ u. Some (row_of c (events ++ by_client index kind p op ∷ []) u)) (sym same))
-    (λ ne. get_set_other rows (thread_of c p) t (row_after c (length events) kind moves.0) (row_of c events t) ne (are t h) ∙ ap Some (sym (other_row_after c events index kind p op t h (λ q. ne (sym q)))))
+client_opens : (c : ℕ) (events : List Event) (index : Option ℕ) (kind : EventKind) (p : ℕ) (op : Op) (opened later : List (Option ℕ)) → 0 < c → FollowMoveRule c (moves_of events) → OpensAre c events opened
+    → IsWellFormed c events (by_client index kind p op) → later ≡ slice_set opened (thread_of c p) (open_after (length events) kind) → OpensAre c (events ++ by_client index kind p op ∷ []) later
+client_opens c events index kind p op opened later pos rule are well is t h =
+    ap (λ l. slice_get l t) is ∙ ⊎_elim
+    (λ same. ap (slice_get after) same ∙ get_set_same opened (thread_of c p) (open_after (length events) kind) (open_index c events (thread_of c p)) (are (thread_of c p) (mod-lt p pos))
+    ∙ ap Some (sym (own_open c events index kind p op pos rule well)) ∙ ap (λ u. Some (open_index c (events ++ by_client index kind p op ∷ []) u)) (sym same))
+    (λ ne. get_set_other opened (thread_of c p) t (open_after (length events) kind) (open_index c events t) ne (are t h) ∙ ap Some (sym (other_open c events index kind p op t h (λ q. ne (sym q)))))
     (cases_eq t (thread_of c p))
   where
-    after : List Row
-    after = slice_set rows (thread_of c p) (row_after c (length events) kind moves.0)
+    after : List (Option ℕ)
+    after = slice_set opened (thread_of c p) (open_after (length events) kind)
 
-    old : moves.0 ≡ row_of c events (thread_of c p)
-    old = same_Some moves.0 (row_of c events (thread_of c p)) (sym moves.1 ∙ are (thread_of c p) (mod-lt p pos))
+abbrev Stands : ℕ → List Event → List Thread → List (Option ℕ) → Type 0
+Stands c events threads opened = (length threads ≡ c) × StandAfter threads (moves_of events) × (length opened ≡ c) × OpensAre c events opened
 
-nemesis_rows : (c : ℕ) (events : List Event) (index : Option ℕ) (body : Body) (rows rows' : List Row) → RowsAre c events rows → rows' ≡ rows → RowsAre c (events ++ by_nemesis index body ∷ []) rows'
-nemesis_rows c events index body rows rows' are same t h = ap (λ l. slice_get l t) same ∙ are t h ∙ ap Some (sym (nemesis_row_after c events index body t))
+client_stands : (c : ℕ) (events : List Event) (index : Option ℕ) (kind : EventKind) (p : ℕ) (op : Op) (threads threads' : List Thread) (opened later : List (Option ℕ)) → 0 < c → Stands c events threads opened
+    → IsWellFormed c events (by_client index kind p op) → MovesOn (length events) kind (Client p) threads threads' opened later → Stands c (events ++ by_client index kind p op ∷ []) threads' later
+client_stands c events index kind p op threads threads' opened later pos kept well moves = (
+  moves.0.0 ∙ kept.0,
+  subst (StandAfter threads') (sym (moves_of-some events (by_client index kind p op) (move_by kind p) refl))
+      (moves.0.1 (moves_of events) kept.1 (subst (λ k. MayMove k (moves_of events) (move_by kind p)) (sym kept.0) (may_move c events index kind p op well))),
+  ap length is ∙ length-set opened (thread_of c p) (open_after (length events) kind) ∙ kept.2,
+  client_opens c events index kind p op opened later pos (subst (λ k. FollowMoveRule k (moves_of events)) kept.0 kept.1.rule) kept.3 well is,
+)
+  where
+    is : later ≡ slice_set opened (thread_of c p) (open_after (length events) kind)
+    is = moves.1 ∙ ap (λ k. slice_set opened (thread_of k p) (open_after (length events) kind)) kept.2
 
--- the rows, and that only current processes have open operations, after one more event
-step : (c : ℕ) (events : List Event) (index : Option ℕ) (kind : EventKind) (process : Process) (body : Body) (rows rows' : List Row) → 0 < c → OpenIsCurrent c events → RowsAre c events rows
-    → IsWellFormed c events (record { index = index; kind = kind; process = process; body = body }) → MovesOn c (length events) kind process rows rows'
-    → OpenIsCurrent c (events ++ record { index = index; kind = kind; process = process; body = body } ∷ []) × RowsAre c (events ++ record { index = index; kind = kind; process = process; body = body } ∷ []) rows'
-step c events index kind (Client p) (AnOp op) rows rows' pos kept are well moves =
-    (client_keeps_current c events index kind p op kept well, client_rows c events index kind p op rows rows' pos kept are well moves)
-step c events index Info Nemesis (AFault fault) rows rows' pos kept are well moves =
-    (nemesis_keeps_current c events index (AFault fault) kept, nemesis_rows c events index (AFault fault) rows rows' are moves)
-step c events index _ _ _ rows rows' pos kept are well moves = absurd well.0.0
+nemesis_stands : (c : ℕ) (events : List Event) (index : Option ℕ) (body : Body) (threads threads' : List Thread) (opened later : List (Option ℕ)) → Stands c events threads opened → threads' ≡ threads → later ≡ opened
+    → Stands c (events ++ by_nemesis index body ∷ []) threads' later
+nemesis_stands c events index body threads threads' opened later kept same still = (
+  ap length same ∙ kept.0,
+  subst (λ l. StandAfter l (moves_of (events ++ by_nemesis index body ∷ []))) (sym same) (subst (StandAfter threads) (sym (moves_of-none events (by_nemesis index body) refl)) kept.1),
+  ap length still ∙ kept.2,
+  λ t h. ap (λ l. slice_get l t) still ∙ kept.3 t h ∙ ap Some (sym (nemesis_open c events index body t)),
+)
 
-pub rows_len : (c n : ℕ) (kind : EventKind) (process : Process) (rows rows' : List Row) → MovesOn c n kind process rows rows' → length rows' ≡ length rows
-rows_len c n kind (Client p) rows rows' moves = ap length moves.2 ∙ length-set rows (thread_of c p) (row_after c n kind moves.0)
-rows_len c n kind Nemesis rows rows' moves = ap length moves
+-- threads, and what they have open, after one more event
+step : (c : ℕ) (events : List Event) (index : Option ℕ) (kind : EventKind) (process : Process) (body : Body) (threads threads' : List Thread) (opened later : List (Option ℕ)) → 0 < c → Stands c events threads opened
+    → IsWellFormed c events (record { index = index; kind = kind; process = process; body = body }) → MovesOn (length events) kind process threads threads' opened later
+    → Stands c (events ++ record { index = index; kind = kind; process = process; body = body } ∷ []) threads' later
+step c events index kind (Client p) (AnOp op) threads threads' opened later pos kept well moves = client_stands c events index kind p op threads threads' opened later pos kept well moves
+step c events index Info Nemesis (AFault fault) threads threads' opened later pos kept well moves = nemesis_stands c events index (AFault fault) threads threads' opened later kept moves.0 moves.1
+step c events index _ _ _ threads threads' opened later pos kept well moves = absurd well.0.0
 
 -- one more event
-pub kept_after : (c : ℕ) (events : List Event) (rows rows' : List Row) (key : Option ℕ) (e : Event) → IsSoundHistory c events rows key → IsWellFormed c events e → MovesOn (length rows) (length events) e.kind e.process rows rows'
-    → IsSoundHistory c (events ++ e ∷ []) rows' (option_or key (key_of e))
-kept_after c events rows rows' key e kept well moves = record {
+kept_after : (c : ℕ) (events : List Event) (threads threads' : List Thread) (opened later : List (Option ℕ)) (key : Option ℕ) (e : Event) → IsSoundHistory c events threads opened key → IsWellFormed c events e
+    → MovesOn (length events) e.kind e.process threads threads' opened later → IsSoundHistory c (events ++ e ∷ []) threads' later (option_or key (key_of e))
+kept_after c events threads threads' opened later key e kept well moves = record {
   concurrency = kept.concurrency;
   history = history-push c events e kept.history well;
   limit = (let more : length (events ++ e ∷ []) ≡ length events + 1 = length-append events (e ∷ []) in let room : length events < 2 ^ 20 = well.2 in omega arith);
-  open_is_current = after.0;
-  threads = rows_len c (length events) e.kind e.process rows rows' on ∙ kept.threads;
-  rows_are = after.1;
+  number = after.0;
+  stand = after.1;
+  opens = after.2;
+  opens_are = after.3;
   key_is = ap (λ k. option_or k (key_of e)) kept.key_is ∙ sym (first_key-push events e);
 }
   where
-    on : MovesOn c (length events) e.kind e.process rows rows'
-    on = subst (λ k. MovesOn k (length events) e.kind e.process rows rows') kept.threads moves
-
-    after : OpenIsCurrent c (events ++ e ∷ []) × RowsAre c (events ++ e ∷ []) rows'
-    after = step c events e.index e.kind e.process e.body rows rows' (let limits : IsConcurrency c = kept.concurrency in omega arith) kept.open_is_current kept.rows_are well on
+    after : Stands c (events ++ e ∷ []) threads' later
+    after = step c events e.index e.kind e.process e.body threads threads' opened later (let limits : IsConcurrency c = kept.concurrency in omega arith) (kept.number, kept.stand, kept.opens, kept.opens_are) well moves
 
 -- no event
-pub kept_at_first : (c : ℕ) (rows : List Row) → IsConcurrency c → length rows ≡ c → RowsAre c [] rows → IsSoundHistory c [] rows None
-kept_at_first c rows limits len are = record {
+pub kept_at_first : (c : ℕ) (threads : List Thread) (opened : List (Option ℕ)) → IsConcurrency c → length threads ≡ c → StandAfter threads [] → length opened ≡ c → ((t : ℕ) → t < c → slice_get opened t ≡ Some None) → IsSoundHistory c [] threads opened None
+kept_at_first c threads opened limits number stand opens are = record {
   concurrency = limits;
   history = history-nil c;
   limit = omega arith;
-  open_is_current = λ p x h. (let none : None ≡ Some x = h in cc);
-  threads = len;
-  rows_are = are;
+  number = number;
+  stand = stand;
+  opens = opens;
+  opens_are = are;
   key_is = refl;
 }
 
--- the numbers of processes stay far below 2^32
-pub processes_fit : (c : ℕ) (events : List Event) (rows : List Row) (key : Option ℕ) → IsSoundHistory c events rows key → All (λ row. row.process + length rows < 2 ^ 32) rows
-processes_fit c events rows key kept k d h =
+-- the process of a well-formed event has a next one
+pub next_of : (c : ℕ) (events : List Event) (threads : List Thread) (opened : List (Option ℕ)) (key : Option ℕ) (e : Event) → IsSoundHistory c events threads opened key → IsWellFormed c events e → HasNext e.process
+next_of c events threads opened key e kept well =
     (let limits : IsConcurrency c = kept.concurrency in
-    let threads : length rows ≡ c = kept.threads in
-    let row : get_or rows k d ≡ row_of c events k = get_or_from_slice_get rows k (row_of c events k) d (kept.rows_are k (omega arith)) in
-    let process : (get_or rows k d).process ≡ current_of c events k = ap (λ (r : Row). r.process) row in
-    let few : length events ≤ 2 ^ 20 = kept.limit in
-    let most : current_of c events k ≤ k + c * length events = current_of-le c events k in
-    let product : c * length events ≤ c * 2 ^ 20 = mul-le-mul_left c few in
-    omega arith)
-
--- the rows that a slice of them leaves behind
-pub written_back : (n : ℕ) (new old : List Row) → length new ≡ length old → n ≡ length old → take n (new ++ drop (length new) old) ≡ new
-written_back n new old same whole = (let len : length new ≡ n = omega arith in take_at new (drop (length new) old) n len)
+    has_next c events e (omega arith) (omega arith) kept.limit (subst (λ k. FollowMoveRule k (moves_of events)) kept.number kept.stand.rule) well)
 
 -- a prepared event, appended
-pub committed : (c : ℕ) (events events' : List Event) (rows old rows' : List Row) (key key' : Option ℕ) (n len : ℕ) (e : Event) → IsSoundHistory c events rows key → IsWellFormed c events e → n ≡ length events → old ≡ rows → len ≡ length rows
-    → MovesOn (length old) n e.kind e.process old rows' → events' ≡ events ++ e ∷ [] → key' ≡ option_or key (key_of e) → IsSoundHistory c events' (take len (rows' ++ drop (length rows') rows)) key'
-committed c events events' rows old rows' key key' n len e kept well index same whole moves more first =
-    subst (λ l. IsSoundHistory c events' l key') (sym (written_back len rows' rows (rows_len (length rows) (length events) e.kind e.process rows rows' on) whole))
-    (subst (λ k. IsSoundHistory c events' rows' k) (sym first) (subst (λ l. IsSoundHistory c l rows' (option_or key (key_of e))) (sym more) (kept_after c events rows rows' key e kept well on)))
-  where
-    on : MovesOn (length rows) (length events) e.kind e.process rows rows'
-    on = subst (λ k. MovesOn (length rows) k e.kind e.process rows rows') index (subst (λ l. MovesOn (length l) n e.kind e.process l rows') same moves)
+pub committed : (c : ℕ) (events events' : List Event) (threads threads' : List Thread) (opened later : List (Option ℕ)) (key key' : Option ℕ) (n : ℕ) (e : Event) → IsSoundHistory c events threads opened key → IsWellFormed c events e → n ≡ length events
+    → MovesOn n e.kind e.process threads threads' opened later → events' ≡ events ++ e ∷ [] → key' ≡ option_or key (key_of e) → IsSoundHistory c events' threads' later key'
+committed c events events' threads threads' opened later key key' n e kept well index moves more first =
+    subst (λ k. IsSoundHistory c events' threads' later k) (sym first) (subst (λ l. IsSoundHistory c l threads' later (option_or key (key_of e))) (sym more)
+    (kept_after c events threads threads' opened later key e kept well (subst (λ k. MovesOn k e.kind e.process threads threads' opened later) index moves)))

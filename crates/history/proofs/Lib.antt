@@ -1,6 +1,7 @@
 pub mod Appending
 pub mod ProcessRule
 pub mod Keeping
+pub mod Carrying
 pub mod Kept
 pub mod OpenOperations
 pub mod Refusing

@@ -1,7 +1,7 @@
 -- An event has one refusal at most, and a well-formed one has none
-use Rattle.std.proofs.Common.{◌≡◌, ◌⊎◌, inl, inr, ℕ, Option, Some, None, List, IsSome, refl, sym, ap, ◌∙◌, subst}
+use Rattle.std.proofs.Common.{◌≡◌, ◌⊎◌, inl, inr, ℕ, Option, Some, None, List, refl, sym, ap, ◌∙◌, subst}
 use Rattle.edn.specs.declared.refusal.Refusal.{Refusal}
-use Rattle.edn.specs.declared.refusal.Refusal.TheVariants.{Busy, WrongProcess, NotOpen, Mismatch, BadValue, BadIndex, HistoryFull}
+use Rattle.edn.specs.declared.refusal.Refusal.TheVariants.{NotOpen, Mismatch, BadValue, BadIndex, HistoryFull}
 use Rattle.models.specs.declared.operation.Op.{Op}
 use Rattle.history.specs.declared.event.EventKind.{EventKind}
 use Rattle.history.specs.declared.event.EventKind.TheVariants.{Invoke}
@@ -10,7 +10,11 @@ use Rattle.history.specs.declared.event.Process.TheVariants.{Client, Nemesis}
 use Rattle.history.specs.declared.event.Body.{Body}
 use Rattle.history.specs.declared.event.Body.TheVariants.{Op as AnOp, Fault as AFault}
 use Rattle.history.specs.declared.event.Event.{Event}
-use Rattle.history.specs.WellFormed.{IsValue, IsIndex, HasRoom, IsCurrent, open_of, Completes, FollowsRule, BreaksRule, IfClient, IsClientAnd, IsWellFormed, Refuses}
+use Rattle.processes.specs.MoveRule.{RefusesMove}
+use Rattle.processes.specs.MoveRule.Move.{Invokes}
+use Rattle.processes.proofs.Refused.{one}
+use Rattle.processes.proofs.Refused.{none as never}
+use Rattle.history.specs.WellFormed.{IsValue, IsIndex, HasRoom, moves_of, open_of, Completes, FollowsRule, BreaksRule, IfClient, IsClientAnd, IsWellFormed, Refuses}
 
 -- one test: what does not pass it is refused for x, and what passes it as the later tests say
 abbrev Test : Type 0 → Refusal → Refusal → Type 0 → Type 0
@@ -28,13 +32,11 @@ IsMismatch events kind p op = (i : ℕ) × (invoked : Op) × (open_of events p �
 
 -- the tests of the process rule in turn
 abbrev RuleTests : ℕ → List Event → EventKind → ℕ → Op → Refusal → Type 0
-RuleTests c events Invoke p op why = Test (IsCurrent c events p) WrongProcess why ((why ≡ Busy) × IsSome (open_of events p))
+RuleTests c events Invoke p op why = RefusesMove c (moves_of events) (Invokes p) why
 RuleTests c events kind p op why = ((why ≡ NotOpen) × (open_of events p ≡ None)) ⊎ ((why ≡ Mismatch) × IsMismatch events kind p op)
 
 rule_tests : (c : ℕ) (events : List Event) (kind : EventKind) (p : ℕ) (op : Op) (why : Refusal) → BreaksRule c events kind p op why → RuleTests c events kind p op why
-rule_tests c events Invoke p op WrongProcess h = inl (refl, h)
-rule_tests c events Invoke p op Busy h = inr (h.0, (refl, h.1))
-rule_tests c events Invoke p op _ h = absurd h
+rule_tests c events Invoke p op why h = h
 rule_tests c events kind p op NotOpen h = inl (refl, h)
 rule_tests c events kind p op Mismatch h = inr (refl, h)
 rule_tests c events kind p op _ h = absurd h
@@ -50,8 +52,7 @@ one_completion found Wrong why other apart (inr a) (inl b) = absurd (apart b.1 a
 one_completion found Wrong why other apart (inr a) (inr b) = a.0 ∙ sym b.0
 
 one_break : (c : ℕ) (events : List Event) (kind : EventKind) (p : ℕ) (op : Op) (why other : Refusal) → RuleTests c events kind p op why → RuleTests c events kind p op other → why ≡ other
-one_break c events Invoke p op why other a b =
-    one_test (IsCurrent c events p) WrongProcess why other ((why ≡ Busy) × IsSome (open_of events p)) ((other ≡ Busy) × IsSome (open_of events p)) (λ x y. x.0 ∙ sym y.0) a b
+one_break c events Invoke p op why other a b = one c (moves_of events) (Invokes p) why other a b
 one_break c events kind p op why other a b =
     one_completion (open_of events p) (IsMismatch events kind p op) why other (λ none m. not_open (open_of events p) m.0 m.1 none m.2) a b
 
@@ -96,17 +97,13 @@ same_open found i j op other a b =
     let same : ◌≡◌ {A = ℕ × Op} (i, op) (j, other) = cc in
     ap (λ (x : ℕ × Op). x.1) same)
 
-not_busy : (found : Option (ℕ × Op)) → found ≡ None → IsSome found → ⊥
-not_busy found none some = (let is : IsSome {T = ℕ × Op} None = subst (λ (o : Option (ℕ × Op)). IsSome o) none some in cc)
-
 completion_stands : (events : List Event) (kind : EventKind) (p : ℕ) (op : Op) (why : Refusal) → (i : ℕ) × (invoked : Op) × (open_of events p ≡ Some (i, invoked)) × Completes kind invoked op
     → ((why ≡ NotOpen) × (open_of events p ≡ None)) ⊎ ((why ≡ Mismatch) × IsMismatch events kind p op) → ⊥
 completion_stands events kind p op why f (inl a) = not_open (open_of events p) f.0 f.1 a.1 f.2
 completion_stands events kind p op why f (inr a) = a.1.3 (subst (λ x. Completes kind x op) (same_open (open_of events p) f.0 a.1.0 f.1 a.1.1 f.2 a.1.2) f.3)
 
 rule_stands : (c : ℕ) (events : List Event) (kind : EventKind) (p : ℕ) (op : Op) (why : Refusal) → FollowsRule c events kind p op → RuleTests c events kind p op why → ⊥
-rule_stands c events Invoke p op why f (inl a) = a.1 f.0
-rule_stands c events Invoke p op why f (inr a) = not_busy (open_of events p) f.1 a.1.1
+rule_stands c events Invoke p op why f a = never c (moves_of events) (Invokes p) why f a
 rule_stands c events kind p op why f a = completion_stands events kind p op why f a
 
 client_stands : (c : ℕ) (events : List Event) (kind : EventKind) (process : Process) (body : Body) (why : Refusal)

@@ -7,9 +7,10 @@ use Rattle.history.specs.declared.event.EventKind.TheVariants.{Invoke, Ok, Fail,
 use Rattle.history.specs.declared.event.Body.{Body}
 use Rattle.history.specs.declared.event.Body.TheVariants.{Op as AnOp, Fault as AFault}
 use Rattle.history.specs.declared.event.Event.{Event}
-use Rattle.history.specs.WellFormed.{invoked_in, current_of, thread_of, open_of, open_index}
+use Rattle.processes.specs.MoveRule.{current_of, thread_of, FollowMoveRule}
+use Rattle.history.specs.WellFormed.{invoked_in, moves_of, open_of, open_index}
 use Rattle.history.proofs.Appending.{open_of_at}
-use Rattle.history.proofs.Keeping.{OpenIsCurrent, none_open}
+use Rattle.history.proofs.Keeping.{none_open}
 
 invoked_body : (kind : EventKind) (body : Body) (op : Op) → invoked_in kind body ≡ Some op → body ≡ AnOp op
 invoked_body Invoke (AnOp f) op h = ap AnOp (same_Some f op h)
@@ -30,7 +31,7 @@ open_at_index events p i h = by_open (open_of events p) refl h
         (x.1, at, found.0, found.1, invoked_body found.0.kind found.0.body x.1 found.2))
 
 -- the index of a thread's open operation is that of its current process
-pub index_of_current : (c : ℕ) (events : List Event) (p : ℕ) (o : Option ℕ) → current_of c events (thread_of c p) ≡ p → o ≡ open_index c events (thread_of c p) → option_map (λ (x : ℕ × Op). x.0) (open_of events p) ≡ o
+pub index_of_current : (c : ℕ) (events : List Event) (p : ℕ) (o : Option ℕ) → current_of c (moves_of events) (thread_of c p) ≡ p → o ≡ open_index c events (thread_of c p) → option_map (λ (x : ℕ × Op). x.0) (open_of events p) ≡ o
 index_of_current c events p o current is = sym (is ∙ ap (λ q. option_map (λ (x : ℕ × Op). x.0) (open_of events q)) current)
 
 pub within : (events : List Event) (p i : ℕ) → option_map (λ (x : ℕ × Op). x.0) (open_of events p) ≡ Some i → i < length events
@@ -42,5 +43,5 @@ its_body events p i item h is =
     (let f = open_at_index events p i h in (f.0, f.1, ap (λ (e : Event). e.body) (is ∙ get_or_from_slice_get events i f.2 item f.3) ∙ f.4))
 
 -- a process that is not current has none
-pub not_current : (c : ℕ) (events : List Event) (p : ℕ) → OpenIsCurrent c events → current_of c events (thread_of c p) ≢ p → None ≡ option_map (λ (x : ℕ × Op). x.1) (open_of events p)
-not_current c events p kept ne = sym (ap (option_map (λ (x : ℕ × Op). x.1)) (none_open c events p kept (λ is. ne (sym is))))
+pub not_current : (c : ℕ) (events : List Event) (p : ℕ) → FollowMoveRule c (moves_of events) → current_of c (moves_of events) (thread_of c p) ≢ p → None ≡ option_map (λ (x : ℕ × Op). x.1) (open_of events p)
+not_current c events p rule ne = sym (ap (option_map (λ (x : ℕ × Op). x.1)) (none_open c events p rule (λ is. ne (sym is))))

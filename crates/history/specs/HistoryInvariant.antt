@@ -1,38 +1,47 @@
 -- Invariant: what a history keeps beside its events
-use Rattle.std.specs.Prelude.{◌≡◌, ℕ, ◌+◌, ◌<◌, ◌≤◌, ◌^◌, Option, Some, None, IfSome, List, length, slice_get, slice_set}
-use Rattle.models.specs.declared.operation.Op.{Op}
+use Rattle.std.specs.Prelude.{◌≡◌, ℕ, ◌+◌, ◌<◌, ◌≤◌, ◌^◌, Option, Some, None, IfSome, List, [], ◌∷◌, ◌++◌, length, slice_get, slice_set}
+use Rattle.processes.specs.declared.threads.Thread.{Thread}
+use Rattle.processes.specs.MoveRule.{Move, thread_of, MayMove}
+use Rattle.processes.specs.Threads.{StandAfter}
 use Rattle.history.specs.declared.event.EventKind.{EventKind}
-use Rattle.history.specs.declared.event.EventKind.TheVariants.{Invoke, Info}
+use Rattle.history.specs.declared.event.EventKind.TheVariants.{Invoke}
 use Rattle.history.specs.declared.event.Process.{Process}
 use Rattle.history.specs.declared.event.Process.TheVariants.{Client, Nemesis}
 use Rattle.history.specs.declared.event.Event.{Event}
-use Rattle.history.specs.declared.rows.Row.{Row}
-use Rattle.history.specs.WellFormed.{IsConcurrency, IsHistoryOf, IsWellFormed, thread_of, current_of, open_of, open_index, IsCurrent, first_key}
+use Rattle.history.specs.WellFormed.{IsConcurrency, IsHistoryOf, IsWellFormed, move_by, moves_of, open_index, first_key}
 
--- the row of a thread: its current process and the index of its open invocation
-abbrev pub row_of : ℕ → List Event → ℕ → Row
-row_of c events thread = record { process = current_of c events thread; invocation = open_index c events thread }
+-- what a thread has open after an event of index n of its current process
+abbrev pub open_after : ℕ → EventKind → Option ℕ
+open_after n Invoke = Some n
+open_after n _ = None
 
--- the row of a thread after an event of index n of its current process
-abbrev pub row_after : ℕ → ℕ → EventKind → Row → Row
-row_after c n Invoke row = record { process = row.process; invocation = Some n }
-row_after c n Info row = record { process = row.process + c; invocation = None }
-row_after c n _ row = record { process = row.process; invocation = None }
+-- where the move may come, the new threads stand after it too
+abbrev pub CarriesOn : List Thread → Move → List Thread → Type 0
+CarriesOn old m new =
+    (length new ≡ length old)
+    × ((moves : List Move) → StandAfter old moves → MayMove (length old) moves m → StandAfter new (moves ++ m ∷ []))
 
--- the rows after an event of index n: that of the process's thread moves on
-abbrev pub MovesOn : ℕ → ℕ → EventKind → Process → List Row → List Row → Type 0
-MovesOn c n kind (Client p) old new = (row : Row) × (slice_get old (thread_of c p) ≡ Some row) × (new ≡ slice_set old (thread_of c p) (row_after c n kind row))
-MovesOn c n kind Nemesis old new = new ≡ old
+-- after an event of index n the thread of its process moves on
+abbrev pub MovesOn : ℕ → EventKind → Process → List Thread → List Thread → List (Option ℕ) → List (Option ℕ) → Type 0
+MovesOn n kind (Client p) old new opened later =
+    CarriesOn old (move_by kind p) new × (later ≡ slice_set opened (thread_of (length opened) p) (open_after n kind))
+MovesOn n kind Nemesis old new opened later = (new ≡ old) × (later ≡ opened)
 
--- a history of at most 2^20 events, where only current processes have open operations, with a row for each thread
--- and the key of the first operation
-pub record IsSoundHistory (c : ℕ) (events : List Event) (rows : List Row) (key : Option ℕ) : Type 0 where
+-- there are so many processes still
+abbrev pub HasNext : Process → Type 0
+HasNext (Client p) = p + 64 < 2 ^ 32
+HasNext Nemesis = Unit {0}
+
+-- a history of at most 2^20 events: its threads stand after its moves, and what each has open is known; so is the key of
+-- the first operation
+pub record IsSoundHistory (c : ℕ) (events : List Event) (threads : List Thread) (opened : List (Option ℕ)) (key : Option ℕ) : Type 0 where
   pub concurrency : IsConcurrency c
   pub history : IsHistoryOf c events
   pub limit : length events ≤ 2 ^ 20
-  pub open_is_current : (p : ℕ) (x : ℕ × Op) → open_of events p ≡ Some x → IsCurrent c events p
-  pub threads : length rows ≡ c
-  pub rows_are : (t : ℕ) → t < c → slice_get rows t ≡ Some (row_of c events t)
+  pub number : length threads ≡ c
+  pub stand : StandAfter threads (moves_of events)
+  pub opens : length opened ≡ c
+  pub opens_are : (t : ℕ) → t < c → slice_get opened t ≡ Some (open_index c events t)
   pub key_is : key ≡ first_key events
 
 -- the prepared event may come, and there is room for it

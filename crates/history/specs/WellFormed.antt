@@ -1,18 +1,22 @@
 -- Promise: which event may follow which. Processes and threads are those of the Jepsen documentation; the tables, the limits
 -- and the order of the tests are this project's own. c is the concurrency, and an event's index is its place
-use Rattle.std.specs.Prelude.{◌≡◌, ℕ, ◌+◌, ◌*◌, ◌%◌, ◌^◌, ◌<◌, ◌≤◌, Bool, true, false, ◌&&◌, ◌==◌, if◌then◌else◌, Option, Some, None, IsSome, IfSome, option_map, option_and_then, List, [], ◌∷◌, ◌++◌, length, count_by}
+use Rattle.std.specs.Prelude.{◌≡◌, ℕ, ◌+◌, ◌^◌, ◌<◌, Bool, false, ◌==◌, if◌then◌else◌, Option, Some, None, IfSome, option_map, option_and_then, List, [], ◌∷◌, ◌++◌, length}
 use Rattle.std.specs.Option.{option_or}
+use Rattle.std.specs.List.{filter_map}
 use Rattle.models.specs.declared.operation.Name.{Name}
 use Rattle.models.specs.declared.operation.Name.TheVariants.{Read, Write, Cas, Acquire, Release, Enqueue, Dequeue, Add}
 use Rattle.models.specs.declared.operation.Part.{Part}
 use Rattle.models.specs.declared.operation.Part.TheVariants.{Nil, Int, Pair}
 use Rattle.models.specs.declared.operation.Op.{Op}
 use Rattle.edn.specs.declared.refusal.Refusal.{Refusal}
-use Rattle.edn.specs.declared.refusal.Refusal.TheVariants.{Busy, WrongProcess, NotOpen, Mismatch, BadValue, BadIndex, HistoryFull, BadConcurrency, NoMemory}
+use Rattle.edn.specs.declared.refusal.Refusal.TheVariants.{NotOpen, Mismatch, BadValue, BadIndex, HistoryFull, NoMemory}
+use Rattle.processes.specs.MoveRule.{Move, process_of, current_of, MayMove, RefusesMove}
+use Rattle.processes.specs.MoveRule.{IsConcurrency as AreThreads}
+use Rattle.processes.specs.MoveRule.Move.{Invokes, Crashes}
 use Rattle.history.specs.Events.{key_of}
 use Rattle.history.specs.Replicas.{IsReplica, AreGroups}
 use Rattle.history.specs.declared.event.EventKind.{EventKind}
-use Rattle.history.specs.declared.event.EventKind.TheVariants.{Invoke, Ok, Info}
+use Rattle.history.specs.declared.event.EventKind.TheVariants.{Invoke, Ok, Fail, Info}
 use Rattle.history.specs.declared.event.Process.{Process}
 use Rattle.history.specs.declared.event.Process.TheVariants.{Client, Nemesis}
 use Rattle.history.specs.declared.event.Fault.{Fault}
@@ -23,34 +27,32 @@ use Rattle.history.specs.declared.event.Event.{Event}
 
 -- Processes and threads
 
--- the thread of a process
-abbrev pub thread_of : ℕ → ℕ → ℕ
-thread_of c p = p % c
+-- what an event says of its process: an ok and a fail complete its operation, an info is a crash. Only an operation's event
+-- is a move; a fault is none
+abbrev pub move_by : EventKind → ℕ → Move
+move_by Invoke p = Invokes p
+move_by Ok p = Move.Completes p
+move_by Fail p = Move.Completes p
+move_by Info p = Crashes p
 
-abbrev pub is_info : EventKind → Bool
-is_info Info = true
-is_info _ = false
+abbrev pub move_in : EventKind → Process → Body → Option Move
+move_in kind (Client p) (AnOp op) = Some (move_by kind p)
+move_in kind _ _ = None
 
-abbrev pub is_on : ℕ → ℕ → Process → Bool
-is_on c thread (Client p) = thread_of c p == thread
-is_on c thread Nemesis = false
+abbrev pub move_of : Event → Option Move
+move_of e = move_in e.kind e.process e.body
 
--- the event is an info of a process of the thread
-abbrev pub crashes : ℕ → ℕ → Event → Bool
-crashes c thread e = is_info e.kind && is_on c thread e.process
+abbrev pub moves_of : List Event → List Move
+moves_of events = filter_map move_of events
 
--- the current process of a thread: its own number, plus c for each info of its processes so far
-abbrev pub current_of : ℕ → List Event → ℕ → ℕ
-current_of c events thread = thread + c * count_by (crashes c thread) events
-
-abbrev pub is_client : ℕ → Process → Bool
-is_client p (Client q) = p == q
-is_client p Nemesis = false
+abbrev pub is_of_process : ℕ → Option Move → Bool
+is_of_process p None = false
+is_of_process p (Some m) = p == process_of m
 
 -- the last event of a process, with its index, which counts from n on
 abbrev pub last_event_from : ℕ → List Event → ℕ → Option (ℕ × Event)
 last_event_from n [] p = None
-last_event_from n (e ∷ events) p = option_or (last_event_from (n + 1) events p) (if is_client p e.process then Some (n, e) else None)
+last_event_from n (e ∷ events) p = option_or (last_event_from (n + 1) events p) (if is_of_process p (move_of e) then Some (n, e) else None)
 
 abbrev pub last_event_of : List Event → ℕ → Option (ℕ × Event)
 last_event_of events p = last_event_from 0 events p
@@ -69,7 +71,7 @@ open_of events p = option_and_then invoked_at (last_event_of events p)
 
 -- the index of a thread's open invocation
 abbrev pub open_index : ℕ → List Event → ℕ → Option ℕ
-open_index c events thread = option_map (λ x. x.0) (open_of events (current_of c events thread))
+open_index c events thread = option_map (λ x. x.0) (open_of events (current_of c (moves_of events) thread))
 
 -- The tables of values
 
@@ -136,10 +138,6 @@ IsIndex events index = IfSome index (λ i. i ≡ length events)
 abbrev pub HasRoom : List Event → Type 0
 HasRoom events = length events < 2 ^ 20
 
--- the process is its thread's current one
-abbrev pub IsCurrent : ℕ → List Event → ℕ → Type 0
-IsCurrent c events p = p ≡ current_of c events (thread_of c p)
-
 -- the answer of a read or a dequeue is its own; every other completion repeats the part of the invocation
 abbrev pub IsRepeat : EventKind → Name → Part → Part → Type 0
 IsRepeat Ok Read invoked answer = Unit {0}
@@ -153,14 +151,12 @@ Completes kind invoked op = (op.name ≡ invoked.name) × (op.key ≡ invoked.ke
 -- the process rule for an event of this kind of process p: the current process of a thread invokes where it has no
 -- open operation, and a completion completes the open one
 abbrev pub FollowsRule : ℕ → List Event → EventKind → ℕ → Op → Type 0
-FollowsRule c events Invoke p op = IsCurrent c events p × (open_of events p ≡ None)
+FollowsRule c events Invoke p op = MayMove c (moves_of events) (Invokes p)
 FollowsRule c events kind p op = (i : ℕ) × (invoked : Op) × (open_of events p ≡ Some (i, invoked)) × Completes kind invoked op
 
 -- how the event breaks the process rule, in the order of the tests
 abbrev pub BreaksRule : ℕ → List Event → EventKind → ℕ → Op → Refusal → Type 0
-BreaksRule c events Invoke p op WrongProcess = ¬ IsCurrent c events p
-BreaksRule c events Invoke p op Busy = IsCurrent c events p × IsSome (open_of events p)
-BreaksRule c events Invoke p op _ = ⊥
+BreaksRule c events Invoke p op why = RefusesMove c (moves_of events) (Invokes p) why
 BreaksRule c events kind p op NotOpen = open_of events p ≡ None
 BreaksRule c events kind p op Mismatch = (i : ℕ) × (invoked : Op) × (open_of events p ≡ Some (i, invoked)) × ¬ Completes kind invoked op
 BreaksRule c events kind p op _ = ⊥
@@ -222,13 +218,7 @@ abbrev pub with_last : Event → HistoryView → HistoryView
 with_last e history = record history { events = history.events ++ e ∷ []; prepared = None }
 
 abbrev pub IsConcurrency : ℕ → Type 0
-IsConcurrency c = (1 ≤ c) × (c ≤ 64)
+IsConcurrency c = AreThreads c
 
 abbrev pub no_events : ℕ → HistoryView
 no_events c = record { concurrency = c; events = []; prepared = None }
-
--- why no history is opened for the concurrency
-abbrev pub MayNotStart : ℕ → Refusal → Type 0
-MayNotStart c BadConcurrency = ¬ IsConcurrency c
-MayNotStart c NoMemory = IsConcurrency c
-MayNotStart c _ = ⊥

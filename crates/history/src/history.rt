@@ -1,24 +1,22 @@
 //! Histories: events in order, each well-formed after those before it.
 ghost use Rattle.std.specs.Prelude.{◌≡◌, ℕ, ◌<◌, ◌≤◌, ◌++◌, ◌∷◌, ◌^◌, ◌↔◌, [], length, slice_get, IsTrue, IsSome, IfSome, option_map, OnOk, IfOk, IfErr, OnErr, IsErrOf};
 ghost use Rattle.std.specs.Option.{option_copied};
-ghost use Rattle.history.specs.WellFormed.{IsConcurrency, no_events, MayNotStart, Admits, idle, with_prepared, with_last, IsWellFormed, MayRefuse, IsHistoryOf, current_of, open_of, open_index, IsValue, IsCurrent, FollowsRule, BreaksRule, Refuses};
+ghost use Rattle.history.specs.WellFormed.{IsConcurrency, no_events, Admits, idle, with_prepared, with_last, IsWellFormed, MayRefuse, IsHistoryOf, moves_of, open_of, open_index, IsValue, FollowsRule, BreaksRule, Refuses};
 ghost use Rattle.edn.specs.View.{value_of};
 ghost use Rattle.history.specs.Events.{indexed_from, events_of_key};
 ghost use Rattle.history.specs.Spelling.{Spells};
 ghost use Rattle.history.specs.EventMap.{map_of, with_index};
-ghost use Rattle.history.specs.HistoryInvariant.{row_of};
+ghost use Rattle.processes.specs.MoveRule.{current_of};
+ghost use Rattle.processes.specs.Threads.{MayNotStart};
 
 use crate::allowed::{completes, is_in_tables, shares_key};
+use crate::clients::Clients;
 use crate::event::{Body, Event, EventKind, Process};
 use crate::event_map::map_of_event;
-use crate::rows::{Row, move_on};
 use edn::{Edn, Refusal};
 use models::{Key, Op};
 use std::alloc::{AllocError, Global};
 use std::marker::Model;
-
-/// The most threads of a history.
-const MOST_THREADS: u32 = 64;
 
 /// The most events of a history.
 const MOST_EVENTS: u32 = 1_048_576;
@@ -32,7 +30,7 @@ const MOST_EVENTS: u32 = 1_048_576;
 pub struct History {
     concurrency: u32,
     events: Vec<Event>,
-    rows: Vec<Row>,
+    clients: Clients,
     key: Option<u16>,
     prepared: Option<Event>,
 }
@@ -50,7 +48,7 @@ impl Model for History {
       prepared = a.prepared;
     } };
 
-    ghost invariant = { λ a. IsSoundHistory a.concurrency a.events.items a.rows.items a.key
+    ghost invariant = { λ a. IsSoundHistory a.concurrency a.events.items a.clients.threads a.clients.opened.items a.key
         × IsReady a.concurrency a.events.items (vec_capacity a.events) a.prepared };
 }
 
@@ -65,14 +63,11 @@ impl History {
         ensures opened { IfOk result (λ history. history ≡ no_events concurrency) }
         ensures refused { IfErr result (MayNotStart concurrency) }
     {
-        if concurrency < 1 || concurrency > MOST_THREADS {
-            return Err(Refusal::BadConcurrency);
-        }
-        let rows = rows_of(alloc, concurrency)?;
+        let clients = Clients::new(alloc, concurrency)?;
         Ok(History {
             concurrency,
             events: Vec::new(alloc),
-            rows,
+            clients,
             key: None,
             prepared: None,
         })
@@ -110,7 +105,8 @@ impl History {
             unreachable!()
         };
         let place = self.events.len();
-        move_on(&mut self.rows, place as u32, event.kind, event.process);
+        self.clients
+            .move_on(place as u32, event.kind, event.process);
         let added = event.key();
         self.key = self.key.or(added);
         self.events.push(event).unwrap();
@@ -160,13 +156,6 @@ impl History {
         is_in_tables(event.kind, event.process, &event.body) && shares_key(self.key, event.key())
     }
 
-    // Whether the process is its thread's current one.
-    fn is_current(&self, process: u32) -> bool
-        ensures { IsTrue result ↔ IsCurrent self.now.concurrency self.now.events process }
-    {
-        self.current(process % self.concurrency) == process
-    }
-
     // The open operation of a process.
     fn open_operation(&self, process: u32) -> Option<&Op>
         ensures { option_copied result ≡ option_map (λ x. x.1) (open_of self.now.events process) }
@@ -190,15 +179,7 @@ impl History {
             (BreaksRule self.now.concurrency self.now.events kind process op.now) }
     {
         match kind {
-            EventKind::Invoke => {
-                if !self.is_current(process) {
-                    return Err(Refusal::WrongProcess);
-                }
-                if self.open_operation(process).is_some() {
-                    return Err(Refusal::Busy);
-                }
-                Ok(())
-            }
+            EventKind::Invoke => self.clients.threads.may_invoke(process),
             _ => {
                 let Some(invoked) = self.open_operation(process) else {
                     return Err(Refusal::NotOpen);
@@ -281,12 +262,12 @@ impl History {
         )
     }
 
-    /// The process of which a thread's next invocation is.
+    /// The process that the thread's next invocation must name.
     pub fn current(&self, thread: u32) -> u32
         requires { thread < self.now.concurrency }
-        ensures { result ≡ current_of self.now.concurrency self.now.events thread }
+        ensures { result ≡ current_of self.now.concurrency (moves_of self.now.events) thread }
     {
-        self.rows[thread as usize].process
+        self.clients.threads.current(thread)
     }
 
     /// The index of the invocation that a thread has open.
@@ -294,22 +275,6 @@ impl History {
         requires { thread < self.now.concurrency }
         ensures { result ≡ open_index self.now.concurrency self.now.events thread }
     {
-        self.rows[thread as usize].invocation
+        self.clients.opened[thread as usize]
     }
-}
-
-// The rows of the threads of a history without events.
-fn rows_of(alloc: Global, concurrency: u32) -> Result<Vec<Row>, AllocError>
-    ensures len { IfOk result (λ rows. length rows.items ≡ concurrency) }
-    ensures rows { IfOk result (λ rows. (t : ℕ) → t < concurrency →
-        slice_get rows.items t ≡ Some (row_of concurrency [] t)) }
-{
-    let mut rows = Vec::new(alloc);
-    for process in 0..concurrency {
-        rows.push(Row {
-            process,
-            invocation: None,
-        })?;
-    }
-    Ok(rows)
 }

@@ -2,6 +2,7 @@
 #![tactic(auto)]
 
 mod allowed;
+mod clients;
 mod collections;
 mod elements;
 pub mod event;
@@ -10,7 +11,6 @@ mod fault_kind;
 mod groups;
 mod history;
 mod laws;
-mod rows;
 mod spelling;
 
 pub use event::{Body, Event, EventKind, Fault, Process};

@@ -119,6 +119,7 @@ impl Threads {
     /// # Errors
     /// Those of [`may_invoke`](Threads::may_invoke); the threads are then as before.
     pub fn invoke(&mut self, process: u32) -> Result<(), Refusal>
+        ensures number { length self.new ≡ length self.old }
         ensures ok { OnOk result (Moves self.old (Invokes process) self.new) }
         ensures refused { IfErr result (Forbids self.old (Invokes process)) }
         ensures err { OnErr result (self.new ≡ self.old) }
@@ -137,6 +138,7 @@ impl Threads {
     /// # Errors
     /// Those of [`may_complete`](Threads::may_complete); the threads are then as before.
     pub fn complete(&mut self, process: u32) -> Result<(), Refusal>
+        ensures number { length self.new ≡ length self.old }
         ensures ok { OnOk result (Moves self.old (Completes process) self.new) }
         ensures refused { IfErr result (Forbids self.old (Completes process)) }
         ensures err { OnErr result (self.new ≡ self.old) }
@@ -153,6 +155,7 @@ impl Threads {
     /// Those of [`may_complete`](Threads::may_complete); the threads are then as before.
     pub fn crash(&mut self, process: u32) -> Result<(), Refusal>
         requires { process + 64 < 2 ^ 32 }
+        ensures number { length self.new ≡ length self.old }
         ensures ok { OnOk result (Moves self.old (Crashes process) self.new) }
         ensures refused { IfErr result (Forbids self.old (Crashes process)) }
         ensures err { OnErr result (self.new ≡ self.old) }

@@ -1,13 +1,15 @@
-use Rattle.std.proofs.Common.{◌≡◌, ℕ, Some, option_map, ◌∙◌, sym, ap, arith}
+use Rattle.std.proofs.Common.{◌≡◌, ℕ, Some, option_map, ◌∙◌, sym, ap, subst, arith}
 use Rattle.models.specs.declared.operation.Op.{Op}
 use Rattle.history.specs.declared.event.Body.TheVariants.{Op as AnOp}
+use Rattle.processes.specs.MoveRule.{FollowMoveRule}
+use Rattle.history.specs.WellFormed.{moves_of}
 use Rattle.history.proofs.OpenOperations.{index_of_current, within, its_body, not_current}
 use Rattle.history.proofs.history.History.open_operation.Goals as goal
 
 pub returns-then-current-process : goal.returns-then-current-process
 returns-then-current-process c =
     let inside = c.self.inside in
-    rw (← c.self.view_is) (not_current inside.concurrency inside.events.items c.args.process c.self.invariant.0.open_is_current (λ h. c.if-current-process.true (rw (← c.self.view_is) at c.current.ensures ∙ h)))
+    rw (← c.self.view_is) (not_current inside.concurrency inside.events.items c.args.process (subst (λ k. FollowMoveRule k (moves_of inside.events.items)) c.self.invariant.0.number c.self.invariant.0.stand.rule) (λ h. c.if-current-process.true (rw (← c.self.view_is) at c.current.ensures ∙ h)))
 
 pub index-requires : goal.index-requires
 index-requires c =

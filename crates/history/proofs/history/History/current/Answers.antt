@@ -1,0 +1,18 @@
+use Rattle.std.proofs.Common.{◌≡◌, length, ap, ◌∙◌, arith}
+use Rattle.processes.specs.MoveRule.{current_of}
+use Rattle.history.specs.WellFormed.{HistoryView, moves_of}
+use Rattle.history.proofs.history.History.current.Goals as goal
+
+pub current-requires : goal.current-requires
+current-requires c =
+    let inside = c.self.inside in
+    let number : length inside.clients.threads ≡ inside.concurrency = c.self.invariant.0.number in
+    let same : inside.concurrency ≡ c.args.self.now.concurrency = ap (λ (v : HistoryView). v.concurrency) c.self.view_is in
+    omega arith
+
+pub returns : goal.returns
+returns c =
+    let inside = c.self.inside in
+    c.current.ensures.current (moves_of inside.events.items) c.self.invariant.0.stand
+    ∙ ap (λ k. current_of k (moves_of inside.events.items) c.args.thread) (c.self.invariant.0.number ∙ ap (λ (v : HistoryView). v.concurrency) c.self.view_is)
+    ∙ ap (λ l. current_of c.args.self.now.concurrency (moves_of l) c.args.thread) (ap (λ (v : HistoryView). v.events) c.self.view_is)

@@ -1,0 +1,86 @@
+//! What a history keeps of its clients.
+ghost use Rattle.std.specs.Prelude.{◌≡◌, ℕ, ◌+◌, ◌<◌, ◌^◌, [], Some, None, length, slice_get, slice_set, IfOk, IfErr, OnOk};
+ghost use Rattle.processes.specs.MoveRule.{IsConcurrency};
+ghost use Rattle.processes.specs.Threads.{StandAfter, MayNotStart};
+ghost use Rattle.history.specs.WellFormed.{move_by};
+ghost use Rattle.history.specs.HistoryInvariant.{open_after, CarriesOn, MovesOn, HasNext};
+
+use crate::event::{EventKind, Process};
+use edn::Refusal;
+use processes::Threads;
+use std::alloc::{AllocError, Global};
+
+/// The threads, and the index of the invocation that each has open.
+#[derive(Drop)]
+pub struct Clients {
+    pub threads: Threads,
+    pub opened: Vec<Option<u32>>,
+}
+
+impl Clients {
+    /// Those of a history without events.
+    pub fn new(alloc: Global, concurrency: u32) -> Result<Clients, Refusal>
+        ensures limits { OnOk result (IsConcurrency concurrency) }
+        ensures number { IfOk result (λ clients. length clients.threads ≡ concurrency) }
+        ensures threads { IfOk result (λ clients. StandAfter clients.threads []) }
+        ensures opens { IfOk result (λ clients. length clients.opened.items ≡ concurrency) }
+        ensures none { IfOk result (λ clients. (t : ℕ) → t < concurrency →
+            slice_get clients.opened.items t ≡ Some None) }
+        ensures refused { IfErr result (MayNotStart concurrency) }
+    {
+        let threads = Threads::new(alloc, concurrency)?;
+        let opened = none_open(alloc, concurrency)?;
+        Ok(Clients { threads, opened })
+    }
+
+    /// After an event of this index the thread of its process moves on. Where its process may not do so, nothing is said.
+    pub fn move_on(&mut self, index: u32, kind: EventKind, process: Process)
+        requires some { 0 < length self.old.opened.items }
+        requires next { HasNext process }
+        ensures { MovesOn index kind process self.old.threads self.new.threads
+            self.old.opened.items self.new.opened.items }
+    {
+        if let Process::Client(number) = process {
+            let thread = number as usize % self.opened.len();
+            self.opened[thread] = open_after(index, kind);
+            let _ = carry_on(&mut self.threads, kind, number);
+        }
+    }
+}
+
+// What a thread has open after an event of its current process.
+fn open_after(index: u32, kind: EventKind) -> Option<u32>
+    ensures { result ≡ open_after index kind }
+{
+    match kind {
+        EventKind::Invoke => Some(index),
+        EventKind::Ok | EventKind::Fail | EventKind::Info => None,
+    }
+}
+
+// The process makes the move of an event of this kind.
+#[tactic(auto, using(crate::proofs::Carrying::carried))]
+fn carry_on(threads: &mut Threads, kind: EventKind, process: u32) -> Result<(), Refusal>
+    requires { process + 64 < 2 ^ 32 }
+    ensures { CarriesOn threads.old (move_by kind process) threads.new }
+{
+    match kind {
+        EventKind::Invoke => threads.invoke(process),
+        EventKind::Ok => threads.complete(process),
+        EventKind::Fail => threads.complete(process),
+        EventKind::Info => threads.crash(process),
+    }
+}
+
+// So many threads that have nothing open.
+fn none_open(alloc: Global, concurrency: u32) -> Result<Vec<Option<u32>>, AllocError>
+    ensures number { IfOk result (λ opened. length opened.items ≡ concurrency) }
+    ensures none { IfOk result (λ opened. (t : ℕ) → t < concurrency →
+        slice_get opened.items t ≡ Some None) }
+{
+    let mut opened = Vec::new(alloc);
+    for _thread in 0..concurrency {
+        opened.push(None)?;
+    }
+    Ok(opened)
+}
