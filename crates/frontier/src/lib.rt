@@ -7,6 +7,7 @@ mod extend;
 pub mod frontier;
 mod kept_end;
 mod pending_op;
+mod places;
 
 pub use any_frontier::AnyFrontier;
 pub use frontier::{Frontier, Step};
