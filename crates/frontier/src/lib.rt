@@ -1,4 +1,4 @@
-//! All ends of one key's history, kept as its events come.
+//! The ends of one key's history, found just in time as its events come, and a count of the steps that this takes.
 #![tactic(auto)]
 
 pub mod any_frontier;
