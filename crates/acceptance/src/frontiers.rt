@@ -269,28 +269,28 @@ fn ok_applies_few(rt: HostRuntime) -> Result<(), Fail> {
 fn crashed_writes_blow_at_eleven(rt: HostRuntime) -> Result<(), Fail> {
     for (writes, want) in [(10, Step::Alive), (11, Step::Over)] {
         let mut frontier = AnyFrontier::start(rt.alloc(), ModelKind::Register, 4096)?;
-        for at in 0..writes {
+        for id in 0..writes {
             let write = Op {
                 name: Name::Write,
                 key: 7,
                 part: Part::Int(1),
             };
-            assert_eq!(rt; frontier.observe(2 * at, Invoke, &write)?, Step::Alive);
-            assert_eq!(rt; frontier.observe(2 * at, Info, &write)?, Step::Alive);
+            assert_eq!(rt; frontier.observe(id, Invoke, &write)?, Step::Alive);
+            assert_eq!(rt; frontier.observe(id, Info, &write)?, Step::Alive);
         }
         let read = Op {
             name: Name::Read,
             key: 7,
             part: Part::Nil,
         };
-        assert_eq!(rt; frontier.observe(1, Invoke, &read)?, Step::Alive);
+        assert_eq!(rt; frontier.observe(100, Invoke, &read)?, Step::Alive);
         assert_eq!(rt; frontier.applied(), 0);
         let answer = Op {
             name: Name::Read,
             key: 7,
             part: Part::Int(1),
         };
-        assert_eq!(rt; frontier.observe(1, Done, &answer)?, want);
+        assert_eq!(rt; frontier.observe(100, Done, &answer)?, want);
     }
     Ok(())
 }

@@ -11,3 +11,5 @@ pub mod Generating
 pub mod Standing
 pub mod Growing
 pub mod Pending
+pub mod Masks
+pub mod Indexed

@@ -53,8 +53,8 @@ ArePending calls marks =
     (c : PendingOp) → Contains calls c
     ↔ (IsPending marks c.id c.op × (IsTrue c.crashed ↔ Contains marks (Crashed c.id)))
 
--- each end that is kept is kept once, and the operations that may still take place are those of the history, each
--- once
+-- each end that is kept is kept once, and the operations that may still take place are those of the
+-- history, each once
 pub record IsWellKept {M S : Type 0} (f : Frontier M S) (marks : List Mark) : Type 0 where
   pub once : Pairwise (λ d e. d ≢ e) (ends_of f)
   pub pending : ArePending f.calls.items marks

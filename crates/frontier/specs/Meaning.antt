@@ -17,7 +17,8 @@ use Rattle.frontier.specs.declared.frontier.Step.TheVariants.{Alive, Dead, Over}
 use Rattle.frontier.specs.KeptEnds.{ends_of, IsWellKept}
 use Rattle.frontier.specs.EndSteps.{IsReached}
 
--- the frontier represents the end: pending operations lead to it from an end that is kept (Lowe 2017)
+-- the frontier represents the end: operations that may still take place lead to it, one after
+-- another, from an end that is kept (Lowe 2017)
 abbrev pub Represents : {M : Type 0} (o : Object) → Frontier M o.State → End o.State → Type 0
 Represents o f e = IsReached o f.calls.items (ends_of f) e
 
@@ -81,8 +82,8 @@ pub record HasAtMostPending (marks : List Mark) (n : ℕ) : Type 0 where
   pub many : length ids ≤ n
   pub each : (id : ℕ) → IsOpen marks id ⊎ Contains marks (Crashed id) → Contains ids id
 
--- the most steps that the mark may cost where n operations may still take place just before it: an ok costs one for
--- each of these on each end of the budget and on one more, and another mark none
+-- the most steps that the mark may cost where n operations may still take place just before it: an
+-- ok costs one for each of these on each end of the budget and on one more, and another mark none
 abbrev pub most_steps : ℕ → ℕ → Mark → ℕ
 most_steps budget n (Returned id answer) = (budget + 1) * n
 most_steps budget n (Invoked id op) = 0

@@ -4,6 +4,7 @@ ghost use Rattle.frontier.specs.KeptEnds.{end_kept};
 ghost use Rattle.frontier.specs.EndSteps.{Settles, Crashes, Along, Adds};
 
 use crate::kept_end::{KeptEnd, copy_of, keep};
+use crate::places::Places;
 use models::{Answer, SeqObject};
 use std::alloc::{AllocError, Global};
 
@@ -19,11 +20,12 @@ pub fn settled_ends<M: SeqObject>(
         IfOk result (λ after. Adds settled [] (map end_kept after.items)) }
 {
     let mut after = Vec::new(alloc);
+    let mut places = Places::new(alloc)?;
     for kept in ends {
         if kept.fits_at(id, answer) {
             let mut settled = copy_of::<M>(alloc, kept)?;
             settled.settle(id);
-            keep::<M>(&mut after, settled)?;
+            keep::<M>(&mut after, &mut places, settled)?;
         }
     }
     Ok(after)
@@ -39,10 +41,11 @@ pub fn crashed_ends<M: SeqObject>(
         IfOk result (λ after. Adds crashed [] (map end_kept after.items)) }
 {
     let mut after = Vec::new(alloc);
+    let mut places = Places::new(alloc)?;
     for kept in ends {
         let mut crashed = copy_of::<M>(alloc, kept)?;
         crashed.crash(id)?;
-        keep::<M>(&mut after, crashed)?;
+        keep::<M>(&mut after, &mut places, crashed)?;
     }
     Ok(after)
 }

@@ -1,16 +1,18 @@
 //! The ends that calls lead to from others.
-ghost use Rattle.std.specs.Prelude.{◌≡◌, ◌≢◌, ◌↔◌, ◌+◌, ◌*◌, ◌<◌, ◌≤◌, ℕ, true, false, IsTrue, List, IfOk, OnOk, OnErr, IsSomeAnd, map, length, min, ◌^◌, ◌-◌};
+ghost use Rattle.std.specs.Prelude.{◌≡◌, ◌↔◌, ◌+◌, ◌-◌, ◌*◌, ◌^◌, ◌<◌, ◌≤◌, true, false, min};
+ghost use Rattle.std.specs.Prelude.{List, map, length, IfOk, OnOk, OnErr, IsSomeAnd};
 ghost use Rattle.std.specs.List.{Contains};
 ghost use Rattle.std.specs.Option.{option_to_list};
 ghost use Rattle.models.specs.Objects.{of_table};
 ghost use Rattle.history.specs.Events.{IsFront};
-ghost use Rattle.linspec.specs.Orders.{Pairwise};
 ghost use Rattle.linspec.specs.Ends.{End};
 ghost use Rattle.frontier.specs.KeptEnds.{end_kept};
+ghost use Rattle.frontier.specs.Places.{IsIndexed};
 ghost use Rattle.frontier.specs.EndSteps.{TakesLast, Next, IsReached, Grows, Adds};
 
 use crate::kept_end::{KeptEnd, copy_of, keep, with_call};
 use crate::pending_op::PendingOp;
+use crate::places::Places;
 use models::{Found, Op, SeqObject};
 use std::alloc::{AllocError, Global};
 
@@ -21,7 +23,8 @@ fn step<M: SeqObject>(
     op: &Op,
     applied: &mut u64,
 ) -> Result<Option<(M::State, Found)>, AllocError>
-    ensures outcome { IfOk result (λ outcome. option_to_list outcome ≡ M.apply_to op.now state.now) }
+    ensures outcome { IfOk result (λ outcome.
+        option_to_list outcome ≡ M.apply_to op.now state.now) }
     ensures counted { applied.new ≡ min (applied.old + 1) (2 ^ 64 - 1) }
 {
     *applied = applied.saturating_add(1);
@@ -52,20 +55,23 @@ fn extended<M: SeqObject>(
 // Adds the ends that one call leads to from this one.
 fn grow_from<M: SeqObject>(
     ends: &mut Vec<KeptEnd<M::State>>,
+    places: &mut Places,
     kept: &KeptEnd<M::State>,
     calls: &[PendingOp],
     applied: &mut u64,
 ) -> Result<(), AllocError>
+    requires { IsIndexed places.old ends.old.items }
     ensures adds { let object = of_table M.State M.start_state M.apply_to in
         let next = Next object calls.now (end_kept kept.now) in
         OnOk result (Adds next (map end_kept ends.old.items) (map end_kept ends.new.items)) }
     ensures front { IsFront ends.old.items ends.new.items }
+    ensures indexed { IsIndexed places.new ends.new.items }
     ensures cost { applied.new ≤ applied.old + length calls.now }
 {
     let alloc = *ends.allocator();
     for call in calls {
         if let Some(next) = extended::<M>(alloc, kept, call, applied)? {
-            keep::<M>(ends, next)?;
+            keep::<M>(ends, places, next)?;
         }
     }
     Ok(())
@@ -80,16 +86,19 @@ fn grow<M: SeqObject>(
     applied: &mut u64,
 ) -> Result<bool, AllocError>
     ensures grows { let object = of_table M.State M.start_state M.apply_to in
-        OnOk result (Grows object calls.now (map end_kept ends.old.items) (map end_kept ends.new.items)) }
+        let old = map end_kept ends.old.items in let new = map end_kept ends.new.items in
+        OnOk result (Grows object calls.now old new) }
     ensures closed { let object = of_table M.State M.start_state M.apply_to in
-        IfOk result (λ all. all ≡ true → (e f : End M.State) → Contains (map end_kept ends.new.items) e
-        → Next object calls.now e f → Contains (map end_kept ends.new.items) f) }
+        let new = map end_kept ends.new.items in
+        IfOk result (λ all. all ≡ true → (e f : End M.State)
+        → Contains new e → Next object calls.now e f → Contains new f) }
     ensures within { IfOk result (λ all. all ≡ true → length ends.new.items ≤ budget) }
     ensures beyond { IfOk result (λ all. all ≡ false → budget < length ends.new.items) }
     ensures front { IsFront ends.old.items ends.new.items }
     ensures cost { applied.new ≤ applied.old + (budget + 1) * length calls.now }
 {
     let alloc = *ends.allocator();
+    let mut places = Places::of(alloc, ends)?;
     for at in 0..budget as usize {
         if ends.len() > budget as usize {
             return Ok(false);
@@ -98,7 +107,7 @@ fn grow<M: SeqObject>(
             return Ok(true);
         }
         let kept = copy_of::<M>(alloc, &ends[at])?;
-        grow_from::<M>(ends, &kept, calls, applied)?;
+        grow_from::<M>(ends, &mut places, &kept, calls, applied)?;
     }
     Ok(ends.len() <= budget as usize)
 }

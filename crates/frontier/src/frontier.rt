@@ -124,7 +124,7 @@ impl<M: SeqObject> Frontier<M> {
 
     /// An open operation has returned with this answer. Over where more ends than the budget stand just before it: then,
     /// and on `AllocError`, the frontier stands for what it stood for. Tries each operation that may still take place
-    /// once on each end, and compares what comes of it with the ends that are there; goes on with no end once these are
+    /// once on each end, and compares what comes of it with the ends of its bucket; goes on with no end once these are
     /// more than the budget.
     pub fn ok(&mut self, id: u32, answer: &Answer) -> Result<Step, AllocError>
         ensures step { let object = of_table M.State M.start_state M.apply_to in

@@ -4,8 +4,10 @@ ghost use Rattle.std.specs.List.{All, Contains};
 ghost use Rattle.history.specs.Events.{IsFront};
 ghost use Rattle.frontier.specs.KeptEnds.{end_kept, found_at, pending_in, crashed_in, has_crashed};
 ghost use Rattle.frontier.specs.EndSteps.{settled, FitsAt, after_crash, is_in, with_call, Adds};
+ghost use Rattle.frontier.specs.Places.{IsIndexed, StandsAt};
 
 use crate::pending_op::PendingOp;
+use crate::places::{Places, bucket_of};
 use models::{Answer, Found, SeqObject, finding};
 use std::alloc::{AllocError, Global};
 
@@ -187,28 +189,45 @@ pub fn with_call<S: Drop>(
     })
 }
 
+// Whether the end stands at this place of the list.
+fn stands_at<M: SeqObject>(ends: &[KeptEnd<M::State>], at: usize, end: &KeptEnd<M::State>) -> bool
+    ensures { IsTrue result ↔ StandsAt ends.now at (end_kept end.now) }
+{
+    at < ends.len() && same_end::<M>(&ends[at], end)
+}
+
 // Whether the end is among these.
-fn is_kept<M: SeqObject>(ends: &[KeptEnd<M::State>], end: &KeptEnd<M::State>) -> bool
+fn is_kept<M: SeqObject>(
+    ends: &[KeptEnd<M::State>],
+    places: &Places,
+    end: &KeptEnd<M::State>,
+) -> bool
+    requires { IsIndexed places.now ends.now }
     ensures { IsTrue result ↔ Contains (map end_kept ends.now) (end_kept end.now) }
 {
-    for kept in ends {
-        if same_end::<M>(kept, end) {
+    let bucket = places.of_bucket(bucket_of(end));
+    for at in bucket {
+        if stands_at::<M>(ends, *at, end) {
             return true;
         }
     }
     false
 }
 
-/// Puts the end with the others, unless it is there.
+/// Puts the end with the others, unless it is there. Compares it with those that may include the same operations.
 pub fn keep<M: SeqObject>(
     ends: &mut Vec<KeptEnd<M::State>>,
+    places: &mut Places,
     end: KeptEnd<M::State>,
 ) -> Result<(), AllocError>
+    requires { IsIndexed places.old ends.old.items }
     ensures adds { let old = map end_kept ends.old.items in
         OnOk result (Adds (λ e. end_kept end ≡ e) old (map end_kept ends.new.items)) }
     ensures front { IsFront ends.old.items ends.new.items }
+    ensures indexed { IsIndexed places.new ends.new.items }
 {
-    if !is_kept::<M>(ends, &end) {
+    if !is_kept::<M>(ends, places, &end) {
+        places.add(bucket_of(&end), ends.len())?;
         ends.push(end)?;
     }
     Ok(())

@@ -1,4 +1,4 @@
-//! All ends of one key's history, kept as its events come.
+//! The ends of one key's history, found just in time as its events come, and a count of the steps that this takes.
 #![tactic(auto)]
 
 pub mod any_frontier;
@@ -7,6 +7,7 @@ mod extend;
 pub mod frontier;
 mod kept_end;
 mod pending_op;
+mod places;
 
 pub use any_frontier::AnyFrontier;
 pub use frontier::{Frontier, Step};

@@ -1,6 +1,7 @@
-use Rattle.std.proofs.Common.{◌≢◌, ℕ, ◌<◌, get_or}
+use Rattle.std.proofs.Common.{ℕ, ◌<◌, get_or}
 use Rattle.frontier.specs.KeptEnds.{end_kept}
+use Rattle.frontier.specs.Places.{StandsAt}
 use Rattle.frontier.proofs.kept_end.is_kept.Given as goal
 
-abbrev pub invariant-loop-kept : goal.invariant-loop-kept
-invariant-loop-kept g l = (k : ℕ) → k < l.kept-index → end_kept (get_or l.ends k l.end) ≢ end_kept l.end
+abbrev pub invariant-loop-at : goal.invariant-loop-at
+invariant-loop-at g l = (i : ℕ) → i < l.at-index → ¬ StandsAt l.ends (get_or l.bucket i 0) (end_kept l.end)
