@@ -3,7 +3,8 @@
 
 A case is a folder of tests/cases: args (one word a line), stdin, stdout (the bytes that must come), status (0 where
 left out), and for what goes to standard error a file stderr (each of its lines must be among those that came; with no
-such file nothing may come). In place of stdin a case may have stdin.py, which prints it.
+such file nothing may come). In place of stdin a case may have stdin.py, which prints it. Words that name files are read from the
+top of the repository: a case of check has its history.edn beside them.
 The live cases are a session through two pipes: a line is sent only when the reply to the one before has come.
 With words, it runs the cases of these names alone.
 """
@@ -40,7 +41,7 @@ def stream(case, name):
 
 def run_case(case):
     ran = subprocess.run([str(PROGRAM)] + words(case), input=stream(case, "stdin"), stdout=subprocess.PIPE,
-                         stderr=subprocess.PIPE, timeout=120)
+                         stderr=subprocess.PIPE, timeout=120, cwd=TOP)
     faults = []
     if ran.stdout != stream(case, "stdout"):
         faults.append(f"standard output was {ran.stdout[:400]!r}")
