@@ -48,7 +48,8 @@ impl Model for History {
       prepared = a.prepared;
     } };
 
-    ghost invariant = { λ a. IsSoundHistory a.concurrency a.events.items a.clients.threads a.clients.opened.items a.key
+    ghost invariant = { λ a.
+        IsSoundHistory a.concurrency a.events.items a.clients.threads a.clients.opened.items a.key
         × IsReady a.concurrency a.events.items (vec_capacity a.events) a.prepared };
 }
 
