@@ -1,0 +1,5 @@
+pub mod JudgedHistory
+pub mod Monitors
+pub mod Rows
+pub mod Settings
+pub mod SoundMonitor

@@ -1,0 +1,34 @@
+-- Invariant: the lines of the keys
+use Rattle.std.specs.Prelude.{◌≡◌, ℕ, Bool, true, Option, Some, None, IfSome, List, [], ◌∷◌, map, slice_get}
+use Rattle.linspec.specs.declared.verdict.KeyStatus.{KeyStatus}
+use Rattle.linspec.specs.declared.verdict.Verdict.{Verdict}
+use Rattle.linspec.specs.Verdicts.{IsJoin}
+use Rattle.checkpoints.specs.KeyLineView.{KeyHistory, KeyLineView, IsStatusOf, cut_at, loses_at, begins_below}
+
+-- a row for each key: the key and its line; and the room for more
+pub record LinesView : Type 0 where
+  pub rows : List (ℕ × KeyLineView)
+  pub room : ℕ
+
+-- what the lines have now, whatever is prepared
+abbrev pub nows : List (ℕ × KeyLineView) → List (ℕ × KeyHistory)
+nows rows = map (λ row. (row.0, row.1.now)) rows
+
+-- the rows after a cut at n, of keys that all have an event before it
+abbrev pub cut_rows : ℕ → List (ℕ × KeyHistory) → List (ℕ × KeyHistory)
+cut_rows n rows = map (λ row. (row.0, cut_at n row.1)) rows
+
+-- how each of the keys stands
+abbrev pub AreStatusesOf : List (ℕ × KeyHistory) → List (ℕ × KeyStatus) → Type 0
+AreStatusesOf [] [] = Unit {0}
+AreStatusesOf (row ∷ rows) (s ∷ statuses) = (s.0 ≡ row.0) × IsStatusOf row.1 s.1 × AreStatusesOf rows statuses
+AreStatusesOf _ _ = ⊥
+
+-- the verdict joins how the keys stand
+abbrev pub JoinsRows : List (ℕ × KeyHistory) → Verdict → Type 0
+JoinsRows rows v = (statuses : List (ℕ × KeyStatus)) × AreStatusesOf rows statuses × IsJoin statuses v
+
+-- each line that a cut at n takes events from, and does not empty, has the cut prepared
+abbrev pub AreCutAt : ℕ → List (ℕ × KeyLineView) → Type 0
+AreCutAt n rows = (place : ℕ) → IfSome (slice_get rows place)
+    (λ row. begins_below n row.1.now ≡ true → loses_at n row.1.now ≡ true → row.1.next ≡ Some (cut_at n row.1.now))

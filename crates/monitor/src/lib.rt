@@ -1,0 +1,8 @@
+//! The live verdict on a history of many keys, each with its own kind of object and its own budget.
+#![tactic(auto)]
+
+mod lines;
+mod monitor;
+mod settings;
+
+pub use monitor::{KeyRow, Monitor};

@@ -1,0 +1,234 @@
+//! The lines of the keys that have events, in the order of their first events.
+ghost use Rattle.std.specs.Prelude.{◌≡◌, ◌<◌, ◌≤◌, [], ◌∷◌, ◌++◌, Some, None, length, nat_eq, position, slice_get, take, IfOk, OnOk, IfSome, IsSome, IsSomeAnd};
+ghost use Rattle.std.specs.List.{filter};
+ghost use Rattle.std.specs.Map.{keys_of};
+ghost use Rattle.indexmap.specs.Layout.{set_value_at};
+ghost use Rattle.models.specs.declared.model_kind.ModelKind.{ModelKind};
+ghost use Rattle.history.specs.ProcessRule.{IsHistory};
+ghost use Rattle.checkpoints.specs.KeyLineView.{KeyHistory, IsStatusOf, at_rest, with_next, with_pushed, judged_by, cut_at, begins_below};
+ghost use Rattle.monitor.specs.Rows.{nows, cut_rows, JoinsRows, AreCutAt};
+
+use checkpoints::KeyLine;
+use history::Event;
+use indexmap::IndexMap;
+use linspec::{KeyStatus, Verdict};
+use locality::join_with;
+use models::{Key, ModelKind};
+use std::alloc::{AllocError, Global};
+use std::marker::Model;
+
+/// The line of each key that has events. A key is found in constant time.
+#[derive(Drop)]
+pub(crate) struct Lines {
+    map: IndexMap<Key, KeyLine>,
+}
+
+impl Model for Lines {
+    ghost use Rattle.indexmap.specs.IndexMap.{spare};
+    ghost use Rattle.monitor.specs.Rows.{LinesView};
+
+    ghost Value = { LinesView };
+
+    ghost view = { λ a. record { rows = a.map.entries; room = spare a.map } };
+}
+
+impl Lines {
+    /// No lines. Takes no memory.
+    pub(crate) fn new(alloc: Global) -> Lines
+        ensures { result.rows ≡ [] }
+    {
+        Lines {
+            map: IndexMap::new(alloc),
+        }
+    }
+
+    /// How many there are.
+    pub(crate) fn len(&self) -> usize
+        ensures { result ≡ length self.now.rows }
+    {
+        self.map.len()
+    }
+
+    /// The place of a key's line.
+    pub(crate) fn find(&self, key: Key) -> Option<usize>
+        ensures { result ≡ position (nat_eq key) (keys_of self.now.rows) }
+    {
+        self.map.get_index_of(&key)
+    }
+
+    /// The key and the line at a place.
+    pub(crate) fn at(&self, place: usize) -> (Key, &KeyLine)
+        requires { place < length self.now.rows }
+        ensures { slice_get self.now.rows place ≡ Some (result.0, result.1.now) }
+    {
+        match self.map.get_index(place) {
+            Some((key, line)) => (*key, line),
+            None => unreachable!(),
+        }
+    }
+
+    /// Prepares one more event of the key at a place, and gives the status that it brings.
+    pub(crate) fn prepare_push(
+        &mut self,
+        place: usize,
+        index: u32,
+        event: Event,
+    ) -> Result<KeyStatus, AllocError>
+        requires { IsSomeAnd (slice_get self.old.rows place)
+            (λ row. IsHistory (row.1.now.events ++ (index, event) ∷ [])) }
+        ensures status { IfOk result (λ status. IfSome (slice_get self.old.rows place)
+            (λ row. IsStatusOf (with_pushed index event row.1.now) status)) }
+        ensures next { OnOk result (IfSome (slice_get self.old.rows place) (λ row.
+            slice_get self.new.rows place
+            ≡ Some (row.0, with_next (with_pushed index event row.1.now) row.1))) }
+        ensures kept { nows self.new.rows ≡ nows self.old.rows }
+        ensures room { self.old.room ≤ self.new.room }
+    {
+        match self.map.get_index_mut(place) {
+            Some(line) => line.prepare_push(index, event),
+            None => unreachable!(),
+        }
+    }
+
+    /// Prepares that the key at a place is judged by this kind and budget, and gives the status that this brings.
+    pub(crate) fn prepare_rebuild(
+        &mut self,
+        place: usize,
+        kind: ModelKind,
+        budget: u32,
+    ) -> Result<KeyStatus, AllocError>
+        requires { place < length self.old.rows }
+        ensures status { IfOk result (λ status. IfSome (slice_get self.old.rows place)
+            (λ row. IsStatusOf (judged_by kind budget row.1.now) status)) }
+        ensures next { OnOk result (IfSome (slice_get self.old.rows place) (λ row.
+            slice_get self.new.rows place
+            ≡ Some (row.0, with_next (judged_by kind budget row.1.now) row.1))) }
+        ensures kept { nows self.new.rows ≡ nows self.old.rows }
+        ensures room { self.old.room ≤ self.new.room }
+    {
+        match self.map.get_index_mut(place) {
+            Some(line) => line.prepare_rebuild(kind, budget),
+            None => unreachable!(),
+        }
+    }
+
+    /// Prepares a cut at `n` of each line that it takes events from and does not empty. Gives the number of lines that have
+    /// an event before `n`, and the verdict that joins how they then stand. It takes the time of all lines, and of a replay
+    /// of those that lose events.
+    pub(crate) fn prepare_cut(&mut self, n: u32) -> Result<(usize, Verdict), AllocError>
+        ensures kept_lines { IfOk result (λ cut.
+            cut.0 ≡ length (filter (λ row. begins_below n row.1) (nows self.old.rows))) }
+        ensures verdict { IfOk result (λ cut.
+            JoinsRows (cut_rows n (filter (λ row. begins_below n row.1) (nows self.old.rows))) cut.1) }
+        ensures next { OnOk result (AreCutAt n self.new.rows) }
+        ensures kept { nows self.new.rows ≡ nows self.old.rows }
+        ensures room { self.old.room ≤ self.new.room }
+    {
+        let mut kept = 0;
+        let mut verdict = Verdict::Legal;
+        for place in 0..self.map.len() {
+            if let Some((key, status)) = self.prepare_cut_at(place, n)? {
+                verdict = join_with(verdict, key, status);
+                kept += 1;
+            }
+        }
+        Ok((kept, verdict))
+    }
+
+    /// The verdict that joins how the keys stand, where the one at a place stands so. It takes the time of all lines.
+    pub(crate) fn joined_with(&self, place: usize, status: KeyStatus) -> Verdict
+        ensures { (next : KeyHistory) → IsStatusOf next status
+            → JoinsRows (set_value_at (nows self.now.rows) place next) result }
+    {
+        let mut verdict = Verdict::Legal;
+        for other in 0..self.map.len() {
+            let (key, line) = self.at(other);
+            let stands = if other == place { status } else { line.status() };
+            verdict = join_with(verdict, key, stands);
+        }
+        verdict
+    }
+
+    /// Carries out what is prepared at a place. Takes no memory.
+    pub(crate) fn commit(&mut self, place: usize)
+        requires { IsSomeAnd (slice_get self.old.rows place) (λ row. IsSome row.1.next) }
+        ensures { IfSome (slice_get self.old.rows place) (λ row. IfSome row.1.next (λ next.
+            self.new.rows ≡ set_value_at self.old.rows place (at_rest next))) }
+    {
+        match self.map.get_index_mut(place) {
+            Some(line) => line.commit(),
+            None => unreachable!(),
+        }
+    }
+
+    /// Carries out a prepared cut at `n`, after which this many lines are left, the first ones. Takes no memory.
+    pub(crate) fn commit_cut(&mut self, n: u32, kept: usize)
+        requires next { AreCutAt n self.old.rows }
+        requires first { filter (λ row. begins_below n row.1) (nows self.old.rows)
+            ≡ take kept (nows self.old.rows) }
+        ensures { nows self.new.rows ≡ cut_rows n (take kept (nows self.old.rows)) }
+    {
+        self.map.truncate(kept);
+        for place in 0..self.map.len() {
+            self.commit_cut_at(place, n);
+        }
+    }
+
+    /// Makes room for one more line.
+    pub(crate) fn reserve(&mut self) -> Result<(), AllocError>
+        ensures same { self.new.rows ≡ self.old.rows }
+        ensures room { OnOk result (0 < self.new.room) }
+    {
+        self.map.reserve(1)
+    }
+
+    /// Adds the line of a new key as the last one. Takes no memory.
+    pub(crate) fn add(&mut self, key: Key, line: KeyLine)
+        requires room { 0 < self.old.room }
+        requires new { position (nat_eq key) (keys_of self.old.rows) ≡ None }
+        ensures { self.new.rows ≡ self.old.rows ++ (key, line) ∷ [] }
+    {
+        match self.map.insert(key, line) {
+            Ok(_none) => (),
+            Err(_full) => unreachable!(),
+        }
+    }
+
+    // Prepares a cut at `n` of the line at a place, if it takes events from it and does not empty it. Gives its key and how
+    // it then stands, if it has an event before `n`.
+    fn prepare_cut_at(
+        &mut self,
+        place: usize,
+        n: u32,
+    ) -> Result<Option<(Key, KeyStatus)>, AllocError>
+        requires { place < length self.old.rows }
+    {
+        let Some((key, _)) = self.map.get_index(place) else {
+            unreachable!()
+        };
+        let key = *key;
+        let Some(line) = self.map.get_index_mut(place) else {
+            unreachable!()
+        };
+        if !line.begins_below(n) {
+            return Ok(None);
+        }
+        if !line.loses(n) {
+            return Ok(Some((key, line.status())));
+        }
+        let status = line.prepare_cut(n)?;
+        Ok(Some((key, status)))
+    }
+
+    // Carries out the cut at `n` of the line at a place, if it takes events from it.
+    fn commit_cut_at(&mut self, place: usize, n: u32)
+        requires { place < length self.old.rows }
+    {
+        let Some(line) = self.map.get_index_mut(place) else {
+            unreachable!()
+        };
+        if line.loses(n) {
+            line.commit();
+        }
+    }
+}

@@ -1,0 +1,430 @@
+//! The monitor.
+ghost use Rattle.std.specs.Prelude.{◌≡◌, ◌<◌, ◌≤◌, Some, None, length, slice_get, IfOk, IfErr, IfSome, IsSome, IsOk, OnOk, OnErr, IsErrOf};
+ghost use Rattle.history.specs.WellFormed.{IsConcurrency};
+ghost use Rattle.checkpoints.specs.KeyLineView.{IsStatusOf};
+ghost use Rattle.monitor.specs.JudgedHistory.{IsVerdictOn, with_event, rewound, with_kind, with_budget, IsBudget, opening_of, keys_in_order, history_of_key, kind_of, budget_of};
+ghost use Rattle.monitor.specs.Monitors.{at_rest, with_next, Admits, MayDecline, MayNotBegin, MayNotRewind, MayNotSetBudget};
+
+use crate::lines::Lines;
+use crate::settings::Settings;
+use checkpoints::KeyLine;
+use edn::Refusal;
+use history::{Event, History};
+use linspec::{KeyStatus, Verdict};
+use locality::join_with;
+use models::{Key, ModelKind};
+use std::alloc::{AllocError, Global};
+use std::marker::Model;
+
+/// The greatest budget.
+const MOST_ENDS: u32 = 65_536;
+
+/// What is known of a key that has events.
+#[derive(Clone, Copy)]
+pub struct KeyRow {
+    pub key: Key,
+    pub kind: ModelKind,
+    pub budget: u32,
+    /// How many events the key has.
+    pub events: usize,
+    pub status: KeyStatus,
+}
+
+/// What may be committed, and the verdict that it brings.
+#[derive(Drop)]
+struct Prepared {
+    change: Change,
+    verdict: Verdict,
+}
+
+/// A change whose parts are prepared.
+#[derive(Drop)]
+enum Change {
+    /// The history has an event more, which speaks of no operation.
+    Fault,
+    /// The history and the line at this place have an event more.
+    Append(usize),
+    /// The history has an event more, and the key its first one, in this line.
+    Begin(Key, KeyLine),
+    /// The history and the lines are cut at this length, after which so many lines are left.
+    Rewind(u32, usize),
+    /// A key is of this kind, and so is the line at this place, if it has events.
+    Kind(Key, ModelKind, Option<usize>),
+    /// A key has this budget, and so has the line at this place, if it has events.
+    Budget(Key, u32, Option<usize>),
+}
+
+/// The live monitor of a history of many keys, each an object by itself: the verdict on the history as it stands, by the
+/// kinds and budgets of the keys as they stand. Linearizability is that of Herlihy and Wing (1990).
+///
+/// A key has the default kind and budget until another is set for it. What is set for a key is kept where it has no events,
+/// and outlives a rewind.
+///
+/// Each change is prepared, which may fail and changes nothing but what is prepared, and then committed. What was prepared
+/// before is dropped.
+#[derive(Drop)]
+pub struct Monitor {
+    alloc: Global,
+    history: History,
+    kinds: Settings<ModelKind>,
+    budgets: Settings<u32>,
+    lines: Lines,
+    verdict: Verdict,
+    prepared: Option<Prepared>,
+}
+
+impl Model for Monitor {
+    ghost use Rattle.std.specs.Option.{option_map};
+    ghost use Rattle.monitor.specs.Monitors.{MonitorView};
+    ghost use Rattle.monitor.specs.SoundMonitor.{judged_by_parts, brought, IsSoundMonitor};
+
+    ghost Value = { MonitorView };
+
+    ghost view = { λ a. record {
+      now = judged_by_parts a.history a.kinds a.budgets;
+      next = option_map (brought (judged_by_parts a.history a.kinds a.budgets) a.history.next) a.prepared;
+    } };
+
+    ghost invariant = { λ a. IsSoundMonitor a.history a.kinds a.budgets a.lines a.verdict a.prepared };
+}
+
+impl Monitor {
+    /// The monitor of no events, of threads 0 to `concurrency` - 1. Every key is an object of this kind, and an ok may find
+    /// at most `budget` ends of its key just before it, until another kind or budget is set for a key.
+    ///
+    /// # Errors
+    /// [`Refusal::BadBudget`] where the budget is not 1 to 65,536, else [`Refusal::BadConcurrency`] where the concurrency
+    /// is not 1 to 64, else [`Refusal::NoMemory`] where a growth was refused.
+    pub fn new(
+        alloc: Global,
+        concurrency: u32,
+        kind: ModelKind,
+        budget: u32,
+    ) -> Result<Monitor, Refusal>
+        ensures limits { OnOk result (IsBudget budget × IsConcurrency concurrency) }
+        ensures opened { IfOk result (λ monitor.
+            monitor ≡ at_rest (opening_of concurrency kind budget)) }
+        ensures refused { IfErr result (MayNotBegin concurrency budget) }
+    {
+        test_budget(budget)?;
+        let history = History::new(alloc, concurrency)?;
+        Ok(Monitor {
+            alloc,
+            history,
+            kinds: Settings::new(alloc, kind),
+            budgets: Settings::new(alloc, budget),
+            lines: Lines::new(alloc),
+            verdict: Verdict::Legal,
+            prepared: None,
+        })
+    }
+
+    /// Prepares to append an event, and gives the verdict that [`commit`](Self::commit) will bring. It costs what the
+    /// event's own key costs (see [`KeyLine::prepare_push`]), whatever the number of keys.
+    ///
+    /// # Errors
+    /// The refusals of [`History::prepare_push`], in their order: [`Refusal::NoMemory`] last. Then nothing is prepared.
+    pub fn prepare_append(&mut self, event: Event) -> Result<Verdict, Refusal>
+        ensures well_formed { OnOk result (Admits self.old.now event) }
+        ensures prepared { OnOk result
+            (self.new ≡ with_next (with_event event self.old.now) self.old) }
+        ensures verdict { IfOk result (IsVerdictOn (with_event event self.old.now)) }
+        ensures refused { IfErr result (MayDecline self.old.now event) }
+        ensures memory_last { IsErrOf result Refusal.NoMemory → Admits self.old.now event }
+        ensures err { OnErr result (self.new ≡ at_rest self.old.now) }
+    {
+        self.prepared = None;
+        let Some(key) = event.key() else {
+            return self.prepare_fault(event);
+        };
+        let copy = event.copy();
+        let index = self.history.len();
+        self.history.prepare_push(event)?;
+        let (change, status) = match self.lines.find(key) {
+            Some(place) => {
+                let status = self.lines.prepare_push(place, index, copy?)?;
+                (Change::Append(place), status)
+            }
+            None => {
+                self.lines.reserve()?;
+                let line = self.first_line(key, index, copy?)?;
+                let status = line.status();
+                (Change::Begin(key, line), status)
+            }
+        };
+        let verdict = join_with(self.verdict, key, status);
+        self.prepared = Some(Prepared { change, verdict });
+        Ok(verdict)
+    }
+
+    /// Prepares to keep the first `n` events alone, and gives the verdict that [`commit`](Self::commit) will bring. Kinds
+    /// and budgets stay. It takes the time of the first `n` events, of all keys with events, and of a cut of the line of each
+    /// key that loses events (see [`KeyLine::prepare_cut`]).
+    ///
+    /// # Errors
+    /// [`Refusal::NoSuchIndex`] where there are fewer events; else [`Refusal::NoMemory`] where a growth was refused. Then
+    /// nothing is prepared.
+    pub fn prepare_rewind(&mut self, n: u32) -> Result<Verdict, Refusal>
+        ensures within { OnOk result (n ≤ length self.old.now.events) }
+        ensures prepared { OnOk result (self.new ≡ with_next (rewound n self.old.now) self.old) }
+        ensures verdict { IfOk result (IsVerdictOn (rewound n self.old.now)) }
+        ensures refused { IfErr result (MayNotRewind self.old.now n) }
+        ensures memory_last { IsErrOf result Refusal.NoMemory →
+            n ≤ length self.old.now.events }
+        ensures err { OnErr result (self.new ≡ at_rest self.old.now) }
+    {
+        self.prepared = None;
+        self.history.prepare_cut(n)?;
+        let (kept, verdict) = self.lines.prepare_cut(n)?;
+        self.prepared = Some(Prepared {
+            change: Change::Rewind(n, kept),
+            verdict,
+        });
+        Ok(verdict)
+    }
+
+    /// Prepares that a key is an object of this kind, and gives the verdict that [`commit`](Self::commit) will bring. It
+    /// takes the time of all keys with events, and of a rebuild of the key's line (see [`KeyLine::prepare_rebuild`]); where
+    /// the key has no events, constant time.
+    ///
+    /// # Errors
+    /// `AllocError` where a growth was refused. Then nothing is prepared.
+    pub fn prepare_model(&mut self, key: Key, kind: ModelKind) -> Result<Verdict, AllocError>
+        ensures prepared { OnOk result
+            (self.new ≡ with_next (with_kind key kind self.old.now) self.old) }
+        ensures verdict { IfOk result (IsVerdictOn (with_kind key kind self.old.now)) }
+        ensures err { OnErr result (self.new ≡ at_rest self.old.now) }
+    {
+        self.prepared = None;
+        self.kinds.reserve()?;
+        let place = self.lines.find(key);
+        let budget = self.budgets.of(key);
+        let verdict = self.verdict_judged_by(place, kind, budget)?;
+        self.prepared = Some(Prepared {
+            change: Change::Kind(key, kind, place),
+            verdict,
+        });
+        Ok(verdict)
+    }
+
+    /// Prepares that a key has this budget, and gives the verdict that [`commit`](Self::commit) will bring. It costs what
+    /// [`prepare_model`](Self::prepare_model) does.
+    ///
+    /// # Errors
+    /// [`Refusal::BadBudget`] where the budget is not 1 to 65,536; else [`Refusal::NoMemory`] where a growth was refused.
+    /// Then nothing is prepared.
+    pub fn prepare_budget(&mut self, key: Key, n: u32) -> Result<Verdict, Refusal>
+        ensures within { OnOk result (IsBudget n) }
+        ensures prepared { OnOk result
+            (self.new ≡ with_next (with_budget key n self.old.now) self.old) }
+        ensures verdict { IfOk result (IsVerdictOn (with_budget key n self.old.now)) }
+        ensures refused { IfErr result (MayNotSetBudget n) }
+        ensures memory_last { IsErrOf result Refusal.NoMemory → IsBudget n }
+        ensures err { OnErr result (self.new ≡ at_rest self.old.now) }
+    {
+        self.prepared = None;
+        test_budget(n)?;
+        self.budgets.reserve()?;
+        let place = self.lines.find(key);
+        let kind = self.kinds.of(key);
+        let verdict = self.verdict_judged_by(place, kind, n)?;
+        self.prepared = Some(Prepared {
+            change: Change::Budget(key, n, place),
+            verdict,
+        });
+        Ok(verdict)
+    }
+
+    /// Carries out what is prepared. It takes no memory and cannot fail.
+    pub fn commit(&mut self)
+        requires { IsSome self.old.next }
+        ensures { IfSome self.old.next (λ next. self.new ≡ at_rest next) }
+    {
+        let Some(prepared) = self.prepared.take() else {
+            unreachable!()
+        };
+        let Prepared { change, verdict } = prepared;
+        self.verdict = verdict;
+        match change {
+            Change::Fault => self.history.commit(),
+            Change::Append(place) => {
+                self.history.commit();
+                self.lines.commit(place);
+            }
+            Change::Begin(key, line) => {
+                self.history.commit();
+                self.lines.add(key, line);
+            }
+            Change::Rewind(n, kept) => {
+                self.history.commit();
+                self.lines.commit_cut(n, kept);
+            }
+            Change::Kind(key, kind, place) => {
+                self.kinds.put(key, kind);
+                if let Some(place) = place {
+                    self.lines.commit(place);
+                }
+            }
+            Change::Budget(key, n, place) => {
+                self.budgets.put(key, n);
+                if let Some(place) = place {
+                    self.lines.commit(place);
+                }
+            }
+        }
+    }
+
+    /// Appends an event: [`prepare_append`](Self::prepare_append) and [`commit`](Self::commit) in one. Gives the verdict.
+    ///
+    /// # Errors
+    /// Those of [`prepare_append`](Self::prepare_append); what is judged is then as before, and nothing is prepared.
+    pub fn append(&mut self, event: Event) -> Result<Verdict, Refusal>
+        ensures well_formed { OnOk result (Admits self.old.now event) }
+        ensures appended { OnOk result (self.new ≡ at_rest (with_event event self.old.now)) }
+        ensures verdict { IfOk result (IsVerdictOn (with_event event self.old.now)) }
+        ensures refused { IfErr result (MayDecline self.old.now event) }
+        ensures memory_last { IsErrOf result Refusal.NoMemory → Admits self.old.now event }
+        ensures err { OnErr result (self.new ≡ at_rest self.old.now) }
+    {
+        let verdict = self.prepare_append(event)?;
+        self.commit();
+        Ok(verdict)
+    }
+
+    /// Keeps the first `n` events alone: [`prepare_rewind`](Self::prepare_rewind) and [`commit`](Self::commit) in one. Gives
+    /// the verdict.
+    ///
+    /// # Errors
+    /// Those of [`prepare_rewind`](Self::prepare_rewind); what is judged is then as before, and nothing is prepared.
+    pub fn rewind(&mut self, n: u32) -> Result<Verdict, Refusal>
+        ensures within { OnOk result (n ≤ length self.old.now.events) }
+        ensures rewound { OnOk result (self.new ≡ at_rest (rewound n self.old.now)) }
+        ensures verdict { IfOk result (IsVerdictOn (rewound n self.old.now)) }
+        ensures refused { IfErr result (MayNotRewind self.old.now n) }
+        ensures memory_last { IsErrOf result Refusal.NoMemory →
+            n ≤ length self.old.now.events }
+        ensures err { OnErr result (self.new ≡ at_rest self.old.now) }
+    {
+        let verdict = self.prepare_rewind(n)?;
+        self.commit();
+        Ok(verdict)
+    }
+
+    /// Makes a key an object of this kind: [`prepare_model`](Self::prepare_model) and [`commit`](Self::commit) in one. Gives
+    /// the verdict.
+    ///
+    /// # Errors
+    /// `AllocError` where a growth was refused; what is judged is then as before, and nothing is prepared.
+    pub fn set_model(&mut self, key: Key, kind: ModelKind) -> Result<Verdict, AllocError>
+        ensures set { OnOk result (self.new ≡ at_rest (with_kind key kind self.old.now)) }
+        ensures verdict { IfOk result (IsVerdictOn (with_kind key kind self.old.now)) }
+        ensures err { OnErr result (self.new ≡ at_rest self.old.now) }
+    {
+        let verdict = self.prepare_model(key, kind)?;
+        self.commit();
+        Ok(verdict)
+    }
+
+    /// Sets the budget of a key: [`prepare_budget`](Self::prepare_budget) and [`commit`](Self::commit) in one. Gives the
+    /// verdict.
+    ///
+    /// # Errors
+    /// Those of [`prepare_budget`](Self::prepare_budget); what is judged is then as before, and nothing is prepared.
+    pub fn set_budget(&mut self, key: Key, n: u32) -> Result<Verdict, Refusal>
+        ensures within { OnOk result (IsBudget n) }
+        ensures set { OnOk result (self.new ≡ at_rest (with_budget key n self.old.now)) }
+        ensures verdict { IfOk result (IsVerdictOn (with_budget key n self.old.now)) }
+        ensures refused { IfErr result (MayNotSetBudget n) }
+        ensures memory_last { IsErrOf result Refusal.NoMemory → IsBudget n }
+        ensures err { OnErr result (self.new ≡ at_rest self.old.now) }
+    {
+        let verdict = self.prepare_budget(key, n)?;
+        self.commit();
+        Ok(verdict)
+    }
+
+    /// The verdict on the history as it stands. Takes no memory, and constant time.
+    pub fn verdict(&self) -> Verdict
+        ensures { IsVerdictOn self.now.now result }
+    {
+        self.verdict
+    }
+
+    /// The history as it stands. Takes no memory.
+    pub fn history(&self) -> &History
+        ensures events { result.now.events ≡ self.now.now.events }
+        ensures concurrency { result.now.concurrency ≡ self.now.now.concurrency }
+    {
+        &self.history
+    }
+
+    /// How many keys have events. Takes no memory.
+    pub fn key_count(&self) -> usize
+        ensures { result ≡ length (keys_in_order self.now.now.events) }
+    {
+        self.lines.len()
+    }
+
+    /// The `i`-th key by first event: its kind, its budget, how many events it has, and how it stands. Takes no memory.
+    pub fn key_at(&self, i: usize) -> KeyRow
+        requires { i < length (keys_in_order self.now.now.events) }
+        ensures key { slice_get (keys_in_order self.now.now.events) i ≡ Some result.key }
+        ensures kind { result.kind ≡ kind_of self.now.now result.key }
+        ensures budget { result.budget ≡ budget_of self.now.now result.key }
+        ensures events { result.events ≡ length (history_of_key self.now.now result.key).events }
+        ensures status { IsStatusOf (history_of_key self.now.now result.key) result.status }
+    {
+        let (key, line) = self.lines.at(i);
+        KeyRow {
+            key,
+            kind: self.kinds.of(key),
+            budget: self.budgets.of(key),
+            events: line.len(),
+            status: line.status(),
+        }
+    }
+
+    // Prepares that an event comes next that speaks of no operation: no line sees it, and the verdict stays.
+    fn prepare_fault(&mut self, event: Event) -> Result<Verdict, Refusal> {
+        self.history.prepare_push(event)?;
+        self.prepared = Some(Prepared {
+            change: Change::Fault,
+            verdict: self.verdict,
+        });
+        Ok(self.verdict)
+    }
+
+    // The line of a key that has its first event.
+    fn first_line(&self, key: Key, index: u32, event: Event) -> Result<KeyLine, AllocError> {
+        let mut line = KeyLine::new(self.alloc, self.kinds.of(key), self.budgets.of(key))?;
+        line.push(index, event)?;
+        Ok(line)
+    }
+
+    // The verdict where the key with the line at this place, if it has one, is judged by this kind and budget. The line has
+    // that prepared.
+    fn verdict_judged_by(
+        &mut self,
+        place: Option<usize>,
+        kind: ModelKind,
+        budget: u32,
+    ) -> Result<Verdict, AllocError> {
+        let Some(place) = place else {
+            return Ok(self.verdict);
+        };
+        let status = self.lines.prepare_rebuild(place, kind, budget)?;
+        Ok(self.lines.joined_with(place, status))
+    }
+}
+
+// Tests that a budget is within its limits.
+fn test_budget(budget: u32) -> Result<(), Refusal>
+    ensures within { OnOk result (IsBudget budget) }
+    ensures refused { IsErrOf result Refusal.BadBudget → ¬ IsBudget budget }
+    ensures none_else { OnErr result (IsErrOf result Refusal.BadBudget) }
+{
+    if budget < 1 || budget > MOST_ENDS {
+        return Err(Refusal::BadBudget);
+    }
+    Ok(())
+}
