@@ -1,3 +1,3 @@
 pub mod Limits
 pub mod Machine
-pub mod CoreInvariant
+pub mod CoreView

@@ -1,6 +1,6 @@
 -- Promise: the limits of how a one-thread object is opened
 use Rattle.history.specs.WellFormed.{IsConcurrency}
-use Rattle.harness.specs.Machine.{IsBudget}
+use Rattle.monitor.specs.JudgedHistory.{IsBudget}
 use Rattle.harness.specs.declared.command.Config.{Config}
 
 -- each number is within its limits

@@ -6,13 +6,19 @@ ghost use Rattle.harness.specs.Limits.{HasLimits};
 use edn::Refusal;
 use history::Event;
 use linspec::Verdict;
-use models::ModelKind;
+use models::{Key, ModelKind};
 
 /// What the one-thread object is told.
 #[derive(Drop)]
 pub enum Command {
     /// An event comes next in the history.
     Append(Event),
+    /// The first so many events stay; the others are as if they had never come. Kinds and budgets stay.
+    Rewind(u32),
+    /// A key is an object of this kind from now on; its events are judged anew.
+    SetModel(Key, ModelKind),
+    /// A key has this budget from now on, 1 to 65,536; its events are judged anew.
+    SetBudget(Key, u32),
     /// The verdict is asked for.
     Verdict,
 }
@@ -35,9 +41,9 @@ const MOST_ENDS: u32 = 65_536;
 pub struct Config {
     /// How many threads the history has, 1 to 64.
     pub concurrency: u32,
-    /// The kind of object that every key is.
+    /// The kind of object that a key is for which none was set.
     pub kind: ModelKind,
-    /// How many ends of a key may be possible just before an ok, 1 to 65,536.
+    /// How many ends of a key for which no budget was set may be possible just before an ok, 1 to 65,536.
     pub budget: u32,
 }
 

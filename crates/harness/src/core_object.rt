@@ -1,63 +1,44 @@
 //! The one-thread object.
-ghost use Rattle.std.specs.Prelude.{◌≡◌, ◌≢◌, None, Some, IfOk, IfErr, IfSome, IsSome, IsOk, OnOk, OnErr, IsErrOf, Ok, Err};
-ghost use Rattle.history.specs.declared.event.Event.{Event};
-ghost use Rattle.history.specs.Events.{key_of};
+ghost use Rattle.std.specs.Prelude.{◌≡◌, ◌≢◌, IfOk, IfErr, IfSome, IsSome, IsOk, OnOk, OnErr, IsErrOf, Ok, Err};
 ghost use Rattle.history.specs.WellFormed.{IsConcurrency};
-ghost use Rattle.harness.specs.Machine.{Machine, Admits, MayDecline, opening, at_rest, with_next, with_event, IsBudget, MayNotOpen, MayStep, IsVerdictOn};
+ghost use Rattle.monitor.specs.JudgedHistory.{IsVerdictOn, IsBudget};
+ghost use Rattle.harness.specs.Machine.{Machine, MayStep, MayWantMemory, opening, MayNotOpen, at_rest, with_next};
 
 use crate::command::{Command, Config, Reply};
-use crate::preparing::prepare_event;
-use checkpoints::KeyLine;
 use edn::Refusal;
-use history::{Event, History, process_rule_law};
 use linspec::Verdict;
-use linspec::laws::history_law;
-use locality::join;
-use locality::laws::join_law;
-use models::Key;
+use monitor::Monitor;
 use std::alloc::Global;
 use std::marker::Model;
 
-/// What is judged of a history: its key, if an operation was invoked, and the verdict.
-#[derive(Clone, Copy)]
-struct Judged {
-    key: Option<Key>,
-    verdict: Verdict,
-}
-
-/// What is prepared.
+/// What is prepared: nothing; that all stays as it is; or a change of the monitor.
 #[derive(Clone, Copy)]
 enum Change {
     Nothing,
     Same,
-    Fault,
-    Append(Judged),
+    OfMonitor,
 }
 
-/// The one-thread object: a history, and the verdict on it as it stands. Linearizability is that of Herlihy and Wing
-/// (1990). Every key is an object of the kind that it is opened with; at this stage a history has one key.
+/// The one-thread object: a history, the kind and the budget of every key, and the verdict on the history as it stands.
+/// Linearizability is that of Herlihy and Wing (1990).
+///
+/// Each command is prepared, which may be refused and changes nothing but what is prepared, and then committed.
 #[derive(Drop)]
 pub struct Core {
-    alloc: Global,
-    history: History,
-    line: KeyLine,
-    judged: Judged,
+    monitor: Monitor,
     change: Change,
 }
 
 impl Model for Core {
     ghost use Rattle.harness.specs.Machine.{CoreView};
+    ghost use Rattle.harness.specs.CoreView.{next_of};
 
     ghost Value = { CoreView };
 
-    ghost use Rattle.harness.specs.CoreInvariant.{machine_of, next_of, IsSoundCore};
-
     ghost view = { λ a. record {
-      machine = machine_of a.history a.line;
-      next = next_of a.history a.line a.change;
+      machine = a.monitor.now;
+      next = next_of a.monitor a.change;
     } };
-
-    ghost invariant = { λ a. IsSoundCore a.history a.line a.judged a.change };
 }
 
 impl Core {
@@ -71,21 +52,9 @@ impl Core {
         ensures opened { IfOk result (λ core. core ≡ at_rest (opening config)) }
         ensures refused { IfErr result (MayNotOpen config) }
     {
-        config.check()?;
-        history_law();
-        join_law();
-        process_rule_law();
-        let history = History::new(alloc, config.concurrency)?;
-        let line = KeyLine::new(alloc, config.kind, config.budget)?;
-        let judged = Judged {
-            key: None,
-            verdict: join(&[(0, line.status())]),
-        };
+        let monitor = Monitor::new(alloc, config.concurrency, config.kind, config.budget)?;
         Ok(Core {
-            alloc,
-            history,
-            line,
-            judged,
+            monitor,
             change: Change::Nothing,
         })
     }
@@ -94,7 +63,8 @@ impl Core {
     /// stays as it is. The next `prepare` or `step` drops what is prepared.
     ///
     /// # Errors
-    /// The refusal of an event that is not well-formed, else [`Refusal::NoMemory`] where a growth was refused. Then
+    /// The refusal of an event that is not well-formed; [`Refusal::NoSuchIndex`] for a rewind to more than the length;
+    /// [`Refusal::BadBudget`] for a budget out of its limits; else [`Refusal::NoMemory`] where a growth was refused. Then
     /// nothing is prepared. [`Command::Verdict`] is never refused.
     pub fn prepare(&mut self, command: Command) -> Result<(Reply, Verdict), Refusal>
         ensures answered { IfOk result (λ answer. (next : Machine)
@@ -108,59 +78,22 @@ impl Core {
         ensures asked { command ≡ Command.Verdict → IsOk result }
         // Want of memory is answered last.
         ensures memory_last { IsErrOf result Refusal.NoMemory →
-            (event : Event) × (command ≡ Command.Append event) × Admits self.old.machine event }
+            MayWantMemory self.old.machine command }
     {
-        match command {
-            Command::Append(event) => {
-                let verdict = self.prepare_append(event)?;
-                Ok((Reply::Verdict(verdict), verdict))
-            }
+        self.change = Change::Nothing;
+        let verdict = match command {
+            Command::Append(event) => self.monitor.prepare_append(event)?,
+            Command::Rewind(n) => self.monitor.prepare_rewind(n)?,
+            Command::SetModel(key, kind) => self.monitor.prepare_model(key, kind)?,
+            Command::SetBudget(key, n) => self.monitor.prepare_budget(key, n)?,
             Command::Verdict => {
                 self.change = Change::Same;
-                Ok((Reply::Verdict(self.judged.verdict), self.judged.verdict))
+                let verdict = self.monitor.verdict();
+                return Ok((Reply::Verdict(verdict), verdict));
             }
-        }
-    }
-
-    // Prepares that an event comes next.
-    fn prepare_append(&mut self, event: Event) -> Result<Verdict, Refusal>
-        ensures well_formed { OnOk result (Admits self.old.machine event) }
-        ensures prepared { OnOk result
-            (self.new ≡ with_next self.old.machine (with_event event self.old.machine)) }
-        ensures verdict { IfOk result (IsVerdictOn (with_event event self.old.machine)) }
-        ensures refused { IfErr result (MayDecline self.old.machine event) }
-        ensures memory_last { IsErrOf result Refusal.NoMemory → Admits self.old.machine event }
-        ensures err { OnErr result (self.new ≡ at_rest self.old.machine) }
-    {
-        self.change = Change::Nothing;
-        let Some(added) = event.key() else {
-            return self.prepare_fault(event);
         };
-        history_law();
-        join_law();
-        process_rule_law();
-        let key = self.judged.key.or(Some(added));
-        let status = prepare_event(&mut self.history, &mut self.line, event)?;
-        let verdict = join(&[(key.unwrap_or(0), status)]);
-        self.change = Change::Append(Judged { key, verdict });
-        Ok(verdict)
-    }
-
-    // Prepares that an event comes next that speaks of no operation: no line sees it, and the verdict stays.
-    fn prepare_fault(&mut self, event: Event) -> Result<Verdict, Refusal>
-        requires { key_of event ≡ None }
-        ensures well_formed { OnOk result (Admits self.old.machine event) }
-        ensures prepared { OnOk result
-            (self.new ≡ with_next self.old.machine (with_event event self.old.machine)) }
-        ensures verdict { IfOk result (IsVerdictOn (with_event event self.old.machine)) }
-        ensures refused { IfErr result (MayDecline self.old.machine event) }
-        ensures memory_last { IsErrOf result Refusal.NoMemory → Admits self.old.machine event }
-        ensures err { OnErr result (self.new ≡ at_rest self.old.machine) }
-    {
-        self.change = Change::Nothing;
-        self.history.prepare(event)?;
-        self.change = Change::Fault;
-        Ok(self.judged.verdict)
+        self.change = Change::OfMonitor;
+        Ok((Reply::Verdict(verdict), verdict))
     }
 
     /// Carries out what is prepared. It takes no memory and cannot fail.
@@ -168,19 +101,10 @@ impl Core {
         requires { IsSome self.old.next }
         ensures { IfSome self.old.next (λ next. self.new ≡ at_rest next) }
     {
-        match self.change {
-            Change::Append(judged) => {
-                self.history.commit();
-                self.line.commit();
-                self.judged = judged;
-                self.change = Change::Nothing;
-            }
-            Change::Fault => {
-                self.history.commit();
-                self.change = Change::Nothing;
-            }
-            _ => self.change = Change::Nothing,
+        if let Change::OfMonitor = self.change {
+            self.monitor.commit();
         }
+        self.change = Change::Nothing;
     }
 
     /// Carries out a command, and gives its reply: [`prepare`](Core::prepare) and [`commit`](Core::commit) in one.
@@ -196,7 +120,7 @@ impl Core {
         ensures asked { command ≡ Command.Verdict → IsOk result }
         // Want of memory is answered last.
         ensures memory_last { IsErrOf result Refusal.NoMemory →
-            (event : Event) × (command ≡ Command.Append event) × Admits self.old.machine event }
+            MayWantMemory self.old.machine command }
     {
         let (reply, _) = self.prepare(command)?;
         self.commit();
@@ -207,6 +131,13 @@ impl Core {
     pub fn verdict(&self) -> Verdict
         ensures { IsVerdictOn self.now.machine result }
     {
-        self.judged.verdict
+        self.monitor.verdict()
+    }
+
+    /// The monitor as it stands: its history, and its keys by first event.
+    pub fn monitor(&self) -> &Monitor
+        ensures { result.now.now ≡ self.now.machine }
+    {
+        &self.monitor
     }
 }

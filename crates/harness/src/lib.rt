@@ -4,7 +4,6 @@
 pub mod command;
 pub mod core_object;
 pub mod laws;
-mod preparing;
 
 pub use command::{Command, Config, Reply};
 pub use core_object::Core;
