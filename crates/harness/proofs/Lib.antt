@@ -1,5 +1,2 @@
-pub mod OneKey
 pub mod OneStep
-pub mod OfOneKey
-pub mod Judged
-pub mod Changes
+pub mod Preparing

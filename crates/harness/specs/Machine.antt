@@ -1,9 +1,8 @@
 -- Promise: the one-thread object: its state, and what each command may answer (this project's own)
-use Rattle.std.specs.Prelude.{◌≡◌, ℕ, ◌<◌, ◌≤◌, length, Option, Some, None, Result, Ok, Err}
+use Rattle.std.specs.Prelude.{◌≡◌, ◌<◌, ◌≤◌, length, Option, Some, None, Result, Ok, Err}
 use Rattle.edn.specs.declared.refusal.Refusal.{Refusal}
 use Rattle.edn.specs.declared.refusal.Refusal.TheVariants.{NoSuchIndex, BadBudget}
 use Rattle.history.specs.WellFormed.{Refuses}
-use Rattle.linspec.specs.declared.verdict.Verdict.{Verdict}
 use Rattle.monitor.specs.JudgedHistory.{JudgedHistory, IsVerdictOn, with_event, rewound, with_kind, with_budget, IsBudget, opening_of}
 use Rattle.monitor.specs.Monitors.{Admits, MayNotBegin}
 use Rattle.harness.specs.declared.command.Config.{Config}

@@ -1,6 +1,7 @@
 use Rattle.std.proofs.Common.{subst}
-use Rattle.harness.specs.Machine.{CoreView, IsVerdictOn}
+use Rattle.monitor.specs.JudgedHistory.{IsVerdictOn}
+use Rattle.harness.specs.Machine.{CoreView}
 use Rattle.harness.proofs.core_object.Core.verdict.Goals as goal
 
 pub returns : goal.returns
-returns c = subst (λ (s : CoreView). IsVerdictOn s.machine c.self.inside.judged.verdict) c.self.view_is c.self.invariant.is_judged.1
+returns c = subst (λ (s : CoreView). IsVerdictOn s.machine c.verdict.result) c.self.view_is c.verdict.ensures
