@@ -141,7 +141,7 @@ pub event_in_tables : (c : ℕ) (events : List Event) (i : ℕ) (e : Event) → 
 event_in_tables c events i e h below is =
     (let cut : events ≡ take i events ++ e ∷ drop (i + 1) events =
     sym (take-append-drop i events) ∙ ap (λ l. take i events ++ l) (drop_more events i e below ∙ ap (λ x. x ∷ drop (i + 1) events) (sym is)) in
-    let well = h (take i events) (drop (i + 1) events) e cut in well.0.0)
+    let well = h (take i events) (drop (i + 1) events) e cut in well.0)
 
 pub ok_told : {E : Type 0} (r : Result Edn E) (P Q : Edn → Type 0) → ((x : Edn) → P x → Q x) → IfOk r P → IfOk r Q
 ok_told (Ok x) P Q f h = f x h
