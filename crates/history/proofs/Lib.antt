@@ -10,5 +10,6 @@ pub mod Values
 pub mod OneEvent
 pub mod OneRefusal
 pub mod OpEvents
+pub mod KeyEvents
 pub mod ReadEach
 pub mod Written
