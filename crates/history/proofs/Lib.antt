@@ -3,6 +3,7 @@ pub mod ProcessRule
 pub mod Keeping
 pub mod Carrying
 pub mod Kept
+pub mod Fronts
 pub mod OpenOperations
 pub mod Refusing
 pub mod Replicas

@@ -121,7 +121,11 @@ impl History {
         if n > self.len() {
             return Err(Refusal::NoSuchIndex);
         }
-        Err(Refusal::NoMemory)
+        let alloc = *self.events.allocator();
+        let kept = &self.events.as_slice()[..n as usize];
+        let clients = Clients::after(alloc, self.concurrency, kept)?;
+        self.prepared = Some(Prepared::Cut(n, clients));
+        Ok(())
     }
 
     /// Carries out what is prepared. It takes no memory and cannot fail, and the time of what it takes away.
