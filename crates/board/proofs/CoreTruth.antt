@@ -2,19 +2,18 @@
 use Rattle.std.proofs.Common.{◌≡◌, ℕ, List, [], ◌∷◌, ◌++◌, ◌≢◌, ap, refl, Option, Some, None, IsSome, IfSome, Result, Ok, Err, IfOk, IfErr, OnOk, OnErr, sym, subst}
 use Rattle.edn.specs.declared.refusal.Refusal.{Refusal}
 use Rattle.edn.specs.declared.refusal.Refusal.TheVariants.{TapeFull, NoMemory}
-use Rattle.history.specs.declared.event.Event.{Event}
-use Rattle.history.specs.WellFormed.{IsWellFormed}
 use Rattle.linspec.specs.declared.verdict.Verdict.{Verdict}
 use Rattle.harness.specs.declared.command.Command.{Command}
-use Rattle.harness.specs.declared.command.Command.TheVariants.{Append, Verdict as Ask}
+use Rattle.harness.specs.declared.command.Command.TheVariants.{Append, Rewind, SetModel, SetBudget, Verdict as Ask}
 use Rattle.harness.specs.declared.command.Reply.{Reply}
 use Rattle.harness.specs.declared.command.Reply.TheVariants.{Verdict as Says}
-use Rattle.harness.specs.Machine.{Machine, CoreView, at_rest, MayStep, IsVerdictOn}
+use Rattle.monitor.specs.JudgedHistory.{IsVerdictOn}
+use Rattle.harness.specs.Machine.{Machine, CoreView, at_rest, MayStep, MayWantMemory}
 use Rattle.board.specs.declared.tape.TapeEntry.{TapeEntry}
 use Rattle.board.specs.declared.tape.TapeEntry.TheVariants.{Opening, Call}
 use Rattle.board.specs.declared.seat.SeatView.{SeatView}
 use Rattle.board.specs.Tape.{Runs, Leads, IsAnswered, IsRefused}
-use Rattle.board.specs.CoreTape.{CoreReply, CoreTape, LeadsTo, IsTrueOn, IsTrueAfter, MayWantMemory}
+use Rattle.board.specs.CoreTape.{CoreReply, CoreTape, LeadsTo, IsTrueOn, IsTrueAfter}
 
 module _ {S C R : Type 0} (replies : S → C → R → S → Type 0) where
   runs_last : (s end : S) (rest : List (TapeEntry S C R)) (seat : ℕ) (c : C) (r : R) → Runs replies s (rest ++ Call seat c r ∷ []) end → (mid : S) × replies mid c r end
@@ -31,6 +30,9 @@ module _ {S C R : Type 0} (replies : S → C → R → S → Type 0) where
 -- a verdict that the one-thread object gives is the one from scratch
 step_true : (mid end : Machine) (c : Command) (r : CoreReply) → MayStep mid c r end → IsTrueOn end r
 step_true mid end (Append event) (Ok (Says v)) step = step.2
+step_true mid end (Rewind n) (Ok (Says v)) step = step.2
+step_true mid end (SetModel key kind) (Ok (Says v)) step = step.1
+step_true mid end (SetBudget key n) (Ok (Says v)) step = step.2
 step_true mid end Ask (Ok (Says v)) step = subst (λ m. IsVerdictOn m v) (sym step.0) step.1
 step_true mid end c (Err why) step = tt
 
@@ -65,13 +67,13 @@ pub asked : {A : Type 0} (result : Result A Refusal) (old new : SeatView Machine
 asked (Ok a) old new command is refused = tt
 asked (Err why) old new command is refused = asked_full refused.0 old new command why is refused.1
 
--- where memory ran out, the command appended an event that the history takes
+-- where memory ran out, the command may want it
 pub wants : {A E : Type 0} (result : Result A E) (why : Refusal) (m : Machine) (command : Command)
     → OnErr result (why ≡ NoMemory)
-    → (why ≡ NoMemory → (event : Event) × (command ≡ Append event) × IsWellFormed m.concurrency m.events event)
+    → (why ≡ NoMemory → MayWantMemory m command)
     → OnErr result (MayWantMemory m command)
 wants (Ok a) why m command memory last = tt
-wants (Err e) why m command memory last = let l = last memory in subst (λ c. MayWantMemory m c) (sym l.1) l.2
+wants (Err e) why m command memory last = last memory
 
 -- a refusal that changes nothing is a step of the object
 pub refused_ready : {E : Type 0} (old m : Machine) (next : Option Machine) (command : Command) (why : Refusal) (result : Result (CoreReply × Verdict) E)

@@ -3,13 +3,13 @@ use Rattle.std.specs.Prelude.{ℕ, ◌≤◌, List, [], ◌∷◌, Result, Ok, E
 use Rattle.edn.specs.declared.refusal.Refusal.{Refusal}
 use Rattle.edn.specs.declared.refusal.Refusal.TheVariants.{NoSeat}
 use Rattle.linspec.specs.declared.verdict.Verdict.{Verdict}
+use Rattle.monitor.specs.JudgedHistory.{IsVerdictOn, IsBudget}
 use Rattle.harness.specs.declared.command.Config.{Config}
 use Rattle.harness.specs.declared.command.Command.{Command}
-use Rattle.harness.specs.declared.command.Command.TheVariants.{Append, Verdict as Ask}
 use Rattle.harness.specs.declared.command.Reply.{Reply}
 use Rattle.harness.specs.declared.command.Reply.TheVariants.{Verdict as Says}
-use Rattle.harness.specs.Machine.{Machine, MayStep, IsVerdictOn, IsBudget, MayNotOpen}
-use Rattle.history.specs.WellFormed.{IsConcurrency, IsWellFormed}
+use Rattle.harness.specs.Machine.{Machine, MayStep, MayNotOpen}
+use Rattle.history.specs.WellFormed.{IsConcurrency}
 use Rattle.board.specs.declared.tape.TapeEntry.{TapeEntry}
 use Rattle.board.specs.declared.tape.TapeEntry.TheVariants.{Opening}
 use Rattle.board.specs.Tape.{Leads, IsSummaryAfter}
@@ -41,11 +41,6 @@ IsTrueOn m (Err why) = Unit {0}
 -- the same, on the machine that the tape leads to
 abbrev pub IsTrueAfter : CoreTape → CoreReply → Type 0
 IsTrueAfter tape reply = IsSummaryAfter MayStep IsTrueOn tape reply
-
--- the command may want memory: it appends an event that the history takes. The verdict, and a refused event, want none
-abbrev pub MayWantMemory : Machine → Command → Type 0
-MayWantMemory m (Append event) = IsWellFormed m.concurrency m.events event
-MayWantMemory m Ask = ⊥
 
 -- why no board is made: the object's refusals come first
 abbrev pub MayNotBegin : Config → ℕ → Refusal → Type 0

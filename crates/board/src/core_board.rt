@@ -2,11 +2,12 @@
 ghost use Rattle.std.specs.Prelude.{◌≡◌, ◌⊎◌, ◌+◌, ◌≤◌, length, IfOk, IfErr, OnOk, IfSome, IsSome};
 ghost use Rattle.edn.specs.declared.refusal.Refusal.TheVariants.{NoMemory, NoSeat};
 ghost use Rattle.history.specs.WellFormed.{IsConcurrency};
-ghost use Rattle.harness.specs.Machine.{MayStep, IsBudget, at_rest, opening};
+ghost use Rattle.monitor.specs.JudgedHistory.{IsBudget};
+ghost use Rattle.harness.specs.Machine.{MayStep, MayWantMemory, at_rest, opening};
 ghost use Rattle.board.specs.Tape.{HasSeen, IsAnswered, IsRefused, IsTapeOf};
 ghost use Rattle.board.specs.Seat.{IsFresh};
 ghost use Rattle.board.specs.CoreTape.{CoreTape, LeadsTo, IsVerdictAfter, IsTrueAfter};
-ghost use Rattle.board.specs.CoreTape.{MayWantMemory, MayNotBegin, opening_tape};
+ghost use Rattle.board.specs.CoreTape.{MayNotBegin, opening_tape};
 
 use crate::tag::Tag;
 use crate::{blank, board, seat};

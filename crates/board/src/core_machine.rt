@@ -1,8 +1,8 @@
 //! The monitor's core as an object that a board keeps.
 ghost use Rattle.std.specs.Prelude.{◌≡◌, ◌≢◌, Some, Err, IfOk, OnOk, OnErr};
 ghost use Rattle.edn.specs.declared.refusal.Refusal.TheVariants.{NoMemory};
-ghost use Rattle.harness.specs.Machine.{MayStep, IsVerdictOn};
-ghost use Rattle.board.specs.CoreTape.{MayWantMemory};
+ghost use Rattle.monitor.specs.JudgedHistory.{IsVerdictOn};
+ghost use Rattle.harness.specs.Machine.{MayStep, MayWantMemory};
 
 use crate::one_thread::OneThread;
 use edn::Refusal;

@@ -2,8 +2,7 @@
 ghost use Rattle.std.specs.Prelude.{Err};
 ghost use Rattle.edn.specs.declared.refusal.Refusal.{Refusal};
 ghost use Rattle.harness.specs.declared.command.Command.{Command};
-ghost use Rattle.harness.specs.Machine.{Machine, MayStep};
-ghost use Rattle.board.specs.CoreTape.{MayWantMemory};
+ghost use Rattle.harness.specs.Machine.{Machine, MayStep, MayWantMemory};
 
 use history::one_refusal;
 

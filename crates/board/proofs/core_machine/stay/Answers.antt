@@ -1,5 +1,6 @@
 use Rattle.std.proofs.Common.{Some, ap, subst, ◌∙◌}
-use Rattle.harness.specs.Machine.{CoreView, IsVerdictOn}
+use Rattle.monitor.specs.JudgedHistory.{IsVerdictOn}
+use Rattle.harness.specs.Machine.{CoreView}
 use Rattle.board.proofs.CoreTruth.{asks_same}
 use Rattle.board.proofs.core_machine.stay.Goals as goal
 
