@@ -17,6 +17,8 @@ mod news;
 #[cfg(test)]
 mod openings;
 #[cfg(test)]
+mod rewinds;
+#[cfg(test)]
 mod said;
 #[cfg(test)]
 mod threads;

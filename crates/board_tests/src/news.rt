@@ -4,6 +4,7 @@ ghost use Rattle.std.specs.Prelude.{◌≡◌};
 use crate::boards::{blank, write_then_read_another};
 use crate::said::{Said, answer_of, seen_of};
 use board::{Blank, Board, News, Seat, Tag};
+use harness::Command;
 use std::marker::Brand;
 use std::process::Abort;
 use std::sync::Wait;
@@ -14,14 +15,14 @@ fn news_carries_what_was_seen(rt: HostRuntime) {
     tell::<Brand, _>(&rt, blank(&rt, rt.alloc(), 2));
 }
 
-// What the call of this line answers, and its news.
-fn tell_of_call<B: Tag, R: Wait>(
+/// What the call answers, and its news.
+pub fn tell_of_call<B: Tag, R: Wait>(
     rt: &R,
     board: &Board<B>,
     seat: &mut Seat<B>,
-    line: u32,
+    command: Command,
 ) -> ((u64, Said), Option<News<B>>) {
-    let answer = board.call(rt, seat, write_then_read_another(line));
+    let answer = board.call(rt, seat, command);
     let said = answer_of(&answer);
     match answer {
         Ok(answered) => (said, Some(answered.news)),
@@ -40,9 +41,9 @@ fn tell<B: Tag, R: Wait + Abort>(rt: &R, blank: Blank)
     let first = &mut left[0];
     let second = &mut right[0];
     for line in 0..3 {
-        tell_of_call(rt, &board, first, line);
+        tell_of_call(rt, &board, first, write_then_read_another(line));
     }
-    let (answer, news) = tell_of_call(rt, &board, first, 3);
+    let (answer, news) = tell_of_call(rt, &board, first, write_then_read_another(3));
     let own = seen_of(board.glance(first));
     if let Some(news) = news {
         second.learn(news);
