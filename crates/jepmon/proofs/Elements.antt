@@ -1,36 +1,187 @@
--- Elements that are no command.
-use Rattle.std.proofs.Common.{◌≡◌, ◌≢◌, ◌≤◌, refl, List, [], ◌∷◌, length, arith, rules, Vec}
-use Rattle.std.specs.declared.alloc.Global.{Global}
-use Rattle.edn.specs.Value.{Value, vector, none, more}
+-- Elements that ask for a command, or for none
+use Rattle.std.proofs.Common.{◌≡◌, ◌≢◌, ◌≤◌, ◌<◌, ℕ, refl, List, [], ◌∷◌, length, Result, Ok, Err, Option, Some, None, Bool, true, false, arith, rules, String, sym, ◌∙◌, ap, subst}
+use Rattle.std.specs.Prelude.{codes, nat_lt, ◌^◌, if◌then◌else◌, pos, ℤ}
+use Rattle.std.specs.Str.{bytes_eq}
+use Rattle.std.proofs.lemmas.Slice.Eq.{bytes_eq-Decides}
+use Rattle.std.proofs.lemmas.Bool.{cases_eq}
+use Rattle.edn.specs.Value.{Value, nil, bool, int, text, keyword, vector, members, pairs, Values, none, more}
+use Rattle.edn.specs.Parts.{elements_in}
 use Rattle.edn.specs.View.{value_of, values_of}
-use Rattle.edn.specs.declared.value.Edn.{Edn, Vector, the_lemmas}
+use Rattle.edn.specs.Text.{IsText}
+use Rattle.std.specs.Prelude.{string_bytes}
+use Rattle.std.specs.declared.alloc.Global.{Global}
+use Rattle.edn.specs.declared.value.Edn.{Edn, Keyword, the_lemmas}
 use Rattle.edn.specs.declared.refusal.Refusal.{Refusal}
-use Rattle.edn.specs.declared.refusal.Refusal.TheVariants.{BadValue, NoMemory}
+use Rattle.edn.specs.declared.refusal.Refusal.TheVariants.{BadValue, BadBudget, NoSuchIndex, NoMemory, Unreadable}
+use Rattle.models.specs.declared.model_kind.ModelKind.{ModelKind}
+use Rattle.models.specs.declared.model_kind.ModelKind.TheVariants.{Register, CasRegister, Mutex, FifoQueue, Set}
+use Rattle.models.specs.Names.{name_of, Finds}
 use Rattle.history.specs.declared.event.Event.{Event}
 use Rattle.history.specs.Spelling.{Spells, WhyUnspelled}
 use Rattle.harness.specs.declared.command.Command.{Command}
-use Rattle.harness.specs.declared.command.Command.TheVariants.{Append, Verdict}
-use Rattle.jepmon.specs.Command.{verdict_command, SpellsCommand, IsNoCommand, AreRefused}
+use Rattle.harness.specs.declared.command.Command.TheVariants.{Append, Rewind, SetModel, SetBudget, Verdict}
+use Rattle.jepmon.specs.Command.{verdict_by, rewind_to, rewind_by, kind_named, kind_in, key_in, model_of, model_by, budget_of, budget_for, budget_by, command_named, command_headed, vector_command, Appends, ElementAsks, AskFor, Asks}
 
-pub two_are_no_command : (es : List Edn) → 2 ≤ length es → IsNoCommand (values_of es)
-two_are_no_command [] h = absurd (omega arith)
-two_are_no_command (e ∷ []) h = absurd (omega arith)
-two_are_no_command (e ∷ f ∷ es) h = tt
+-- arguments that are too few or too many
+pub no_verdict : (es : List Edn) → 1 ≤ length es → verdict_by (values_of es) ≡ Err BadValue
+no_verdict [] h = absurd (omega arith)
+no_verdict (e ∷ es) h = refl
 
-pub two_ask_no_verdict : (es : List Edn) → 2 ≤ length es → vector (values_of es) ≡ verdict_command → ⊥
-two_ask_no_verdict [] h e = absurd (omega arith)
-two_ask_no_verdict (x ∷ []) h e = absurd (omega arith)
-two_ask_no_verdict (x ∷ y ∷ es) h e = cc e
+pub no_rewind : (es : List Edn) → 2 ≤ length es → rewind_by (values_of es) ≡ Err BadValue
+no_rewind [] h = absurd (omega arith)
+no_rewind (e ∷ []) h = absurd (omega arith)
+no_rewind (e ∷ f ∷ es) h = refl
 
-pub view-Vector : (v : Vec Edn Global) → value_of (Vector v) ≡ vector (values_of v.items)
-view-Vector v = search (rules, the_lemmas)
+pub few_for_model : (es : List Edn) → length es < 2 → model_by (values_of es) ≡ Err BadValue
+few_for_model [] h = refl
+few_for_model (e ∷ []) h = refl
+few_for_model (e ∷ f ∷ es) h = absurd (omega arith)
 
--- what is no event and not [:verdict] spells no command
-spells_none : (v : Value) → ((event : Event) → ¬ Spells v event) → ¬ (v ≡ verdict_command) → (command : Command) → ¬ SpellsCommand v command
-spells_none v no_event no_verdict (Append event) spells = no_event event spells
-spells_none v no_event no_verdict Verdict is = no_verdict is
+pub many_for_model : (es : List Edn) → 3 ≤ length es → model_by (values_of es) ≡ Err BadValue
+many_for_model [] h = absurd (omega arith)
+many_for_model (e ∷ []) h = absurd (omega arith)
+many_for_model (e ∷ f ∷ []) h = absurd (omega arith)
+many_for_model (e ∷ f ∷ g ∷ es) h = refl
 
-pub refused_element : (v : Value) (why : Refusal) → ¬ (v ≡ verdict_command) → WhyUnspelled v why → why ≢ NoMemory → AreRefused (more v none) why
-refused_element v BadValue no_verdict no_event other = spells_none v no_event no_verdict
-refused_element v NoMemory no_verdict unspelled other = absurd (other refl)
-refused_element v _ no_verdict unspelled other = absurd unspelled
+pub few_for_budget : (es : List Edn) → length es < 2 → budget_by (values_of es) ≡ Err BadValue
+few_for_budget [] h = refl
+few_for_budget (e ∷ []) h = refl
+few_for_budget (e ∷ f ∷ es) h = absurd (omega arith)
+
+pub many_for_budget : (es : List Edn) → 3 ≤ length es → budget_by (values_of es) ≡ Err BadValue
+many_for_budget [] h = absurd (omega arith)
+many_for_budget (e ∷ []) h = absurd (omega arith)
+many_for_budget (e ∷ f ∷ []) h = absurd (omega arith)
+many_for_budget (e ∷ f ∷ g ∷ es) h = refl
+
+pub two_are_refused : (es : List Edn) → 2 ≤ length es → AskFor (values_of es) (Err BadValue)
+two_are_refused [] h = absurd (omega arith)
+two_are_refused (e ∷ []) h = absurd (omega arith)
+two_are_refused (e ∷ f ∷ es) h = refl
+
+pub view-Keyword : (s : String Global) → value_of (Keyword s) ≡ keyword (string_bytes s)
+view-Keyword s = search (rules, the_lemmas)
+
+-- the kind of a name
+unnamed : (name : List ℕ) (kind : ModelKind) → (name ≡ name_of kind → ⊥) → bytes_eq name (name_of kind) ≡ false
+unnamed name kind other = by_answer (bytes_eq name (name_of kind)) refl
+  where
+    by_answer : (b : Bool) → bytes_eq name (name_of kind) ≡ b → b ≡ false
+    by_answer false is = refl
+    by_answer true is = absurd (other ((bytes_eq-Decides name (name_of kind)).0 is))
+
+kind_named-name_of : (kind : ModelKind) → kind_named (name_of kind) ≡ Some kind
+kind_named-name_of Register = refl
+kind_named-name_of CasRegister = refl
+kind_named-name_of Mutex = refl
+kind_named-name_of FifoQueue = refl
+kind_named-name_of Set = refl
+
+pub named : (name : List ℕ) (found : Option ModelKind) → Finds found (λ kind. name ≡ name_of kind) → found ≡ kind_named name
+named name (Some kind) is = sym (ap kind_named is ∙ kind_named-name_of kind)
+named name None other =
+    rw (unnamed name Register (other Register), unnamed name CasRegister (other CasRegister), unnamed name Mutex (other Mutex), unnamed name FifoQueue (other FifoQueue), unnamed name Set (other Set)) refl
+
+-- an element that is no vector is an event
+appended : (v : Value) (asked : Result Command Refusal) → elements_in v ≡ None → Appends v asked → ElementAsks v asked
+appended (vector vs) asked is appends = cc
+appended nil asked is appends = appends
+appended (bool b) asked is appends = appends
+appended (int z) asked is appends = appends
+appended (text s) asked is appends = appends
+appended (keyword s) asked is appends = appends
+appended (pairs ps) asked is appends = appends
+appended (members vs) asked is appends = appends
+
+pub appends : (v : Value) (event : Event) → elements_in v ≡ None → Spells v event → ElementAsks v (Ok (Append event))
+appends v event is spells = appended v (Ok (Append event)) is spells
+
+spells_none : (v : Value) (why : Refusal) → WhyUnspelled v why → why ≢ NoMemory → Appends v (Err why)
+spells_none v BadValue unspelled other = unspelled
+spells_none v NoMemory unspelled other = absurd (other refl)
+spells_none v _ unspelled other = absurd unspelled
+
+pub refused_element : (v : Value) (why : Refusal) → elements_in v ≡ None → WhyUnspelled v why → why ≢ NoMemory → ElementAsks v (Err why)
+refused_element v why is unspelled other = appended v (Err why) is (spells_none v why unspelled other)
+
+-- no command is refused as unreadable
+abbrev IsReadable : Result Command Refusal → Type 0
+IsReadable (Err (Unreadable place)) = ⊥
+IsReadable _ = Unit {0}
+
+either : (b : Bool) (x y : Result Command Refusal) → IsReadable x → IsReadable y → IsReadable (if b then x else y)
+either true x y p q = p
+either false x y p q = q
+
+readable_verdict : (vs : Values) → IsReadable (verdict_by vs)
+readable_verdict none = tt
+readable_verdict (more v vs) = tt
+
+readable_rewind_to : (v : Value) → IsReadable (rewind_to v)
+readable_rewind_to (int (pos n)) = either (nat_lt n (2 ^ 32)) (Ok (Rewind n)) (Err NoSuchIndex) tt tt
+readable_rewind_to (int _) = tt
+readable_rewind_to _ = tt
+
+readable_rewind : (vs : Values) → IsReadable (rewind_by vs)
+readable_rewind none = tt
+readable_rewind (more v none) = readable_rewind_to v
+readable_rewind (more v (more w vs)) = tt
+
+readable_model_of : (key : Option ℕ) (kind : Option ModelKind) → IsReadable (model_of key kind)
+readable_model_of (Some key) (Some kind) = tt
+readable_model_of None kind = tt
+readable_model_of (Some key) None = tt
+
+readable_model : (vs : Values) → IsReadable (model_by vs)
+readable_model none = tt
+readable_model (more k none) = tt
+readable_model (more k (more m none)) = readable_model_of (key_in k) (kind_in m)
+readable_model (more k (more m (more v vs))) = tt
+
+readable_budget_for : (key : Option ℕ) (v : Value) → IsReadable (budget_for key v)
+readable_budget_for None v = tt
+readable_budget_for (Some key) (int (pos n)) = either (nat_lt n (2 ^ 32)) (Ok (SetBudget key n)) (Err BadBudget) tt tt
+readable_budget_for (Some key) (int _) = tt
+readable_budget_for (Some key) _ = tt
+
+readable_budget : (vs : Values) → IsReadable (budget_by vs)
+readable_budget none = tt
+readable_budget (more k none) = tt
+readable_budget (more k (more n none)) = readable_budget_for (key_in k) n
+readable_budget (more k (more n (more v vs))) = tt
+
+readable_named : (name : List ℕ) (vs : Values) → IsReadable (command_named name vs)
+readable_named name vs =
+    either (bytes_eq name (codes "verdict")) (verdict_by vs) (if bytes_eq name (codes "rewind") then rewind_by vs else if bytes_eq name (codes "model") then model_by vs else if bytes_eq name (codes "budget") then budget_by vs else Err BadValue) (readable_verdict vs)
+    (either (bytes_eq name (codes "rewind")) (rewind_by vs) (if bytes_eq name (codes "model") then model_by vs else if bytes_eq name (codes "budget") then budget_by vs else Err BadValue) (readable_rewind vs)
+    (either (bytes_eq name (codes "model")) (model_by vs) (if bytes_eq name (codes "budget") then budget_by vs else Err BadValue) (readable_model vs)
+    (either (bytes_eq name (codes "budget")) (budget_by vs) (Err BadValue) (readable_budget vs) tt)))
+
+readable_headed : (v : Value) (vs : Values) → IsReadable (command_headed v vs)
+readable_headed (keyword name) vs = readable_named name vs
+readable_headed _ vs = tt
+
+readable : (vs : Values) → IsReadable (vector_command vs)
+readable none = tt
+readable (more v vs) = readable_headed v vs
+
+not_unreadable : (v : Value) (place : ℕ) → ElementAsks v (Err (Unreadable place)) → ⊥
+not_unreadable (vector vs) place h = subst IsReadable (sym h) (readable vs)
+not_unreadable nil place h = h
+not_unreadable (bool b) place h = h
+not_unreadable (int z) place h = h
+not_unreadable (text s) place h = h
+not_unreadable (keyword s) place h = h
+not_unreadable (pairs ps) place h = h
+not_unreadable (members vs) place h = h
+
+not_unreadable_for : (vs : Values) (place : ℕ) → AskFor vs (Err (Unreadable place)) → ⊥
+not_unreadable_for none place h = cc
+not_unreadable_for (more v none) place h = not_unreadable v place h
+not_unreadable_for (more v (more w vs)) place h = cc
+
+-- a line asks for what its elements do
+pub line_asks : (line : List ℕ) (vs : Values) (asked : Result (Option Command) Refusal) → IsText line vs → AskFor vs asked → Asks line asked
+line_asks line vs (Ok command) reads h = (vs, reads, h)
+line_asks line vs (Err (Unreadable place)) reads h = absurd (not_unreadable_for vs place h)
+line_asks line vs (Err _) reads h = (vs, reads, h)

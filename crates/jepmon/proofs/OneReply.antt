@@ -2,7 +2,7 @@
 use Rattle.std.proofs.Common.{◌≡◌, ⊎_elim, ℕ, List, refl, sym, ap, ◌∙◌, subst}
 use Rattle.std.specs.Prelude.{Option, Some, None, Result, Ok, Err}
 use Rattle.std.proofs.lemmas.Bool.{cases_order}
-use Rattle.edn.specs.Value.{Value, pairs, Values, none, more}
+use Rattle.edn.specs.Value.{Value, nil, bool, int, text, keyword, vector, members, pairs, Values, none, more}
 use Rattle.edn.specs.Text.{IsText, IsLongestFront}
 use Rattle.edn.specs.declared.refusal.Refusal.{Refusal}
 use Rattle.edn.specs.declared.refusal.Refusal.TheVariants.{BadValue, Unreadable}
@@ -12,65 +12,52 @@ use Rattle.history.specs.Spelling.{Spells}
 use Rattle.history.proofs.OneEvent.{spell_one}
 use Rattle.harness.specs.Machine.{Machine}
 use Rattle.harness.specs.declared.command.Command.{Command}
-use Rattle.harness.specs.declared.command.Command.TheVariants.{Append, Verdict}
+use Rattle.harness.specs.declared.command.Command.TheVariants.{Append}
 use Rattle.harness.proofs.OneStep.{step_one}
 use Rattle.line_loop.specs.ReplyText.{IsReplyText}
 use Rattle.line_loop.proofs.OneCut.{one_reply_text_law}
-use Rattle.jepmon.specs.Command.{verdict_command, SpellsCommand, AskFor, Asks}
+use Rattle.jepmon.specs.Command.{Appends, ElementAsks, AskFor, Asks}
 use Rattle.jepmon.specs.Reply.{outcome_line, CarriesOut, AnswersTo, MayReply}
 
 -- what a line may be read into
 abbrev Outcome : Type 0
 Outcome = Result (Option Command) Refusal
 
--- no event is spelled as [:verdict]
-not_both : (v : Value) (event : Event) → Spells v event → v ≡ verdict_command → ⊥
-not_both v event s is = (let both : pairs s.0 ≡ verdict_command = sym s.1 ∙ is in cc)
+-- an element asks for one thing
+append_one : (v : Value) (asked other : Result Command Refusal) → Appends v asked → Appends v other → asked ≡ other
+append_one v (Ok (Append e)) (Ok (Append f)) p q = ap (λ (event : Event). let asked : Result Command Refusal = Ok (Append event) in asked) (spell_one v e f p q)
+append_one v (Ok (Append e)) (Err BadValue) p q = absurd (q e p)
+append_one v (Err BadValue) (Ok (Append f)) p q = absurd (p f q)
+append_one v (Err BadValue) (Err BadValue) p q = refl
+append_one v (Ok (Append e)) _ p q = absurd q
+append_one v (Err BadValue) _ p q = absurd q
+append_one v _ other p q = absurd p
 
--- an element spells one command at most
-one_command : (v : Value) (one other : Command) → SpellsCommand v one → SpellsCommand v other → one ≡ other
-one_command v (Append e) (Append f) p q = ap Append (spell_one v e f p q)
-one_command v (Append e) Verdict p q = absurd (not_both v e p q)
-one_command v Verdict (Append f) p q = absurd (not_both v f q p)
-one_command v Verdict Verdict p q = refl
+element_one : (v : Value) (asked other : Result Command Refusal) → ElementAsks v asked → ElementAsks v other → asked ≡ other
+element_one (vector vs) asked other p q = p ∙ sym q
+element_one nil asked other p q = append_one nil asked other p q
+element_one (bool b) asked other p q = append_one (bool b) asked other p q
+element_one (int z) asked other p q = append_one (int z) asked other p q
+element_one (text s) asked other p q = append_one (text s) asked other p q
+element_one (keyword s) asked other p q = append_one (keyword s) asked other p q
+element_one (pairs ps) asked other p q = append_one (pairs ps) asked other p q
+element_one (members vs) asked other p q = append_one (members vs) asked other p q
 
--- what no element asks for, and what two or more do
-ask_nothing : (asked : Outcome) → AskFor none asked → asked ≡ Ok None
-ask_nothing (Ok None) h = refl
-ask_nothing (Ok (Some command)) h = (let e : none ≡ more h.0 none = h.1 in cc)
-ask_nothing (Err BadValue) h = absurd h
-ask_nothing (Err _) h = absurd h
-
-ask_two : (v w : Value) (vs : Values) (asked : Outcome) → AskFor (more v (more w vs)) asked → asked ≡ Err BadValue
-ask_two v w vs (Ok None) h = (let e : more v (more w vs) ≡ none = h in cc)
-ask_two v w vs (Ok (Some command)) h = (let e : more v (more w vs) ≡ more h.0 none = h.1 in cc)
-ask_two v w vs (Err BadValue) h = refl
-ask_two v w vs (Err _) h = absurd h
-
--- one element asks for the command that it spells, or for nothing that there is
-data AskOne (v : Value) (asked : Outcome) : Type 0 where
-  a_command : (command : Command) → asked ≡ Ok (Some command) → SpellsCommand v command → AskOne v asked
-  no_command : asked ≡ Err BadValue → ((command : Command) → ¬ SpellsCommand v command) → AskOne v asked
-
-ask_one : (v : Value) (asked : Outcome) → AskFor (more v none) asked → AskOne v asked
-ask_one v (Ok None) h = (let e : more v none ≡ none = h in absurd cc)
-ask_one v (Ok (Some command)) h =
-    (let e : more v none ≡ more h.0 none = h.1 in
-    let same : v ≡ h.0 = cc in
-    a_command command refl (subst (λ (w : Value). SpellsCommand w command) (sym same) h.2))
-ask_one v (Err BadValue) h = no_command refl h
-ask_one v (Err _) h = absurd h
-
-same_asked : (v : Value) (asked other : Outcome) → AskOne v asked → AskOne v other → asked ≡ other
-same_asked v asked other (a_command c a s) (a_command d b t) = a ∙ ap (λ (command : Command). Ok (Some command)) (one_command v c d s t) ∙ sym b
-same_asked v asked other (a_command c a s) (no_command b n) = absurd (n c s)
-same_asked v asked other (no_command a n) (a_command d b t) = absurd (n d t)
-same_asked v asked other (no_command a n) (no_command b m) = a ∙ sym b
+-- and so does a line
+as_one : Result Command Refusal → Outcome
+as_one (Ok command) = Ok (Some command)
+as_one (Err why) = Err why
 
 one_ask_for : (values : Values) (asked other : Outcome) → AskFor values asked → AskFor values other → asked ≡ other
-one_ask_for none asked other a b = ask_nothing asked a ∙ sym (ask_nothing other b)
-one_ask_for (more v none) asked other a b = same_asked v asked other (ask_one v asked a) (ask_one v other b)
-one_ask_for (more v (more w vs)) asked other a b = ask_two v w vs asked a ∙ sym (ask_two v w vs other b)
+unfolding as_one
+one_ask_for none asked other p q = p ∙ sym q
+one_ask_for (more v none) (Ok (Some c)) (Ok (Some d)) p q = ap as_one (element_one v (Ok c) (Ok d) p q)
+one_ask_for (more v none) (Ok (Some c)) (Err why) p q = ap as_one (element_one v (Ok c) (Err why) p q)
+one_ask_for (more v none) (Err why) (Ok (Some d)) p q = ap as_one (element_one v (Err why) (Ok d) p q)
+one_ask_for (more v none) (Err why) (Err other) p q = ap as_one (element_one v (Err why) (Err other) p q)
+one_ask_for (more v none) (Ok None) other p q = absurd p
+one_ask_for (more v none) asked (Ok None) p q = absurd q
+one_ask_for (more v (more w vs)) asked other p q = p ∙ sym q
 
 -- the longest front is one
 one_front : (bytes : List ℕ) (n m : ℕ) → IsLongestFront bytes n → IsLongestFront bytes m → n ≡ m

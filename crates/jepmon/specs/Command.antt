@@ -1,38 +1,109 @@
 -- Promise: what a line asks for
-use Rattle.std.specs.Prelude.{◌≡◌, ℕ, List, codes, Option, Some, None, Result, Ok, Err}
-use Rattle.edn.specs.Value.{Value, vector, keyword, Values, none, more}
+use Rattle.std.specs.Prelude.{◌≡◌, ℕ, ◌^◌, nat_lt, if◌then◌else◌, pos, List, codes, Option, Some, None, Result, Ok, Err}
+use Rattle.std.specs.Str.{bytes_eq}
+use Rattle.edn.specs.Value.{Value, int, vector, keyword, Values, none, more}
 use Rattle.edn.specs.Text.{IsText, IsLongestFront}
 use Rattle.edn.specs.declared.refusal.Refusal.{Refusal}
-use Rattle.edn.specs.declared.refusal.Refusal.TheVariants.{BadValue, Unreadable}
-use Rattle.history.specs.Spelling.{Spells}
+use Rattle.edn.specs.declared.refusal.Refusal.TheVariants.{BadValue, BadBudget, NoSuchIndex, Unreadable}
+use Rattle.models.specs.declared.model_kind.ModelKind.{ModelKind}
+use Rattle.models.specs.declared.model_kind.ModelKind.TheVariants.{Register, CasRegister, Mutex, FifoQueue, Set}
+use Rattle.models.specs.Names.{name_of}
+use Rattle.history.specs.Spelling.{Spells, number_in}
+use Rattle.history.specs.declared.event.Event.{Event}
 use Rattle.harness.specs.declared.command.Command.{Command}
-use Rattle.harness.specs.declared.command.Command.TheVariants.{Append, Verdict}
+use Rattle.harness.specs.declared.command.Command.TheVariants.{Append, Rewind, SetModel, SetBudget, Verdict}
 
 -- [:verdict]
-abbrev pub verdict_command : Value
-verdict_command = vector (more (keyword (codes "verdict")) none)
+abbrev pub verdict_by : Values → Result Command Refusal
+verdict_by none = Ok Verdict
+verdict_by _ = Err BadValue
 
--- the element that spells a command. For now it is an event or [:verdict]
-abbrev pub SpellsCommand : Value → Command → Type 0
-SpellsCommand v (Append event) = Spells v event
-SpellsCommand v Verdict = v ≡ verdict_command
+-- [:rewind n], where n is an integer. No history has an index below 0, or one of more than 32 bits
+abbrev pub rewind_to : Value → Result Command Refusal
+rewind_to (int (pos n)) = if nat_lt n (2 ^ 32) then Ok (Rewind n) else Err NoSuchIndex
+rewind_to (int z) = Err NoSuchIndex
+rewind_to _ = Err BadValue
 
--- two elements or more, or one that spells no command
-abbrev pub IsNoCommand : Values → Type 0
-IsNoCommand none = ⊥
-IsNoCommand (more v none) = (command : Command) → ¬ SpellsCommand v command
-IsNoCommand (more v (more w vs)) = Unit {0}
+abbrev pub rewind_by : Values → Result Command Refusal
+rewind_by (more n none) = rewind_to n
+rewind_by _ = Err BadValue
 
--- why the elements of a line are refused
-abbrev pub AreRefused : Values → Refusal → Type 0
-AreRefused values BadValue = IsNoCommand values
-AreRefused values _ = ⊥
+-- a key is an integer of 0 to 65,535
+abbrev pub key_in : Value → Option ℕ
+key_in v = number_in (2 ^ 16) v
 
--- what the elements of a line ask for: nothing, a command, or what is refused
+-- the kind that the value names
+abbrev pub kind_named : List ℕ → Option ModelKind
+kind_named name =
+    if bytes_eq name (name_of Register) then Some Register
+    else if bytes_eq name (name_of CasRegister) then Some CasRegister
+    else if bytes_eq name (name_of Mutex) then Some Mutex
+    else if bytes_eq name (name_of FifoQueue) then Some FifoQueue
+    else if bytes_eq name (name_of Set) then Some Set
+    else None
+
+abbrev pub kind_in : Value → Option ModelKind
+kind_in (keyword name) = kind_named name
+kind_in _ = None
+
+-- [:model k m], where k is a key, and m the name of a kind
+abbrev pub model_of : Option ℕ → Option ModelKind → Result Command Refusal
+model_of (Some key) (Some kind) = Ok (SetModel key kind)
+model_of _ _ = Err BadValue
+
+abbrev pub model_by : Values → Result Command Refusal
+model_by (more k (more m none)) = model_of (key_in k) (kind_in m)
+model_by _ = Err BadValue
+
+-- [:budget k n], where k is a key, and n an integer. No budget is below 0, or of more than 32 bits
+abbrev pub budget_of : ℕ → Value → Result Command Refusal
+budget_of key (int (pos n)) = if nat_lt n (2 ^ 32) then Ok (SetBudget key n) else Err BadBudget
+budget_of key (int z) = Err BadBudget
+budget_of key _ = Err BadValue
+
+abbrev pub budget_for : Option ℕ → Value → Result Command Refusal
+budget_for (Some key) n = budget_of key n
+budget_for None n = Err BadValue
+
+abbrev pub budget_by : Values → Result Command Refusal
+budget_by (more k (more n none)) = budget_for (key_in k) n
+budget_by _ = Err BadValue
+
+-- a vector is a command by the keyword in front
+abbrev pub command_named : List ℕ → Values → Result Command Refusal
+command_named name arguments =
+    if bytes_eq name (codes "verdict") then verdict_by arguments
+    else if bytes_eq name (codes "rewind") then rewind_by arguments
+    else if bytes_eq name (codes "model") then model_by arguments
+    else if bytes_eq name (codes "budget") then budget_by arguments
+    else Err BadValue
+
+abbrev pub command_headed : Value → Values → Result Command Refusal
+command_headed (keyword name) arguments = command_named name arguments
+command_headed _ arguments = Err BadValue
+
+abbrev pub vector_command : Values → Result Command Refusal
+vector_command none = Err BadValue
+vector_command (more head arguments) = command_headed head arguments
+
+-- an element appends the event that it spells
+abbrev pub Appends : Value → Result Command Refusal → Type 0
+Appends v (Ok (Append event)) = Spells v event
+Appends v (Err BadValue) = (event : Event) → ¬ Spells v event
+Appends v _ = ⊥
+
+-- what one element asks for: a vector is a command by its name, and anything else is an event
+abbrev pub ElementAsks : Value → Result Command Refusal → Type 0
+ElementAsks (vector vs) asked = asked ≡ vector_command vs
+ElementAsks v asked = Appends v asked
+
+-- what the elements of a line ask for: nothing, or what the one element does. Two or more are refused
 abbrev pub AskFor : Values → Result (Option Command) Refusal → Type 0
-AskFor values (Ok None) = values ≡ none
-AskFor values (Ok (Some command)) = (v : Value) × (values ≡ more v none) × SpellsCommand v command
-AskFor values (Err why) = AreRefused values why
+AskFor none asked = asked ≡ Ok None
+AskFor (more v none) (Ok (Some command)) = ElementAsks v (Ok command)
+AskFor (more v none) (Ok None) = ⊥
+AskFor (more v none) (Err why) = ElementAsks v (Err why)
+AskFor (more v (more w vs)) asked = asked ≡ Err BadValue
 
 -- what a line asks for. A line that is no text is refused with the length of its longest front that is one
 abbrev pub Asks : List ℕ → Result (Option Command) Refusal → Type 0

@@ -9,7 +9,8 @@ use Rattle.edn.specs.declared.refusal.Refusal.{Refusal}
 use Rattle.edn.specs.declared.refusal.Refusal.TheVariants.{BadValue}
 use Rattle.history.specs.declared.event.Event.{Event}
 use Rattle.history.specs.Spelling.{Spells}
-use Rattle.harness.specs.Machine.{Machine, MayStep, IsVerdictOn, opening, MayNotOpen}
+use Rattle.harness.specs.Machine.{Machine, MayStep, opening, MayNotOpen}
+use Rattle.monitor.specs.JudgedHistory.{IsVerdictOn}
 use Rattle.harness.specs.declared.command.Config.{Config}
 use Rattle.harness.specs.declared.command.Command.TheVariants.{Append}
 use Rattle.harness.specs.declared.command.Reply.{Reply}

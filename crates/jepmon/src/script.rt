@@ -1,7 +1,8 @@
 //! The monitor, driven by lines.
 ghost use Rattle.std.specs.Prelude.{◌≡◌, ◌≢◌, ◌⊎◌, ℕ, List, [], IfOk, OnOk, IfErr, IsErrAnd, Err, false, true};
 ghost use Rattle.harness.specs.Limits.{HasLimits};
-ghost use Rattle.harness.specs.Machine.{Machine, opening, MayNotOpen, IsVerdictOn};
+ghost use Rattle.harness.specs.Machine.{Machine, opening, MayNotOpen};
+ghost use Rattle.monitor.specs.JudgedHistory.{IsVerdictOn};
 ghost use Rattle.line_loop.specs.RefusalLine.{refusal_line};
 ghost use Rattle.line_loop.specs.Stopping.{MayStop, Finishes, Stops, KeepsUp};
 ghost use Rattle.jepmon.specs.Reply.{CarriesOut, MayReply};

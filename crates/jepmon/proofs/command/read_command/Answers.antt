@@ -1,8 +1,11 @@
+use Rattle.std.proofs.Common.{subst}
 use Rattle.edn.specs.View.{values_of}
-use Rattle.jepmon.proofs.Elements.{two_are_no_command}
+use Rattle.jepmon.specs.Command.{AskFor}
+use Rattle.jepmon.proofs.Elements.{line_asks}
 use Rattle.jepmon.proofs.command.read_command.Goals as goal
 
 pub returns : goal.returns
-returns c = λ _.
+returns c = λ wanted.
     let items = c.in_ok-elements.elements.items in
-    (values_of items, c.in_ok-elements.ensures.read, two_are_no_command items (rw (← c.as_slice.ensures.value) c.in_default.len_at_least))
+    line_asks c.args.line.now (values_of items) c.asked_by.result c.in_ok-elements.ensures.read
+    (subst (λ l. AskFor (values_of l) c.asked_by.result) c.as_slice.ensures.value (c.asked_by.ensures wanted))

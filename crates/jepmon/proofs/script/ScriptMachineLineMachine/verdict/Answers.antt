@@ -1,5 +1,5 @@
 use Rattle.std.proofs.Common.{subst}
-use Rattle.harness.specs.Machine.{IsVerdictOn}
+use Rattle.monitor.specs.JudgedHistory.{IsVerdictOn}
 use Rattle.jepmon.proofs.script.ScriptMachineLineMachine.verdict.Goals as goal
 
 pub returns : goal.returns
