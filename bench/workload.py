@@ -1,5 +1,8 @@
 #!/usr/bin/env python3
-"""Prints a legal history of one key: `workload.py EVENTS CLIENTS SEED [MODEL]`. Operations take place at random moments."""
+"""Prints a legal history: `workload.py EVENTS CLIENTS SEED [MODEL [KEYS]]`, of one key unless a number of keys is given.
+
+Operations take place at random moments, on keys drawn at random.
+"""
 import random
 import sys
 
@@ -70,37 +73,49 @@ MODELS = {
 }
 
 
-def lines(events, clients, seed, model="register"):
-    """Events of a store that is such an object, one a line, with operations open at once."""
+def lines(events, clients, seed, model="register", keys=1):
+    """Events of a store whose keys are such objects, one a line, with operations open at once."""
     draw = random.Random(seed)
-    state, apply, choose = MODELS[model]
+    start, apply, choose = MODELS[model]
+    states = {}
     doing = [None] * clients
-    last = [None] * clients
+    last = [(None, None)] * clients
+
+    def take(key, name, part):
+        taken = apply(states.get(key, start), name, part)
+        if taken:
+            states[key] = taken[0]
+        return taken
+
+    def text(kind, thread, name, key, part):
+        return f"{{:type :{kind}, :process {thread}, :f :{name}, :value [{key} {part}]}}"
+
     while events > 0:
         thread = draw.randrange(clients)
         if doing[thread] is None:
-            waiting = [name for name, _, done in filter(None, doing) if not done]
-            last[thread], part = choose(draw, state, waiting, last[thread])
-            doing[thread] = [last[thread], part, False]
-            yield f"{{:type :invoke, :process {thread}, :f :{last[thread]}, :value [7 {part}]}}"
+            held, before = last[thread]
+            key = held if before == "acquire" else 7 if keys == 1 else draw.randrange(keys)
+            waiting = [op[1] for op in filter(None, doing) if op[0] == key and not op[3]]
+            name, part = choose(draw, states.get(key, start), waiting, before if key == held else None)
+            last[thread] = key, name
+            doing[thread] = [key, name, part, False]
+            yield text("invoke", thread, name, key, part)
             events -= 1
         else:
-            name, part, done = doing[thread]
-            taken = (state, part) if done else apply(state, name, part)
+            key, name, part, done = doing[thread]
+            taken = (None, part) if done else take(key, name, part)
             if taken:
-                state, part = taken
                 doing[thread] = None
-                yield f"{{:type :ok, :process {thread}, :f :{name}, :value [7 {part}]}}"
+                yield text("ok", thread, name, key, taken[1])
                 events -= 1
-        for other in range(clients):
-            if doing[other] and not doing[other][2] and draw.random() < 0.3:
-                name, part, _ = doing[other]
-                taken = apply(state, name, part)
+        for op in filter(None, doing):
+            if not op[3] and draw.random() < 0.3:
+                taken = take(op[0], op[1], op[2])
                 if taken:
-                    state, part = taken
-                    doing[other] = [name, part, True]
+                    op[2:] = [taken[1], True]
 
 
 if __name__ == "__main__":
-    for line in lines(int(sys.argv[1]), int(sys.argv[2]), int(sys.argv[3]), *sys.argv[4:5]):
+    keys = int(sys.argv[5]) if len(sys.argv) > 5 else 1
+    for line in lines(int(sys.argv[1]), int(sys.argv[2]), int(sys.argv[3]), *sys.argv[4:5], keys=keys):
         print(line)
