@@ -83,19 +83,19 @@ same_line_asks line asked other (elements vs t f) (elements ws u g) =
 one_asked : (line : List ℕ) (asked other : Outcome) → Asks line asked → Asks line other → asked ≡ other
 one_asked line asked other a b = same_line_asks line asked other (line_asks line asked a) (line_asks line other b)
 
-one_carried_out : (old : Machine) (command : Command) (text other : List ℕ) (new next : Machine) → CarriesOut old command text new → CarriesOut old command other next → (text ≡ other) × (new ≡ next)
-one_carried_out old command text other new next a b =
+one_carried_out : (old : Machine) (command : Command) (said other : List ℕ) (new next : Machine) → CarriesOut old command said new → CarriesOut old command other next → (said ≡ other) × (new ≡ next)
+one_carried_out old command said other new next a b =
     let (outcome, machine) = step_one old new next command a.0 b.0 a.1 b.1 in
     (a.3 ∙ ap outcome_line outcome ∙ sym b.3, machine)
 
-one_answer : (old : Machine) (asked : Outcome) (text other : List ℕ) (new next : Machine) → AnswersTo old asked text new → AnswersTo old asked other next → (text ≡ other) × (new ≡ next)
-one_answer old (Ok None) text other new next a b = (a.0 ∙ sym b.0, a.1 ∙ sym b.1)
-one_answer old (Ok (Some command)) text other new next a b = one_carried_out old command text other new next a b
-one_answer old (Err refusal) text other new next a b = (a.0 ∙ sym b.0, a.1 ∙ sym b.1)
+one_answer : (old : Machine) (asked : Outcome) (said other : List ℕ) (new next : Machine) → AnswersTo old asked said new → AnswersTo old asked other next → (said ≡ other) × (new ≡ next)
+one_answer old (Ok None) said other new next a b = (a.0 ∙ sym b.0, a.1 ∙ sym b.1)
+one_answer old (Ok (Some command)) said other new next a b = one_carried_out old command said other new next a b
+one_answer old (Err refusal) said other new next a b = (a.0 ∙ sym b.0, a.1 ∙ sym b.1)
 
-pub reply_one : (old : Machine) (line text other : List ℕ) (new next : Machine) → MayReply old line text new → MayReply old line other next → (text ≡ other) × (new ≡ next)
-reply_one old line text other new next a b =
-    one_answer old a.0 text other new next a.2 (subst (λ (asked : Outcome). AnswersTo old asked other next) (one_asked line b.0 a.0 b.1 a.1) b.2)
+pub reply_one : (old : Machine) (line said other : List ℕ) (new next : Machine) → MayReply old line said new → MayReply old line other next → (said ≡ other) × (new ≡ next)
+reply_one old line said other new next a b =
+    one_answer old a.0 said other new next a.2 (subst (λ (asked : Outcome). AnswersTo old asked other next) (one_asked line b.0 a.0 b.1 a.1) b.2)
 
-pub script_text_one : (old : Machine) (input text other : List ℕ) (new next : Machine) → IsReplyText MayReply old input text new → IsReplyText MayReply old input other next → (text ≡ other) × (new ≡ next)
+pub script_text_one : (old : Machine) (input said other : List ℕ) (new next : Machine) → IsReplyText MayReply old input said new → IsReplyText MayReply old input other next → (said ≡ other) × (new ≡ next)
 script_text_one = one_reply_text_law MayReply reply_one
