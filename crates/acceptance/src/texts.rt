@@ -1,5 +1,6 @@
 //! Texts and their elements, and the places at which texts stop being any.
-use edn::{Edn, Elements, Refusal, check_text, in_profile, read_all, same, write};
+use edn::{Edn, Elements, Refusal, check_text, read_all, same};
+use edn_writer::{in_profile, write};
 use std::test::Fail;
 
 // The one element of a text.

@@ -2,11 +2,11 @@ use Rattle.std.proofs.Common.{[], ◌∷◌, ◌++◌, cond, take, sym, ap, ◌�
 use Rattle.std.specs.Prelude.{◌==◌}
 use Rattle.edn.specs.Value.{pairs}
 use Rattle.edn.specs.View.{value_of, values_of, entries_of}
-use Rattle.edn.specs.Canonical.{canonical, separated_by, texts_of, pair_texts_of}
-use Rattle.edn.specs.Writing.{Appends}
+use Rattle.edn_writer.specs.Canonical.{canonical, separated_by, texts_of, pair_texts_of}
+use Rattle.edn_writer.specs.Writing.{Appends}
 use Rattle.edn.proofs.Views.{view-Map}
-use Rattle.edn.proofs.Appending.{begins_after, row, row_none, row_more, row_all, out_of_memory, element_text, pair_text, element_texts, pair_texts}
-use Rattle.edn.proofs.writer.+writer.Goals as goal
+use Rattle.edn_writer.proofs.Appending.{begins_after, row, row_none, row_more, row_all, out_of_memory, element_text, pair_text, element_texts, pair_texts}
+use Rattle.edn_writer.proofs.writer.+writer.Goals as goal
 
 pub append-returns-in-Map : goal.append-returns-in-Map
 append-returns-in-Map t c =

@@ -1,7 +1,7 @@
 use Rattle.std.proofs.Common.{take}
-use Rattle.edn.specs.Profile.{AreInProfileAt, PairsAreInProfileAt}
+use Rattle.edn_writer.specs.Profile.{AreInProfileAt, PairsAreInProfileAt}
 use Rattle.edn.specs.View.{values_of, entries_of}
-use Rattle.edn.proofs.profile.+profile.Given as goal
+use Rattle.edn_writer.proofs.profile.+profile.Given as goal
 
 abbrev pub invariant-all_in_profile-loop-element : goal.invariant-all_in_profile-loop-element
 invariant-all_in_profile-loop-element l = AreInProfileAt l.depth (values_of (take l.element-index l.elements))

@@ -5,8 +5,8 @@ use Rattle.std.specs.List.{flat_map}
 use Rattle.std.proofs.lemmas.List.{take_more, flat_map_more}
 use Rattle.std.proofs.lemmas.Bool.{ne_eqb}
 use Rattle.edn.specs.View.{value_of, values_of, entries_of}
-use Rattle.edn.specs.Canonical.{spelling, separated_by, canonical, texts_of, pair_texts_of}
-use Rattle.edn.specs.Writing.{BeginsWith, Appends}
+use Rattle.edn_writer.specs.Canonical.{spelling, separated_by, canonical, texts_of, pair_texts_of}
+use Rattle.edn_writer.specs.Writing.{BeginsWith, Appends}
 use Rattle.std.specs.Result.{IsErr}
 use Rattle.edn.specs.declared.value.Edn.{Edn}
 

@@ -1,8 +1,8 @@
 use Rattle.std.proofs.Common.{take}
 use Rattle.std.specs.List.{flat_map}
-use Rattle.edn.specs.Canonical.{spelling}
-use Rattle.edn.proofs.Appending.{begins_after, bytes_none, bytes_more, bytes_all, out_of_memory}
-use Rattle.edn.proofs.writer.append_bytes.Goals as goal
+use Rattle.edn_writer.specs.Canonical.{spelling}
+use Rattle.edn_writer.proofs.Appending.{begins_after, bytes_none, bytes_more, bytes_all, out_of_memory}
+use Rattle.edn_writer.proofs.writer.append_bytes.Goals as goal
 
 pub loop-byte-init : goal.loop-byte-init
 loop-byte-init c = bytes_none _ c.args.bytes.now

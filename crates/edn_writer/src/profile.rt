@@ -1,17 +1,13 @@
 //! Which elements have a text.
 
 ghost use Rattle.std.specs.Prelude.{◌↔◌, IsTrue};
-ghost use Rattle.edn.specs.Bytes.{IsKeywordText};
-ghost use Rattle.edn.specs.Profile.{IsInteger64, IsInProfile, IsInProfileAt, AreInProfileAt, PairsAreInProfileAt};
+ghost use Rattle.edn_writer.specs.Profile.{IsInteger64, IsInProfile, IsInProfileAt, AreInProfileAt, PairsAreInProfileAt};
 ghost use Rattle.edn.specs.View.{value_of, values_of, entries_of};
 
-use crate::atom::longest_name;
-use crate::distinct::all_differ;
-use crate::reader::MAX_OPEN;
-use crate::value::Edn;
+use edn::{Edn, MAX_OPEN, all_differ, is_keyword_name};
 
 /// Whether the element has a text: its keywords have an ASCII letter first and then ASCII letters, digits and `-`, `_`,
-/// `?`, `!`, `*` or `.`, the keys of each map and the members of each set are distinct by [`same`](crate::same), and at
+/// `?`, `!`, `*` or `.`, the keys of each map and the members of each set are distinct by [`same`](edn::same), and at
 /// most 32 collections are open at once. Each element that was read has one.
 ///
 /// No memory is taken. The time grows with the square of the number of pairs of a map or members of a set.
@@ -29,16 +25,6 @@ fn is_integer(number: i64) -> bool
     true
 }
 
-// Whether the bytes are the name of a keyword.
-fn is_name(bytes: &[u8]) -> bool
-    ensures { IsTrue result ↔ IsKeywordText bytes.now }
-{
-    match longest_name(bytes) {
-        Some((_, rest)) => rest.is_empty(),
-        None => false,
-    }
-}
-
 // The same where so many collections are open round the element.
 #[cycle(profile)]
 fn in_profile_at(depth: u8, element: &Edn) -> bool
@@ -49,7 +35,7 @@ fn in_profile_at(depth: u8, element: &Edn) -> bool
         Edn::Bool(_) => true,
         Edn::Int(number) => is_integer(*number),
         Edn::Str(_) => true,
-        Edn::Keyword(name) => is_name(name.as_bytes()),
+        Edn::Keyword(name) => is_keyword_name(name.as_bytes()),
         Edn::Vector(elements) => depth < MAX_OPEN && all_in_profile(depth + 1, elements),
         Edn::Map(pairs) => {
             depth < MAX_OPEN && pairs_in_profile(depth + 1, pairs) && all_differ(pairs)

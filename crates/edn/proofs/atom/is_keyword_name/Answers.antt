@@ -1,7 +1,7 @@
 use Rattle.std.proofs.Common.{◌≡◌, length, arith}
 use Rattle.edn.proofs.Deciding.{none_here}
-use Rattle.edn.proofs.Profiles.{whole_name, no_more_of_name, no_whole_name}
-use Rattle.edn.proofs.profile.is_name.Goals as goal
+use Rattle.edn.proofs.Names.{whole_name, no_more_of_name, no_whole_name}
+use Rattle.edn.proofs.atom.is_keyword_name.Goals as goal
 
 pub returns-in-Some : goal.returns-in-Some
 returns-in-Some c = (

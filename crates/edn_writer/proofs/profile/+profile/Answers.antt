@@ -1,13 +1,13 @@
 use Rattle.std.proofs.Common.{◌+◌, sym, ap, ◌∙◌, subst, arith}
 use borrow.Author.Tests.{ltb-true}
-use Rattle.edn.specs.Profile.{IsInProfileAt, PairsAreInProfileAt}
+use Rattle.edn_writer.specs.Profile.{IsInProfileAt, PairsAreInProfileAt}
 use Rattle.edn.specs.View.{value_of, entries_of}
 use Rattle.edn.proofs.Deciding.{off, none_here, all_here}
-use Rattle.edn.proofs.Profiles.{all_none, all_more, all_all, all_at, pairs_none, pairs_more, pairs_all, pairs_at, map_here, no_map}
+use Rattle.edn_writer.proofs.Profiles.{all_none, all_more, all_all, all_at, pairs_none, pairs_more, pairs_all, pairs_at, map_here, no_map}
 use Rattle.std.proofs.lemmas.Str.{IsUtf8-string_bytes}
 use Rattle.edn.proofs.Views.{view-Str, view-Map}
-use Rattle.edn.proofs.profile.+profile.Goals as goal
-use Rattle.edn.proofs.profile.+profile.Goals.{in_profile_at-then-depth-lt-MAX_OPEN-2, in_profile_at-else-depth-lt-MAX_OPEN-2, pairs_in_profile-then-not-in_profile_at-via-then-not-in_profile_at, pairs_in_profile-then-not-in_profile_at-via-else-not-in_profile_at+then-not-in_profile_at-2}
+use Rattle.edn_writer.proofs.profile.+profile.Goals as goal
+use Rattle.edn_writer.proofs.profile.+profile.Goals.{in_profile_at-then-depth-lt-MAX_OPEN-2, in_profile_at-else-depth-lt-MAX_OPEN-2, pairs_in_profile-then-not-in_profile_at-via-then-not-in_profile_at, pairs_in_profile-then-not-in_profile_at-via-else-not-in_profile_at+then-not-in_profile_at-2}
 
 pub all_in_profile-loop-element-init : goal.all_in_profile-loop-element-init
 all_in_profile-loop-element-init t c = all_none c.args.depth c.args.elements.now

@@ -7,7 +7,7 @@ use Rattle.edn.specs.Bytes.IsAtom.{spelled_nil, spelled_true, spelled_false, pla
 use Rattle.edn.specs.Text.{Reads, ReadsAll, IsText}
 use Rattle.edn.specs.Text.Reads.{atom, in_quotes, in_brackets, in_braces, in_hash_braces}
 use Rattle.edn.specs.Text.ReadsAll.{no_more, one_more}
-use Rattle.edn.specs.Profile.{IsInteger64, IsInProfileAt, AreInProfileAt, PairsAreInProfileAt}
+use Rattle.edn_writer.specs.Profile.{IsInteger64, IsInProfileAt, AreInProfileAt, PairsAreInProfileAt}
 
 minus_in : (n : ℕ) → n ≤ 2 ^ 63 → IsInteger64 (neg_ℤ (pos n))
 minus_in zero h = omega arith

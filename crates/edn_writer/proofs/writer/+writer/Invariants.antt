@@ -1,6 +1,6 @@
 use Rattle.std.proofs.Common.{◌≡◌, ◌+◌, ◌*◌, [], ◌∷◌, ◌++◌, take}
-use Rattle.edn.proofs.Appending.{row, element_text, pair_text}
-use Rattle.edn.proofs.writer.+writer.Given as goal
+use Rattle.edn_writer.proofs.Appending.{row, element_text, pair_text}
+use Rattle.edn_writer.proofs.writer.+writer.Given as goal
 
 abbrev pub invariant-append_elements-loop-i : goal.invariant-append_elements-loop-i
 invariant-append_elements-loop-i l = l.text.items ≡ l.fn.text.items ++ row element_text (32 ∷ []) (take l.i l.elements)

@@ -17,8 +17,8 @@ use Rattle.edn.specs.Text.ReadsString.{closing, one_byte}
 use Rattle.edn.specs.Text.SkipsGap.{no_gap, white}
 use Rattle.edn.specs.Text.Reads.{atom, in_quotes, in_brackets, in_braces, in_hash_braces}
 use Rattle.edn.specs.Text.ReadsAll.{no_more, one_more}
-use Rattle.edn.specs.Profile.{IsInteger64, IsInProfileAt, AreInProfileAt, PairsAreInProfileAt, IsInProfile}
-use Rattle.edn.specs.Canonical.{spelling, separated_by, canonical, texts_of, pair_texts_of}
+use Rattle.edn_writer.specs.Profile.{IsInteger64, IsInProfileAt, AreInProfileAt, PairsAreInProfileAt, IsInProfile}
+use Rattle.edn_writer.specs.Canonical.{spelling, separated_by, canonical, texts_of, pair_texts_of}
 use Rattle.edn.proofs.Unique.{one_text}
 
 -- strings

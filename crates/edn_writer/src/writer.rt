@@ -6,13 +6,12 @@ ghost use Rattle.std.specs.Fmt.{signed_decimal};
 ghost use Rattle.std.specs.List.{flat_map};
 ghost use Rattle.edn.specs.Value.{vector, members, pairs};
 ghost use Rattle.edn.specs.View.{value_of, values_of, entries_of};
-ghost use Rattle.edn.specs.Profile.{IsInProfile};
-ghost use Rattle.edn.specs.Canonical.{spelling, separated_by, canonical, texts_of, pair_texts_of};
-ghost use Rattle.edn.specs.Writing.{Appends};
+ghost use Rattle.edn_writer.specs.Profile.{IsInProfile};
+ghost use Rattle.edn_writer.specs.Canonical.{spelling, separated_by, canonical, texts_of, pair_texts_of};
+ghost use Rattle.edn_writer.specs.Writing.{Appends};
 ghost use Rattle.edn.specs.declared.refusal.Refusal.TheVariants.{NoMemory};
 
-use crate::refusal::Refusal;
-use crate::value::Edn;
+use edn::{Edn, Refusal};
 use itoa::Buffer;
 use std::alloc::AllocError;
 

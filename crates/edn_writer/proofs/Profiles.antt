@@ -2,15 +2,12 @@
 use Rattle.std.proofs.Common.{◌≡◌, ℕ, zero, suc, ◌+◌, ◌<◌, ◌≤◌, Bool, false, IsTrue, List, [], ◌∷◌, ◌++◌, refl, sym, ap, ◌∙◌, subst, arith, take, length, get_or}
 use Rattle.std.proofs.lemmas.List.{take_more}
 use Rattle.edn.specs.Value.{Value, Values, none, more, joined, Pairs, no_pairs, pair, pairs, AreDistinct}
-use Rattle.edn.specs.Bytes.{IsKeywordText}
-use Rattle.edn.specs.Longest.{IsName, IsLongest, HasNone}
-use Rattle.edn.specs.Profile.{IsInProfileAt, AreInProfileAt, PairsAreInProfileAt}
+use Rattle.edn_writer.specs.Profile.{IsInProfileAt, AreInProfileAt, PairsAreInProfileAt}
 use Rattle.edn.specs.View.{value_of, values_of, entries_of}
 use Rattle.edn.specs.declared.value.Edn.{Edn}
 use Rattle.edn.proofs.PairMatching.{linked}
 use Rattle.edn.proofs.Views.{values_of-push}
 use Rattle.edn.proofs.Repeats.{keys_in, keys_of_pairs}
-use Rattle.std.proofs.Common.{append-nil, length-append}
 
 whole : {T : Type 0} (xs : List T) (i : ℕ) → length xs ≤ i → take i xs ≡ xs
 whole [] zero l = refl
@@ -84,21 +81,3 @@ no_map d ps v r e f n = (
   λ on. absurd (cc (on, f)),
   λ i. let j = subst (IsInProfileAt d) e i in absurd (n j.0 j.1),
 )
-
--- the whole of some bytes as the name of a keyword
-
-nothing : (t : List ℕ) → length t ≡ 0 → t ≡ []
-nothing [] e = refl
-nothing (b ∷ t) e = absurd (omega arith)
-
-pub whole_name : (text name rest : List ℕ) → length rest ≡ 0 → IsLongest IsName text name rest → IsKeywordText text
-whole_name text name rest e h = subst IsKeywordText (sym (h.cut ∙ ap (λ r. h.front ++ r) (nothing rest e) ∙ append-nil h.front)) h.spells.0
-
-pub no_more_of_name : (text name rest : List ℕ) → IsLongest IsName text name rest → IsKeywordText text → length rest ≡ 0
-no_more_of_name text name rest h i =
-    let l = h.longest text [] text (i, refl) (sym (append-nil text)) in
-    let n = ap length h.cut ∙ length-append h.front rest in
-    omega arith
-
-pub no_whole_name : (text : List ℕ) → HasNone IsName text → IsKeywordText text → ⊥
-no_whole_name text nothing_is i = nothing_is text [] text (i, refl) (sym (append-nil text))
