@@ -4,7 +4,7 @@
 A case is a folder of tests/cases: args (one word a line), stdin, stdout (the bytes that must come), status (0 where
 left out), and for what goes to standard error a file stderr (each of its lines must be among those that came; with no
 such file nothing may come). In place of stdin a case may have stdin.py, which prints it. Words that name files are read from the
-top of the repository: a case of check has its history.edn beside them.
+top of the repository: a case of check has its history.edn beside them. A file memory is the limit on the program's memory, in KiB.
 The live cases are a session through two pipes: a line is sent only when the reply to the one before has come.
 With words, it runs the cases of these names alone.
 """
@@ -39,9 +39,15 @@ def stream(case, name):
     return read(case / name)
 
 
+def limited(kibibytes):
+    """What limits a program's memory, as it starts, to so much."""
+    return lambda: resource.setrlimit(resource.RLIMIT_AS, (kibibytes << 10, kibibytes << 10))
+
+
 def run_case(case):
+    limit = limited(int(read(case / "memory"))) if (case / "memory").exists() else None
     ran = subprocess.run([str(PROGRAM)] + words(case), input=stream(case, "stdin"), stdout=subprocess.PIPE,
-                         stderr=subprocess.PIPE, timeout=120, cwd=TOP)
+                         stderr=subprocess.PIPE, timeout=120, cwd=TOP, preexec_fn=limit)
     faults = []
     if ran.stdout != stream(case, "stdout"):
         faults.append(f"standard output was {ran.stdout[:400]!r}")
@@ -108,6 +114,62 @@ def run_failing_writer():
     with open(TOP / "tests" / "cases" / "write_then_read" / "stdin", "rb") as given, open("/dev/full", "wb") as full:
         got = run_with(given, full)
     return [] if got == (3, b"refused 21 WriteFailed\n") else [f"it ended with {got!r}"]
+
+
+def run_script_without_memory():
+    """A history that outgrows the memory: a verdict for each event that was taken, refused 13, status 3."""
+    given = stream(TOP / "tests" / "cases" / "full_history", "stdin")
+    ran = subprocess.run([str(PROGRAM), "script"], input=given, stdout=subprocess.PIPE, stderr=subprocess.PIPE, timeout=60,
+                         preexec_fn=limited(64 << 10))
+    taken = len(ran.stdout) // len(b"legal\n")
+    got = (ran.returncode, ran.stderr, ran.stdout == b"legal\n" * taken, 0 < taken < 2**20)
+    return [] if got == (3, b"refused 13 NoMemory\n", True, True) else [f"after {taken} events it ended with {got!r}"]
+
+
+def run_full_check():
+    """A check whose standard output takes no byte: status 3, whatever the verdict."""
+    history = TOP / "examples" / "recorded-stale-read.edn"
+    with open("/dev/full", "wb") as full:
+        ran = subprocess.run([str(PROGRAM), "check", str(history)], stdin=subprocess.DEVNULL, stdout=full,
+                             stderr=subprocess.PIPE, timeout=60)
+    got = (ran.returncode, ran.stderr)
+    return [] if got == (3, b"") else [f"it ended with {got!r}"]
+
+
+def run_slow_check(terminal, pause):
+    """Checks a file whose second half comes after the pause, standard error a terminal or a pipe: what went to standard
+    output and to standard error, and the status."""
+    text = (TOP / "examples" / "recorded-stale-read.edn").read_bytes()
+    shown, errors = os.openpty() if terminal else os.pipe()
+    with tempfile.TemporaryDirectory() as folder:
+        path = pathlib.Path(folder) / "history.edn"
+        os.mkfifo(path)
+        process = subprocess.Popen([str(PROGRAM), "check", str(path)], stdin=subprocess.DEVNULL, stdout=subprocess.PIPE,
+                                   stderr=errors)
+        os.close(errors)
+        with open(path, "wb", buffering=0) as history:
+            history.write(text[:len(text) // 2])
+            time.sleep(pause)
+            history.write(text[len(text) // 2:])
+        written = process.communicate(timeout=10)[0]
+    with open(shown, "rb", buffering=0) as stream:
+        try:
+            told = stream.read(65536)
+        except OSError:  # a terminal that nobody holds open any more, and to which nothing was written
+            told = b""
+    return written, told, process.returncode
+
+
+def run_progress():
+    """A check of more than a second says on a terminal how far it has come; a shorter one says nothing, nor does one whose
+    standard error is no terminal. Standard output has the verdict alone."""
+    verdict = b"illegal key 7 index 5\n"
+    faults = []
+    for terminal, pause, want in ((True, 1.2, b"\r1 of 6 events\r\n"), (True, 0, b""), (False, 1.2, b"")):
+        got = run_slow_check(terminal, pause)
+        if got != (verdict, want, 1):
+            faults.append(f"on a {'terminal' if terminal else 'pipe'}, with a pause of {pause} s, it ended with {got!r}")
+    return faults
 
 
 def run_narrow_writer():
@@ -214,8 +276,9 @@ def all_cases():
     cases += [("replies_are_live", run_live), ("starts_in_milliseconds", run_start),
               ("any_cutting", run_any_cutting), ("failing_reader", run_failing_reader),
               ("reader_breaks_off", run_broken_reader), ("failing_writer", run_failing_writer),
-              ("writer_takes_ten_bytes", run_narrow_writer), ("words_of_the_command_line", run_words),
-              ("words_that_are_no_text", run_no_text)]
+              ("writer_takes_ten_bytes", run_narrow_writer), ("script_without_memory", run_script_without_memory),
+              ("check_on_a_full_device", run_full_check), ("check_shows_how_far_it_is", run_progress),
+              ("words_of_the_command_line", run_words), ("words_that_are_no_text", run_no_text)]
     return cases
 
 

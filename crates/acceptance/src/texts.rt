@@ -1,5 +1,6 @@
 //! Texts and their elements, and the places at which texts stop being any.
-use edn::{Edn, Elements, Refusal, check_text, in_profile, read_all, same, write};
+use edn::{Edn, Elements, Refusal, all_differ, check_text, is_keyword_name, read_all, same};
+use edn_writer::{in_profile, write};
 use std::test::Fail;
 
 // The one element of a text.
@@ -146,6 +147,19 @@ fn values_without_a_text(rt: HostRuntime) -> Result<(), Fail> {
     assert!(rt; in_profile(&deepest));
     let too_deep = Edn::Vector(vec![in rt.alloc(); deepest]?);
     assert!(rt; !in_profile(&too_deep));
+    Ok(())
+}
+
+#[test]
+fn names_and_keys(rt: HostRuntime) -> Result<(), Fail> {
+    assert!(rt; is_keyword_name(b"a.B-9?!*_"));
+    assert!(rt; !is_keyword_name(b"9a"));
+    assert!(rt; !is_keyword_name(b"a/b"));
+    assert!(rt; !is_keyword_name(b""));
+    let different = read_all(rt.alloc(), b"1 :a \"a\" [1 2] [2 1]")?;
+    assert!(rt; all_differ(different.as_slice()));
+    let repeated = read_all(rt.alloc(), b"#{1 2} 3 #{2 1}")?;
+    assert!(rt; !all_differ(repeated.as_slice()));
     Ok(())
 }
 

@@ -16,8 +16,4 @@ pub mod Deciding
 pub mod Views
 pub mod Extend
 pub mod Fronts
-pub mod Profiles
-pub mod ReadsBack
-pub mod Appending
 pub mod OneByOne
-pub mod InProfile

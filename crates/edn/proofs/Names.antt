@@ -1,5 +1,5 @@
 -- Names of keywords that are read byte by byte
-use Rattle.std.proofs.Common.{◌≡◌, ℕ, zero, suc, ◌-◌, ◌<◌, ◌≤◌, Bool, true, false, IsTrue, List, [], ◌∷◌, ◌++◌, length, refl, sym, ap, ◌∙◌, subst, arith, append_assoc, length-append, take, drop}
+use Rattle.std.proofs.Common.{◌≡◌, ℕ, zero, suc, ◌-◌, ◌<◌, ◌≤◌, Bool, true, false, IsTrue, List, [], ◌∷◌, ◌++◌, length, refl, sym, ap, ◌∙◌, subst, arith, append_assoc, append-nil, length-append, take, drop}
 use Rattle.std.specs.Prelude.{◌||◌, ◌&&◌, ◌==◌, nat_le}
 use Rattle.std.specs.Str.{IsAscii, IsUtf8}
 use Rattle.std.proofs.lemmas.Str.{IsUtf8-from_ascii}
@@ -120,3 +120,21 @@ name_is_text bs h = IsUtf8-from_ascii bs (name_ascii bs h)
 -- what is spelled as a keyword has a name
 pub name_of_keyword : {a bs : List ℕ} → IsAtom a (keyword bs) → IsKeywordText bs
 name_of_keyword (named k) = k
+
+-- the whole of some bytes as the name of a keyword
+
+nothing : (t : List ℕ) → length t ≡ 0 → t ≡ []
+nothing [] e = refl
+nothing (b ∷ t) e = absurd (omega arith)
+
+pub whole_name : (text name rest : List ℕ) → length rest ≡ 0 → IsLongest IsName text name rest → IsKeywordText text
+whole_name text name rest e h = subst IsKeywordText (sym (h.cut ∙ ap (λ r. h.front ++ r) (nothing rest e) ∙ append-nil h.front)) h.spells.0
+
+pub no_more_of_name : (text name rest : List ℕ) → IsLongest IsName text name rest → IsKeywordText text → length rest ≡ 0
+no_more_of_name text name rest h i =
+    let l = h.longest text [] text (i, refl) (sym (append-nil text)) in
+    let n = ap length h.cut ∙ length-append h.front rest in
+    omega arith
+
+pub no_whole_name : (text : List ℕ) → HasNone IsName text → IsKeywordText text → ⊥
+no_whole_name text nothing_is i = nothing_is text [] text (i, refl) (sym (append-nil text))

@@ -1,6 +1,6 @@
 //! Atoms: `nil`, booleans, integers and keywords, which end where the next byte says so.
 
-ghost use Rattle.std.specs.Prelude.{◌≡◌, ℕ, ◌≤◌, ◌^◌, ◌++◌, List, pos, neg_ℤ, IfOk, IfSome, IfNone};
+ghost use Rattle.std.specs.Prelude.{◌≡◌, ◌↔◌, ℕ, ◌≤◌, ◌^◌, ◌++◌, List, pos, neg_ℤ, IsTrue, IfOk, IfSome, IfNone};
 ghost use Rattle.edn.specs.Value.{Value, keyword};
 ghost use Rattle.edn.specs.View.{value_of};
 ghost use Rattle.edn.specs.Bytes.{MayFollowAtom, IsAtom, IsKeywordText, ends_atom, is_digit, is_letter, goes_on};
@@ -116,8 +116,8 @@ fn after_name_byte(text: &[u8]) -> Option<&[u8]>
     if goes_on(*first) { Some(rest) } else { None }
 }
 
-/// The longest name of a keyword at the front, and what follows it.
-pub fn longest_name(text: &[u8]) -> Option<(&[u8], &[u8])>
+// The longest name of a keyword at the front, and what follows it.
+fn longest_name(text: &[u8]) -> Option<(&[u8], &[u8])>
     ensures found { IfSome result (λ x. IsLongest IsName text.now x.0.now x.1.now) }
     ensures none { IfNone result (HasNone IsName text.now) }
 {
@@ -129,6 +129,17 @@ pub fn longest_name(text: &[u8]) -> Option<(&[u8], &[u8])>
         rest = next;
     }
     Some(text.split_at(text.len() - rest.len()))
+}
+
+/// Whether the bytes are the name of a keyword: an ASCII letter, and then ASCII letters, digits and `-`, `_`, `?`, `!`, `*`
+/// or `.`.
+pub fn is_keyword_name(bytes: &[u8]) -> bool
+    ensures { IsTrue result ↔ IsKeywordText bytes.now }
+{
+    match longest_name(bytes) {
+        Some((_, rest)) => rest.is_empty(),
+        None => false,
+    }
 }
 
 // `nil`, `true` or `false` at the front, and what follows it.

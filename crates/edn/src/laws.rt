@@ -3,8 +3,6 @@
 ghost use Rattle.std.specs.Prelude.{◌≡◌, ℕ, [], ◌∷◌, pos, List};
 ghost use Rattle.edn.specs.Value.{Value, Values, int, none, more, Same};
 ghost use Rattle.edn.specs.Text.{IsText, IsLongestFront};
-ghost use Rattle.edn.specs.Profile.{IsInProfile, AreInProfileAt};
-ghost use Rattle.edn.specs.Canonical.{canonical};
 
 /// A text has one reading.
 pub fn one_reading()
@@ -27,16 +25,4 @@ pub fn sameness_is_an_equivalence()
     ensures reflexive { (v : Value) → Same v v }
     ensures symmetric { (v w : Value) → Same v w → Same w v }
     ensures transitive { (u v w : Value) → Same u v → Same v w → Same u w }
-{}
-
-/// The canonical text of a value in the profile reads as that value, and as nothing else.
-pub fn canonical_text_reads_back()
-    ensures reads { (v : Value) → IsInProfile v → IsText (canonical v) (more v none) }
-    ensures alone { (v : Value) (vs : Values) → IsInProfile v → IsText (canonical v) vs
-        → vs ≡ more v none }
-{}
-
-/// Each value that is read is in the profile.
-pub fn what_is_read_has_a_text()
-    ensures { (bytes : List ℕ) (values : Values) → IsText bytes values → AreInProfileAt 0 values }
 {}

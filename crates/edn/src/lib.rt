@@ -4,8 +4,7 @@
 //! [`read_all`] reads `nil`, `true`, `false`, integers of 64 bits, keywords, strings, vectors, maps and sets, with white
 //! space, comments and discards between them. [`Elements`] gives them one after the other, so that a long text need not be
 //! held as elements, and [`check_text`] says beforehand whether it is one. [`same`] compares two elements and leaves out of
-//! account in which order a map or a set was spelled. [`in_profile`] says whether an element has a text, and [`write`]
-//! appends it.
+//! account in which order a map or a set was spelled. Texts are written by the crate `edn_writer`.
 #![tactic(auto)]
 
 mod atom;
@@ -17,23 +16,18 @@ mod gap;
 mod gate;
 mod laws;
 mod longest_front;
-mod profile;
 mod read_error;
 mod reader;
 mod refusal;
 mod string;
 mod value;
-mod writer;
 
+pub use atom::is_keyword_name;
+pub use distinct::{Keyed, all_differ};
 pub use elements::{Elements, check_text};
 pub use equality::same;
 pub use gate::{Gate, OpenGate};
-pub use laws::{
-    canonical_text_reads_back, discards_are_skipped, one_place, one_reading,
-    sameness_is_an_equivalence, what_is_read_has_a_text,
-};
-pub use profile::in_profile;
-pub use reader::read_all;
+pub use laws::{discards_are_skipped, one_place, one_reading, sameness_is_an_equivalence};
+pub use reader::{MAX_OPEN, read_all};
 pub use refusal::Refusal;
 pub use value::Edn;
-pub use writer::write;

@@ -23,7 +23,7 @@ pub fn count_of(element: &Edn) -> Option<u16>
     u16::try_from(integer(element)?).ok()
 }
 
-/// The set of integers that an element is, ascending, in whatever order it was spelled. Takes the square of its members.
+/// The set of integers that an element is, ascending, in whatever order it was spelled. The time is that of sorting them.
 pub fn set_of(alloc: Global, element: &Edn) -> Result<Option<Members>, AllocError>
     ensures { IfOk result (λ found. found ≡ set_in (value_of element.now)) }
 {
@@ -33,7 +33,7 @@ pub fn set_of(alloc: Global, element: &Edn) -> Result<Option<Members>, AllocErro
     let Some(integers) = integers_of(alloc, elements.as_slice())? else {
         return Ok(None);
     };
-    Ok(Some(members_of(alloc, integers.as_slice())?))
+    Ok(Some(members_of(integers)))
 }
 
 // The integers, if each element is one.
@@ -52,14 +52,10 @@ fn integers_of(alloc: Global, elements: &[Edn]) -> Result<Option<Vec<i64>>, Allo
 }
 
 // The set of these integers.
-fn members_of(alloc: Global, integers: &[i64]) -> Result<Members, AllocError>
-    ensures { IfOk result (λ members. members ≡ ascending integers.now) }
+fn members_of(integers: Vec<i64>) -> Members
+    ensures { result ≡ ascending integers.items }
 {
-    let mut members = Members::new(alloc);
-    for i in (0..integers.len()).rev() {
-        members = members.with(integers[i])?;
-    }
-    Ok(members)
+    Members::of_unordered(integers)
 }
 
 /// The groups of numbers that an element is, a vector of vectors.

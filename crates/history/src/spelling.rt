@@ -212,7 +212,7 @@ fn event_of(alloc: Global, pairs: &[(Edn, Edn)]) -> Result<Option<Event>, AllocE
 /// that the name may have in such an event: nil, an integer of 64 bits, a vector of two, or a set of them, whose order
 /// says nothing. Of `:nemesis` the name is that of a fault, in an `:info`, and the value says whom it befalls.
 ///
-/// The time is that of one pass over the pairs, but for a set: the square of its members.
+/// The time is that of one pass over the pairs, and of sorting the members of a set.
 ///
 /// # Errors
 /// [`Refusal::BadValue`] where the element spells no event; [`Refusal::NoMemory`] where a growth was refused.

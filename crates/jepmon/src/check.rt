@@ -4,6 +4,7 @@ ghost use Rattle.jepmon.specs.declared.recorded.Findings.{Findings};
 ghost use Rattle.jepmon.specs.Checks.{Checks, IsPut, IsTold};
 
 use crate::exit_status::REFUSED;
+use crate::progress::Progress;
 use crate::recorded::{Findings, findings_text, judge_text, status_of_findings};
 use edn::Refusal;
 use harness::Config;
@@ -22,13 +23,16 @@ const NO_MEMORY: &[u8] = b"refused 13 NoMemory\n";
 /// The line is that of the verdict; or `refused NUMBER NAME event I`, where I elements were taken and the next one was
 /// refused; or `refused NUMBER NAME` for what is no element's refusal: `ReadFailed` where the reader has failed,
 /// `Unreadable` with its place, `NoMemory`. The status is that of the verdict, else 3, and 3 too where the writer has
-/// failed. The bytes are held once, and one element at a time.
-pub fn check_text<X: Wait, R: Read + Failed, W: Write + Failed>(
+/// failed. The bytes are held once, and one element at a time. How many events are taken is told on the way; the number
+/// of workers, 1 to 64, changes nothing: one thread judges.
+pub fn check_text<X: Wait, R: Read + Failed, W: Write + Failed, P: Progress>(
     rt: &X,
     alloc: Global,
     config: Config,
+    _workers: u32,
     reader: &mut R,
     writer: &mut W,
+    progress: &mut P,
 ) -> u8
     requires reads { R.has_failed reader.old ≡ false }
     requires writes { W.has_failed writer.old ≡ false }
@@ -37,7 +41,7 @@ pub fn check_text<X: Wait, R: Read + Failed, W: Write + Failed>(
         (W.contents writer.old) (W.contents writer.new) (W.has_failed writer.new) result }
 {
     let findings = match read_whole(rt, alloc, reader) {
-        Ok(bytes) => judge_text(alloc, config, bytes.as_slice()),
+        Ok(bytes) => judge_text(alloc, config, bytes.as_slice(), progress),
         Err(refusal) => Findings::Refused(refusal),
     };
     tell(rt, alloc, &findings, writer)
@@ -45,17 +49,22 @@ pub fn check_text<X: Wait, R: Read + Failed, W: Write + Failed>(
 
 /// Judges the recorded history in a file: [`check_text`] of what the file has. A file that can't be opened is told as
 /// `ReadFailed`.
-pub fn check_file<X: Wait + Files, W: Write + Failed>(
+pub fn check_file<X: Wait + Files, W: Write + Failed, P: Progress>(
     rt: &X,
     alloc: Global,
     path: &str,
     config: Config,
+    workers: u32,
     writer: &mut W,
+    progress: &mut P,
 ) -> u8
     requires { W.has_failed writer.old ≡ false }
 {
     match fs::open(rt, path) {
-        Ok(file) => check_text(rt, alloc, config, &mut Watched::new(file), writer),
+        Ok(file) => {
+            let mut reader = Watched::new(file);
+            check_text(rt, alloc, config, workers, &mut reader, writer, progress)
+        }
         Err(_) => tell(rt, alloc, &Findings::Refused(Refusal::ReadFailed), writer),
     }
 }

@@ -8,6 +8,7 @@ pub mod command;
 pub mod command_line;
 pub mod exit_status;
 pub mod laws;
+pub mod progress;
 pub mod recorded;
 pub mod script;
 pub mod verdict_line;
@@ -17,6 +18,7 @@ use command_line::{Order, Stop, no_text, order_of};
 use edn::Refusal;
 use exit_status::{status_after, status_of_stop};
 pub use line_loop::{Failed, Watched};
+use progress::OnTerminal;
 use script::run_script;
 use std::alloc::{AllocError, Global};
 use std::env;
@@ -54,12 +56,21 @@ fn main(rt: HostRuntime) -> ExitCode {
         Ok(
             Order::Check {
                 path,
-                workers: _,
+                workers,
                 config,
             },
         ) => {
             let mut writer = Watched::new(rt.stdout());
-            check_file(&rt, alloc, path.as_str(), config, &mut writer)
+            let mut progress = OnTerminal::new(&rt, rt.stderr());
+            check_file(
+                &rt,
+                alloc,
+                path.as_str(),
+                config,
+                workers,
+                &mut writer,
+                &mut progress,
+            )
         },
         Err(stop) => status_of_stop(&rt, alloc, &stop),
     };

@@ -7,6 +7,7 @@ ghost use Rattle.jepmon.specs.declared.recorded.Findings.{Findings};
 ghost use Rattle.jepmon.specs.Recorded.{TakesElement, RefusesElement, ComesTo, findings_line, findings_status};
 
 use crate::exit_status::{REFUSED, status_of_verdict};
+use crate::progress::Progress;
 use crate::verdict_line::verdict_text;
 use edn::{Edn, Elements, Refusal, check_text};
 use harness::{Command, Config, Core};
@@ -29,18 +30,34 @@ pub enum Findings {
 /// Judges a text whose elements are events, in turn, up to the first that is refused.
 ///
 /// Where the bytes are no text, that is what is found, even if an element before that place would be refused. The bytes
-/// are read twice, once as a text alone and once for their elements, of which one is held at a time.
-pub fn judge_text(alloc: Global, config: Config, bytes: &[u8]) -> Findings
+/// are read twice, once as a text alone and once for their elements, of which one is held at a time. How many are taken is
+/// told on the way.
+pub fn judge_text<P: Progress>(
+    alloc: Global,
+    config: Config,
+    bytes: &[u8],
+    progress: &mut P,
+) -> Findings
     ensures { ComesTo config bytes.now result }
 {
     match check_text(alloc, bytes) {
-        Ok(_) => judge_elements(alloc, config, bytes),
+        Ok(events) => {
+            let findings = judge_elements(alloc, config, bytes, events, progress);
+            progress.end();
+            findings
+        }
         Err(refusal) => Findings::Refused(refusal),
     }
 }
 
-// The same of bytes that are a text.
-fn judge_elements(alloc: Global, config: Config, bytes: &[u8]) -> Findings
+// The same of bytes that are a text of so many events.
+fn judge_elements<P: Progress>(
+    alloc: Global,
+    config: Config,
+    bytes: &[u8],
+    events: usize,
+    progress: &mut P,
+) -> Findings
     requires { (values : Values) × IsText bytes.now values }
     ensures { ComesTo config bytes.now result }
 {
@@ -57,7 +74,10 @@ fn judge_elements(alloc: Global, config: Config, bytes: &[u8]) -> Findings
             Err(refusal) => return Findings::Refused(refusal),
         };
         match take_element(alloc, &mut core, element) {
-            Ok(()) => taken += 1,
+            Ok(()) => {
+                taken += 1;
+                progress.taken(taken, events);
+            }
             Err(refusal) => return refused_at(taken, refusal),
         }
     }

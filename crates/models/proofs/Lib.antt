@@ -1,3 +1,4 @@
 pub mod AnyStates
 pub mod PutIn
 pub mod Tables
+pub mod Sorting

@@ -14,16 +14,16 @@ use Rattle.std.specs.declared.cmp.Ordering.TheVariants.{Less, Equal, Greater}
 use Rattle.std.proofs.lemmas.List.Elements.{Contains-get_or, Contains-append_left, Contains-append_right, Contains-push, Contains-push_cases, Contains-append_cases}
 use Rattle.models.specs.Members.{IsAscending, put_in}
 
-no_member : {X : Type 0} (y : X) → Contains [] y → ⊥
+pub no_member : {X : Type 0} (y : X) → Contains [] y → ⊥
 no_member y h = omega arith
 
-first_member : {X : Type 0} (x : X) (xs : List X) → Contains (x ∷ xs) x
+pub first_member : {X : Type 0} (x : X) (xs : List X) → Contains (x ∷ xs) x
 first_member x xs = Contains-append_left (x ∷ []) xs x (Contains-push [] x)
 
-later_member : {X : Type 0} (x : X) (xs : List X) (y : X) → Contains xs y → Contains (x ∷ xs) y
+pub later_member : {X : Type 0} (x : X) (xs : List X) (y : X) → Contains xs y → Contains (x ∷ xs) y
 later_member x xs y h = Contains-append_right (x ∷ []) xs y h
 
-member_cases : {X : Type 0} (x : X) (xs : List X) (y : X) → Contains (x ∷ xs) y → (x ≡ y) ⊎ Contains xs y
+pub member_cases : {X : Type 0} (x : X) (xs : List X) (y : X) → Contains (x ∷ xs) y → (x ≡ y) ⊎ Contains xs y
 member_cases x xs y h = ⊎_elim (λ k. inl (⊎_elim (λ n. absurd (no_member y n)) (λ e. e) (Contains-push_cases [] x y k))) inr (Contains-append_cases (x ∷ []) xs y h)
 
 is_below : (a b : ℤ) → int_lt a b ≡ true → a <ℤ b
@@ -32,10 +32,10 @@ is_below a b e = int_ranked a b Less (sym (ap (λ t. cond t Less (cond (int_lt b
 is_same : (a b : ℤ) → int_lt a b ≡ false → int_lt b a ≡ false → a ≡ b
 is_same a b e f = int_ranked a b Equal (sym (ap (λ t. cond t Less (cond (int_lt b a) Greater Equal)) e ∙ ap (λ t. cond t Greater Equal) f))
 
-below_all : (a b c : ℤ) → a <ℤ b → b <ℤ c → a <ℤ c
+pub below_all : (a b c : ℤ) → a <ℤ b → b <ℤ c → a <ℤ c
 below_all a b c h k = omega (arith, ints)
 
-not_below : (a : ℤ) → a <ℤ a → ⊥
+pub not_below : (a : ℤ) → a <ℤ a → ⊥
 not_below a h = omega (arith, ints)
 
 is_lower : (a b : ℤ) → a <ℤ b → int_lt a b ≡ true

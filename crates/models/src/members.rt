@@ -1,5 +1,6 @@
 //! Sets of integers.
 ghost use Rattle.std.specs.Prelude.{◌≡◌, ◌↔◌, IsTrue, IfOk, [], List, ℤ, Some};
+ghost use Rattle.std.specs.List.{Contains};
 ghost use Rattle.std.specs.Ordering.{int_cmp, int_eq};
 ghost use Rattle.std.specs.Cmp.Lexicographic.{pointwise, slice_cmp};
 ghost use Rattle.models.specs.Members.{IsAscending, put_in};
@@ -39,6 +40,18 @@ impl Members {
         ensures { result ≡ values.items }
     {
         Members { items: values }
+    }
+
+    /// The set of these values, in whatever order and however often they stand there. Takes no memory, and the time of a
+    /// sort: it grows with n log n.
+    pub fn of_unordered(values: Vec<i64>) -> Members
+        ensures members { (v : ℤ) → Contains result v ↔ Contains values.items v }
+        ensures ascending { IsAscending result }
+    {
+        let mut items = values;
+        items.sort_unstable();
+        items.dedup();
+        Members { items }
     }
 
     /// The members, ascending.

@@ -8,13 +8,13 @@ use Rattle.jepmon.proofs.Recording.{at_none, at_some, TakesAll-more, count-more,
 use Rattle.jepmon.proofs.recorded.judge_elements.Goals as goal
 
 pub returns-in-Ok-None : goal.returns-in-Ok-None
-returns-in-Ok-None c =
+returns-in-Ok-None g c =
     let (given, behind, same, takes, counted, room) = c.elements.invariant in
     let text = at_none c.in-Ok-None.field-0 c.in-Ok-None.field-0-is c.in-Ok-None.ensures.end given (subst (λ b. IsLeftBehind b given c.elements.elements.left) (sym same) behind) in
     (c.elements.core.machine, taken c.args.config c.in-Ok.core c.in-Ok.ensures.opened c.args.bytes.now given _ takes (subst (λ b. IsText b given) same text), c.verdict.ensures)
 
 pub elements-preserved : goal.elements-preserved
-elements-preserved c =
+elements-preserved g c =
     let (given, behind, same, takes, counted, room) = c.elements.invariant in
     let v = value_of c.in-Ok-Some.element in
     let after = at_some _ c.in-Ok-Some.field-0 c.in-Ok-Some.element c.in-Ok-Some.field-0-is c.in-Ok-Some.ensures.given given (subst (λ b. IsLeftBehind b given c.elements.elements.left) (sym same) behind) in (
@@ -27,7 +27,7 @@ elements-preserved c =
     )
 
 pub returns-in-Err-take_element : goal.returns-in-Err-take_element
-returns-in-Err-take_element c =
+returns-in-Err-take_element g c =
     let (given, behind, same, takes, counted, room) = c.elements.invariant in
     let v = value_of c.in-Ok-Some.element in
     let after = at_some _ c.in-Ok-Some.field-0 c.in-Ok-Some.element c.in-Ok-Some.field-0-is c.in-Ok-Some.ensures.given given (subst (λ b. IsLeftBehind b given c.elements.elements.left) (sym same) behind) in

@@ -6,10 +6,10 @@ use Rattle.jepmon.specs.Recorded.{TakesAll}
 use Rattle.jepmon.proofs.recorded.judge_elements.Given as goal
 
 abbrev pub invariant-elements : goal.invariant-elements
-invariant-elements l =
+invariant-elements g l =
     (given : Values) × IsLeftBehind l.bytes given l.elements.left × (l.elements.bytes ≡ l.bytes)
     × TakesAll l.initial.core.machine given l.core.machine
     × (count_of given ≡ l.taken) × (l.taken + length l.elements.left ≤ length l.bytes)
 
 abbrev pub decreases-elements : goal.decreases-elements
-decreases-elements l = length l.elements.left
+decreases-elements g l = length l.elements.left

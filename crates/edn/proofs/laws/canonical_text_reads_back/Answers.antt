@@ -1,5 +1,0 @@
-use Rattle.edn.proofs.ReadsBack.{canonical_text, canonical_alone}
-use Rattle.edn.proofs.laws.canonical_text_reads_back.Goals as goal
-
-pub returns : goal.returns
-returns c = record { reads = canonical_text; alone = canonical_alone }

@@ -1,5 +1,0 @@
-use Rattle.edn.proofs.InProfile.{text_in}
-use Rattle.edn.proofs.laws.what_is_read_has_a_text.Goals as goal
-
-pub returns : goal.returns
-returns c = text_in

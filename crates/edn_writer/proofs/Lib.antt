@@ -1,0 +1,4 @@
+pub mod Appending
+pub mod InProfile
+pub mod Profiles
+pub mod ReadsBack

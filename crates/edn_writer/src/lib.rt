@@ -1,0 +1,11 @@
+//! The writer of texts: [`in_profile`] says whether an element has a text, and [`write`] appends its canonical one, which
+//! reads as that element.
+#![tactic(auto)]
+
+mod laws;
+mod profile;
+mod writer;
+
+pub use laws::{canonical_text_reads_back, what_is_read_has_a_text};
+pub use profile::in_profile;
+pub use writer::write;

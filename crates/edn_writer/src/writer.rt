@@ -1,0 +1,189 @@
+//! The writer: each function appends a part of a canonical text. Where memory runs out, what it has appended by then stays,
+//! and [`write`] takes it off.
+
+ghost use Rattle.std.specs.Prelude.{◌≡◌, ◌==◌, [], ◌∷◌, ◌++◌, is_ok, if◌then◌else◌, string_bytes, IfSome, IfNone, IfErr};
+ghost use Rattle.std.specs.Fmt.{signed_decimal};
+ghost use Rattle.std.specs.List.{flat_map};
+ghost use Rattle.edn.specs.Value.{vector, members, pairs};
+ghost use Rattle.edn.specs.View.{value_of, values_of, entries_of};
+ghost use Rattle.edn_writer.specs.Profile.{IsInProfile};
+ghost use Rattle.edn_writer.specs.Canonical.{spelling, separated_by, canonical, texts_of, pair_texts_of};
+ghost use Rattle.edn_writer.specs.Writing.{Appends};
+ghost use Rattle.edn.specs.declared.refusal.Refusal.TheVariants.{NoMemory};
+
+use edn::{Edn, Refusal};
+use itoa::Buffer;
+use std::alloc::AllocError;
+
+/// Appends the canonical text of an element, which reads as that element: integers in decimal without a plus, strings with
+/// an escape wherever there is one for the byte, `[a b]`, `#{a b}` and `{k v, k v}`.
+///
+/// # Errors
+/// [`Refusal::NoMemory`] where the vector's growth was refused; its bytes are then as before.
+///
+/// The time is that of the text's length. The recursion is at most as deep as a text may nest, 32 collections.
+pub fn write(element: &Edn, text: &mut Vec<u8>) -> Result<(), Refusal>
+    requires { IsInProfile (value_of element.now) }
+    ensures written { text.new.items ≡ (if is_ok result
+        then text.old.items ++ canonical (value_of element.now) else text.old.items) }
+    ensures refused { IfErr result (λ why. why ≡ NoMemory) }
+{
+    let start = text.len();
+    match append(element, text) {
+        Ok(()) => Ok(()),
+        Err(_) => {
+            text.truncate(start);
+            Err(Refusal::NoMemory)
+        }
+    }
+}
+
+fn append_integer(number: i64, text: &mut Vec<u8>) -> Result<(), AllocError>
+    ensures { Appends result text.old.items text.new.items (signed_decimal number) }
+{
+    let mut buffer = Buffer::new();
+    text.extend_from_slice(buffer.format(number).as_bytes())
+}
+
+// The letter of the byte's escape, if it has one.
+fn escape_of(byte: u8) -> Option<u8>
+    ensures found { IfSome result (λ letter. spelling byte ≡ 92 ∷ letter ∷ []) }
+    ensures none { IfNone result (spelling byte ≡ byte ∷ []) }
+{
+    match byte {
+        b'\t' => Some(b't'),
+        b'\r' => Some(b'r'),
+        b'\n' => Some(b'n'),
+        b'\\' | b'"' => Some(byte),
+        _ => None,
+    }
+}
+
+fn append_byte(byte: u8, text: &mut Vec<u8>) -> Result<(), AllocError>
+    ensures { Appends result text.old.items text.new.items (spelling byte) }
+{
+    match escape_of(byte) {
+        Some(letter) => text.extend_from_slice(&[b'\\', letter]),
+        None => text.extend_from_slice(&[byte]),
+    }
+}
+
+// The inside of a string.
+fn append_bytes(bytes: &[u8], text: &mut Vec<u8>) -> Result<(), AllocError>
+    ensures { Appends result text.old.items text.new.items (flat_map spelling bytes.now) }
+{
+    for byte in bytes {
+        append_byte(*byte, text)?;
+    }
+    Ok(())
+}
+
+fn append_string(string: &str, text: &mut Vec<u8>) -> Result<(), AllocError>
+    ensures { Appends result text.old.items text.new.items
+        (34 ∷ (flat_map spelling string.now ++ 34 ∷ [])) }
+{
+    text.extend_from_slice(b"\"")?;
+    append_bytes(string.as_bytes(), text)?;
+    text.extend_from_slice(b"\"")
+}
+
+fn append_keyword(name: &str, text: &mut Vec<u8>) -> Result<(), AllocError>
+    ensures { Appends result text.old.items text.new.items (58 ∷ name.now) }
+{
+    text.extend_from_slice(b":")?;
+    text.extend_from_slice(name.as_bytes())
+}
+
+// The separator that stands before the element or pair at this place of a collection.
+fn append_separator(separator: &[u8], place: usize, text: &mut Vec<u8>) -> Result<(), AllocError>
+    ensures { Appends result text.old.items text.new.items
+        (if place == 0 then [] else separator.now) }
+{
+    if place == 0 {
+        return Ok(());
+    }
+    text.extend_from_slice(separator)
+}
+
+#[cycle(writer)]
+fn append(element: &Edn, text: &mut Vec<u8>) -> Result<(), AllocError>
+    ensures { Appends result text.old.items text.new.items (canonical (value_of element.now)) }
+{
+    match element {
+        Edn::Nil => text.extend_from_slice(b"nil"),
+        Edn::Bool(true) => text.extend_from_slice(b"true"),
+        Edn::Bool(false) => text.extend_from_slice(b"false"),
+        Edn::Int(number) => append_integer(*number, text),
+        Edn::Str(string) => append_string(string.as_str(), text),
+        Edn::Keyword(name) => append_keyword(name.as_str(), text),
+        Edn::Vector(elements) => append_vector(elements, text),
+        Edn::Map(pairs) => append_map(pairs, text),
+        Edn::Set(members) => append_set(members, text),
+    }
+}
+
+#[cycle(writer)]
+fn append_vector(elements: &[Edn], text: &mut Vec<u8>) -> Result<(), AllocError>
+    ensures { Appends result text.old.items text.new.items
+        (canonical (vector (values_of elements.now))) }
+{
+    text.extend_from_slice(b"[")?;
+    append_elements(elements, text)?;
+    text.extend_from_slice(b"]")
+}
+
+#[cycle(writer)]
+fn append_set(elements: &[Edn], text: &mut Vec<u8>) -> Result<(), AllocError>
+    ensures { Appends result text.old.items text.new.items
+        (canonical (members (values_of elements.now))) }
+{
+    text.extend_from_slice(b"#{")?;
+    append_elements(elements, text)?;
+    text.extend_from_slice(b"}")
+}
+
+#[cycle(writer)]
+fn append_map(found: &[(Edn, Edn)], text: &mut Vec<u8>) -> Result<(), AllocError>
+    ensures { Appends result text.old.items text.new.items
+        (canonical (pairs (entries_of found.now))) }
+{
+    text.extend_from_slice(b"{")?;
+    append_pairs(found, text)?;
+    text.extend_from_slice(b"}")
+}
+
+// The elements, with a space between each two.
+#[cycle(writer)]
+fn append_elements(elements: &[Edn], text: &mut Vec<u8>) -> Result<(), AllocError>
+    ensures { Appends result text.old.items text.new.items
+        (separated_by (32 ∷ []) (texts_of (values_of elements.now))) }
+{
+    for (i, element) in elements.iter().enumerate() {
+        append_separator(b" ", i, text)?;
+        append(element, text)?;
+    }
+    Ok(())
+}
+
+// The pairs, with a comma and a space between each two.
+#[cycle(writer)]
+fn append_pairs(found: &[(Edn, Edn)], text: &mut Vec<u8>) -> Result<(), AllocError>
+    ensures { Appends result text.old.items text.new.items
+        (separated_by (44 ∷ 32 ∷ []) (pair_texts_of (entries_of found.now))) }
+{
+    for (i, pair) in found.iter().enumerate() {
+        append_separator(b", ", i, text)?;
+        append_pair(pair, text)?;
+    }
+    Ok(())
+}
+
+#[cycle(writer)]
+fn append_pair(pair: &(Edn, Edn), text: &mut Vec<u8>) -> Result<(), AllocError>
+    ensures { Appends result text.old.items text.new.items
+        (canonical (value_of pair.now.0) ++ 32 ∷ canonical (value_of pair.now.1)) }
+{
+    append(&pair.0, text)?;
+    text.extend_from_slice(b" ")?;
+    append(&pair.1, text)
+}
