@@ -4,7 +4,7 @@ use Rattle.std.proofs.lemmas.Option.{same_Some}
 use Rattle.edn.specs.declared.refusal.Refusal.{Refusal}
 use Rattle.test_store.specs.declared.outcome.Outcome.{Outcome}
 use Rattle.test_store.specs.Store.{Cluster, VersionsWithin}
-use Rattle.test_store.proofs.Versions.{opening_versions, serve_versions, fault_versions}
+use Rattle.test_store.proofs.Versions.{serve_versions, fault_versions}
 use Rattle.trials.specs.declared.ticket.Ticket.{Ticket}
 use Rattle.trials.specs.Trials as trials
 use Rattle.trials.specs.Trials.{Trial, MayMove, served_as}

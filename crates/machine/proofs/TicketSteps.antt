@@ -1,5 +1,5 @@
 -- Every step keeps the tickets
-use Rattle.std.proofs.Common.{◌≡◌, ℕ, ◌%◌, Result, Ok, Err, List, [], ◌∷◌, ◌∙◌, ap, sym, subst}
+use Rattle.std.proofs.Common.{◌≡◌, ℕ, ◌%◌, Result, Ok, Err, [], ◌∷◌, ◌∙◌, ap, sym, subst}
 use Rattle.edn.specs.declared.refusal.Refusal.{Refusal}
 use Rattle.history.specs.declared.event.Event.{Event}
 use Rattle.history.specs.declared.event.Fault.{Fault}
@@ -7,7 +7,7 @@ use Rattle.generators.specs.declared.item.Item.TheVariants.{Op as AnOp}
 use Rattle.generators.specs.declared.item.Asker.TheVariants.{Thread}
 use Rattle.generators.specs.declared.item.Drawn.{Drawn}
 use Rattle.generators.specs.declared.item.Drawn.TheVariants.{Op as Gets, Pending, Done}
-use Rattle.trials.specs.Trials.{invocation, completion, strike}
+use Rattle.trials.specs.Trials.{completion, strike}
 use Rattle.trials.specs.declared.ticket.Ticket.{Ticket}
 use Rattle.machine.specs.declared.command.Command.{Command}
 use Rattle.machine.specs.declared.command.Command.TheVariants.{Append, Rewind, SetModel, SetBudget, Verdict as Ask, Draw, Serve, Finish, Nemesis}

@@ -9,8 +9,6 @@ use Rattle.models.specs.declared.finding.Found.{Found}
 use Rattle.models.specs.Objects.{table_of}
 use Rattle.models.specs.AnyState.{any}
 use Rattle.processes.specs.MoveRule.{current_of, is_crash_on}
-use Rattle.history.specs.declared.event.EventKind.TheVariants.{Invoke}
-use Rattle.history.specs.declared.event.Body.{Body}
 use Rattle.history.specs.declared.event.Event.{Event}
 use Rattle.history.specs.Events.{key_of}
 use Rattle.history.specs.WellFormed.{IsPart, moves_of, open_of, invoked_in, HasRoom, SharesKey, IsWellFormed}

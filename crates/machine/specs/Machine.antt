@@ -18,7 +18,6 @@ use Rattle.generators.specs.declared.item.Drawn.TheVariants.{Op as Gets, Pending
 use Rattle.generators.specs.Generators.{Generator}
 use Rattle.generators.specs.Draws.{ask_of, MayDraw}
 use Rattle.generators.specs.Words.{word}
-use Rattle.linspec.specs.declared.verdict.Verdict.{Verdict}
 use Rattle.test_store.specs.declared.outcome.Mode.{Mode}
 use Rattle.test_store.specs.declared.outcome.Outcome.{Outcome}
 use Rattle.test_store.specs.Store as store
