@@ -1,5 +1,5 @@
 -- Invariant: what a history keeps beside its events
-use Rattle.std.specs.Prelude.{◌≡◌, ℕ, ◌+◌, ◌<◌, ◌≤◌, ◌^◌, Option, Some, None, IfSome, List, [], ◌∷◌, ◌++◌, length, slice_get, slice_set}
+use Rattle.std.specs.Prelude.{◌≡◌, ℕ, ◌+◌, ◌<◌, ◌≤◌, ◌^◌, Option, Some, None, List, [], ◌∷◌, ◌++◌, length, take, slice_get, slice_set}
 use Rattle.processes.specs.declared.threads.Thread.{Thread}
 use Rattle.processes.specs.MoveRule.{Move, thread_of, MayMove}
 use Rattle.processes.specs.Threads.{StandAfter}
@@ -8,7 +8,9 @@ use Rattle.history.specs.declared.event.EventKind.TheVariants.{Invoke}
 use Rattle.history.specs.declared.event.Process.{Process}
 use Rattle.history.specs.declared.event.Process.TheVariants.{Client, Nemesis}
 use Rattle.history.specs.declared.event.Event.{Event}
-use Rattle.history.specs.WellFormed.{IsConcurrency, IsHistoryOf, IsWellFormed, move_by, moves_of, open_index, first_key}
+use Rattle.history.specs.declared.history.Prepared.{Prepared}
+use Rattle.history.specs.declared.history.Prepared.TheVariants.{Push, Cut}
+use Rattle.history.specs.WellFormed.{IsConcurrency, IsHistoryOf, IsWellFormed, move_by, moves_of, open_index}
 
 -- what a thread has open after an event of index n of its current process
 abbrev pub open_after : ℕ → EventKind → Option ℕ
@@ -32,9 +34,8 @@ abbrev pub HasNext : Process → Type 0
 HasNext (Client p) = p + 64 < 2 ^ 32
 HasNext Nemesis = Unit {0}
 
--- a history of at most 2^20 events: its threads stand after its moves, and what each has open is known; so is the key of
--- the first operation
-pub record IsSoundHistory (c : ℕ) (events : List Event) (threads : List Thread) (opened : List (Option ℕ)) (key : Option ℕ) : Type 0 where
+-- a history of at most 2^20 events: its threads stand after its moves, and what each has open is known
+pub record IsSoundHistory (c : ℕ) (events : List Event) (threads : List Thread) (opened : List (Option ℕ)) : Type 0 where
   pub concurrency : IsConcurrency c
   pub history : IsHistoryOf c events
   pub limit : length events ≤ 2 ^ 20
@@ -42,8 +43,14 @@ pub record IsSoundHistory (c : ℕ) (events : List Event) (threads : List Thread
   pub stand : StandAfter threads (moves_of events)
   pub opens : length opened ≡ c
   pub opens_are : (t : ℕ) → t < c → slice_get opened t ≡ Some (open_index c events t)
-  pub key_is : key ≡ first_key events
 
--- the prepared event may come, and there is room for it
-abbrev pub IsReady : ℕ → List Event → ℕ → Option Event → Type 0
-IsReady c events capacity prepared = IfSome prepared (λ e. IsWellFormed c events e × (length events < capacity))
+-- the events that a prepared change brings
+abbrev pub brought : List Event → Prepared → List Event
+brought events (Push e) = events ++ e ∷ []
+brought events (Cut n clients) = take n events
+
+-- what is prepared may come: the event is well-formed, and there is room for it; or there are so many events, and the clients
+-- are those of the first of them
+abbrev pub IsReady : ℕ → List Event → ℕ → Prepared → Type 0
+IsReady c events capacity (Push e) = IsWellFormed c events e × (length events < capacity)
+IsReady c events capacity (Cut n clients) = (n ≤ length events) × IsSoundHistory c (take n events) clients.threads clients.opened.items

@@ -9,11 +9,10 @@ use Rattle.models.specs.declared.operation.Part.{Part}
 use Rattle.models.specs.declared.operation.Part.TheVariants.{Nil, Int, Pair}
 use Rattle.models.specs.declared.operation.Op.{Op}
 use Rattle.edn.specs.declared.refusal.Refusal.{Refusal}
-use Rattle.edn.specs.declared.refusal.Refusal.TheVariants.{NotOpen, Mismatch, BadValue, BadIndex, HistoryFull, NoMemory}
+use Rattle.edn.specs.declared.refusal.Refusal.TheVariants.{NotOpen, Mismatch, BadValue, BadIndex, HistoryFull, NoSuchIndex, NoMemory}
 use Rattle.processes.specs.MoveRule.{Move, process_of, current_of, MayMove, RefusesMove}
 use Rattle.processes.specs.MoveRule.{IsConcurrency as AreThreads}
 use Rattle.processes.specs.MoveRule.Move.{Invokes, Crashes}
-use Rattle.history.specs.Events.{key_of}
 use Rattle.history.specs.Replicas.{IsReplica, AreGroups}
 use Rattle.history.specs.declared.event.EventKind.{EventKind}
 use Rattle.history.specs.declared.event.EventKind.TheVariants.{Invoke, Ok, Fail, Info}
@@ -115,21 +114,10 @@ IsInTables kind (Client p) (AnOp op) = IsPartOf kind op.name op.part
 IsInTables Info Nemesis (AFault fault) = IsFault fault
 IsInTables _ _ _ = ⊥
 
--- the key of the first operation
-abbrev pub first_key : List Event → Option ℕ
-first_key [] = None
-first_key (e ∷ events) = option_or (key_of e) (first_key events)
-
--- an operation of this key has the key of the first one
-abbrev pub SharesKey : List Event → Option ℕ → Type 0
-SharesKey events key = IfSome key (λ k. IfSome (first_key events) (λ first. k ≡ first))
-
 -- The tests of an event
 
-abbrev pub IsValue : List Event → Event → Type 0
-IsValue events e =
-    IsInTables e.kind e.process e.body
-    × SharesKey events (key_of e)  -- for now a history has one key
+abbrev pub IsValue : Event → Type 0
+IsValue e = IsInTables e.kind e.process e.body
 
 -- a stated index is the length
 abbrev pub IsIndex : List Event → Option ℕ → Type 0
@@ -172,20 +160,20 @@ IsClientAnd _ _ P = ⊥
 
 abbrev pub IsWellFormed : ℕ → List Event → Event → Type 0
 IsWellFormed c events e =
-    IsValue events e
+    IsValue e
     × IsIndex events e.index
     × HasRoom events
     × IfClient e.process e.body (λ p op. FollowsRule c events e.kind p op)
 
 -- the event passes the tests that come before the process rule
 abbrev pub MayEnter : List Event → Event → Type 0
-MayEnter events e = IsValue events e × IsIndex events e.index × HasRoom events
+MayEnter events e = IsValue e × IsIndex events e.index × HasRoom events
 
 -- why an event is refused: by the first test that it does not pass
 abbrev pub Refuses : ℕ → List Event → Event → Refusal → Type 0
-Refuses c events e BadValue = ¬ IsValue events e
-Refuses c events e BadIndex = IsValue events e × ¬ IsIndex events e.index
-Refuses c events e HistoryFull = IsValue events e × IsIndex events e.index × ¬ HasRoom events
+Refuses c events e BadValue = ¬ IsValue e
+Refuses c events e BadIndex = IsValue e × ¬ IsIndex events e.index
+Refuses c events e HistoryFull = IsValue e × IsIndex events e.index × ¬ HasRoom events
 Refuses c events e why = MayEnter events e × IsClientAnd e.process e.body (λ p op. BreaksRule c events e.kind p op why)
 
 -- as above, or memory ran out
@@ -197,28 +185,34 @@ MayRefuse c events e why = Refuses c events e why
 abbrev pub IsHistoryOf : ℕ → List Event → Type 0
 IsHistoryOf c events = (before after : List Event) (e : Event) → events ≡ before ++ e ∷ after → IsWellFormed c before e
 
--- what a history holds
+-- why a history is not cut to its first n events: it has fewer, or memory ran out
+abbrev pub MayNotCut : List Event → ℕ → Refusal → Type 0
+MayNotCut events n NoSuchIndex = length events < n
+MayNotCut events n NoMemory = Unit {0}
+MayNotCut events n _ = ⊥
+
+-- what a history holds, and the events that commit will bring, where a change is prepared
 pub record HistoryView : Type 0 where
   pub concurrency : ℕ
   pub events : List Event
-  pub prepared : Option Event
+  pub next : Option (List Event)
 
 -- the history takes the event
 abbrev pub Admits : HistoryView → Event → Type 0
 Admits history e = IsWellFormed history.concurrency history.events e
 
--- the history with nothing prepared, with this event prepared, and with it as the last of its events
+-- the history with nothing prepared; with these events prepared; and with these events
 abbrev pub idle : HistoryView → HistoryView
-idle history = record history { prepared = None }
+idle history = record history { next = None }
 
-abbrev pub with_prepared : Event → HistoryView → HistoryView
-with_prepared e history = record history { prepared = Some e }
+abbrev pub with_next : List Event → HistoryView → HistoryView
+with_next events history = record history { next = Some events }
 
-abbrev pub with_last : Event → HistoryView → HistoryView
-with_last e history = record history { events = history.events ++ e ∷ []; prepared = None }
+abbrev pub with_events : List Event → HistoryView → HistoryView
+with_events events history = record history { events = events; next = None }
 
 abbrev pub IsConcurrency : ℕ → Type 0
 IsConcurrency c = AreThreads c
 
 abbrev pub no_events : ℕ → HistoryView
-no_events c = record { concurrency = c; events = []; prepared = None }
+no_events c = record { concurrency = c; events = []; next = None }

@@ -1,10 +1,9 @@
 //! The tables of values that events may have.
-ghost use Rattle.std.specs.Prelude.{◌≡◌, ◌↔◌, IsTrue, List};
-ghost use Rattle.history.specs.declared.event.Event.{Event};
-ghost use Rattle.history.specs.WellFormed.{IsPart, IsOkPart, IsPartOf, IsFault, IsInTables, SharesKey, first_key, IsRepeat, Completes};
+ghost use Rattle.std.specs.Prelude.{◌↔◌, IsTrue};
+ghost use Rattle.history.specs.WellFormed.{IsPart, IsOkPart, IsPartOf, IsFault, IsInTables, IsRepeat, Completes};
 
 use crate::event::{Body, EventKind, Fault, Process};
-use models::{Key, Name, Op, Part, each_name};
+use models::{Name, Op, Part, each_name};
 
 /// The greatest number of a replica.
 const LAST_REPLICA: u8 = 6;
@@ -89,17 +88,6 @@ pub fn is_in_tables(kind: EventKind, process: Process, body: &Body) -> bool
             Body::Op(_) => false,
             Body::Fault(fault) => matches!(kind, EventKind::Info) && is_fault(fault),
         },
-    }
-}
-
-/// Whether an operation of this key has the key of the first operation, if there is one.
-pub fn shares_key(first: Option<Key>, key: Option<Key>) -> bool
-    ensures { (events : List Event) → first ≡ first_key events →
-        IsTrue result ↔ SharesKey events key }
-{
-    match (key, first) {
-        (Some(key), Some(first)) => key == first,
-        _ => true,
     }
 }
 

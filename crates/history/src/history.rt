@@ -1,7 +1,7 @@
 //! Histories: events in order, each well-formed after those before it.
-ghost use Rattle.std.specs.Prelude.{◌≡◌, ℕ, ◌<◌, ◌≤◌, ◌++◌, ◌∷◌, ◌^◌, ◌↔◌, [], length, slice_get, IsTrue, IsSome, IfSome, option_map, OnOk, IfOk, IfErr, OnErr, IsErrOf};
+ghost use Rattle.std.specs.Prelude.{◌≡◌, ℕ, ◌<◌, ◌≤◌, ◌++◌, ◌∷◌, ◌^◌, ◌↔◌, [], take, length, slice_get, IsTrue, IsSome, IfSome, option_map, OnOk, IfOk, IfErr, OnErr, IsErrOf};
 ghost use Rattle.std.specs.Option.{option_copied};
-ghost use Rattle.history.specs.WellFormed.{IsConcurrency, no_events, Admits, idle, with_prepared, with_last, IsWellFormed, MayRefuse, IsHistoryOf, moves_of, open_of, open_index, IsValue, FollowsRule, BreaksRule, Refuses};
+ghost use Rattle.history.specs.WellFormed.{IsConcurrency, no_events, Admits, MayNotCut, idle, with_next, with_events, IsWellFormed, MayRefuse, IsHistoryOf, moves_of, open_of, open_index, FollowsRule, BreaksRule, Refuses};
 ghost use Rattle.edn.specs.View.{value_of};
 ghost use Rattle.history.specs.Events.{indexed_from, events_of_key};
 ghost use Rattle.history.specs.Spelling.{Spells};
@@ -9,7 +9,7 @@ ghost use Rattle.history.specs.EventMap.{map_of, with_index};
 ghost use Rattle.processes.specs.MoveRule.{current_of};
 ghost use Rattle.processes.specs.Threads.{MayNotStart};
 
-use crate::allowed::{completes, is_in_tables, shares_key};
+use crate::allowed::{completes, is_in_tables};
 use crate::clients::Clients;
 use crate::event::{Body, Event, EventKind, Process};
 use crate::event_map::map_of_event;
@@ -25,32 +25,40 @@ const MOST_EVENTS: u32 = 1_048_576;
 /// it is well-formed after those before it. The index of an event is its place, from 0. A history holds at most 2^20
 /// events, of 1 to 64 threads.
 ///
-/// Each change has two halves: `prepare` tests an event and makes room for it, `commit` appends it.
+/// Each change is prepared, which may fail and changes nothing but what is prepared, and then committed. What was prepared
+/// before is dropped.
 #[derive(Drop)]
 pub struct History {
     concurrency: u32,
     events: Vec<Event>,
     clients: Clients,
-    key: Option<u16>,
-    prepared: Option<Event>,
+    prepared: Option<Prepared>,
+}
+
+/// What may be committed: one more event, for which there is room; or the first so many events alone, with what they make of
+/// the clients.
+#[derive(Drop)]
+enum Prepared {
+    Push(Event),
+    Cut(u32, Clients),
 }
 
 impl Model for History {
-    ghost use Rattle.std.specs.Prelude.{vec_capacity};
+    ghost use Rattle.std.specs.Prelude.{IfSome, option_map, vec_capacity};
     ghost use Rattle.history.specs.WellFormed.{HistoryView};
-    ghost use Rattle.history.specs.HistoryInvariant.{IsSoundHistory, IsReady};
+    ghost use Rattle.history.specs.HistoryInvariant.{IsSoundHistory, IsReady, brought};
 
     ghost Value = { HistoryView };
 
     ghost view = { λ a. record {
       concurrency = a.concurrency;
       events = a.events.items;
-      prepared = a.prepared;
+      next = option_map (brought a.events.items) a.prepared;
     } };
 
     ghost invariant = { λ a.
-        IsSoundHistory a.concurrency a.events.items a.clients.threads a.clients.opened.items a.key
-        × IsReady a.concurrency a.events.items (vec_capacity a.events) a.prepared };
+        IsSoundHistory a.concurrency a.events.items a.clients.threads a.clients.opened.items
+        × IfSome a.prepared (IsReady a.concurrency a.events.items (vec_capacity a.events)) };
 }
 
 impl History {
@@ -69,23 +77,23 @@ impl History {
             concurrency,
             events: Vec::new(alloc),
             clients,
-            key: None,
             prepared: None,
         })
     }
 
-    /// Tests an event and makes room for it; the events stay as they are. The next `prepare` or `push` drops it again.
+    /// Prepares to append an event: tests it and makes room for it.
     ///
     /// # Errors
     /// The refusal of the first test that the event does not pass, in the order [`Refusal::BadValue`],
     /// [`Refusal::BadIndex`], [`Refusal::HistoryFull`], then [`Refusal::WrongProcess`] and [`Refusal::Busy`] for an
     /// invocation, or [`Refusal::NotOpen`] and [`Refusal::Mismatch`] for a completion; [`Refusal::NoMemory`] last.
-    /// Then no event is prepared.
+    /// Then nothing is prepared.
     ///
     /// The time does not grow with the history, but where its memory grows.
-    pub fn prepare(&mut self, event: Event) -> Result<(), Refusal>
+    pub fn prepare_push(&mut self, event: Event) -> Result<(), Refusal>
         ensures well_formed { OnOk result (Admits self.old event) }
-        ensures prepared { OnOk result (self.new ≡ with_prepared event self.old) }
+        ensures prepared { OnOk result
+            (self.new ≡ with_next (self.old.events ++ event ∷ []) self.old) }
         ensures refused { IfErr result (MayRefuse self.old.concurrency self.old.events event) }
         ensures memory_last { IsErrOf result Refusal.NoMemory → Admits self.old event }
         ensures err { OnErr result (self.new ≡ idle self.old) }
@@ -93,39 +101,84 @@ impl History {
         self.prepared = None;
         self.test(&event)?;
         self.events.reserve(1)?;
-        self.prepared = Some(event);
+        self.prepared = Some(Prepared::Push(event));
         Ok(())
     }
 
-    /// Appends the prepared event. It takes no memory and cannot fail, and its time does not grow with the history.
-    pub fn commit(&mut self)
-        requires { IsSome self.old.prepared }
-        ensures { IfSome self.old.prepared (λ event. self.new ≡ with_last event self.old) }
+    /// Prepares to keep the first `n` events alone, and the threads that they make. It takes the time of these events.
+    ///
+    /// # Errors
+    /// [`Refusal::NoSuchIndex`] where there are fewer events; else [`Refusal::NoMemory`] where a growth was refused. Then
+    /// nothing is prepared.
+    pub fn prepare_cut(&mut self, n: u32) -> Result<(), Refusal>
+        ensures within { OnOk result (n ≤ length self.old.events) }
+        ensures prepared { OnOk result (self.new ≡ with_next (take n self.old.events) self.old) }
+        ensures refused { IfErr result (MayNotCut self.old.events n) }
+        ensures memory_last { IsErrOf result Refusal.NoMemory → n ≤ length self.old.events }
+        ensures err { OnErr result (self.new ≡ idle self.old) }
     {
-        let Some(event) = self.prepared.take() else {
-            unreachable!()
-        };
-        let place = self.events.len();
-        self.clients
-            .move_on(place as u32, event.kind, event.process);
-        let added = event.key();
-        self.key = self.key.or(added);
-        self.events.push(event).unwrap();
+        self.prepared = None;
+        if n > self.len() {
+            return Err(Refusal::NoSuchIndex);
+        }
+        let alloc = *self.events.allocator();
+        let kept = &self.events.as_slice()[..n as usize];
+        let clients = Clients::after(alloc, self.concurrency, kept)?;
+        self.prepared = Some(Prepared::Cut(n, clients));
+        Ok(())
     }
 
-    /// Appends an event that is well-formed after those before it: [`prepare`](History::prepare) and
+    /// Carries out what is prepared. It takes no memory and cannot fail, and the time of what it takes away.
+    pub fn commit(&mut self)
+        requires { IsSome self.old.next }
+        ensures { IfSome self.old.next (λ events. self.new ≡ with_events events self.old) }
+    {
+        match self.prepared.take() {
+            Some(Prepared::Push(event)) => {
+                let place = self.events.len();
+                self.clients
+                    .move_on(place as u32, event.kind, event.process);
+                self.events.push(event).unwrap();
+            }
+            Some(Prepared::Cut(n, clients)) => {
+                self.events.truncate(n as usize);
+                self.clients = clients;
+            }
+            None => unreachable!(),
+        }
+    }
+
+    /// Appends an event that is well-formed after those before it: [`prepare_push`](History::prepare_push) and
     /// [`commit`](History::commit) in one.
     ///
     /// # Errors
-    /// Those of [`prepare`](History::prepare); the events are then as before, and no event is prepared.
+    /// Those of [`prepare_push`](History::prepare_push); the events are then as before, and nothing is prepared.
     pub fn push(&mut self, event: Event) -> Result<(), Refusal>
         ensures well_formed { OnOk result (Admits self.old event) }
-        ensures pushed { OnOk result (self.new ≡ with_last event self.old) }
+        ensures pushed { OnOk result
+            (self.new ≡ with_events (self.old.events ++ event ∷ []) self.old) }
         ensures refused { IfErr result (MayRefuse self.old.concurrency self.old.events event) }
         ensures memory_last { IsErrOf result Refusal.NoMemory → Admits self.old event }
         ensures err { OnErr result (self.new ≡ idle self.old) }
     {
-        self.prepare(event)?;
+        self.prepare_push(event)?;
+        self.commit();
+        Ok(())
+    }
+
+    /// Keeps the first `n` events alone, and the threads that they make: [`prepare_cut`](History::prepare_cut) and
+    /// [`commit`](History::commit) in one.
+    ///
+    /// # Errors
+    /// Those of [`prepare_cut`](History::prepare_cut); the events are then as before, and nothing is prepared.
+    pub fn cut(&mut self, n: u32) -> Result<(), Refusal>
+        ensures within { OnOk result (n ≤ length self.old.events) }
+        ensures cut { OnOk result (self.new ≡ with_events (take n self.old.events) self.old) }
+        ensures refused { IfErr result (MayNotCut self.old.events n) }
+        ensures memory_last { IsErrOf result Refusal.NoMemory → n ≤ length self.old.events }
+        ensures err { OnErr result (self.new ≡ idle self.old) }
+    {
+        self.prepare_cut(n)?;
         self.commit();
         Ok(())
     }
@@ -135,7 +188,7 @@ impl History {
         ensures ok { OnOk result (IsWellFormed self.now.concurrency self.now.events event.now) }
         ensures refused { IfErr result (Refuses self.now.concurrency self.now.events event.now) }
     {
-        if !self.may_have(event) {
+        if !is_in_tables(event.kind, event.process, &event.body) {
             return Err(Refusal::BadValue);
         }
         if event.index.is_some_and(|index| index != self.len()) {
@@ -148,13 +201,6 @@ impl History {
             (Process::Client(process), Body::Op(op)) => self.test_rule(event.kind, process, op),
             _ => Ok(()),
         }
-    }
-
-    // Whether the event is one of the tables.
-    fn may_have(&self, event: &Event) -> bool
-        ensures { IsTrue result ↔ IsValue self.now.events event.now }
-    {
-        is_in_tables(event.kind, event.process, &event.body) && shares_key(self.key, event.key())
     }
 
     // The open operation of a process.

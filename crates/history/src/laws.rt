@@ -9,7 +9,7 @@ ghost use Rattle.edn.specs.declared.refusal.Refusal.TheVariants.{Busy, WrongProc
 ghost use Rattle.models.specs.declared.operation.Part.TheVariants.{Nil};
 ghost use Rattle.history.specs.declared.event.EventKind.TheVariants.{Invoke, Ok};
 ghost use Rattle.history.specs.declared.event.Event.{Event};
-ghost use Rattle.history.specs.Events.{indexed_from};
+ghost use Rattle.history.specs.Events.{entries_of, indexed_from, events_of_key, of_key};
 ghost use Rattle.history.specs.ProcessRule.{IsHistory};
 ghost use Rattle.history.specs.WellFormed.{IsWellFormed, Refuses, IsHistoryOf};
 ghost use Rattle.history.specs.Examples.{event, read, write, open_write, crashed_write};
@@ -33,6 +33,15 @@ pub fn refusals_in_order()
 pub fn process_rule_law()
     ensures { (c : ℕ) (events : List Event) →
         IsHistoryOf c events → IsHistory (indexed_from 0 events) }
+{}
+
+/// The events of one key are a history by themselves, and their entries are the key's entries: what became of a key's
+/// operations is told by its own events alone.
+pub fn key_events_law()
+    ensures history { (key : ℕ) (events : List (ℕ × Event)) →
+        IsHistory events → IsHistory (events_of_key key events) }
+    ensures entries { (key : ℕ) (events : List (ℕ × Event)) → IsHistory events
+        → entries_of (events_of_key key events) ≡ of_key key (entries_of events) }
 {}
 
 /// An element spells at most one event.
