@@ -31,7 +31,7 @@ use Rattle.machine.specs.declared.command.Command.TheVariants.{Append, Rewind, S
 use Rattle.machine.specs.declared.command.Reply.{Reply}
 use Rattle.machine.specs.declared.command.Reply.TheVariants.{Verdict as Says, Drawn as HasDrawn, Pending as IsPending, Done as IsDone, Served, Fault as Struck}
 use Rattle.machine.specs.JudgedHistory.{JudgedHistory, kind_of, budget_of, entries_in, IsVerdictOn, with_budget}
-use Rattle.machine.specs.Machine.{Machine, Setup, opening, Gives, NextFault, process_of, appended, invoked_by, with_served, struck_by, Takes, Replies, MayStep, Runs, IsOfTrial, AreOfTrial}
+use Rattle.machine.specs.Machine.{Machine, Setup, opening, Gives, NextFault, current_process, appended, invoked_by, with_served, struck_by, Takes, Replies, MayStep, Runs, IsOfTrial, AreOfTrial}
 
 -- the machine as far as a trial goes
 abbrev pub trial_of : Machine → Trial
@@ -73,9 +73,9 @@ next_fault old after fault next =
 abbrev pub moved_on : (old after : Machine) → MovedOn old after → Machine
 moved_on old after m = record old { schedule = m.0; generator = m.1; place = m.2 }
 
-draws : (old new after : Machine) (thread : ℕ) (op : Op) → MovedOn old after → Takes old (invocation (process_of old thread) op) → new ≡ invoked_by thread (process_of old thread) op after → IsMove old new
+draws : (old new after : Machine) (thread : ℕ) (op : Op) → MovedOn old after → Takes old (invocation (current_process old thread) op) → new ≡ invoked_by thread (current_process old thread) op after → IsMove old new
 draws old new after thread op m takes is =
-    by_move old new (invoked_by thread (process_of old thread) op (moved_on old after m)) (Draws thread op) (is ∙ ap (invoked_by thread (process_of old thread) op) m.3) refl refl (takes, refl)
+    by_move old new (invoked_by thread (current_process old thread) op (moved_on old after m)) (Draws thread op) (is ∙ ap (invoked_by thread (current_process old thread) op) m.3) refl refl (takes, refl)
 
 strikes : (old new after : Machine) (fault : Fault) → MovedOn old after → Takes old (strike fault) → new ≡ struck_by fault after → IsMove old new
 strikes old new after fault m takes is =

@@ -18,7 +18,7 @@ use Rattle.machine.specs.declared.command.Command.TheVariants.{Append, Rewind, S
 use Rattle.machine.specs.declared.command.Reply.{Reply}
 use Rattle.machine.specs.declared.command.Reply.TheVariants.{Verdict as Says, Drawn as HasDrawn, Pending as IsPending, Done as IsDone, Served, Fault as Struck}
 use Rattle.machine.specs.JudgedHistory.{JudgedHistory, kind_of, budget_of, entries_in, IsVerdictOn}
-use Rattle.machine.specs.Machine.{Machine, process_of, appended, invoked_by, with_served, struck_by, Replies}
+use Rattle.machine.specs.Machine.{Machine, current_process, appended, invoked_by, with_served, struck_by, Replies}
 use Rattle.machine.proofs.OneGift.{one_gift, one_fault}
 use Rattle.machine.proofs.OneRefusal.{same_ticket}
 
@@ -42,7 +42,7 @@ draw_one old new next thread (HasDrawn ticket index) (HasDrawn number place) a b
     let one = one_gift old a.3.1 b.3.1 (Thread thread) (Gets (AnOp a.3.0)) (Gets (AnOp b.3.0)) a.3.2 b.3.2 in
     let op_is : a.3.0 ≡ b.3.0 = op_in a.3.0 b.3.0 one.0 in (
       (λ i. HasDrawn (ticket_is i) (index_is i)),
-      a.3.4 ∙ (λ i. invoked_by thread (process_of old thread) (op_is i) (one.1 i)) ∙ sym b.3.4,
+      a.3.4 ∙ (λ i. invoked_by thread (current_process old thread) (op_is i) (one.1 i)) ∙ sym b.3.4,
     ))
 draw_one old new next thread (HasDrawn ticket index) IsPending a b =
     (let q : ◌≡◌ {A = Drawn} (Gets (AnOp a.3.0)) Pending = (one_gift old a.3.1 next (Thread thread) (Gets (AnOp a.3.0)) Pending a.3.2 b.1).0 in cc)

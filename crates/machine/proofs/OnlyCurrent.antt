@@ -25,7 +25,7 @@ one_more c events index kind (Client p) (AnOp op) rule well =
     (follow-push c (moves_of events) (move_by kind p) rule (may_move c events index kind p op well))
 one_more c events index Info Nemesis (AFault fault) rule well =
     subst (FollowMoveRule c) (sym (moves_of-none events (record { index = index; kind = Info; process = Nemesis; body = AFault fault }) refl)) rule
-one_more c events index _ _ _ rule well = absurd well.0.0
+one_more c events index _ _ _ rule well = absurd well.0
 
 all_more : (c : ℕ) (before events : List Event) → FollowMoveRule c (moves_of before) → IsHistoryOf c (before ++ events) → FollowMoveRule c (moves_of (before ++ events))
 all_more c before [] rule h = subst (λ l. FollowMoveRule c (moves_of l)) (sym (append-nil before)) rule

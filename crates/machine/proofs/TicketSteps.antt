@@ -14,7 +14,7 @@ use Rattle.machine.specs.declared.command.Command.TheVariants.{Append, Rewind, S
 use Rattle.machine.specs.declared.command.Reply.{Reply}
 use Rattle.machine.specs.declared.command.Reply.TheVariants.{Verdict as Says, Drawn as HasDrawn, Pending as IsPending, Done as IsDone, Served, Fault as Struck}
 use Rattle.machine.specs.JudgedHistory.{with_kind, with_budget}
-use Rattle.machine.specs.Machine.{Machine, Gives, process_of, appended, cut_to, invoked_by, with_served, struck_by, Replies, MayStep}
+use Rattle.machine.specs.Machine.{Machine, Gives, current_process, appended, cut_to, invoked_by, with_served, struck_by, Replies, MayStep}
 use Rattle.machine.specs.Tickets.{AreTickets}
 use Rattle.machine.proofs.Moves.{MovedOn, moved_on, given, next_fault}
 use Rattle.machine.proofs.Tickets.{more_events, drawn, served, serve_answers, cut}
@@ -42,8 +42,8 @@ tickets_reply old new (SetBudget key n) (Says v) may h = to (record old { judged
 tickets_reply old new Ask (Says v) may h = to old new may.0 h
 tickets_reply old new (Draw thread) (HasDrawn ticket index) may h =
     (let m : MovedOn old may.3.1 = given old may.3.1 (Thread thread) (Gets (AnOp may.3.0)) may.3.2 in
-    to (invoked_by thread (process_of old thread) may.3.0 (moved_on old may.3.1 m)) new (may.3.4 ∙ ap (invoked_by thread (process_of old thread) may.3.0) m.3)
-    (drawn old.judged.concurrency old.judged.events old.tickets thread may.3.0 may.0.0 may.3.3.0.0 h))
+    to (invoked_by thread (current_process old thread) may.3.0 (moved_on old may.3.1 m)) new (may.3.4 ∙ ap (invoked_by thread (current_process old thread) may.3.0) m.3)
+    (drawn old.judged.concurrency old.judged.events old.tickets thread may.3.0 may.0.0 may.3.3.0 h))
 tickets_reply old new (Draw thread) IsPending may h = declined old new thread Pending may.1 h
 tickets_reply old new (Draw thread) IsDone may h = declined old new thread Done may.1 h
 tickets_reply old new (Serve number) (Served outcome) may h =

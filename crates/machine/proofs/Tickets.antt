@@ -10,8 +10,7 @@ use Rattle.models.specs.Objects.{table_of}
 use Rattle.models.specs.AnyState.{any}
 use Rattle.processes.specs.MoveRule.{current_of, is_crash_on}
 use Rattle.history.specs.declared.event.Event.{Event}
-use Rattle.history.specs.Events.{key_of}
-use Rattle.history.specs.WellFormed.{IsPart, moves_of, open_of, invoked_in, HasRoom, SharesKey, IsWellFormed}
+use Rattle.history.specs.WellFormed.{IsPart, moves_of, open_of, invoked_in, HasRoom, IsWellFormed}
 use Rattle.history.proofs.Appending.{open_of_at}
 use Rattle.test_store.specs.declared.held.Held.{Held}
 use Rattle.test_store.specs.declared.outcome.Outcome.{Outcome}
@@ -163,8 +162,7 @@ still_open c events t s = ((λ is. ap (option_map (λ (x : ℕ × Op). x.0)) is)
         at ∙ ap (λ f. Some (t.index, f)) op)
 
 -- it can be completed as its serve came out
-pub may_complete : (c : ℕ) (events : List Event) (t : Ticket) (outcome : Outcome) → IsStillOpen events t → HasRoom events → IsPart t.op.name t.op.part → IsAnswered t.op (Some outcome)
-    → SharesKey events (key_of (completion t.process t.op outcome)) → IsWellFormed c events (completion t.process t.op outcome)
-may_complete c events t (Done found) open_ room part answer shares = ((answer.0, shares), tt, room, (t.index, t.op, open_, (refl, refl, answer.1)))
-may_complete c events t Refused open_ room part answer shares = ((part, shares), tt, room, (t.index, t.op, open_, (refl, refl, refl)))
-may_complete c events t Lost open_ room part answer shares = ((part, shares), tt, room, (t.index, t.op, open_, (refl, refl, refl)))
+pub may_complete : (c : ℕ) (events : List Event) (t : Ticket) (outcome : Outcome) → IsStillOpen events t → HasRoom events → IsPart t.op.name t.op.part → IsAnswered t.op (Some outcome) → IsWellFormed c events (completion t.process t.op outcome)
+may_complete c events t (Done found) open_ room part answer = (answer.0, tt, room, (t.index, t.op, open_, (refl, refl, answer.1)))
+may_complete c events t Refused open_ room part answer = (part, tt, room, (t.index, t.op, open_, (refl, refl, refl)))
+may_complete c events t Lost open_ room part answer = (part, tt, room, (t.index, t.op, open_, (refl, refl, refl)))

@@ -95,10 +95,10 @@ appended event m = record m { judged = with_event event m.judged }
 abbrev pub cut_to : ℕ → Machine → Machine
 cut_to n m = record m { judged = rewound n m.judged; tickets = map (stale_from n) m.tickets }
 
--- a thread's current process invokes the operation, which gets a ticket
-abbrev pub process_of : Machine → ℕ → ℕ
-process_of m thread = current_of m.judged.concurrency (moves_of m.judged.events) thread
+abbrev pub current_process : Machine → ℕ → ℕ
+current_process m thread = current_of m.judged.concurrency (moves_of m.judged.events) thread
 
+-- the process of the thread invokes the operation, which gets a ticket
 abbrev pub invoked_by : ℕ → ℕ → Op → Machine → Machine
 invoked_by thread process op m = record (appended (invocation process op) m) {
   tickets = m.tickets ++ fresh_ticket thread process op m.judged.events ∷ [];
@@ -180,8 +180,8 @@ Replies old Ask (Says v) new = (new ≡ old) × IsVerdictOn new.judged v
 Replies old (Draw thread) (HasDrawn ticket index) new =
     ThreadMayDraw old thread × (ticket ≡ length old.tickets) × (index ≡ length old.judged.events)
     × ((op : Op) × (after : Machine) × Gives old (Thread thread) (Gets (AnOp op)) after
-    × Takes old (invocation (process_of old thread) op)
-    × (new ≡ invoked_by thread (process_of old thread) op after))
+    × Takes old (invocation (current_process old thread) op)
+    × (new ≡ invoked_by thread (current_process old thread) op after))
 Replies old (Draw thread) IsPending new =
     ThreadMayDraw old thread × Gives old (Thread thread) Pending new
 Replies old (Draw thread) IsDone new =

@@ -3,8 +3,8 @@ ghost use Rattle.std.specs.Prelude.{◌≡◌, ◌↔◌, ◌≤◌, ℕ, List, 
 ghost use Rattle.edn.specs.declared.refusal.Refusal.{Refusal};
 ghost use Rattle.processes.specs.MoveRule.{current_of};
 ghost use Rattle.history.specs.declared.event.Event.{Event};
-ghost use Rattle.history.specs.Events.{key_of, marks};
-ghost use Rattle.history.specs.WellFormed.{moves_of, open_of, open_index, HasRoom, IsPart, SharesKey, IsHistoryOf, IsWellFormed};
+ghost use Rattle.history.specs.Events.{marks};
+ghost use Rattle.history.specs.WellFormed.{moves_of, open_of, open_index, HasRoom, IsPart, IsHistoryOf, IsWellFormed};
 ghost use Rattle.linspec.specs.Orders.{IsLinearizable, product};
 ghost use Rattle.linspec.specs.declared.verdict.Verdict.{Verdict};
 ghost use Rattle.test_store.specs.declared.outcome.Mode.TheVariants.{Strict};
@@ -15,7 +15,7 @@ ghost use Rattle.trials.specs.Trials.{completion, IsStillOpen};
 ghost use Rattle.machine.specs.declared.command.Command.{Command};
 ghost use Rattle.machine.specs.declared.command.Reply.{Reply};
 ghost use Rattle.machine.specs.JudgedHistory.{kind_of, entries_in, IsVerdictOn};
-ghost use Rattle.machine.specs.Machine.{Machine, Setup, opening, MayStep, Runs, AreOfTrial};
+ghost use Rattle.machine.specs.Machine.{Machine, Setup, opening, most_tickets, MayStep, Runs, AreOfTrial};
 ghost use Rattle.machine.specs.Tickets.{served_of, StandsFor, IsAnswered, AreTickets};
 
 /// No false alarm: whatever draws, serves, finishes, faults, budgets and questions lead there, refused ones among them, from
@@ -46,7 +46,10 @@ pub fn counted_law()
     ensures step { (old new : Machine) (command : Command) (outcome : Result Reply Refusal)
         → MayStep old command outcome new → VersionsWithin old.store (served_of old.tickets)
         → VersionsWithin new.store (served_of new.tickets) }
-    ensures few { (tickets : List Ticket) → served_of tickets ≤ length tickets }
+    ensures served { (tickets : List Ticket) → served_of tickets ≤ length tickets }
+    ensures few { (old new : Machine) (command : Command) (outcome : Result Reply Refusal)
+        → MayStep old command outcome new → length old.tickets ≤ most_tickets
+        → length new.tickets ≤ most_tickets }
 {}
 
 /// Each ticket that is not stale stands for its invocation, and each can be completed as its serve came out: at the opening,
@@ -68,6 +71,5 @@ pub fn tickets_law()
     ensures completes { (c : ℕ) (events : List Event) (t : Ticket) (outcome : Outcome)
         → IsStillOpen events t → HasRoom events → IsPart t.op.name t.op.part
         → IsAnswered t.op (Some outcome)
-        → SharesKey events (key_of (completion t.process t.op outcome))
         → IsWellFormed c events (completion t.process t.op outcome) }
 {}

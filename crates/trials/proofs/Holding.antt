@@ -27,7 +27,7 @@ use Rattle.test_store.specs.Store.{IsCount}
 use Rattle.test_store.specs.Truth.{Truth, start_truth, IsTrueOf, TrulySteps, MayServeTruly}
 use Rattle.test_store.proofs.TruthKept.{opening_true, serve_keeps, fault_leaves}
 use Rattle.trials.specs.declared.ticket.Ticket.{Ticket}
-use Rattle.trials.specs.Trials.{Trial, Move, opening, invocation, part_of, completion, strike, fresh_ticket, served_as, MayDraw, MayBeServed, MayFinish, MayMove, Leads}
+use Rattle.trials.specs.Trials.{Trial, Move, opening, invocation, part_of, completion, strike, fresh_ticket, served_as, MayBeDrawn, MayBeServed, MayBeFinished, MayMove, Leads}
 use Rattle.trials.specs.Trials.Move.{Draws, Serves, Finishes, Strikes, Stays}
 use Rattle.trials.proofs.Places.{get_push, get_set}
 use Rattle.trials.proofs.Pushes.{marks_in, marks-push, history-push, no_history, may_follow}
@@ -91,7 +91,7 @@ length-push xs x = length-append xs (x ∷ [])
 not_there : (kind : ModelKind) (events : List Event) (order : List Taken) (truth : Truth kind) (id : ℕ) → IsOrder kind events order truth → IsNew (marks_in events) id → ¬ Includes order id
 not_there kind events order truth id legal new i = new _ (legal.invoked i.0 i.1) i.2
 
-holds_draw : (kind : ModelKind) (old new : Trial) (thread : ℕ) (op : Op) → Holds kind old → MayDraw old thread op new → Holds kind new
+holds_draw : (kind : ModelKind) (old new : Trial) (thread : ℕ) (op : Op) → Holds kind old → MayBeDrawn old thread op new → Holds kind new
 holds_draw kind old new thread op h may = subst (Holds kind) (sym may.1) (record {
   history = history;
   opens = opens_invocation old.concurrency old.events process op h.opens history;
@@ -278,7 +278,7 @@ completed kind events order truth p id op Lost opens here legal stands =
 still_below : (events : List Event) (e : Event) (i : ℕ) → i < length events → i < length (events ++ e ∷ [])
 still_below events e i h = (let more : length (events ++ e ∷ []) ≡ length events + 1 = length-push events e in omega arith)
 
-holds_finish : (kind : ModelKind) (old new : Trial) (number : ℕ) → Holds kind old → MayFinish old number new → Holds kind new
+holds_finish : (kind : ModelKind) (old new : Trial) (number : ℕ) → Holds kind old → MayBeFinished old number new → Holds kind new
 holds_finish kind old new number h may =
     let t : Ticket = may.0 in
     let e : Event = completion t.process t.op may.1 in

@@ -118,8 +118,8 @@ abbrev pub with_event : Event → Trial → Trial
 with_event e m = record m { events = m.events ++ e ∷ [] }
 
 -- a thread's current process invokes the operation, which gets a ticket
-abbrev pub MayDraw : Trial → ℕ → Op → Trial → Type 0
-MayDraw old thread op new =
+abbrev pub MayBeDrawn : Trial → ℕ → Op → Trial → Type 0
+MayBeDrawn old thread op new =
     let process = current_of old.concurrency (moves_of old.events) thread in
     IsWellFormed old.concurrency old.events (invocation process op)
     × (new ≡ record (with_event (invocation process op) old) {
@@ -138,17 +138,17 @@ MayBeServed old number outcome new =
     }))
 
 -- an operation that is open and was served is completed as that came out
-abbrev pub MayFinish : Trial → ℕ → Trial → Type 0
-MayFinish old number new =
+abbrev pub MayBeFinished : Trial → ℕ → Trial → Type 0
+MayBeFinished old number new =
     (t : Ticket) × (outcome : Outcome) × (slice_get old.tickets number ≡ Some t)
     × (t.outcome ≡ Some outcome) × IsStillOpen old.events t
     × IsWellFormed old.concurrency old.events (completion t.process t.op outcome)
     × (new ≡ with_event (completion t.process t.op outcome) old)
 
 abbrev pub MayMove : Trial → Move → Trial → Type 0
-MayMove old (Draws thread op) new = MayDraw old thread op new
+MayMove old (Draws thread op) new = MayBeDrawn old thread op new
 MayMove old (Serves number outcome) new = MayBeServed old number outcome new
-MayMove old (Finishes number) new = MayFinish old number new
+MayMove old (Finishes number) new = MayBeFinished old number new
 MayMove old (Strikes fault) new =
     IsWellFormed old.concurrency old.events (strike fault)
     × (new ≡ record (with_event (strike fault) old) { store = after_fault fault old.store })
