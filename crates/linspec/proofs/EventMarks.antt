@@ -8,14 +8,14 @@ use Rattle.linspec.specs.declared.kept_marks.KeptMark as kept
 use Rattle.linspec.specs.KeptMarks.{mark_of, marks_of_kept, last_invocation_from, last_invocation, marks_made, marks_of_first, marks_at, is_invocation, is_invocation_by}
 
 -- the last invocations after one more event
-last_invocation_from-push : (i : ℕ) (last : ℕ → ℕ) (xs : List Event) (e : Event) → last_invocation_from i last (xs ++ e ∷ []) ≡ last_after (i + length xs) (last_invocation_from i last xs) (op_event e)
+pub last_invocation_from-push : (i : ℕ) (last : ℕ → ℕ) (xs : List Event) (e : Event) → last_invocation_from i last (xs ++ e ∷ []) ≡ last_after (i + length xs) (last_invocation_from i last xs) (op_event e)
 last_invocation_from-push i last [] e = ap (λ n. last_after n last (op_event e)) (let t : i ≡ i + 0 = omega arith in t)
 last_invocation_from-push i last (x ∷ xs) e =
     last_invocation_from-push (i + 1) (last_after i last (op_event x)) xs e
     ∙ ap (λ n. last_after n (last_invocation_from (i + 1) (last_after i last (op_event x)) xs) (op_event e)) (let t : i + 1 + length xs ≡ i + length (x ∷ xs) = omega arith in t)
 
 -- the entries with those of one more event
-entries_from-push : (i : ℕ) (last : ℕ → ℕ) (xs : List Event) (e : Event) → entries_from last (indexed_from i (xs ++ e ∷ [])) ≡ entries_from last (indexed_from i xs) ++ entries_by (i + length xs) (last_invocation_from i last xs) (op_event e)
+pub entries_from-push : (i : ℕ) (last : ℕ → ℕ) (xs : List Event) (e : Event) → entries_from last (indexed_from i (xs ++ e ∷ [])) ≡ entries_from last (indexed_from i xs) ++ entries_by (i + length xs) (last_invocation_from i last xs) (op_event e)
 entries_from-push i last [] e = append-nil _ ∙ ap (λ n. entries_by n last (op_event e)) (let t : i ≡ i + 0 = omega arith in t)
 entries_from-push i last (x ∷ xs) e =
     ap (λ l. entries_by i last (op_event x) ++ l) (entries_from-push (i + 1) (last_after i last (op_event x)) xs e)

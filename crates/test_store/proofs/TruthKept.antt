@@ -52,16 +52,16 @@ pub opening_true : (n : ℕ) (kind : ModelKind) → IsCount n → IsTrueOf kind 
 opening_true n kind h key = holds_fresh kind n h.0
 
 -- an outcome, its state seen as one of any kind
-abbrev seen : {S : Type 0} → (S → AnyState) → S × Found → AnyState × Found
+abbrev pub seen : {S : Type 0} → (S → AnyState) → S × Found → AnyState × Found
 seen view o = (view o.0, o.1)
 
 -- what the first listed outcome says of the object
-record FirstStep {S : Type 0} (view : S → AnyState) (xs : List (S × Found)) (came : AnyState × Found) : Type 0 where
-  next : S
-  after_is : came.0 ≡ view next
-  listed : IsOneOf xs (next, came.1)
+pub record FirstStep {S : Type 0} (view : S → AnyState) (xs : List (S × Found)) (came : AnyState × Found) : Type 0 where
+  pub next : S
+  pub after_is : came.0 ≡ view next
+  pub listed : IsOneOf xs (next, came.1)
 
-first_step : {S : Type 0} (view : S → AnyState) (xs : List (S × Found)) (came : AnyState × Found)
+pub first_step : {S : Type 0} (view : S → AnyState) (xs : List (S × Found)) (came : AnyState × Found)
     → Some came ≡ first_of (map (seen view) xs) → FirstStep view xs came
 first_step view [] came e = absurd cc
 first_step {S} view (x ∷ xs) came e =

@@ -1,0 +1,10 @@
+pub mod Counting
+pub mod Moves
+pub mod Firsts
+pub mod OneGift
+pub mod OneRefusal
+pub mod OneReply
+pub mod OneStep
+pub mod Tickets
+pub mod TicketSteps
+pub mod OnlyCurrent

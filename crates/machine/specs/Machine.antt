@@ -1,0 +1,253 @@
+-- Promise: the one-thread object with all its commands: its state, and what each may answer (this project's own)
+use Rattle.std.specs.Prelude.{◌≡◌, ℕ, zero, suc, ◌+◌, ◌-◌, ◌%◌, ◌^◌, ◌<◌, ◌≤◌, Bool, true, false, nat_lt, if◌then◌else◌, not, is_some, Option, Some, None, IsSome, Result, Ok, Err, List, [], ◌∷◌, ◌++◌, length, map, slice_get, slice_set, ◌⊎◌}
+use Rattle.edn.specs.declared.refusal.Refusal.{Refusal}
+use Rattle.edn.specs.declared.refusal.Refusal.TheVariants.{Busy, WrongProcess, NotOpen, HistoryFull, NoSuchIndex, BadBudget, TapeFull, Idle, NotServed, AlreadyServed, Stale}
+use Rattle.models.specs.declared.operation.Op.{Op}
+use Rattle.models.specs.declared.model_kind.ModelKind.{ModelKind}
+use Rattle.processes.specs.MoveRule.{current_of}
+use Rattle.history.specs.declared.event.Fault.{Fault}
+use Rattle.history.specs.declared.event.Event.{Event}
+use Rattle.history.specs.WellFormed.{moves_of, open_index, IsWellFormed, HasRoom}
+use Rattle.history.specs.WellFormed as history
+use Rattle.nemesis.specs.Schedules.{due_at, after_first}
+use Rattle.generators.specs.declared.item.Item.TheVariants.{Op as AnOp, Fault as AFault}
+use Rattle.generators.specs.declared.item.Asker.{Asker}
+use Rattle.generators.specs.declared.item.Asker.TheVariants.{Thread, Nemesis as TheNemesis}
+use Rattle.generators.specs.declared.item.Drawn.{Drawn}
+use Rattle.generators.specs.declared.item.Drawn.TheVariants.{Op as Gets, Pending, Done}
+use Rattle.generators.specs.Generators.{Generator}
+use Rattle.generators.specs.Draws.{ask_of, MayDraw}
+use Rattle.generators.specs.Words.{word}
+use Rattle.test_store.specs.declared.outcome.Mode.{Mode}
+use Rattle.test_store.specs.declared.outcome.Outcome.{Outcome}
+use Rattle.test_store.specs.Store as store
+use Rattle.test_store.specs.Store.{Cluster, MayServe, after_fault}
+use Rattle.trials.specs.declared.ticket.Ticket.{Ticket}
+use Rattle.trials.specs.Trials.{invocation, completion, strike, fresh_ticket, served_as, IsStillOpen}
+use Rattle.machine.specs.declared.command.Command.{Command}
+use Rattle.machine.specs.declared.command.Command.TheVariants.{Append, Rewind, SetModel, SetBudget, Verdict as Ask, Draw, Serve, Finish, Nemesis}
+use Rattle.machine.specs.declared.command.Reply.{Reply}
+use Rattle.machine.specs.declared.command.Reply.TheVariants.{Verdict as Says, Drawn as HasDrawn, Pending as IsPending, Done as IsDone, Served, Fault as Struck}
+use Rattle.machine.specs.JudgedHistory.{JudgedHistory, IsVerdictOn, IsBudget, opening_of, with_event, rewound, with_kind, with_budget}
+
+pub record Machine : Type 0 where
+  pub judged : JudgedHistory
+  -- the generator, the seed of its random words, and its place in their stream
+  pub generator : Generator
+  pub seed : ℕ
+  pub place : ℕ
+  -- the faults that are still to come, each with the length of the history from which it is due
+  pub schedule : List (ℕ × Fault)
+  pub store : Cluster
+  -- the operations that were drawn, in order: a ticket's number is its place
+  pub tickets : List Ticket
+
+-- The opening
+
+-- how it is opened: threads, the kind and the budget of a key for which none is set, what draws, what strikes, and the store
+pub record Setup : Type 0 where
+  pub concurrency : ℕ
+  pub kind : ModelKind
+  pub budget : ℕ
+  pub generator : Generator
+  pub seed : ℕ
+  pub schedule : List (ℕ × Fault)
+  pub replicas : ℕ
+  pub mode : Mode
+
+abbrev pub opening : Setup → Machine
+opening setup = record {
+  judged = opening_of setup.concurrency setup.kind setup.budget;
+  generator = setup.generator;
+  seed = setup.seed;
+  place = 0;
+  schedule = setup.schedule;
+  store = store.opening setup.replicas setup.mode setup.kind;
+  tickets = [];
+}
+
+-- Tickets
+
+-- the most tickets
+abbrev pub most_tickets : ℕ
+most_tickets = 2 ^ 32 - 1
+
+-- the ticket with this number, which is not stale; there is none
+abbrev pub HasTicket : List Ticket → ℕ → Ticket → Type 0
+HasTicket tickets number t = (slice_get tickets number ≡ Some t) × (t.stale ≡ false)
+
+abbrev pub HasNoTicket : List Ticket → ℕ → Type 0
+HasNoTicket tickets number = (t : Ticket) → slice_get tickets number ≡ Some t → t.stale ≡ true
+
+-- the ticket with this number, which is not stale, is such a one
+abbrev pub IsTicketAnd : Machine → ℕ → (Ticket → Type 0) → Type 0
+IsTicketAnd m number P = (t : Ticket) × HasTicket m.tickets number t × P t
+
+-- a rewind makes the tickets stale whose invocation it cuts
+abbrev pub stale_from : ℕ → Ticket → Ticket
+stale_from n t = if nat_lt t.index n then t else record t { stale = true }
+
+-- What changes
+
+abbrev pub appended : Event → Machine → Machine
+appended event m = record m { judged = with_event event m.judged }
+
+abbrev pub cut_to : ℕ → Machine → Machine
+cut_to n m = record m { judged = rewound n m.judged; tickets = map (stale_from n) m.tickets }
+
+abbrev pub current_process : Machine → ℕ → ℕ
+current_process m thread = current_of m.judged.concurrency (moves_of m.judged.events) thread
+
+-- the process of the thread invokes the operation, which gets a ticket
+abbrev pub invoked_by : ℕ → ℕ → Op → Machine → Machine
+invoked_by thread process op m = record (appended (invocation process op) m) {
+  tickets = m.tickets ++ fresh_ticket thread process op m.judged.events ∷ [];
+}
+
+-- a ticket was served, which left this store
+abbrev pub with_served : ℕ → Ticket → Outcome → Cluster → Machine → Machine
+with_served number t outcome after m =
+    record m { store = after; tickets = slice_set m.tickets number (served_as outcome t) }
+
+-- a fault strikes, and is an event
+abbrev pub struck_by : Fault → Machine → Machine
+struck_by fault m = record (appended (strike fault) m) { store = after_fault fault m.store }
+
+-- What is drawn
+
+-- for each thread whether it has no open operation
+abbrev pub idle_from : ℕ → List Event → ℕ → ℕ → List Bool
+idle_from c events t zero = []
+idle_from c events t (suc n) =
+    not (is_some (open_index c events t)) ∷ idle_from c events (t + 1) n
+
+abbrev pub idle_threads : JudgedHistory → List Bool
+idle_threads h = idle_from h.concurrency h.events 0 h.concurrency
+
+-- the generator may answer the asker so, which leads to the machine after it
+abbrev pub Gives : Machine → Asker → Drawn → Machine → Type 0
+Gives m asker drawn after =
+    (g : Generator) × (p : ℕ)
+    × MayDraw (word m.seed) (ask_of asker (idle_threads m.judged)) m.generator m.place drawn g p
+    × (after ≡ record m { generator = g; place = p })
+
+abbrev pub first_due : Machine → Option Fault
+first_due m = due_at (length m.judged.events) m.schedule
+
+-- the fault that strikes next, and the machine that is without it: the first of the schedule, where it is due, else one
+-- that the nemesis draws
+abbrev pub NextFault : Machine → Fault → Machine → Type 0
+NextFault m fault after =
+    ((first_due m ≡ Some fault) × (after ≡ record m { schedule = after_first m.schedule }))
+    ⊎ ((first_due m ≡ None) × Gives m TheNemesis (Gets (AFault fault)) after)
+
+-- there is none
+abbrev pub HasNoFault : Machine → Type 0
+HasNoFault m =
+    (first_due m ≡ None)
+    × (((after : Machine) × Gives m TheNemesis Pending after)
+    ⊎ ((after : Machine) × Gives m TheNemesis Done after))
+
+-- The commands
+
+abbrev pub IsThread : Machine → ℕ → Type 0
+IsThread m thread = thread < m.judged.concurrency
+
+abbrev pub open_at : Machine → ℕ → Option ℕ
+open_at m thread = open_index m.judged.concurrency m.judged.events thread
+
+-- a thread may draw: it has no open operation, and there is room for one more event and one more ticket
+abbrev pub ThreadMayDraw : Machine → ℕ → Type 0
+ThreadMayDraw m thread =
+    IsThread m thread × (open_at m thread ≡ None) × HasRoom m.judged.events
+    × (length m.tickets < most_tickets)
+
+abbrev pub Takes : Machine → Event → Type 0
+Takes m event = IsWellFormed m.judged.concurrency m.judged.events event
+
+-- the command may be answered so, which leads from the old machine to the new
+abbrev pub Replies : Machine → Command → Reply → Machine → Type 0
+Replies old (Append event) (Says v) new =
+    Takes old event × (new ≡ appended event old) × IsVerdictOn new.judged v
+Replies old (Rewind n) (Says v) new =
+    (n ≤ length old.judged.events) × (new ≡ cut_to n old) × IsVerdictOn new.judged v
+Replies old (SetModel key kind) (Says v) new =
+    (new ≡ record old { judged = with_kind key kind old.judged }) × IsVerdictOn new.judged v
+Replies old (SetBudget key n) (Says v) new =
+    IsBudget n × (new ≡ record old { judged = with_budget key n old.judged })
+    × IsVerdictOn new.judged v
+Replies old Ask (Says v) new = (new ≡ old) × IsVerdictOn new.judged v
+Replies old (Draw thread) (HasDrawn ticket index) new =
+    ThreadMayDraw old thread × (ticket ≡ length old.tickets) × (index ≡ length old.judged.events)
+    × ((op : Op) × (after : Machine) × Gives old (Thread thread) (Gets (AnOp op)) after
+    × Takes old (invocation (current_process old thread) op)
+    × (new ≡ invoked_by thread (current_process old thread) op after))
+Replies old (Draw thread) IsPending new =
+    ThreadMayDraw old thread × Gives old (Thread thread) Pending new
+Replies old (Draw thread) IsDone new =
+    ThreadMayDraw old thread × Gives old (Thread thread) Done new
+Replies old (Serve number) (Served outcome) new =
+    IsTicketAnd old number (λ t. (t.outcome ≡ None) × IsStillOpen old.judged.events t
+    × ((after : Cluster) × MayServe old.store (t.thread % old.store.replicas) t.op outcome after
+    × (new ≡ with_served number t outcome after old)))
+Replies old (Finish number) (Says v) new =
+    IsTicketAnd old number (λ t. (outcome : Outcome) × (t.outcome ≡ Some outcome)
+    × IsStillOpen old.judged.events t × Takes old (completion t.process t.op outcome)
+    × (new ≡ appended (completion t.process t.op outcome) old))
+    × IsVerdictOn new.judged v
+Replies old Nemesis (Struck fault index) new =
+    (index ≡ length old.judged.events)
+    × ((after : Machine) × NextFault old fault after × Takes old (strike fault)
+    × (new ≡ struck_by fault after))
+Replies old command reply new = ⊥
+
+-- the command is refused, by the first test that it does not pass
+abbrev pub Refuses : Machine → Command → Refusal → Type 0
+Refuses m (Append event) why = history.Refuses m.judged.concurrency m.judged.events event why
+Refuses m (Rewind n) NoSuchIndex = length m.judged.events < n
+Refuses m (SetBudget key n) BadBudget = ¬ IsBudget n
+Refuses m (Draw thread) WrongProcess = ¬ IsThread m thread
+Refuses m (Draw thread) Busy = IsThread m thread × IsSome (open_at m thread)
+Refuses m (Draw thread) HistoryFull =
+    IsThread m thread × (open_at m thread ≡ None) × ¬ HasRoom m.judged.events
+Refuses m (Draw thread) TapeFull =
+    IsThread m thread × (open_at m thread ≡ None) × HasRoom m.judged.events
+    × (most_tickets ≤ length m.tickets)
+Refuses m (Serve number) Stale = HasNoTicket m.tickets number
+Refuses m (Serve number) AlreadyServed = IsTicketAnd m number (λ t. IsSome t.outcome)
+Refuses m (Serve number) NotOpen =
+    IsTicketAnd m number (λ t. (t.outcome ≡ None) × ¬ IsStillOpen m.judged.events t)
+Refuses m (Finish number) Stale = HasNoTicket m.tickets number
+Refuses m (Finish number) NotServed = IsTicketAnd m number (λ t. t.outcome ≡ None)
+Refuses m (Finish number) HistoryFull =
+    IsTicketAnd m number (λ t. IsSome t.outcome) × ¬ HasRoom m.judged.events
+Refuses m (Finish number) NotOpen =
+    IsTicketAnd m number (λ t. IsSome t.outcome × ¬ IsStillOpen m.judged.events t)
+    × HasRoom m.judged.events
+Refuses m Nemesis Idle = HasNoFault m
+Refuses m Nemesis HistoryFull =
+    ((fault : Fault) × (after : Machine) × NextFault m fault after) × ¬ HasRoom m.judged.events
+Refuses m command why = ⊥
+
+-- the command may be answered so, or refused for this. A refusal changes nothing
+abbrev pub MayStep : Machine → Command → Result Reply Refusal → Machine → Type 0
+MayStep old command (Ok reply) new = Replies old command reply new
+MayStep old command (Err why) new = Refuses old command why × (new ≡ old)
+
+-- Runs
+
+-- the commands, each with its answer, lead from the one machine to the other
+abbrev pub Runs : Machine → List (Command × Result Reply Refusal) → Machine → Type 0
+Runs m [] end = m ≡ end
+Runs m (x ∷ run) end = (next : Machine) × MayStep m x.0 x.1 next × Runs next run end
+
+-- commands of a trial: no events of others, no rewinds and no changes of model
+abbrev pub IsOfTrial : Command → Type 0
+IsOfTrial (Append event) = ⊥
+IsOfTrial (Rewind n) = ⊥
+IsOfTrial (SetModel key kind) = ⊥
+IsOfTrial _ = Unit {0}
+
+abbrev pub AreOfTrial : List (Command × Result Reply Refusal) → Type 0
+AreOfTrial [] = Unit {0}
+AreOfTrial (x ∷ run) = IsOfTrial x.0 × AreOfTrial run

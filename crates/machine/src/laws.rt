@@ -1,0 +1,75 @@
+//! Laws of the one-thread object.
+ghost use Rattle.std.specs.Prelude.{◌≡◌, ◌↔◌, ◌≤◌, ℕ, List, [], length, Result, Some, option_map};
+ghost use Rattle.edn.specs.declared.refusal.Refusal.{Refusal};
+ghost use Rattle.processes.specs.MoveRule.{current_of};
+ghost use Rattle.history.specs.declared.event.Event.{Event};
+ghost use Rattle.history.specs.Events.{marks};
+ghost use Rattle.history.specs.WellFormed.{moves_of, open_of, open_index, HasRoom, IsPart, IsHistoryOf, IsWellFormed};
+ghost use Rattle.linspec.specs.Orders.{IsLinearizable, product};
+ghost use Rattle.linspec.specs.declared.verdict.Verdict.{Verdict};
+ghost use Rattle.test_store.specs.declared.outcome.Mode.TheVariants.{Strict};
+ghost use Rattle.test_store.specs.declared.outcome.Outcome.{Outcome};
+ghost use Rattle.test_store.specs.Store.{IsCount, VersionsWithin};
+ghost use Rattle.trials.specs.declared.ticket.Ticket.{Ticket};
+ghost use Rattle.trials.specs.Trials.{completion, IsStillOpen};
+ghost use Rattle.machine.specs.declared.command.Command.{Command};
+ghost use Rattle.machine.specs.declared.command.Reply.{Reply};
+ghost use Rattle.machine.specs.JudgedHistory.{kind_of, entries_in, IsVerdictOn};
+ghost use Rattle.machine.specs.Machine.{Machine, Setup, opening, most_tickets, MayStep, Runs, AreOfTrial};
+ghost use Rattle.machine.specs.Tickets.{served_of, StandsFor, IsAnswered, AreTickets};
+
+/// No false alarm: whatever draws, serves, finishes, faults, budgets and questions lead there, refused ones among them, from
+/// an opening with a strict store, the history is linearizable over all keys together, and no verdict on it is Illegal.
+pub fn no_false_alarm()
+    ensures linearizable { (setup : Setup) (run : List (Command × Result Reply Refusal))
+        (m : Machine) → setup.mode ≡ Strict → IsCount setup.replicas → AreOfTrial run
+        → Runs (opening setup) run m
+        → IsLinearizable (product (kind_of m.judged)) (marks (entries_in m.judged)) }
+    ensures verdict { (setup : Setup) (run : List (Command × Result Reply Refusal))
+        (m : Machine) (key index : ℕ) → setup.mode ≡ Strict → IsCount setup.replicas
+        → AreOfTrial run → Runs (opening setup) run m
+        → ¬ IsVerdictOn m.judged (Verdict.Illegal key index) }
+{}
+
+/// A command has one outcome at most, and leads to one machine.
+pub fn one_step()
+    ensures { (old new next : Machine) (command : Command) (outcome other : Result Reply Refusal)
+        → MayStep old command outcome new → MayStep old command other next
+        → (outcome ≡ other) × (new ≡ next) }
+{}
+
+/// No version of the store is greater than the number of tickets that were served, of which there are fewer than 2^32. So a
+/// serve never wants a version that is no u64.
+pub fn counted_law()
+    ensures opening { (setup : Setup) →
+        VersionsWithin (opening setup).store (served_of (opening setup).tickets) }
+    ensures step { (old new : Machine) (command : Command) (outcome : Result Reply Refusal)
+        → MayStep old command outcome new → VersionsWithin old.store (served_of old.tickets)
+        → VersionsWithin new.store (served_of new.tickets) }
+    ensures served { (tickets : List Ticket) → served_of tickets ≤ length tickets }
+    ensures few { (old new : Machine) (command : Command) (outcome : Result Reply Refusal)
+        → MayStep old command outcome new → length old.tickets ≤ most_tickets
+        → length new.tickets ≤ most_tickets }
+{}
+
+/// Each ticket that is not stale stands for its invocation, and each can be completed as its serve came out: at the opening,
+/// and after each step. So an index is enough to know whether its operation is still open, and a completion of one that is
+/// open is well-formed wherever there is room.
+pub fn tickets_law()
+    ensures opening { (c : ℕ) → AreTickets c [] [] }
+    ensures step { (old new : Machine) (command : Command) (outcome : Result Reply Refusal)
+        → MayStep old command outcome new
+        → AreTickets old.judged.concurrency old.judged.events old.tickets
+        → AreTickets new.judged.concurrency new.judged.events new.tickets }
+    ensures still_open { (c : ℕ) (events : List Event) (t : Ticket) → StandsFor c events t
+        → IsStillOpen events t
+        ↔ (option_map (λ x. x.0) (open_of events t.process) ≡ Some t.index) }
+    ensures by_index { (c : ℕ) (events : List Event) (t : Ticket) → IsHistoryOf c events
+        → StandsFor c events t → IsStillOpen events t
+        → (current_of c (moves_of events) t.thread ≡ t.process)
+        × (open_index c events t.thread ≡ Some t.index) }
+    ensures completes { (c : ℕ) (events : List Event) (t : Ticket) (outcome : Outcome)
+        → IsStillOpen events t → HasRoom events → IsPart t.op.name t.op.part
+        → IsAnswered t.op (Some outcome)
+        → IsWellFormed c events (completion t.process t.op outcome) }
+{}

@@ -1,0 +1,8 @@
+//! The one-thread object with all its commands, as a relation; and laws of it, of which one is that it raises no false alarm.
+#![tactic(auto)]
+
+pub mod command;
+mod laws;
+
+pub use command::{Command, Reply};
+pub use laws::{counted_law, no_false_alarm, one_step, tickets_law};

@@ -1,0 +1,13 @@
+use Rattle.trials.specs.Trials.{entries_in}
+use Rattle.trials.proofs.Pushes.{keyed, well_formed}
+use Rattle.trials.proofs.Holding.{no_alarm}
+use Rattle.trials.proofs.Verdicts.{never_illegal}
+use Rattle.trials.proofs.laws.no_false_alarm.Goals as goal
+
+pub returns-clause-linearizable : goal.returns-clause-linearizable
+returns-clause-linearizable c d n kind moves m count leads = (no_alarm d n kind moves m count leads).0
+
+pub returns-clause-verdict : goal.returns-clause-verdict
+returns-clause-verdict c d n kind moves m budgets key index count leads =
+    let r = no_alarm d n kind moves m count leads in
+    never_illegal (λ _. kind) budgets (entries_in m) (keyed m.concurrency m.events r.1) (well_formed m.concurrency m.events r.1) r.0 key index

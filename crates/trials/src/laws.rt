@@ -1,0 +1,31 @@
+//! No false alarm.
+ghost use Rattle.std.specs.Prelude.{ℕ, List};
+ghost use Rattle.models.specs.declared.model_kind.ModelKind.{ModelKind};
+ghost use Rattle.models.specs.declared.operation.Op.{Op};
+ghost use Rattle.models.specs.declared.finding.Found.{Found};
+ghost use Rattle.models.specs.Objects.{object_of};
+ghost use Rattle.history.specs.Events.{marks};
+ghost use Rattle.linspec.specs.Orders.{IsLinearizable, product};
+ghost use Rattle.linspec.specs.declared.verdict.Verdict.{Verdict};
+ghost use Rattle.linspec.specs.Verdicts.{IsVerdict};
+ghost use Rattle.test_store.specs.Store.{IsCount};
+ghost use Rattle.trials.specs.Trials.{Answers, Trial, Move, opening, Leads, entries_in};
+
+/// No false alarm: whatever moves lead there from the opening, where the store is strict, the history is linearizable, over
+/// all keys together. So no verdict on it is Illegal, with whatever budgets, and so with whatever keys set aside.
+pub fn no_false_alarm()
+    ensures linearizable { (c n : ℕ) (kind : ModelKind) (moves : List Move) (m : Trial)
+        → IsCount n → Leads (opening c n kind) moves m
+        → IsLinearizable (product (λ _. kind)) (marks (entries_in m)) }
+    ensures verdict { (c n : ℕ) (kind : ModelKind) (moves : List Move) (m : Trial)
+        (budgets : ℕ → ℕ) (key index : ℕ)
+        → IsCount n → Leads (opening c n kind) moves m
+        → ¬ IsVerdict (λ _. kind) budgets (entries_in m) (Verdict.Illegal key index) }
+{}
+
+/// Where an operation takes place in an object, what it finds makes an ok that the tables and the process rule allow. So a
+/// served operation that is open can be completed wherever the history has room.
+pub fn answers_law()
+    ensures { (kind : ModelKind) (s t : (object_of kind).State) (op : Op) (found : Found)
+        → (object_of kind).Steps s op found t → Answers op.name op.part found }
+{}

@@ -1,0 +1,8 @@
+//! Trials: clients and faults against the replicated store. No trial of a strict store is a false alarm.
+#![tactic(auto)]
+
+mod laws;
+pub mod ticket;
+
+pub use laws::{answers_law, no_false_alarm};
+pub use ticket::Ticket;
