@@ -1,5 +1,5 @@
 -- a cut that is carried out, one line after the other
-use Rattle.std.proofs.Common.{◌≡◌, ◌≢◌, ℕ, zero, suc, ◌+◌, ◌<◌, ◌≤◌, Bool, true, false, Option, Some, IfSome, IsSomeAnd, List, [], ◌∷◌, ◌++◌, length, take, drop, slice_get, refl, sym, ap, subst, ◌∙◌, add-one, arith}
+use Rattle.std.proofs.Common.{◌≡◌, ◌≢◌, ℕ, zero, suc, ◌+◌, ◌<◌, ◌≤◌, Bool, true, false, Option, Some, IfSome, IsSomeAnd, List, [], ◌∷◌, ◌++◌, length, take, drop, slice_get, sym, ap, subst, ◌∙◌, add-one, arith}
 use Rattle.std.specs.List.{filter}
 use Rattle.std.proofs.lemmas.List.{take_all, drop_all, take-map, append-nil, length-map}
 use Rattle.std.proofs.lemmas.List.Elements.{filter_passes}
@@ -36,9 +36,6 @@ kept_passes p xs ys place x e at =
 pub record AreCommittedSoFar (n : ℕ) (left rows : List (ℕ × KeyLineView)) (place : ℕ) : Type 0 where
   pub now : nows rows ≡ cut_rows n (take place (nows left)) ++ drop place (nows left)
   pub others : (p : ℕ) → place ≤ p → slice_get rows p ≡ slice_get left p
-
-pub AreCommittedSoFar-none : (n : ℕ) (left : List (ℕ × KeyLineView)) → AreCommittedSoFar n left left 0
-AreCommittedSoFar-none n left = record { now = refl; others = λ p le. refl }
 
 -- what the first lines have
 pub first_nows : (old left : List (ℕ × KeyLineView)) (kept : ℕ) → left ≡ take kept old → nows left ≡ take kept (nows old)

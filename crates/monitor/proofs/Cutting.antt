@@ -7,7 +7,6 @@ use Rattle.std.proofs.lemmas.Option.{slice_get_past}
 use Rattle.history.specs.declared.event.Event.{Event}
 use Rattle.linspec.specs.declared.verdict.KeyStatus.{KeyStatus}
 use Rattle.linspec.specs.declared.verdict.Verdict.{Verdict}
-use Rattle.linspec.specs.declared.verdict.Verdict.TheVariants.{Legal}
 use Rattle.linspec.specs.Verdicts.{IsJoin}
 use Rattle.checkpoints.specs.KeyLineView.{KeyHistory, KeyLineView, IsStatusOf, cut_at, begins_below, loses_at, events_below}
 use Rattle.monitor.specs.Rows.{nows, cut_rows, JoinsRows, IsCutAt, AreCutAt, StandsAfter}
@@ -37,15 +36,6 @@ pub record AreCutSoFar (n : ℕ) (old : List (ℕ × KeyHistory)) (rows : List (
   pub count : kept ≡ length (begun n (take place old))
   pub joins : JoinsRows (cut_rows n (begun n (take place old))) v
   pub cut : (p : ℕ) → p < place → IfSome (slice_get rows p) (λ row. IsCutAt n row.1)
-
-pub AreCutSoFar-none : (n : ℕ) (rows : List (ℕ × KeyLineView)) → IsJoin [] Legal → AreCutSoFar n (nows rows) rows 0 0 Legal
-AreCutSoFar-none n rows legal = record {
-  same = refl;
-  few = omega arith;
-  count = refl;
-  joins = ([], tt, legal);
-  cut = λ p lt. absurd (omega arith);
-}
 
 module _ (n : ℕ) (old : List (ℕ × KeyHistory)) (rows after : List (ℕ × KeyLineView)) (place kept : ℕ) (v : Verdict)
     (so_far : AreCutSoFar n old rows place kept v) (lt : place < length rows) (same : nows after ≡ nows rows)
