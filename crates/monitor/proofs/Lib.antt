@@ -1,0 +1,5 @@
+pub mod Committing
+pub mod Cutting
+pub mod Joins
+pub mod Places
+pub mod Preparing
