@@ -1,9 +1,8 @@
 -- Elements that ask for a command, or for none
 use Rattle.std.proofs.Common.{◌≡◌, ◌≢◌, ◌≤◌, ◌<◌, ℕ, refl, List, [], ◌∷◌, length, Result, Ok, Err, Option, Some, None, Bool, true, false, arith, rules, String, sym, ◌∙◌, ap, subst}
-use Rattle.std.specs.Prelude.{codes, nat_lt, ◌^◌, if◌then◌else◌, pos, ℤ}
+use Rattle.std.specs.Prelude.{codes, nat_lt, ◌^◌, if◌then◌else◌, pos}
 use Rattle.std.specs.Str.{bytes_eq}
 use Rattle.std.proofs.lemmas.Slice.Eq.{bytes_eq-Decides}
-use Rattle.std.proofs.lemmas.Bool.{cases_eq}
 use Rattle.edn.specs.Value.{Value, nil, bool, int, text, keyword, vector, members, pairs, Values, none, more}
 use Rattle.edn.specs.Parts.{elements_in}
 use Rattle.edn.specs.View.{value_of, values_of}
@@ -19,8 +18,8 @@ use Rattle.models.specs.Names.{name_of, Finds}
 use Rattle.history.specs.declared.event.Event.{Event}
 use Rattle.history.specs.Spelling.{Spells, WhyUnspelled}
 use Rattle.harness.specs.declared.command.Command.{Command}
-use Rattle.harness.specs.declared.command.Command.TheVariants.{Append, Rewind, SetModel, SetBudget, Verdict}
-use Rattle.jepmon.specs.Command.{verdict_by, rewind_to, rewind_by, kind_named, kind_in, key_in, model_of, model_by, budget_of, budget_for, budget_by, command_named, command_headed, vector_command, Appends, ElementAsks, AskFor, Asks}
+use Rattle.harness.specs.declared.command.Command.TheVariants.{Append, Rewind, SetBudget}
+use Rattle.jepmon.specs.Command.{verdict_by, rewind_to, rewind_by, kind_named, kind_in, key_in, model_of, model_by, budget_for, budget_by, command_named, command_headed, vector_command, Appends, ElementAsks, AskFor, Asks}
 
 -- arguments that are too few or too many
 pub no_verdict : (es : List Edn) → 1 ≤ length es → verdict_by (values_of es) ≡ Err BadValue

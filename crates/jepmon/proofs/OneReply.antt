@@ -8,7 +8,6 @@ use Rattle.edn.specs.declared.refusal.Refusal.{Refusal}
 use Rattle.edn.specs.declared.refusal.Refusal.TheVariants.{BadValue, Unreadable}
 use Rattle.edn.proofs.Unique.{one_text}
 use Rattle.history.specs.declared.event.Event.{Event}
-use Rattle.history.specs.Spelling.{Spells}
 use Rattle.history.proofs.OneEvent.{spell_one}
 use Rattle.harness.specs.Machine.{Machine}
 use Rattle.harness.specs.declared.command.Command.{Command}

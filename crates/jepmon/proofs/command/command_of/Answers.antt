@@ -1,4 +1,4 @@
-use Rattle.std.proofs.Common.{◌≡◌, ◌≢◌, Result, Err, ap, subst, sym}
+use Rattle.std.proofs.Common.{◌≢◌, Result, Err, ap, subst, sym}
 use Rattle.std.proofs.lemmas.Result.{err_from_is_err_and}
 use Rattle.edn.specs.View.{value_of}
 use Rattle.edn.specs.declared.refusal.Refusal.{Refusal}

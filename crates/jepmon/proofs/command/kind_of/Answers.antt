@@ -1,4 +1,4 @@
-use Rattle.std.proofs.Common.{◌≡◌, ◌∙◌, sym, ap}
+use Rattle.std.proofs.Common.{◌∙◌, sym, ap}
 use Rattle.edn.specs.Value.{keyword}
 use Rattle.edn.specs.View.{value_of}
 use Rattle.jepmon.specs.Command.{kind_in}
