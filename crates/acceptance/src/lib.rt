@@ -1,4 +1,4 @@
-//! Worked rows: calls of every crate that judges, each answer compared with one that follows from the definitions by hand;
+//! Worked rows: calls of the crates that judge, each answer compared with one that follows from the definitions by hand;
 //! and two ways to judge small histories, compared with one another. It has tests alone.
 #![tactic(auto)]
 
@@ -6,8 +6,6 @@
 mod agreement;
 #[cfg(test)]
 mod frontiers;
-#[cfg(test)]
-mod histories;
 #[cfg(test)]
 mod joins;
 #[cfg(test)]
@@ -18,5 +16,3 @@ mod objects;
 mod one_thread;
 #[cfg(test)]
 mod plain_checker;
-#[cfg(test)]
-mod texts;
