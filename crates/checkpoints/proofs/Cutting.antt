@@ -1,6 +1,8 @@
 -- the events below an index are the first so many, since indices rise
-use Rattle.std.proofs.Common.{◌≡◌, ℕ, zero, suc, ◌+◌, ◌<◌, ◌≤◌, Bool, true, false, nat_lt, Option, None, List, [], ◌∷◌, ◌++◌, length, take, slice_index_or, refl, sym, ap, ◌∙◌, arith}
-use Rattle.std.proofs.lemmas.List.{take_more}
+use Rattle.std.proofs.Common.{◌≡◌, ℕ, zero, suc, ◌+◌, ◌<◌, ◌≤◌, ⊎_elim, Bool, true, false, not, nat_lt, nat_le, Option, None, List, [], ◌∷◌, ◌++◌, length, take, slice_index_or, refl, sym, ap, ◌∙◌, arith}
+use Rattle.std.proofs.lemmas.Bool.{cases_Bool, cases_lt, lt-ltb, le-ltb, le-leb, lt-leb}
+use Rattle.std.proofs.lemmas.List.{take_more, take_all, get_or_default}
+use Rattle.std.proofs.lemmas.List.Filters.{length-filter_both}
 use Rattle.std.specs.List.{filter}
 use Rattle.std.specs.List.Sorted.{IsNonDecreasingBy}
 use Rattle.history.specs.declared.event.Event.{Event}
@@ -54,3 +56,54 @@ first_ones events n i le passes fails = kept (λ x. nat_lt x.0 n) events i le pa
 -- one more is taken
 pub one_more_taken : (events : List (ℕ × Event)) (i : ℕ) (x : ℕ × Event) → i < length events → x ≡ slice_index_or events i x → take (i + 1) events ≡ take i events ++ x ∷ []
 one_more_taken events i x lt is = take_more events i x lt ∙ ap (λ y. take i events ++ y ∷ []) (sym is)
+
+-- where one does not pass, a filter keeps fewer
+fewer : {X : Type 0} (p : X → Bool) (xs : List X) (k : ℕ) (d : X) → k < length xs → p (slice_index_or xs k d) ≡ false → length (filter p xs) < length xs
+fewer p [] k d lt fails = absurd (omega arith)
+fewer p (x ∷ xs) zero d lt fails =
+    let e : length (filter p (x ∷ xs)) ≡ length (filter p xs) = ap length (filter-no p x xs fails) in
+    omega (arith, e, length-filter_both p (λ y. not (p y)) (λ y. refl) xs)
+fewer p (x ∷ xs) (suc k) d lt fails =
+    let rest : length (filter p xs) < length xs = fewer p xs k d (omega arith) fails in
+    ⊎_elim
+    (λ holds. (let e : length (filter p (x ∷ xs)) ≡ length (x ∷ filter p xs) = ap length (filter-yes p x xs holds) in omega arith))
+    (λ not_it. (let e : length (filter p (x ∷ xs)) ≡ length (filter p xs) = ap length (filter-no p x xs not_it) in omega arith))
+    (cases_Bool (p x))
+
+-- a cut takes events away exactly where the last index is not below it
+pub loses_last : (events : List (ℕ × Event)) → IsHistory events → (n i : ℕ) (d : ℕ × Event) → i + 1 ≡ length events → nat_le n (slice_index_or events i d).0 ≡ nat_lt (length (events_below n events)) (length events)
+loses_last events history n i d last =
+    ⊎_elim
+    (λ (lt : (slice_index_or events i d).0 < n).
+    (let all : take (length events) events ≡ events_below n events = first_ones events n (length events) (omega arith) (below lt) (λ k e le past. absurd (omega arith)) in
+    let many : length (events_below n events) ≡ length events = ap length (sym all ∙ take_all (length events) events (omega arith)) in
+    lt-leb n (slice_index_or events i d).0 lt ∙ sym (le-ltb (length (events_below n events)) (length events) (omega arith))))
+    (λ (le : n ≤ (slice_index_or events i d).0).
+    (let few : length (events_below n events) < length events = fewer (λ x. nat_lt x.0 n) events i d (omega arith) (le-ltb (slice_index_or events i d).0 n le) in
+    le-leb n (slice_index_or events i d).0 le ∙ sym (lt-ltb (length (events_below n events)) (length events) few)))
+    (cases_lt (slice_index_or events i d).0 n)
+  where
+    below : (slice_index_or events i d).0 < n → (k : ℕ) (e : ℕ × Event) → k < length events → nat_lt (slice_index_or events k e).0 n ≡ true
+    below lt k e before =
+        let le : (slice_index_or events k e).0 ≤ (slice_index_or events i e).0 = indices_rise events history k i e (omega arith) (omega arith) in
+        let same : (slice_index_or events i e).0 ≡ (slice_index_or events i d).0 = ap (λ (x : ℕ × Event). x.0) (get_or_default events i e d (omega arith)) in
+        lt-ltb (slice_index_or events k e).0 n (omega arith)
+
+-- some are below n exactly where the first is
+pub begins_first : (events : List (ℕ × Event)) → IsHistory events → (n : ℕ) (d : ℕ × Event) → 0 < length events → nat_lt (slice_index_or events 0 d).0 n ≡ nat_lt 0 (length (events_below n events))
+begins_first [] history n d some = absurd (omega arith)
+begins_first (x ∷ events) history n d some =
+    ⊎_elim
+    (λ (lt : x.0 < n).
+    (let e : length (events_below n (x ∷ events)) ≡ length (x ∷ events_below n events) = ap length (filter-yes (λ y. nat_lt y.0 n) x events (lt-ltb x.0 n lt)) in
+    lt-ltb x.0 n lt ∙ sym (lt-ltb 0 (length (events_below n (x ∷ events))) (omega arith))))
+    (λ (le : n ≤ x.0).
+    (let none : take 0 (x ∷ events) ≡ events_below n (x ∷ events) = first_ones (x ∷ events) n 0 (omega arith) (λ k e lt. absurd (omega arith)) (past le) in
+    let e : 0 ≡ length (events_below n (x ∷ events)) = ap length none in
+    le-ltb x.0 n le ∙ sym (le-ltb 0 (length (events_below n (x ∷ events))) (omega arith))))
+    (cases_lt x.0 n)
+  where
+    past : n ≤ x.0 → (k : ℕ) (e : ℕ × Event) → 0 ≤ k → k < length (x ∷ events) → nat_lt (slice_index_or (x ∷ events) k e).0 n ≡ false
+    past le k e low before =
+        let rise : x.0 ≤ (slice_index_or (x ∷ events) k e).0 = indices_rise (x ∷ events) history 0 k e (omega arith) (omega arith) in
+        le-ltb (slice_index_or (x ∷ events) k e).0 n (omega arith)

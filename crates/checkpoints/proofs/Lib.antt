@@ -4,3 +4,4 @@ pub mod Statuses
 pub mod Judging
 pub mod Copies
 pub mod Cutting
+pub mod Settled

@@ -1,5 +1,5 @@
 -- Promise: the line of one key, as a caller sees it
-use Rattle.std.specs.Prelude.{ℕ, Option, Some, None, List, [], ◌∷◌, ◌++◌, nat_lt}
+use Rattle.std.specs.Prelude.{ℕ, Bool, Option, Some, None, List, [], ◌∷◌, ◌++◌, length, nat_lt}
 use Rattle.std.specs.List.{filter}
 use Rattle.models.specs.declared.model_kind.ModelKind.{ModelKind}
 use Rattle.models.specs.Objects.{object_of}
@@ -14,6 +14,10 @@ pub record KeyHistory : Type 0 where
   pub kind : ModelKind
   pub budget : ℕ
   pub events : List (ℕ × Event)
+
+-- before any event
+abbrev pub without_events : ModelKind → ℕ → KeyHistory
+without_events kind budget = record { kind = kind; budget = budget; events = [] }
 
 -- what a line has, and what commit will bring, where a change is prepared
 pub record KeyLineView : Type 0 where
@@ -42,3 +46,11 @@ cut_at n h = record h { events = events_below n h.events }
 
 abbrev pub judged_by : ModelKind → ℕ → KeyHistory → KeyHistory
 judged_by kind budget h = record { kind = kind; budget = budget; events = h.events }
+
+-- a cut at n takes events of the key away: fewer than all are below n
+abbrev pub loses_at : ℕ → KeyHistory → Bool
+loses_at n h = nat_lt (length (events_below n h.events)) (length h.events)
+
+-- the key has an event of index below n
+abbrev pub begins_below : ℕ → KeyHistory → Bool
+begins_below n h = nat_lt 0 (length (events_below n h.events))

@@ -1,7 +1,8 @@
 //! The line of one key.
-ghost use Rattle.std.specs.Prelude.{◌≡◌, ◌≤◌, [], ◌∷◌, ◌++◌, take, length, IsSome, IfSome, IfOk, OnOk, OnErr};
+ghost use Rattle.std.specs.Prelude.{◌≡◌, ◌≤◌, [], ◌∷◌, ◌++◌, take, length, nat_lt, IsSome, IfSome, IfOk, OnOk, OnErr};
 ghost use Rattle.history.specs.ProcessRule.{IsHistory};
-ghost use Rattle.checkpoints.specs.KeyLineView.{IsStatusOf, at_rest, with_next, with_pushed, cut_at, judged_by, events_below};
+ghost use Rattle.checkpoints.specs.KeyLineView.{IsStatusOf, without_events, at_rest, with_next, with_pushed, cut_at, judged_by};
+ghost use Rattle.checkpoints.specs.KeyLineView.{events_below, loses_at, begins_below};
 
 use crate::key_state::KeyState;
 use history::Event;
@@ -65,11 +66,7 @@ impl KeyLine {
     ///
     /// `AllocError` where memory was refused.
     pub fn new(alloc: Global, kind: ModelKind, budget: u32) -> Result<Self, AllocError>
-        ensures { IfOk result (λ line. line ≡ at_rest (record {
-          kind = kind;
-          budget = budget;
-          events = [];
-        })) }
+        ensures { IfOk result (λ line. line ≡ at_rest (without_events kind budget)) }
     {
         let state = KeyState::start(alloc, kind, budget)?;
         Ok(KeyLine {
@@ -241,6 +238,21 @@ impl KeyLine {
     {
         self.events.len()
     }
+
+    /// Whether a cut at `n` takes events of the key away: its last event has an index of `n` or more. Takes no memory, and
+    /// constant time.
+    pub fn loses(&self, n: u32) -> bool
+        ensures { result ≡ loses_at n self.now.now }
+    {
+        has_from(&self.events, n)
+    }
+
+    /// Whether the key has an event of index below `n`: its first one has. Takes no memory, and constant time.
+    pub fn begins_below(&self, n: u32) -> bool
+        ensures { result ≡ begins_below n self.now.now }
+    {
+        has_below(&self.events, n)
+    }
 }
 
 // How many of the events, whose indices rise, have an index below n.
@@ -249,4 +261,20 @@ fn count_below(events: &[(u32, Event)], n: u32) -> usize
     ensures within { result ≤ length events.now }
 {
     events.partition_point(|event| event.0 < n)
+}
+
+// Whether some of the events, whose indices rise, is not below n: the last one is not.
+fn has_from(events: &[(u32, Event)], n: u32) -> bool
+    ensures { IsHistory events.now
+        → result ≡ nat_lt (length (events_below n events.now)) (length events.now) }
+{
+    let count = events.len();
+    0 < count && n <= events[count - 1].0
+}
+
+// Whether some of the events, whose indices rise, is below n: the first one is.
+fn has_below(events: &[(u32, Event)], n: u32) -> bool
+    ensures { IsHistory events.now → result ≡ nat_lt 0 (length (events_below n events.now)) }
+{
+    0 < events.len() && events[0].0 < n
 }

@@ -3,6 +3,7 @@
 
 mod key_line;
 mod key_state;
+pub mod laws;
 mod live_key;
 
 pub use key_line::KeyLine;

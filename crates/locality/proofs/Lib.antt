@@ -4,4 +4,5 @@ pub mod Locality
 pub mod SetAside
 pub mod Joins
 pub mod MoreStatuses
+pub mod BadKeys
 pub mod OneKeyStatus

@@ -14,6 +14,7 @@ use Rattle.linspec.specs.Verdicts.{IsKeyStatusBy, IsRising, AreStatusesBy, IsJoi
 use Rattle.linspec.proofs.Lists.{Contains-nil, Contains-head, Contains-tail, Contains-cons_cases}
 use Rattle.linspec.proofs.Filters.{filter-yes}
 use Rattle.locality.specs.OneKey.{IsOfKey, verdict_of}
+use Rattle.locality.proofs.BadKeys.{IsJoin-none}
 use Rattle.locality.proofs.Joins.{IsVerdict-join}
 use Rattle.locality.proofs.MoreStatuses.{IsJoin-alive, IsJoin-dead_legal, IsJoin-over_legal}
 
@@ -38,13 +39,10 @@ AreStatuses-one counts kinds budgets key entries status all is = record {
   all = λ e h. (status, subst (λ (k : ℕ). Contains {X = ℕ × KeyStatus} ((key, status) ∷ []) (k, status)) (sym (all e h)) (Contains-head (key, status) []));
 }
 
-nothing : IsJoin [] Legal
-nothing = ((λ k i h. Contains-nil (k, Dead i) h), (λ k i h. Contains-nil (k, Over i) h))
-
 IsJoin-one : (key : ℕ) (status : KeyStatus) → IsJoin ((key, status) ∷ []) (verdict_of key status)
-IsJoin-one key Alive = IsJoin-alive [] key Legal nothing
-IsJoin-one key (Dead index) = IsJoin-dead_legal [] key index nothing
-IsJoin-one key (Over index) = IsJoin-over_legal [] key index nothing
+IsJoin-one key Alive = IsJoin-alive [] key Legal IsJoin-none
+IsJoin-one key (Dead index) = IsJoin-dead_legal [] key index IsJoin-none
+IsJoin-one key (Over index) = IsJoin-over_legal [] key index IsJoin-none
 
 pub IsVerdict-one : (counts : Op → Bool) (kinds : ℕ → ModelKind) (budgets : ℕ → ℕ) (key : ℕ) (entries : List Entry) (status : KeyStatus)
     → IsKeyed entries → AreWellFormed (marks entries) → IsRising entries → IsOfKey key entries
@@ -58,7 +56,7 @@ IsVerdict-none counts kinds budgets =
     (record { op_key = λ e id op h. absurd (Contains-nil e h); one_key = λ e f h. absurd (Contains-nil e h) })
     (λ before after m cut. absurd (no_cut before after m cut)) tt
     (record { each = λ k s h. absurd (Contains-nil (k, s) h); once = tt; all = λ e h. absurd (Contains-nil e h) })
-    Legal nothing
+    Legal IsJoin-none
   where
     no_cut : {X : Type 0} (before after : List X) (x : X) → before ++ x ∷ after ≡ [] → ⊥
     no_cut [] after x e = cc

@@ -7,7 +7,7 @@ use Rattle.history.specs.Events.{Mark, Entry, of_key, marks, IsFront}
 use Rattle.history.specs.Events.Mark.{Invoked, Returned, Failed, Crashed}
 use Rattle.linspec.specs.MarkRule.{id_of, MayFollow, AreWellFormed, IsKeyed}
 use Rattle.linspec.specs.Operations.{IsOpen}
-use Rattle.linspec.proofs.Lists.{Contains-nil, Contains-head}
+use Rattle.linspec.proofs.Lists.{Contains-head}
 use Rattle.linspec.proofs.Filters.{from_filter, to_filter, to_map, from_map, map-cut, filter-cut_at, filter-yes, filter-no, filter-none}
 use Rattle.linspec.proofs.Fronts.{marks-append}
 use Rattle.linspec.proofs.Keyed.{from_marks}

@@ -15,13 +15,15 @@ pub fn join(statuses: &[(Key, KeyStatus)]) -> Verdict
 {
     let mut verdict = Verdict::Legal;
     for (key, status) in statuses {
-        verdict = with_status(verdict, *key, *status);
+        verdict = join_with(verdict, *key, *status);
     }
     verdict
 }
 
-/// The verdict of a list with one more status.
-fn with_status(verdict: Verdict, key: Key, status: KeyStatus) -> Verdict
+/// The verdict of a list of statuses with one more, from the verdict of that list: so it is kept up to date while keys come,
+/// and the statuses need not be gone over. Of no statuses the verdict is Legal (`no_keys_law`). Total, takes no memory, and
+/// constant time.
+pub fn join_with(verdict: Verdict, key: Key, status: KeyStatus) -> Verdict
     ensures { (statuses : List (ℕ × KeyStatus)) → IsJoin statuses verdict
         → IsJoin (statuses ++ (key, status) ∷ []) result }
 {
@@ -32,7 +34,7 @@ fn with_status(verdict: Verdict, key: Key, status: KeyStatus) -> Verdict
     }
 }
 
-/// The verdict of a list with one more dead key.
+// The verdict of a list with one more dead key.
 fn with_dead(verdict: Verdict, key: Key, index: u32) -> Verdict
     ensures { (statuses : List (ℕ × KeyStatus)) → IsJoin statuses verdict
         → IsJoin (statuses ++ (key, KeyStatus.Dead index) ∷ []) result }
@@ -50,7 +52,7 @@ fn with_dead(verdict: Verdict, key: Key, index: u32) -> Verdict
     }
 }
 
-/// The verdict of a list with one more blown key.
+// The verdict of a list with one more blown key.
 fn with_over(verdict: Verdict, key: Key, index: u32) -> Verdict
     ensures { (statuses : List (ℕ × KeyStatus)) → IsJoin statuses verdict
         → IsJoin (statuses ++ (key, KeyStatus.Over index) ∷ []) result }

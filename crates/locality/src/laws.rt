@@ -11,6 +11,7 @@ ghost use Rattle.linspec.specs.MarkRule.{IsKeyed, AreWellFormed};
 ghost use Rattle.linspec.specs.Orders.{IsLinearizable, product};
 ghost use Rattle.linspec.specs.Verdicts.{IsVerdict, IsVerdictBy, IsRising, IsKeyStatusBy, AreStatuses, AreStatusesBy, IsJoin};
 ghost use Rattle.locality.specs.OneKey.{IsOfKey, verdict_of};
+ghost use Rattle.locality.specs.BadKeys.{HaveSameBadKeys};
 
 /// Locality: a history is linearizable exactly where each key's part of it is (Herlihy and Wing 1990, section 3.1).
 pub fn locality_law()
@@ -49,4 +50,16 @@ pub fn one_key_law()
         → IsVerdictBy counts kinds budgets entries (verdict_of key status) }
     ensures none { (counts : Op → Bool) (kinds : ℕ → ModelKind) (budgets : ℕ → ℕ) →
         IsVerdictBy counts kinds budgets [] Verdict.Legal }
+{}
+
+/// The verdict of no statuses is Legal.
+pub fn no_keys_law()
+    ensures { IsJoin [] Verdict.Legal }
+{}
+
+/// The verdict of a list of statuses depends on its dead and its over keys alone: not on the keys that are alive, nor on
+/// the order, nor on how often a pair is there.
+pub fn bad_keys_law()
+    ensures { (xs ys : List (ℕ × KeyStatus)) (v : Verdict) →
+        HaveSameBadKeys xs ys → IsJoin xs v → IsJoin ys v }
 {}

@@ -4,4 +4,4 @@
 pub mod joining;
 pub mod laws;
 
-pub use joining::join;
+pub use joining::{join, join_with};

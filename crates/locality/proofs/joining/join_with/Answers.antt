@@ -2,7 +2,7 @@ use Rattle.std.proofs.Common.{[], ◌∷◌, ◌++◌, sym, subst}
 use Rattle.linspec.specs.declared.verdict.KeyStatus.{KeyStatus}
 use Rattle.linspec.specs.Verdicts.{IsJoin}
 use Rattle.locality.proofs.MoreStatuses.{IsJoin-alive}
-use Rattle.locality.proofs.joining.with_status.Goals as goal
+use Rattle.locality.proofs.joining.join_with.Goals as goal
 
 pub returns-in-Alive : goal.returns-in-Alive
 returns-in-Alive c statuses j = subst (λ (s : KeyStatus). IsJoin (statuses ++ (c.args.key, s) ∷ []) c.args.verdict) (sym c.in-Alive.is) (IsJoin-alive statuses c.args.key c.args.verdict j)

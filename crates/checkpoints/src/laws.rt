@@ -1,0 +1,20 @@
+//! Laws of what is known of a key while its events come.
+ghost use Rattle.std.specs.Prelude.{◌≡◌, ◌⊎◌, ℕ, [], ◌∷◌, ◌++◌};
+ghost use Rattle.history.specs.declared.event.Event.{Event};
+ghost use Rattle.history.specs.ProcessRule.{IsHistory};
+ghost use Rattle.linspec.specs.declared.verdict.KeyStatus.{KeyStatus};
+ghost use Rattle.checkpoints.specs.KeyLineView.{KeyHistory, IsStatusOf, with_pushed};
+
+/// A key that is dead stays dead, and one that is over stays over, at the same index, whatever events follow: with one
+/// more event a key has the status that it had, unless it was alive.
+pub fn settled_law()
+    ensures dead { (h : KeyHistory) (index i : ℕ) (event : Event) →
+        IsHistory (h.events ++ (index, event) ∷ []) → IsStatusOf h (KeyStatus.Dead i)
+        → IsStatusOf (with_pushed index event h) (KeyStatus.Dead i) }
+    ensures over { (h : KeyHistory) (index i : ℕ) (event : Event) →
+        IsHistory (h.events ++ (index, event) ∷ []) → IsStatusOf h (KeyStatus.Over i)
+        → IsStatusOf (with_pushed index event h) (KeyStatus.Over i) }
+    ensures no_other { (h : KeyHistory) (index : ℕ) (event : Event) (s t : KeyStatus) →
+        IsHistory (h.events ++ (index, event) ∷ []) → IsStatusOf h s
+        → IsStatusOf (with_pushed index event h) t → (s ≡ KeyStatus.Alive) ⊎ (t ≡ s) }
+{}
