@@ -1,6 +1,9 @@
+pub mod Carried
+pub mod Changes
 pub mod EachOnce
 pub mod KeyedEvents
 pub mod Places
+pub mod Prepared
 pub mod RowsAfter
 pub mod Statuses
 pub mod Verdicts

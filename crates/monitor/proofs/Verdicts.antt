@@ -1,5 +1,5 @@
 -- what joins how the keys stand is the verdict
-use Rattle.std.proofs.Common.{◌≡◌, ◌≢◌, ℕ, List, [], ◌∷◌, ◌++◌, take, drop, refl, sym, ap, ◌∙◌, subst, ⊎_elim, append_assoc}
+use Rattle.std.proofs.Common.{◌≡◌, ◌≢◌, ℕ, Some, List, [], ◌∷◌, ◌++◌, length, take, drop, refl, sym, ap, ◌∙◌, subst, ⊎_elim, append_assoc}
 use Rattle.std.specs.List.{Contains, filter_map}
 use Rattle.std.specs.Map.{keys_of}
 use Rattle.std.proofs.lemmas.List.{append-nil, take-append-drop}
@@ -23,7 +23,7 @@ use Rattle.monitor.specs.Rows.{AreStatusesOf, JoinsRows}
 use Rattle.monitor.specs.Judged.{rows_of, IsJudged}
 use Rattle.monitor.proofs.EachOnce.{to_each_once, each_once-apart}
 use Rattle.monitor.proofs.Places.{keys_of-rows_by}
-use Rattle.monitor.proofs.KeyedEvents.{entry_keys}
+use Rattle.monitor.proofs.KeyedEvents.{of_its_key, events-push, entry_keys}
 use Rattle.monitor.proofs.Statuses.{status_row, row_status, status_keys, keys_apart}
 
 -- the laws of the layers below that give a verdict
@@ -85,3 +85,12 @@ IsHistoryOf-push c events e may well before after x cut =
 pub IsHistoryOf-take : (c n : ℕ) (events : List Event) → IsHistoryOf c events → IsHistoryOf c (take n events)
 IsHistoryOf-take c n events may before after e cut =
     may before (after ++ drop n events) e (sym (take-append-drop n events) ∙ ap (λ (l : List Event). l ++ drop n events) cut ∙ append_assoc before (e ∷ after) (drop n events))
+
+-- an event that may come next may be the next one of its key
+pub next_event : ((c : ℕ) (events : List Event) → IsHistoryOf c events → IsHistory (indexed_from 0 events))
+    → ((key : ℕ) (events : List (ℕ × Event)) → IsHistory events → IsHistory (events_of_key key events))
+    → (h : JudgedHistory) (e : Event) (k : ℕ) → IsHistoryOf h.concurrency h.events → IsWellFormed h.concurrency h.events e → key_of e ≡ Some k
+    → IsHistory ((history_of_key h k).events ++ (length h.events, e) ∷ [])
+next_event rule of_key h e k may well is =
+    subst IsHistory (events-push k h.events e (of_its_key k e is))
+    (of_key k (indexed_from 0 (h.events ++ e ∷ [])) (rule h.concurrency (h.events ++ e ∷ []) (IsHistoryOf-push h.concurrency h.events e may well)))

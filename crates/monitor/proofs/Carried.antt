@@ -1,0 +1,144 @@
+-- what holds of the parts once a change is carried out
+use Rattle.std.proofs.Common.{◌≡◌, ℕ, zero, suc, Option, Some, None, option_map, IfSome, IsSome, List, [], ◌∷◌, ◌++◌, nat_eq, map, take, refl, sym, ap, ◌∙◌, subst}
+use Rattle.std.proofs.lemmas.Bool.{false≢true}
+use Rattle.std.proofs.lemmas.List.{map-append}
+use Rattle.indexmap.specs.IndexMap.{insert_entry}
+use Rattle.indexmap.specs.Layout.{set_value_at}
+use Rattle.models.specs.declared.model_kind.ModelKind.{ModelKind}
+use Rattle.history.specs.declared.event.Event.{Event}
+use Rattle.history.specs.WellFormed.{HistoryView, with_events}
+use Rattle.linspec.specs.declared.verdict.Verdict.{Verdict}
+use Rattle.checkpoints.specs.KeyLineView.{KeyHistory, KeyLineView, at_rest}
+use Rattle.monitor.specs.JudgedHistory.{JudgedHistory, with_kind, with_budget}
+use Rattle.monitor.specs.Monitors.{MonitorView}
+use Rattle.monitor.specs.Monitors.{at_rest as monitor_at_rest}
+use Rattle.monitor.specs.Settings.{SettingsView}
+use Rattle.monitor.specs.Rows.{LinesView, nows, cut_rows}
+use Rattle.monitor.specs.Judged.{IsJudged, AreRowsWith}
+use Rattle.monitor.specs.SoundMonitor.{judged_by_parts, with_events_of, IsReady, IsSoundMonitor}
+use Rattle.monitor.specs.declared.monitor.Prepared.{Prepared}
+use Rattle.monitor.specs.declared.monitor.Change.{Change}
+use Rattle.monitor.specs.declared.monitor.Change.TheVariants.{Fault, Append, Begin, Rewind, Kind, Budget}
+
+-- the events that the history had prepared
+pub events_carried : (history history' : HistoryView) (kinds : SettingsView ModelKind) (budgets : SettingsView ℕ) → IsSome history.next
+    → IfSome history.next (λ events. history' ≡ with_events events history) → judged_by_parts history' kinds budgets ≡ with_events_of history.next (judged_by_parts history kinds budgets)
+events_carried history history' kinds budgets some carried = by_next history.next some carried
+  where
+    by_next : (o : Option (List Event)) → IsSome o → IfSome o (λ events. history' ≡ with_events events history)
+        → judged_by_parts history' kinds budgets ≡ with_events_of o (judged_by_parts history kinds budgets)
+    by_next None some is = absurd (false≢true some)
+    by_next (Some events) some is = ap (λ (h : HistoryView). judged_by_parts h kinds budgets) is
+
+-- a setting
+pub kind_carried : (history : HistoryView) (kinds kinds' : SettingsView ModelKind) (budgets : SettingsView ℕ) (key : ℕ) (kind : ModelKind) → kinds'.default ≡ kinds.default
+    → kinds'.set ≡ insert_entry nat_eq kinds.set key kind → judged_by_parts history kinds' budgets ≡ with_kind key kind (judged_by_parts history kinds budgets)
+kind_carried history kinds kinds' budgets key kind same is =
+    ap (λ (d : ModelKind). let h : JudgedHistory = record {
+      concurrency = history.concurrency;
+      kind = d;
+      budget = budgets.default;
+      kinds = kinds'.set;
+      budgets = budgets.set;
+      events = history.events;
+    } in h) same
+    ∙ ap (λ (s : List (ℕ × ModelKind)). let h : JudgedHistory = record {
+      concurrency = history.concurrency;
+      kind = kinds.default;
+      budget = budgets.default;
+      kinds = s;
+      budgets = budgets.set;
+      events = history.events;
+    } in h) is
+
+pub budget_carried : (history : HistoryView) (kinds : SettingsView ModelKind) (budgets budgets' : SettingsView ℕ) (key n : ℕ) → budgets'.default ≡ budgets.default
+    → budgets'.set ≡ insert_entry nat_eq budgets.set key n → judged_by_parts history kinds budgets' ≡ with_budget key n (judged_by_parts history kinds budgets)
+budget_carried history kinds budgets budgets' key n same is =
+    ap (λ (d : ℕ). let h : JudgedHistory = record {
+      concurrency = history.concurrency;
+      kind = kinds.default;
+      budget = d;
+      kinds = kinds.set;
+      budgets = budgets'.set;
+      events = history.events;
+    } in h) same
+    ∙ ap (λ (s : List (ℕ × ℕ)). let h : JudgedHistory = record {
+      concurrency = history.concurrency;
+      kind = kinds.default;
+      budget = budgets.default;
+      kinds = kinds.set;
+      budgets = s;
+      events = history.events;
+    } in h) is
+
+-- the rows with one more, and with another value of one
+pub nows_push : (rows : List (ℕ × KeyLineView)) (key : ℕ) (line : KeyLineView) → nows (rows ++ (key, line) ∷ []) ≡ nows rows ++ (key, line.now) ∷ []
+nows_push rows key line = map-append (λ (row : ℕ × KeyLineView). (row.0, row.1.now)) rows ((key, line) ∷ [])
+
+pub nows_set : (rows : List (ℕ × KeyLineView)) (place : ℕ) (line : KeyLineView) → nows (set_value_at rows place line) ≡ set_value_at (nows rows) place line.now
+nows_set [] place line = refl
+nows_set (row ∷ rows) zero line = refl
+nows_set (row ∷ rows) (suc place) line = ap (λ l. (row.0, row.1.now) ∷ l) (nows_set rows place line)
+
+-- so all is sound after a change that brought what it should
+pub sound_at_rest : (history : HistoryView) (kinds : SettingsView ModelKind) (budgets : SettingsView ℕ) (lines : LinesView) (h : JudgedHistory) (rows : List (ℕ × KeyHistory)) (v : Verdict)
+    → judged_by_parts history kinds budgets ≡ h → nows lines.rows ≡ rows → IsJudged h rows v → IsSoundMonitor history kinds budgets lines v None
+sound_at_rest history kinds budgets lines h rows v same are judged = record {
+  now = subst (λ (x : JudgedHistory). IsJudged x (nows lines.rows) v) (sym same) (subst (λ (l : List (ℕ × KeyHistory)). IsJudged h l v) (sym are) judged);
+  ready = tt;
+}
+
+-- what was prepared
+pub prepared_ready : (history : HistoryView) (kinds : SettingsView ModelKind) (budgets : SettingsView ℕ) (lines : LinesView) (v : Verdict) (prepared : Option Prepared) (p : Prepared) (change : Change)
+    → IsSoundMonitor history kinds budgets lines v prepared → prepared ≡ Some p → p.change ≡ change → IsReady history kinds budgets lines change p.verdict
+prepared_ready history kinds budgets lines v prepared p change sound is which =
+    subst (λ (c : Change). IsReady history kinds budgets lines c p.verdict) which
+    (subst (λ (o : Option Prepared). IfSome o (λ q. IsReady history kinds budgets lines q.change q.verdict)) is sound.ready)
+
+-- what a caller sees is what was prepared, at rest
+pub rests : (h now : JudgedHistory) (f : Prepared → JudgedHistory) (prepared : Option Prepared) (p : Prepared) (old : MonitorView)
+    → ◌≡◌ {A = MonitorView} (record { now = h; next = option_map f prepared }) old → prepared ≡ Some p → now ≡ f p → IfSome old.next (λ next. ◌≡◌ {A = MonitorView} (record { now = now; next = None }) (monitor_at_rest next))
+rests h now f prepared p old view is same =
+    subst (λ (s : MonitorView). IfSome s.next (λ next. ◌≡◌ {A = MonitorView} (record { now = now; next = None }) (monitor_at_rest next))) view
+    (subst (λ (o : Option Prepared). IfSome (option_map f o) (λ next. ◌≡◌ {A = MonitorView} (record { now = now; next = None }) (monitor_at_rest next))) (sym is)
+    (ap monitor_at_rest same))
+
+-- each change, carried out
+module _ (history history' : HistoryView) (kinds : SettingsView ModelKind) (budgets : SettingsView ℕ) (lines lines' : LinesView) (v : Verdict)
+    (carried : IfSome history.next (λ events. history' ≡ with_events events history)) where
+  pub fault_carried : IsReady history kinds budgets lines Fault v → IsSoundMonitor history' kinds budgets lines v None
+  fault_carried ready =
+      sound_at_rest history' kinds budgets lines (with_events_of history.next (judged_by_parts history kinds budgets)) ready.rows v
+      (events_carried history history' kinds budgets ready.taken carried) (sym ready.brings) ready.judged
+
+  pub append_carried : (place : ℕ) → IsReady history kinds budgets lines (Append place) v
+      → ((rows : List (ℕ × KeyHistory)) → AreRowsWith lines (Some place) rows → nows lines'.rows ≡ rows) → IsSoundMonitor history' kinds budgets lines' v None
+  append_carried place ready are =
+      sound_at_rest history' kinds budgets lines' (with_events_of history.next (judged_by_parts history kinds budgets)) ready.rows v
+      (events_carried history history' kinds budgets ready.taken carried) (are ready.rows ready.brings) ready.judged
+
+  pub begin_carried : (key : ℕ) (line : KeyLineView) → IsReady history kinds budgets lines (Begin key line) v → lines'.rows ≡ lines.rows ++ (key, line) ∷ []
+      → IsSoundMonitor history' kinds budgets lines' v None
+  begin_carried key line ready are =
+      sound_at_rest history' kinds budgets lines' (with_events_of history.next (judged_by_parts history kinds budgets)) ready.rows v
+      (events_carried history history' kinds budgets ready.taken carried) (ap nows are ∙ nows_push lines.rows key line ∙ sym ready.brings.2) ready.judged
+
+  pub rewind_carried : (n kept : ℕ) → IsReady history kinds budgets lines (Rewind n kept) v → nows lines'.rows ≡ cut_rows n (take kept (nows lines.rows))
+      → IsSoundMonitor history' kinds budgets lines' v None
+  rewind_carried n kept ready are =
+      sound_at_rest history' kinds budgets lines' (with_events_of history.next (judged_by_parts history kinds budgets)) ready.rows v
+      (events_carried history history' kinds budgets ready.taken carried) (are ∙ sym ready.brings.2) ready.judged
+
+pub model_carried : (history : HistoryView) (kinds kinds' : SettingsView ModelKind) (budgets : SettingsView ℕ) (lines lines' : LinesView) (v : Verdict) (key : ℕ) (kind : ModelKind) (place : Option ℕ)
+    → IsReady history kinds budgets lines (Kind key kind place) v → kinds'.default ≡ kinds.default → kinds'.set ≡ insert_entry nat_eq kinds.set key kind
+    → ((rows : List (ℕ × KeyHistory)) → AreRowsWith lines place rows → nows lines'.rows ≡ rows) → IsSoundMonitor history kinds' budgets lines' v None
+model_carried history kinds kinds' budgets lines lines' v key kind place ready same is are =
+    sound_at_rest history kinds' budgets lines' (with_kind key kind (judged_by_parts history kinds budgets)) ready.rows v
+    (kind_carried history kinds kinds' budgets key kind same is) (are ready.rows ready.brings) ready.judged
+
+pub limit_carried : (history : HistoryView) (kinds : SettingsView ModelKind) (budgets budgets' : SettingsView ℕ) (lines lines' : LinesView) (v : Verdict) (key n : ℕ) (place : Option ℕ)
+    → IsReady history kinds budgets lines (Budget key n place) v → budgets'.default ≡ budgets.default → budgets'.set ≡ insert_entry nat_eq budgets.set key n
+    → ((rows : List (ℕ × KeyHistory)) → AreRowsWith lines place rows → nows lines'.rows ≡ rows) → IsSoundMonitor history kinds budgets' lines' v None
+limit_carried history kinds budgets budgets' lines lines' v key n place ready same is are =
+    sound_at_rest history kinds budgets' lines' (with_budget key n (judged_by_parts history kinds budgets)) ready.rows v
+    (budget_carried history kinds budgets budgets' key n same is) (are ready.rows ready.brings) ready.judged
