@@ -19,7 +19,7 @@ use Rattle.monitor.specs.JudgedHistory.{JudgedHistory, kind_of, budget_of, openi
 use Rattle.monitor.specs.Rows.{nows, cut_rows, JoinsRows}
 use Rattle.monitor.specs.Judged.{rows_of, IsJudged, AreRowsJudgedBy}
 use Rattle.monitor.proofs.EachOnce.{each_once-apart}
-use Rattle.monitor.proofs.Places.{rows_by, row_at, keys_of-rows_by, set_value_at-at, rows_around}
+use Rattle.monitor.proofs.KeyPlaces.{rows_by, row_at, keys_of-rows_by, set_value_at-at, rows_around}
 use Rattle.monitor.proofs.RowsAfter.{rows_fault, rows_push, rows_first, rows_first_kept, rows_cut, rows_kind_none, rows_kind_some, rows_budget_none, rows_budget_some}
 use Rattle.monitor.proofs.Statuses.{JoinsWith, BadKeysDecide, joins_push, joins_set}
 use Rattle.monitor.proofs.Verdicts.{IsHistoryOf-none, IsHistoryOf-push, IsHistoryOf-take}

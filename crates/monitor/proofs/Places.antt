@@ -1,119 +1,76 @@
--- rows of keys that are apart: where a key stands, and the rows with another value for it
-use Rattle.std.proofs.Common.{◌≡◌, ◌≢◌, ◌⊎◌, ℕ, ◌+◌, ◌<◌, Bool, true, false, not, cond, zero, suc, nat_eq, nat_lt, Option, Some, None, option_map, List, [], ◌∷◌, ◌++◌, length, map, get_or, slice_get, refl, sym, ap, ◌∙◌, subst, ⊎_elim, arith}
-use Rattle.std.specs.List.{Contains, position, prefix_len, position_or_len}
-use Rattle.std.specs.Map.{keys_of}
-use Rattle.std.proofs.lemmas.Bool.{cases_Bool, cases_eq, eq-eqb, ne_eqb, eqb-true, lt-ltb}
-use Rattle.std.proofs.lemmas.List.{map-append}
-use Rattle.std.proofs.lemmas.List.Quantifiers.{position-Some}
-use Rattle.std.proofs.lemmas.List.Elements.{Contains-append_left, Contains-append_right}
+-- rows of keys, read and written at a place
+use Rattle.std.proofs.Common.{◌≡◌, ◌≢◌, ℕ, zero, suc, ◌+◌, ◌<◌, ◌≤◌, Bool, true, false, cond, not, nat_eq, is_some, Option, Some, None, List, [], ◌∷◌, ◌++◌, map, length, position, take, slice_get, refl, sym, ap, ◌∙◌, ⊎_elim, arith}
+use Rattle.std.specs.List.{filter}
+use Rattle.std.specs.Map.{keys_of, lookup}
+use Rattle.std.proofs.lemmas.List.{take_more, append-nil}
+use Rattle.std.proofs.lemmas.List.Elements.{filter-append}
+use Rattle.std.proofs.lemmas.List.Filters.{length-filter_both}
+use Rattle.std.proofs.lemmas.Bool.{cases_Bool}
+use Rattle.std.proofs.lemmas.Option.{none-some, same_Some, slice_get_within, get_or_from_slice_get}
 use Rattle.indexmap.specs.Layout.{set_value_at}
-use Rattle.linspec.specs.Orders.{Pairwise}
-use Rattle.linspec.proofs.Lists.{Contains-nil, Contains-head, Contains-tail, Contains-cons_cases, Pairwise-across, Pairwise-right}
+use Rattle.indexmap.proofs.MapLemmas.{some_index}
 
--- x stands at place i
-pub record IsAt {X : Type 0} (xs : List X) (i : ℕ) (x : X) : Type 0 where
-  pub before : List X
-  pub after : List X
-  pub cut : xs ≡ before ++ x ∷ after
-  pub place : length before ≡ i
+-- what is written is read there, and the others stay
+module _ {K A : Type 0} where
+  pub read_written : (rows : List (K × A)) (place : ℕ) (k : K) (v w : A) → slice_get rows place ≡ Some (k, v) → slice_get (set_value_at rows place w) place ≡ Some (k, w)
+  read_written [] place k v w at = absurd (none-some _ at)
+  read_written (x ∷ rows) zero k v w at = ap (λ (y : K × A). Some (y.0, w)) (same_Some _ _ at)
+  read_written (x ∷ rows) (suc place) k v w at = read_written rows place k v w at
 
-at_get_or : (xs : List ℕ) (i x : ℕ) → i < length xs → get_or xs i 0 ≡ x → IsAt xs i x
-at_get_or [] i x within is = absurd (omega arith)
-at_get_or (y ∷ xs) zero x within is = record { before = []; after = xs; cut = ap (λ (w : ℕ). w ∷ xs) is; place = refl }
-at_get_or (y ∷ xs) (suc i) x within is =
-    let rest : IsAt xs i x = at_get_or xs i x (omega arith) is in
-    record { before = y ∷ rest.before; after = rest.after; cut = ap (λ (l : List ℕ). y ∷ l) rest.cut; place = ap suc rest.place }
+  pub others_stay : (rows : List (K × A)) (place other : ℕ) (w : A) → other ≢ place → slice_get (set_value_at rows place w) other ≡ slice_get rows other
+  others_stay [] place other w ne = refl
+  others_stay (x ∷ rows) zero zero w ne = absurd (ne refl)
+  others_stay (x ∷ rows) zero (suc other) w ne = refl
+  others_stay (x ∷ rows) (suc place) zero w ne = refl
+  others_stay (x ∷ rows) (suc place) (suc other) w ne = others_stay rows place other w (λ e. ne (ap suc e))
 
-pub position_at : (ks : List ℕ) (k i : ℕ) → position (nat_eq k) ks ≡ Some i → IsAt ks i k
-position_at ks k i is =
-    let found : (i < length ks) × (nat_eq k (get_or ks i 0) ≡ true) × ((j : ℕ) → j < i → nat_eq k (get_or ks j 0) ≡ false) = position-Some (nat_eq k) ks i 0 is in
-    at_get_or ks i k found.0 (sym (eqb-true k (get_or ks i 0) found.1))
+  pub same_written : (rows : List (K × A)) (place : ℕ) (k : K) (v : A) → slice_get rows place ≡ Some (k, v) → set_value_at rows place v ≡ rows
+  same_written [] place k v at = refl
+  same_written (x ∷ rows) zero k v at =
+      let e : x ≡ (k, v) = same_Some _ _ at in
+      ap (λ (y : K × A). (y.0, v) ∷ rows) e ∙ sym (ap (λ (y : K × A). y ∷ rows) e)
+  same_written (x ∷ rows) (suc place) k v at = ap (λ (l : List (K × A)). x ∷ l) (same_written rows place k v at)
 
--- a key that is there has a place
-stops : (ks : List ℕ) (k : ℕ) → Contains ks k → prefix_len (λ x. not (nat_eq k x)) ks < length ks
-stops [] k h = absurd (Contains-nil k h)
-stops (x ∷ ks) k h =
+  pub map_written : {B : Type 0} (f : A → B) (rows : List (K × A)) (place : ℕ) (w : A) → map (λ (row : K × A). (row.0, f row.1)) (set_value_at rows place w) ≡ set_value_at (map (λ (row : K × A). (row.0, f row.1)) rows) place (f w)
+  map_written f [] place w = refl
+  map_written f (x ∷ rows) zero w = refl
+  map_written {B} f (x ∷ rows) (suc place) w = ap (λ (l : List (K × B)). (x.0, f x.1) ∷ l) (map_written f rows place w)
+
+-- one more is taken
+module _ {X : Type 0} (xs : List X) (i : ℕ) (x : X) (at : slice_get xs i ≡ Some x) where
+  pub one_more_taken : take (i + 1) xs ≡ take i xs ++ x ∷ []
+  one_more_taken = take_more xs i x (slice_get_within xs i x at) ∙ ap (λ (y : X). take i xs ++ y ∷ []) (get_or_from_slice_get xs i x x at)
+
+  pub one_more_kept : (p : X → Bool) → p x ≡ true → filter p (take (i + 1) xs) ≡ filter p (take i xs) ++ x ∷ []
+  one_more_kept p passes = ap (filter p) one_more_taken ∙ filter-append p (take i xs) (x ∷ []) ∙ ap (λ b. filter p (take i xs) ++ cond b (x ∷ []) []) passes
+
+  pub one_more_dropped : (p : X → Bool) → p x ≡ false → filter p (take (i + 1) xs) ≡ filter p (take i xs)
+  one_more_dropped p fails = ap (filter p) one_more_taken ∙ filter-append p (take i xs) (x ∷ []) ∙ ap (λ b. filter p (take i xs) ++ cond b (x ∷ []) []) fails ∙ append-nil (filter p (take i xs))
+
+-- a filter that keeps as many keeps all
+pub all_kept : {X : Type 0} (p : X → Bool) (xs : List X) → length xs ≤ length (filter p xs) → filter p xs ≡ xs
+all_kept p [] le = refl
+all_kept {X} p (x ∷ xs) le =
     ⊎_elim
-    (λ e. subst (λ (n : ℕ). n < length (x ∷ ks)) (sym (ap (λ (b : Bool). cond (not b) (1 + prefix_len (λ x. not (nat_eq k x)) ks) 0) (eq-eqb k x e))) (omega arith))
-    (λ ne. subst (λ (n : ℕ). n < length (x ∷ ks)) (sym (ap (λ (b : Bool). cond (not b) (1 + prefix_len (λ x. not (nat_eq k x)) ks) 0) (ne_eqb k x ne)))
-    (let rest : prefix_len (λ x. not (nat_eq k x)) ks < length ks = stops ks k (later ne) in omega arith))
-    (cases_eq k x)
+    (λ (e : p x ≡ true).
+    (let here : filter p (x ∷ xs) ≡ x ∷ filter p xs = ap (λ b. cond b (x ∷ filter p xs) (filter p xs)) e in
+    let long : length (filter p (x ∷ xs)) ≡ suc (length (filter p xs)) = ap length here in
+    here ∙ ap (λ (l : List X). x ∷ l) (all_kept p xs (omega arith))))
+    (λ (e : p x ≡ false).
+    (let here : length (filter p (x ∷ xs)) ≡ length (filter p xs) = ap (λ b. length (cond b (x ∷ filter p xs) (filter p xs))) e in
+    absurd (omega (arith, length-filter_both p (λ y. not (p y)) (λ y. refl) xs))))
+    (cases_Bool (p x))
+
+-- a key that has no place has no row
+pub absent_key : {A : Type 0} (rows : List (ℕ × A)) (key : ℕ) → position (nat_eq key) (keys_of rows) ≡ None → lookup (nat_eq key) rows ≡ None
+absent_key {A} rows key none = is_none (lookup (nat_eq key) rows) (sym (some_index (nat_eq key) rows) ∙ ap is_some none)
   where
-    later : k ≢ x → Contains ks k
-    later ne = ⊎_elim (λ e. absurd (ne (sym e))) (λ i. i) (Contains-cons_cases x ks k h)
+    is_none : (o : Option A) → is_some o ≡ false → o ≡ None
+    is_none None e = refl
+    is_none (Some x) e = (let q : true ≡ false = e in cc)
 
-pub position_none : (ks : List ℕ) (k : ℕ) → position (nat_eq k) ks ≡ None → ¬ Contains ks k
-position_none ks k is h =
-    clash (position_or_len (nat_eq k) ks) (sym (ap (λ (b : Bool). cond b (Some (position_or_len (nat_eq k) ks)) None) (lt-ltb (position_or_len (nat_eq k) ks) (length ks) (stops ks k h))) ∙ is)
-  where
-    clash : (n : ℕ) → ◌≡◌ {A = Option ℕ} (Some n) None → ⊥
-    clash n e = cc
-
--- the element at a place
-pub slice_get-at : {X : Type 0} (before after : List X) (x : X) → slice_get (before ++ x ∷ after) (length before) ≡ Some x
-slice_get-at [] after x = refl
-slice_get-at (y ∷ before) after x = slice_get-at before after x
-
-pub set_value_at-at : {X : Type 0} (before after : List (ℕ × X)) (k : ℕ) (v w : X) → set_value_at (before ++ (k, v) ∷ after) (length before) w ≡ before ++ (k, w) ∷ after
-set_value_at-at [] after k v w = refl
-set_value_at-at (y ∷ before) after k v w = ap (λ l. y ∷ l) (set_value_at-at before after k v w)
-
--- two functions that agree at each of the keys
-pub map_same : {X : Type 0} (f g : ℕ → X) (ks : List ℕ) → ((j : ℕ) → Contains ks j → f j ≡ g j) → map f ks ≡ map g ks
-map_same f g [] same = refl
-map_same f g (k ∷ ks) same = ap (λ x. x ∷ map f ks) (same k (Contains-head k ks)) ∙ ap (λ l. g k ∷ l) (map_same f g ks (λ j h. same j (Contains-tail k ks j h)))
-
--- a row for each key
-abbrev pub rows_by : {X : Type 0} → (ℕ → X) → List ℕ → List (ℕ × X)
-rows_by f ks = map (λ j. (j, f j)) ks
-
-pub keys_of-rows_by : {X : Type 0} (f : ℕ → X) (ks : List ℕ) → keys_of (rows_by f ks) ≡ ks
-keys_of-rows_by f [] = refl
-keys_of-rows_by f (k ∷ ks) = ap (λ l. k ∷ l) (keys_of-rows_by f ks)
-
--- the row of a key that stands at a place
-pub row_at : {X : Type 0} (f : ℕ → X) (ks : List ℕ) (k i : ℕ) → position (nat_eq k) ks ≡ Some i → slice_get (rows_by f ks) i ≡ Some (k, f k)
-row_at f ks k i is =
-    let at : IsAt ks i k = position_at ks k i is in
-    ap (λ l. slice_get (rows_by f l) i) at.cut
-    ∙ ap (λ l. slice_get l i) (map-append (λ j. (j, f j)) at.before (k ∷ at.after))
-    ∙ ap (λ n. slice_get (rows_by f at.before ++ (k, f k) ∷ rows_by f at.after) n) (sym at.place ∙ sym (length_rows f at.before))
-    ∙ slice_get-at (rows_by f at.before) (rows_by f at.after) (k, f k)
-  where
-    length_rows : {X : Type 0} (f : ℕ → X) (js : List ℕ) → length (rows_by f js) ≡ length js
-    length_rows f [] = refl
-    length_rows f (j ∷ js) = ap suc (length_rows f js)
-
-pub length-rows_by : {X : Type 0} (f : ℕ → X) (ks : List ℕ) → length (rows_by f ks) ≡ length ks
-length-rows_by f [] = refl
-length-rows_by f (k ∷ ks) = ap suc (length-rows_by f ks)
-
--- two functions that agree at all keys but one
-module _ {X : Type 0} (f g : ℕ → X) (k : ℕ) (same : (j : ℕ) → j ≢ k → f j ≡ g j) where
-  pub rows_without : (ks : List ℕ) → ¬ Contains ks k → rows_by g ks ≡ rows_by f ks
-  rows_without ks absent = map_same (λ j. (j, g j)) (λ j. (j, f j)) ks (λ j h. ap (λ x. (j, x)) (sym (same j (λ e. absent (subst (Contains ks) e h)))))
-
-  -- the rows around that key
-  pub rows_around : (ks : List ℕ) (i : ℕ) → Pairwise (λ i j. i ≢ j) ks → position (nat_eq k) ks ≡ Some i
-      → (before : List ℕ) × (after : List ℕ) × (rows_by f ks ≡ rows_by f before ++ (k, f k) ∷ rows_by f after) × (rows_by g ks ≡ rows_by f before ++ (k, g k) ∷ rows_by f after)
-      × (length (rows_by f before) ≡ i)
-  rows_around ks i apart is =
-      let at : IsAt ks i k = position_at ks k i is in
-      let cut : Pairwise (λ i j. i ≢ j) (at.before ++ k ∷ at.after) = subst (Pairwise (λ i j. i ≢ j)) at.cut apart in
-      (
-        at.before,
-        at.after,
-        ap (rows_by f) at.cut ∙ map-append (λ j. (j, f j)) at.before (k ∷ at.after),
-        ap (rows_by g) at.cut ∙ map-append (λ j. (j, g j)) at.before (k ∷ at.after)
-        ∙ ap (λ l. l ++ (k, g k) ∷ rows_by g at.after) (rows_without at.before (λ h. Pairwise-across (λ i j. i ≢ j) at.before (k ∷ at.after) cut k k h (Contains-head k at.after) refl))
-        ∙ ap (λ l. rows_by f at.before ++ (k, g k) ∷ l) (rows_without at.after (λ h. (Pairwise-right (λ i j. i ≢ j) at.before (k ∷ at.after) cut).0 k h refl)),
-        length-rows_by f at.before ∙ at.place,
-      )
-
-  pub rows_with : (ks : List ℕ) (i : ℕ) → Pairwise (λ i j. i ≢ j) ks → position (nat_eq k) ks ≡ Some i → rows_by g ks ≡ set_value_at (rows_by f ks) i (g k)
-  rows_with ks i apart is =
-      let around = rows_around ks i apart is in
-      around.3
-      ∙ sym (set_value_at-at (rows_by f around.0) (rows_by f around.1) k (f k) (g k))
-      ∙ ap (λ n. set_value_at (rows_by f around.0 ++ (k, f k) ∷ rows_by f around.1) n (g k)) around.4
-      ∙ ap (λ l. set_value_at l i (g k)) (sym around.2)
+-- there is a row at each place
+pub row_within : {X : Type 0} (xs : List X) (place : ℕ) → place < length xs → (x : X) × (slice_get xs place ≡ Some x)
+row_within [] place lt = absurd (omega arith)
+row_within (x ∷ xs) zero lt = (x, refl)
+row_within (x ∷ xs) (suc place) lt = row_within xs place (omega arith)

@@ -25,7 +25,7 @@ use Rattle.monitor.specs.declared.monitor.Change.TheVariants.{Fault, Append, Beg
 use Rattle.monitor.proofs.Carried.{sound_at_rest}
 use Rattle.monitor.proofs.Changes.{JudgingLaw, IsLineOf, line_of, keys_of_lines, opened_judged, fault_judged, next_judged, first_judged, kept_first, cut_judged, kind_judged, budget_judged}
 use Rattle.monitor.proofs.KeyedEvents.{events-none}
-use Rattle.monitor.proofs.Places.{position_none}
+use Rattle.monitor.proofs.KeyPlaces.{position_none}
 use Rattle.monitor.proofs.Statuses.{JoinsWith, BadKeysDecide}
 
 -- the next event of a key is one of a history by itself, and a key that was not alive stays as it was

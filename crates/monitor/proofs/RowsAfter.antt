@@ -17,7 +17,7 @@ use Rattle.monitor.specs.JudgedHistory.{JudgedHistory, each_once, keys_in_order,
 use Rattle.monitor.specs.Rows.{cut_rows}
 use Rattle.monitor.specs.Judged.{rows_of}
 use Rattle.monitor.proofs.EachOnce.{is_new, is_new-lacks, each_once-append, from_each_once, each_once-apart}
-use Rattle.monitor.proofs.Places.{IsAt, position_at, position_none, map_same, rows_by, rows_without, rows_with}
+use Rattle.monitor.proofs.KeyPlaces.{IsAt, position_at, position_none, map_same, rows_by, rows_without, rows_with}
 use Rattle.monitor.proofs.KeyedEvents.{of_its_key, of_other_key, of_no_key, keys-fault, keys-push, keys-first, events-push, events-pass, events-none, events-some, events-take}
 
 -- a key that has a place is there

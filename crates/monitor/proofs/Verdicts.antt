@@ -22,7 +22,7 @@ use Rattle.monitor.specs.JudgedHistory.{JudgedHistory, IsVerdictOn, kind_of, bud
 use Rattle.monitor.specs.Rows.{AreStatusesOf, JoinsRows}
 use Rattle.monitor.specs.Judged.{rows_of, IsJudged}
 use Rattle.monitor.proofs.EachOnce.{to_each_once, each_once-apart}
-use Rattle.monitor.proofs.Places.{keys_of-rows_by}
+use Rattle.monitor.proofs.KeyPlaces.{keys_of-rows_by}
 use Rattle.monitor.proofs.KeyedEvents.{of_its_key, events-push, entry_keys}
 use Rattle.monitor.proofs.Statuses.{status_row, row_status, status_keys, keys_apart}
 

@@ -1,5 +1,5 @@
 -- Invariant: the lines of the keys
-use Rattle.std.specs.Prelude.{◌≡◌, ℕ, Bool, true, Option, Some, None, IfSome, List, [], ◌∷◌, map, slice_get}
+use Rattle.std.specs.Prelude.{◌≡◌, ℕ, true, false, Option, Some, None, IfSome, List, [], ◌∷◌, map, slice_get}
 use Rattle.linspec.specs.declared.verdict.KeyStatus.{KeyStatus}
 use Rattle.linspec.specs.declared.verdict.Verdict.{Verdict}
 use Rattle.linspec.specs.Verdicts.{IsJoin}
@@ -28,7 +28,17 @@ AreStatusesOf _ _ = ⊥
 abbrev pub JoinsRows : List (ℕ × KeyHistory) → Verdict → Type 0
 JoinsRows rows v = (statuses : List (ℕ × KeyStatus)) × AreStatusesOf rows statuses × IsJoin statuses v
 
--- each line that a cut at n takes events from, and does not empty, has the cut prepared
+-- the cut at n is prepared where it takes events from the line and does not empty it
+abbrev pub IsCutAt : ℕ → KeyLineView → Type 0
+IsCutAt n line =
+    begins_below n line.now ≡ true → loses_at n line.now ≡ true → line.next ≡ Some (cut_at n line.now)
+
+-- so it is at each line
 abbrev pub AreCutAt : ℕ → List (ℕ × KeyLineView) → Type 0
-AreCutAt n rows = (place : ℕ) → IfSome (slice_get rows place)
-    (λ row. begins_below n row.1.now ≡ true → loses_at n row.1.now ≡ true → row.1.next ≡ Some (cut_at n row.1.now))
+AreCutAt n rows = (place : ℕ) → IfSome (slice_get rows place) (λ row. IsCutAt n row.1)
+
+-- how a key stands after a cut at n, if it has an event before it
+abbrev pub StandsAfter : ℕ → ℕ × KeyHistory → Option (ℕ × KeyStatus) → Type 0
+StandsAfter n row None = begins_below n row.1 ≡ false
+StandsAfter n row (Some s) =
+    (begins_below n row.1 ≡ true) × (s.0 ≡ row.0) × IsStatusOf (cut_at n row.1) s.1

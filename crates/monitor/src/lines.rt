@@ -1,18 +1,19 @@
 //! The lines of the keys that have events, in the order of their first events.
-ghost use Rattle.std.specs.Prelude.{◌≡◌, ◌<◌, ◌≤◌, [], ◌∷◌, ◌++◌, Some, None, length, nat_eq, position, slice_get, take, IfOk, OnOk, IfSome, IsSome, IsSomeAnd};
+ghost use Rattle.std.specs.Prelude.{◌≡◌, ◌≢◌, ℕ, ◌<◌, ◌≤◌, true, [], ◌∷◌, ◌++◌, Some, None, length, nat_eq, position, slice_get, take, IfOk, OnOk, IfSome, IsSome, IsSomeAnd};
 ghost use Rattle.std.specs.List.{filter};
 ghost use Rattle.std.specs.Map.{keys_of};
 ghost use Rattle.indexmap.specs.Layout.{set_value_at};
 ghost use Rattle.models.specs.declared.model_kind.ModelKind.{ModelKind};
 ghost use Rattle.history.specs.ProcessRule.{IsHistory};
-ghost use Rattle.checkpoints.specs.KeyLineView.{KeyHistory, IsStatusOf, at_rest, with_next, with_pushed, judged_by, cut_at, begins_below};
-ghost use Rattle.monitor.specs.Rows.{nows, cut_rows, JoinsRows, AreCutAt};
+ghost use Rattle.checkpoints.specs.KeyLineView.{KeyHistory, IsStatusOf, at_rest, with_next, with_pushed, judged_by, cut_at, begins_below, loses_at};
+ghost use Rattle.monitor.specs.Rows.{nows, cut_rows, JoinsRows, IsCutAt, AreCutAt, StandsAfter};
 
 use checkpoints::KeyLine;
 use history::Event;
 use indexmap::IndexMap;
 use linspec::{KeyStatus, Verdict};
 use locality::join_with;
+use locality::laws::no_keys_law;
 use models::{Key, ModelKind};
 use std::alloc::{AllocError, Global};
 use std::marker::Model;
@@ -124,6 +125,7 @@ impl Lines {
         ensures kept { nows self.new.rows ≡ nows self.old.rows }
         ensures room { self.old.room ≤ self.new.room }
     {
+        no_keys_law();
         let mut kept = 0;
         let mut verdict = Verdict::Legal;
         for place in 0..self.map.len() {
@@ -140,10 +142,15 @@ impl Lines {
         ensures { (next : KeyHistory) → IsStatusOf next status
             → JoinsRows (set_value_at (nows self.now.rows) place next) result }
     {
+        no_keys_law();
         let mut verdict = Verdict::Legal;
         for other in 0..self.map.len() {
             let (key, line) = self.at(other);
-            let stands = if other == place { status } else { line.status() };
+            let stands = if other == place {
+                status
+            } else {
+                line.status()
+            };
             verdict = join_with(verdict, key, stands);
         }
         verdict
@@ -202,33 +209,56 @@ impl Lines {
         n: u32,
     ) -> Result<Option<(Key, KeyStatus)>, AllocError>
         requires { place < length self.old.rows }
+        ensures stands { IfOk result (λ stands. IfSome (slice_get self.old.rows place)
+            (λ row. StandsAfter n (row.0, row.1.now) stands)) }
+        ensures next { OnOk result (IfSome (slice_get self.new.rows place)
+            (λ row. IsCutAt n row.1)) }
+        ensures others { (other : ℕ) → other ≢ place
+            → slice_get self.new.rows other ≡ slice_get self.old.rows other }
+        ensures kept { nows self.new.rows ≡ nows self.old.rows }
+        ensures room { self.old.room ≤ self.new.room }
     {
-        let Some((key, _)) = self.map.get_index(place) else {
-            unreachable!()
-        };
-        let key = *key;
-        let Some(line) = self.map.get_index_mut(place) else {
-            unreachable!()
-        };
+        let (key, line) = self.at(place);
         if !line.begins_below(n) {
             return Ok(None);
         }
         if !line.loses(n) {
             return Ok(Some((key, line.status())));
         }
-        let status = line.prepare_cut(n)?;
+        let status = self.prepare_line_cut(place, n)?;
         Ok(Some((key, status)))
+    }
+
+    // Prepares a cut at `n` of the line at a place, and gives the status that this brings.
+    fn prepare_line_cut(&mut self, place: usize, n: u32) -> Result<KeyStatus, AllocError>
+        requires { place < length self.old.rows }
+        ensures status { IfOk result (λ status. IfSome (slice_get self.old.rows place)
+            (λ row. IsStatusOf (cut_at n row.1.now) status)) }
+        ensures next { OnOk result (IfSome (slice_get self.old.rows place) (λ row.
+            slice_get self.new.rows place ≡ Some (row.0, with_next (cut_at n row.1.now) row.1))) }
+        ensures others { (other : ℕ) → other ≢ place
+            → slice_get self.new.rows other ≡ slice_get self.old.rows other }
+        ensures kept { nows self.new.rows ≡ nows self.old.rows }
+        ensures room { self.old.room ≤ self.new.room }
+    {
+        match self.map.get_index_mut(place) {
+            Some(line) => line.prepare_cut(n),
+            None => unreachable!(),
+        }
     }
 
     // Carries out the cut at `n` of the line at a place, if it takes events from it.
     fn commit_cut_at(&mut self, place: usize, n: u32)
-        requires { place < length self.old.rows }
+        requires { IsSomeAnd (slice_get self.old.rows place) (λ row.
+            loses_at n row.1.now ≡ true → row.1.next ≡ Some (cut_at n row.1.now)) }
+        ensures cut { IfSome (slice_get self.old.rows place) (λ row.
+            nows self.new.rows ≡ set_value_at (nows self.old.rows) place (cut_at n row.1.now)) }
+        ensures others { (other : ℕ) → other ≢ place
+            → slice_get self.new.rows other ≡ slice_get self.old.rows other }
     {
-        let Some(line) = self.map.get_index_mut(place) else {
-            unreachable!()
-        };
+        let (_, line) = self.at(place);
         if line.loses(n) {
-            line.commit();
+            self.commit(place);
         }
     }
 }
