@@ -1,5 +1,5 @@
 -- what holds of the parts once a change is carried out
-use Rattle.std.proofs.Common.{◌≡◌, ℕ, zero, suc, Option, Some, None, option_map, IfSome, IsSome, List, [], ◌∷◌, ◌++◌, nat_eq, map, take, refl, sym, ap, ◌∙◌, subst}
+use Rattle.std.proofs.Common.{◌≡◌, ℕ, zero, suc, Option, Some, None, option_map, IfSome, IsSome, List, [], ◌∷◌, ◌++◌, nat_eq, map, take, slice_get, refl, sym, ap, ◌∙◌, subst}
 use Rattle.std.proofs.lemmas.Bool.{false≢true}
 use Rattle.std.proofs.lemmas.List.{map-append}
 use Rattle.indexmap.specs.IndexMap.{insert_entry}
@@ -79,6 +79,15 @@ pub nows_set : (rows : List (ℕ × KeyLineView)) (place : ℕ) (line : KeyLineV
 nows_set [] place line = refl
 nows_set (row ∷ rows) zero line = refl
 nows_set (row ∷ rows) (suc place) line = ap (λ l. (row.0, row.1.now) ∷ l) (nows_set rows place line)
+
+pub line_carried : (lines lines' : LinesView) (place : ℕ) → IfSome (slice_get lines.rows place) (λ row. IfSome row.1.next (λ next. lines'.rows ≡ set_value_at lines.rows place (at_rest next)))
+    → (rows : List (ℕ × KeyHistory)) → AreRowsWith lines (Some place) rows → nows lines'.rows ≡ rows
+line_carried lines lines' place carried rows brings =
+    ap nows
+    (subst (λ (o : Option KeyHistory). IfSome o (λ next. lines'.rows ≡ set_value_at lines.rows place (at_rest next))) brings.3
+    (subst (λ (o : Option (ℕ × KeyLineView)). IfSome o (λ row. IfSome row.1.next (λ next. lines'.rows ≡ set_value_at lines.rows place (at_rest next)))) brings.2 carried))
+    ∙ nows_set lines.rows place (at_rest brings.1)
+    ∙ sym brings.4
 
 -- so all is sound after a change that brought what it should
 pub sound_at_rest : (history : HistoryView) (kinds : SettingsView ModelKind) (budgets : SettingsView ℕ) (lines : LinesView) (h : JudgedHistory) (rows : List (ℕ × KeyHistory)) (v : Verdict)

@@ -42,7 +42,7 @@ pub record IsLineOf (h : JudgedHistory) (lines : List (ℕ × KeyLineView)) (k p
   pub is : line.now ≡ history_of_key h k
 
 line_from : (h : JudgedHistory) (lines : List (ℕ × KeyLineView)) (k place : ℕ) (o : Option (ℕ × KeyLineView)) → slice_get lines place ≡ o
-    → option_map (λ (row : ℕ × KeyLineView). (row.0, row.1.now)) o ≡ Some (k, history_of_key h k) → IsLineOf h lines k place
+    → option_map {U = ℕ × KeyHistory} (λ (row : ℕ × KeyLineView). (row.0, row.1.now)) o ≡ Some (k, history_of_key h k) → IsLineOf h lines k place
 line_from h lines k place None at is = absurd (none_is (k, history_of_key h k) is)
   where
     none_is : {X : Type 0} (x : X) → None ≡ Some x → ⊥
@@ -57,7 +57,31 @@ line_from h lines k place (Some row) at is =
 pub line_of : (h : JudgedHistory) (lines : List (ℕ × KeyLineView)) (k place : ℕ) → nows lines ≡ rows_of h → position (nat_eq k) (keys_in_order h.events) ≡ Some place → IsLineOf h lines k place
 line_of h lines k place are at =
     line_from h lines k place (slice_get lines place) refl
-    (sym (slice_get-map (λ (row : ℕ × KeyLineView). (row.0, row.1.now)) lines place) ∙ ap (λ l. slice_get l place) are ∙ row_at (history_of_key h) (keys_in_order h.events) k place at)
+    (sym (slice_get-map {B = ℕ × KeyHistory} (λ (row : ℕ × KeyLineView). (row.0, row.1.now)) lines place) ∙ ap (λ l. slice_get l place) are ∙ row_at (history_of_key h) (keys_in_order h.events) k place at)
+
+-- the key at a place, and its line
+place_from : (h : JudgedHistory) (key : ℕ) (now : KeyHistory) (o : Option ℕ) → option_map {U = ℕ × KeyHistory} (λ (j : ℕ). (j, history_of_key h j)) o ≡ Some (key, now)
+    → (o ≡ Some key) × (now ≡ history_of_key h key)
+place_from h key now None is = absurd (none_is (key, now) is)
+  where
+    none_is : (x : ℕ × KeyHistory) → None ≡ Some x → ⊥
+    none_is x e = cc
+place_from h key now (Some j) is =
+    let same : ◌≡◌ {A = ℕ × KeyHistory} (j, history_of_key h j) (key, now) = inside (j, history_of_key h j) (key, now) is in
+    let keys : j ≡ key = ap (λ (p : ℕ × KeyHistory). p.0) same in
+    (ap Some keys, sym (ap (λ (p : ℕ × KeyHistory). p.1) same) ∙ ap (history_of_key h) keys)
+  where
+    inside : (x y : ℕ × KeyHistory) → ◌≡◌ {A = Option (ℕ × KeyHistory)} (Some x) (Some y) → x ≡ y
+    inside x y e = cc
+
+pub place_seen : (h : JudgedHistory) (lines : List (ℕ × KeyLineView)) (i key : ℕ) (line : KeyLineView) → nows lines ≡ rows_of h → slice_get lines i ≡ Some (key, line)
+    → (slice_get (keys_in_order h.events) i ≡ Some key) × (line.now ≡ history_of_key h key)
+place_seen h lines i key line are at =
+    place_from h key line.now (slice_get (keys_in_order h.events) i)
+    (sym (slice_get-map {B = ℕ × KeyHistory} (λ (j : ℕ). (j, history_of_key h j)) (keys_in_order h.events) i)
+    ∙ ap (λ (l : List (ℕ × KeyHistory)). slice_get l i) (sym are)
+    ∙ slice_get-map {B = ℕ × KeyHistory} (λ (row : ℕ × KeyLineView). (row.0, row.1.now)) lines i
+    ∙ ap (option_map {U = ℕ × KeyHistory} (λ (row : ℕ × KeyLineView). (row.0, row.1.now))) at)
 
 -- nothing has happened yet
 pub opened_judged : JudgingLaw → IsJoin [] Legal → (c : ℕ) (kind : ModelKind) (budget : ℕ) → IsJudged (opening_of c kind budget) [] Legal

@@ -1,7 +1,8 @@
 -- what holds of the parts once a change is prepared
-use Rattle.std.proofs.Common.{◌≡◌, ◌≢◌, ◌⊎◌, ℕ, ◌<◌, Option, Some, None, IfSome, IsSome, IsSomeAnd, List, [], ◌∷◌, ◌++◌, length, nat_eq, take, slice_get, refl, sym, ap, ◌∙◌, subst}
+use Rattle.std.proofs.Common.{◌≡◌, ◌≢◌, ◌⊎◌, ℕ, ◌<◌, Option, Some, None, IfSome, IsSome, IsSomeAnd, List, [], ◌∷◌, ◌++◌, length, nat_eq, option_map, take, slice_get, refl, sym, ap, ◌∙◌, subst}
 use Rattle.std.specs.List.{filter, position}
 use Rattle.std.specs.Map.{keys_of}
+use Rattle.std.proofs.lemmas.Option.{slice_get-map}
 use Rattle.indexmap.specs.Layout.{set_value_at}
 use Rattle.models.specs.declared.model_kind.ModelKind.{ModelKind}
 use Rattle.history.specs.declared.event.Event.{Event}
@@ -13,7 +14,7 @@ use Rattle.linspec.specs.declared.verdict.KeyStatus.TheVariants.{Alive}
 use Rattle.linspec.specs.declared.verdict.Verdict.{Verdict}
 use Rattle.linspec.specs.declared.verdict.Verdict.TheVariants.{Legal}
 use Rattle.linspec.specs.Verdicts.{IsJoin}
-use Rattle.checkpoints.specs.KeyLineView.{KeyHistory, KeyLineView, IsStatusOf, at_rest, with_pushed, without_events, begins_below}
+use Rattle.checkpoints.specs.KeyLineView.{KeyHistory, KeyLineView, IsStatusOf, at_rest, with_pushed, without_events, judged_by, begins_below}
 use Rattle.checkpoints.specs.KeyLineView.{with_next as line_with_next}
 use Rattle.monitor.specs.JudgedHistory.{JudgedHistory, kind_of, budget_of, opening_of, with_event, rewound, with_kind, with_budget, keys_in_order, history_of_key}
 use Rattle.monitor.specs.Settings.{SettingsView, setting_of}
@@ -26,6 +27,7 @@ use Rattle.monitor.proofs.Carried.{sound_at_rest}
 use Rattle.monitor.proofs.Changes.{JudgingLaw, IsLineOf, line_of, keys_of_lines, opened_judged, fault_judged, next_judged, first_judged, kept_first, cut_judged, kind_judged, budget_judged}
 use Rattle.monitor.proofs.KeyedEvents.{events-none}
 use Rattle.monitor.proofs.KeyPlaces.{position_none}
+use Rattle.monitor.proofs.Places.{row_within}
 use Rattle.monitor.proofs.Statuses.{JoinsWith, BadKeysDecide}
 
 -- the next event of a key is one of a history by itself, and a key that was not alive stays as it was
@@ -255,3 +257,44 @@ budget_ready law history kinds budgets budgets' lines lines' v before k n kind p
     now' =
         same_settings budgets budgets' default set
         (λ d s. IsJudged (record { concurrency = history.concurrency; kind = kinds.default; budget = d; kinds = kinds.set; budgets = s; events = history.events }) (nows lines.rows) v) sound.now
+
+-- what is judged then
+pub model_judged : JudgingLaw → (h : JudgedHistory) (lines lines' : LinesView) (v : Verdict) (k : ℕ) (kind : ModelKind) (budget : ℕ) (place : Option ℕ) (w : Verdict) → IsJudged h (nows lines.rows) v
+    → place ≡ position (nat_eq k) (keys_of lines.rows) → budget ≡ budget_of h k → (rebuilt : IsRebuilt kind budget place lines lines' w) → IsJudged (with_kind k kind h) rebuilt.rows w
+model_judged law h lines lines' v k kind budget place w judged at budget_is rebuilt =
+    kind_judged law h (nows lines.rows) v k kind place rebuilt.rows w judged
+    (sym (at ∙ ap (λ (l : List ℕ). position (nat_eq k) l) (keys_of_lines h lines.rows judged.rows_are)))
+    (subst (λ (b : ℕ). AreRowsJudgedBy kind b place (nows lines.rows) rebuilt.rows) budget_is rebuilt.judged) rebuilt.joined
+
+pub limit_judged : JudgingLaw → (h : JudgedHistory) (lines lines' : LinesView) (v : Verdict) (k n : ℕ) (kind : ModelKind) (place : Option ℕ) (w : Verdict) → IsJudged h (nows lines.rows) v
+    → place ≡ position (nat_eq k) (keys_of lines.rows) → kind ≡ kind_of h k → (rebuilt : IsRebuilt kind n place lines lines' w) → IsJudged (with_budget k n h) rebuilt.rows w
+limit_judged law h lines lines' v k n kind place w judged at kind_is rebuilt =
+    budget_judged law h (nows lines.rows) v k n place rebuilt.rows w judged
+    (sym (at ∙ ap (λ (l : List ℕ). position (nat_eq k) l) (keys_of_lines h lines.rows judged.rows_are)))
+    (subst (λ (x : ModelKind). AreRowsJudgedBy x n place (nows lines.rows) rebuilt.rows) kind_is rebuilt.judged) rebuilt.joined
+
+-- the line at a place has another kind and budget prepared, and how it then stands joins to the verdict
+pub rebuilt_at : (kind : ModelKind) (budget place : ℕ) (lines lines' : LinesView) (status : KeyStatus) (v : Verdict) → place < length lines.rows
+    → IfSome (slice_get lines.rows place) (λ row. IsStatusOf (judged_by kind budget row.1.now) status)
+    → IfSome (slice_get lines.rows place) (λ row. slice_get lines'.rows place ≡ Some (row.0, line_with_next (judged_by kind budget row.1.now) row.1))
+    → nows lines'.rows ≡ nows lines.rows → ((next : KeyHistory) → IsStatusOf next status → JoinsRows (set_value_at (nows lines'.rows) place next) v)
+    → IsRebuilt kind budget (Some place) lines lines' v
+rebuilt_at kind budget place lines lines' status v within is next same joins =
+    let row = row_within lines.rows place within in
+    record {
+      rows = set_value_at (nows lines.rows) place (judged_by kind budget row.0.1.now);
+      judged = (
+        (row.0.0, row.0.1.now),
+        slice_get-map {B = ℕ × KeyHistory} (λ (r : ℕ × KeyLineView). (r.0, r.1.now)) lines.rows place ∙ ap (option_map {U = ℕ × KeyHistory} (λ (r : ℕ × KeyLineView). (r.0, r.1.now))) row.1,
+        refl,
+      );
+      brings = (
+        (row.0.0, line_with_next (judged_by kind budget row.0.1.now) row.0.1),
+        judged_by kind budget row.0.1.now,
+        if_at (slice_get lines.rows place) row.0 (λ r. slice_get lines'.rows place ≡ Some (r.0, line_with_next (judged_by kind budget r.1.now) r.1)) row.1 next,
+        refl,
+        ap (λ l. set_value_at l place (judged_by kind budget row.0.1.now)) (sym same),
+      );
+      joined = subst (λ (l : List (ℕ × KeyHistory)). JoinsRows (set_value_at l place (judged_by kind budget row.0.1.now)) v) same
+          (joins (judged_by kind budget row.0.1.now) (if_at (slice_get lines.rows place) row.0 (λ r. IsStatusOf (judged_by kind budget r.1.now) status) row.1 is));
+    }

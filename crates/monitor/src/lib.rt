@@ -4,7 +4,7 @@
 mod laws;
 mod lines;
 mod monitor;
-mod preparing;
+mod parts;
 mod settings;
 
 pub use monitor::{KeyRow, Monitor};

@@ -9,7 +9,7 @@ ghost use Rattle.monitor.specs.Monitors.{at_rest, with_next, Admits, MayDecline,
 use crate::lines::Lines;
 use crate::settings::Settings;
 use crate::laws::{judging_law, next_event_law};
-use crate::preparing::{commit_line, first_line, prepare_in_history, prepare_rebuild};
+use crate::parts::{commit_line, first_line, prepare_in_history, prepare_rebuild};
 use checkpoints::KeyLine;
 use checkpoints::laws::settled_law;
 use edn::Refusal;
