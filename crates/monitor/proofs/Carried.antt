@@ -1,5 +1,5 @@
 -- what holds of the parts once a change is carried out
-use Rattle.std.proofs.Common.{◌≡◌, ℕ, zero, suc, Option, Some, None, option_map, IfSome, IsSome, List, [], ◌∷◌, ◌++◌, nat_eq, map, take, slice_get, refl, sym, ap, ◌∙◌, subst}
+use Rattle.std.proofs.Common.{◌≡◌, ℕ, zero, suc, Option, Some, None, option_map, IfSome, IsSome, List, [], ◌∷◌, ◌++◌, nat_eq, take, slice_get, refl, sym, ap, ◌∙◌, subst}
 use Rattle.std.proofs.lemmas.Bool.{false≢true}
 use Rattle.std.proofs.lemmas.List.{map-append}
 use Rattle.indexmap.specs.IndexMap.{insert_entry}

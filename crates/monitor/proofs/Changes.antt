@@ -1,13 +1,12 @@
 -- what is judged after a change
-use Rattle.std.proofs.Common.{◌≡◌, ◌≢◌, ◌⊎◌, ℕ, ◌<◌, nat_eq, Option, Some, None, option_map, List, [], ◌∷◌, ◌++◌, length, map, take, slice_get, refl, sym, ap, ◌∙◌, subst}
+use Rattle.std.proofs.Common.{◌≡◌, ◌⊎◌, ℕ, nat_eq, Option, Some, None, option_map, List, [], ◌∷◌, ◌++◌, length, take, slice_get, refl, sym, ap, ◌∙◌, subst}
 use Rattle.std.specs.List.{filter, filter_map, position}
 use Rattle.std.specs.Map.{keys_of}
-use Rattle.std.proofs.lemmas.Option.{slice_get-map, slice_get_within}
+use Rattle.std.proofs.lemmas.Option.{slice_get-map}
 use Rattle.indexmap.specs.Layout.{set_value_at}
 use Rattle.models.specs.declared.model_kind.ModelKind.{ModelKind}
 use Rattle.history.specs.declared.event.Event.{Event}
 use Rattle.history.specs.Events.{key_of}
-use Rattle.history.specs.ProcessRule.{IsHistory}
 use Rattle.history.specs.WellFormed.{IsWellFormed, IsHistoryOf}
 use Rattle.linspec.specs.declared.verdict.KeyStatus.{KeyStatus}
 use Rattle.linspec.specs.declared.verdict.KeyStatus.TheVariants.{Alive}

@@ -1,11 +1,10 @@
 -- rows of keys that are apart: where a key stands, and the rows with another value for it
-use Rattle.std.proofs.Common.{◌≡◌, ◌≢◌, ◌⊎◌, ℕ, ◌+◌, ◌<◌, Bool, true, false, not, cond, zero, suc, nat_eq, nat_lt, Option, Some, None, option_map, List, [], ◌∷◌, ◌++◌, length, map, get_or, slice_get, refl, sym, ap, ◌∙◌, subst, ⊎_elim, arith}
+use Rattle.std.proofs.Common.{◌≡◌, ◌≢◌, ℕ, ◌+◌, ◌<◌, Bool, true, false, not, cond, zero, suc, nat_eq, Option, Some, None, List, [], ◌∷◌, ◌++◌, length, map, get_or, slice_get, refl, sym, ap, ◌∙◌, subst, ⊎_elim, arith}
 use Rattle.std.specs.List.{Contains, position, prefix_len, position_or_len}
 use Rattle.std.specs.Map.{keys_of}
-use Rattle.std.proofs.lemmas.Bool.{cases_Bool, cases_eq, eq-eqb, ne_eqb, eqb-true, lt-ltb}
+use Rattle.std.proofs.lemmas.Bool.{cases_eq, eq-eqb, ne_eqb, eqb-true, lt-ltb}
 use Rattle.std.proofs.lemmas.List.{map-append}
 use Rattle.std.proofs.lemmas.List.Quantifiers.{position-Some}
-use Rattle.std.proofs.lemmas.List.Elements.{Contains-append_left, Contains-append_right}
 use Rattle.indexmap.specs.Layout.{set_value_at}
 use Rattle.linspec.specs.Orders.{Pairwise}
 use Rattle.linspec.proofs.Lists.{Contains-nil, Contains-head, Contains-tail, Contains-cons_cases, Pairwise-across, Pairwise-right}
@@ -99,14 +98,13 @@ module _ {X : Type 0} (f g : ℕ → X) (k : ℕ) (same : (j : ℕ) → j ≢ k 
       × (length (rows_by f before) ≡ i)
   rows_around ks i apart is =
       let at : IsAt ks i k = position_at ks k i is in
-      let cut : Pairwise (λ i j. i ≢ j) (at.before ++ k ∷ at.after) = subst (Pairwise (λ i j. i ≢ j)) at.cut apart in
-      (
+      let cut : Pairwise (λ i j. i ≢ j) (at.before ++ k ∷ at.after) = subst (Pairwise (λ i j. i ≢ j)) at.cut apart in (
         at.before,
         at.after,
         ap (rows_by f) at.cut ∙ map-append (λ j. (j, f j)) at.before (k ∷ at.after),
         ap (rows_by g) at.cut ∙ map-append (λ j. (j, g j)) at.before (k ∷ at.after)
-        ∙ ap (λ l. l ++ (k, g k) ∷ rows_by g at.after) (rows_without at.before (λ h. Pairwise-across (λ i j. i ≢ j) at.before (k ∷ at.after) cut k k h (Contains-head k at.after) refl))
-        ∙ ap (λ l. rows_by f at.before ++ (k, g k) ∷ l) (rows_without at.after (λ h. (Pairwise-right (λ i j. i ≢ j) at.before (k ∷ at.after) cut).0 k h refl)),
+            ∙ ap (λ l. l ++ (k, g k) ∷ rows_by g at.after) (rows_without at.before (λ h. Pairwise-across (λ i j. i ≢ j) at.before (k ∷ at.after) cut k k h (Contains-head k at.after) refl))
+            ∙ ap (λ l. rows_by f at.before ++ (k, g k) ∷ l) (rows_without at.after (λ h. (Pairwise-right (λ i j. i ≢ j) at.before (k ∷ at.after) cut).0 k h refl)),
         length-rows_by f at.before ∙ at.place,
       )
 

@@ -1,5 +1,5 @@
 -- what holds of the parts once a change is prepared
-use Rattle.std.proofs.Common.{◌≡◌, ◌≢◌, ◌⊎◌, ℕ, ◌<◌, Option, Some, None, IfSome, IsSome, IsSomeAnd, List, [], ◌∷◌, ◌++◌, length, nat_eq, option_map, take, slice_get, refl, sym, ap, ◌∙◌, subst}
+use Rattle.std.proofs.Common.{◌≡◌, ◌⊎◌, ℕ, ◌<◌, Option, Some, None, IfSome, IsSomeAnd, List, [], ◌∷◌, ◌++◌, length, nat_eq, option_map, take, slice_get, refl, sym, ap, ◌∙◌, subst}
 use Rattle.std.specs.List.{filter, position}
 use Rattle.std.specs.Map.{keys_of}
 use Rattle.std.proofs.lemmas.Option.{slice_get-map}
@@ -16,10 +16,10 @@ use Rattle.linspec.specs.declared.verdict.Verdict.TheVariants.{Legal}
 use Rattle.linspec.specs.Verdicts.{IsJoin}
 use Rattle.checkpoints.specs.KeyLineView.{KeyHistory, KeyLineView, IsStatusOf, at_rest, with_pushed, without_events, judged_by, begins_below}
 use Rattle.checkpoints.specs.KeyLineView.{with_next as line_with_next}
-use Rattle.monitor.specs.JudgedHistory.{JudgedHistory, kind_of, budget_of, opening_of, with_event, rewound, with_kind, with_budget, keys_in_order, history_of_key}
+use Rattle.monitor.specs.JudgedHistory.{JudgedHistory, kind_of, budget_of, opening_of, with_event, with_kind, with_budget, keys_in_order, history_of_key}
 use Rattle.monitor.specs.Settings.{SettingsView, setting_of}
 use Rattle.monitor.specs.Rows.{LinesView, nows, cut_rows, JoinsRows, AreCutAt}
-use Rattle.monitor.specs.Judged.{rows_of, IsJudged, AreRowsJudgedBy, IsRebuilt}
+use Rattle.monitor.specs.Judged.{IsJudged, AreRowsJudgedBy, IsRebuilt}
 use Rattle.monitor.specs.SoundMonitor.{judged_by_parts, IsSoundMonitor}
 use Rattle.monitor.specs.declared.monitor.Prepared.{Prepared}
 use Rattle.monitor.specs.declared.monitor.Change.TheVariants.{Fault, Append, Begin, Rewind, Kind, Budget}

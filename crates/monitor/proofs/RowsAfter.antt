@@ -1,5 +1,5 @@
 -- the rows of the keys after a change
-use Rattle.std.proofs.Common.{◌≡◌, ◌≢◌, ℕ, ◌+◌, ◌<◌, Bool, true, false, cond, if◌then◌else◌, zero, suc, nat_eq, nat_lt, Option, Some, None, unwrap_or, List, [], ◌∷◌, ◌++◌, length, map, take, drop, refl, sym, ap, ◌∙◌, subst, ⊎_elim, arith}
+use Rattle.std.proofs.Common.{◌≡◌, ◌≢◌, ℕ, Bool, true, false, cond, if◌then◌else◌, nat_eq, nat_lt, Option, Some, None, unwrap_or, List, [], ◌∷◌, ◌++◌, length, take, drop, refl, sym, ap, ◌∙◌, subst, ⊎_elim}
 use Rattle.std.specs.List.{filter, filter_map, Contains, position}
 use Rattle.std.specs.Map.{lookup}
 use Rattle.std.proofs.lemmas.Bool.{cases_eq, eq-eqb, ne_eqb, lt-ltb}
@@ -12,7 +12,7 @@ use Rattle.history.specs.declared.event.Event.{Event}
 use Rattle.history.specs.Events.{key_of, indexed_from, is_event_of, events_of_key}
 use Rattle.linspec.proofs.Lists.{Contains-head}
 use Rattle.linspec.proofs.Filters.{filter-all, filter-none, from_filter, from_map}
-use Rattle.checkpoints.specs.KeyLineView.{KeyHistory, without_events, with_pushed, cut_at, judged_by, events_below, begins_below}
+use Rattle.checkpoints.specs.KeyLineView.{KeyHistory, without_events, with_pushed, cut_at, judged_by, begins_below}
 use Rattle.monitor.specs.JudgedHistory.{JudgedHistory, each_once, keys_in_order, history_of_key, kind_of, budget_of, with_event, rewound, with_kind, with_budget}
 use Rattle.monitor.specs.Rows.{cut_rows}
 use Rattle.monitor.specs.Judged.{rows_of}

@@ -1,5 +1,5 @@
 -- how keys stand: statuses that join to a verdict, after one of the keys has changed
-use Rattle.std.proofs.Common.{◌≡◌, ◌≢◌, ◌⊎◌, ◌↔◌, ℕ, List, [], ◌∷◌, ◌++◌, map, refl, sym, ap, ◌∙◌, subst, ⊎_elim, inl, inr}
+use Rattle.std.proofs.Common.{◌≡◌, ◌≢◌, ◌⊎◌, ℕ, List, [], ◌∷◌, ◌++◌, refl, sym, ap, ◌∙◌, subst, ⊎_elim}
 use Rattle.std.specs.List.{Contains}
 use Rattle.std.specs.Map.{keys_of}
 use Rattle.std.proofs.lemmas.List.Elements.{Contains-append_left, Contains-append_right, Contains-append_cases, Contains-push, Contains-push_cases}
@@ -118,13 +118,12 @@ joins_push rows k h status v w joined is with_it =
 pub joins_set : BadKeysDecide → (before after : List (ℕ × KeyHistory)) (k : ℕ) (h next : KeyHistory) (status : KeyStatus) (v w : Verdict) → JoinsRows (before ++ (k, h) ∷ after) v
     → IsStatusOf next status → ((s : KeyStatus) → IsStatusOf h s → (s ≡ Alive) ⊎ (status ≡ s)) → JoinsWith v k status w → JoinsRows (before ++ (k, next) ∷ after) w
 joins_set decide before after k h next status v w joined is settled with_it =
-    let among : StatusAmong before k h after joined.0 = status_among before k h after joined.0 joined.1 in
-    (
+    let among : StatusAmong before k h after joined.0 = status_among before k h after joined.0 joined.1 in (
       among.first ++ (k, status) ∷ among.last,
       statuses_append before ((k, next) ∷ after) among.first ((k, status) ∷ among.last) among.of_before (refl, is, among.of_after),
       decide ((among.first ++ (k, among.status) ∷ among.last) ++ (k, status) ∷ []) (among.first ++ (k, status) ∷ among.last) w
-      (same_bad_keys among.first among.last k among.status status (settled among.status among.is))
-      (subst (λ (l : List (ℕ × KeyStatus)). IsJoin (l ++ (k, status) ∷ []) w) among.cut (with_it joined.0 joined.2)),
+          (same_bad_keys among.first among.last k among.status status (settled among.status among.is))
+          (subst (λ (l : List (ℕ × KeyStatus)). IsJoin (l ++ (k, status) ∷ []) w) among.cut (with_it joined.0 joined.2)),
     )
 
 -- what the statuses say of the rows

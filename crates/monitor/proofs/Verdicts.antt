@@ -1,7 +1,6 @@
 -- what joins how the keys stand is the verdict
-use Rattle.std.proofs.Common.{◌≡◌, ◌≢◌, ℕ, Some, List, [], ◌∷◌, ◌++◌, length, take, drop, refl, sym, ap, ◌∙◌, subst, ⊎_elim, append_assoc}
+use Rattle.std.proofs.Common.{◌≡◌, ◌≢◌, ℕ, Some, List, [], ◌∷◌, ◌++◌, length, take, drop, sym, ap, ◌∙◌, subst, ⊎_elim, append_assoc}
 use Rattle.std.specs.List.{Contains, filter_map}
-use Rattle.std.specs.Map.{keys_of}
 use Rattle.std.proofs.lemmas.List.{append-nil, take-append-drop}
 use Rattle.models.specs.declared.model_kind.ModelKind.{ModelKind}
 use Rattle.models.specs.Objects.{object_of}
@@ -18,7 +17,7 @@ use Rattle.linspec.proofs.Lists.{Contains-nil, Contains-head, snoc_cut}
 use Rattle.std.proofs.lemmas.List.Elements.{Contains-append_right}
 use Rattle.linspec.proofs.Filters.{to_map, from_map}
 use Rattle.checkpoints.specs.KeyLineView.{KeyHistory, IsStatusOf}
-use Rattle.monitor.specs.JudgedHistory.{JudgedHistory, IsVerdictOn, kind_of, budget_of, entries_in, keys_in_order, history_of_key}
+use Rattle.monitor.specs.JudgedHistory.{JudgedHistory, kind_of, budget_of, entries_in, keys_in_order, history_of_key}
 use Rattle.monitor.specs.Rows.{AreStatusesOf, JoinsRows}
 use Rattle.monitor.specs.Judged.{rows_of, IsJudged}
 use Rattle.monitor.proofs.EachOnce.{to_each_once, each_once-apart}

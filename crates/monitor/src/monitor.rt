@@ -6,10 +6,10 @@ ghost use Rattle.checkpoints.specs.KeyLineView.{IsStatusOf};
 ghost use Rattle.monitor.specs.JudgedHistory.{IsVerdictOn, with_event, rewound, with_kind, with_budget, IsBudget, opening_of, keys_in_order, history_of_key, kind_of, budget_of};
 ghost use Rattle.monitor.specs.Monitors.{at_rest, with_next, Admits, MayDecline, MayNotBegin, MayNotRewind, MayNotSetBudget};
 
-use crate::lines::Lines;
-use crate::settings::Settings;
 use crate::laws::{judging_law, next_event_law};
+use crate::lines::Lines;
 use crate::parts::{commit_line, first_line, prepare_in_history, prepare_rebuild};
+use crate::settings::Settings;
 use checkpoints::KeyLine;
 use checkpoints::laws::settled_law;
 use edn::Refusal;
