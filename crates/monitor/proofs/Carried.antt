@@ -1,24 +1,21 @@
 -- what holds of the parts once a change is carried out
-use Rattle.std.proofs.Common.{◌≡◌, ℕ, zero, suc, Option, Some, None, option_map, IfSome, IsSome, List, [], ◌∷◌, ◌++◌, nat_eq, take, slice_get, refl, sym, ap, ◌∙◌, subst}
+use Rattle.std.proofs.Common.{◌≡◌, ℕ, zero, suc, Option, Some, None, IfSome, IsSome, List, [], ◌∷◌, ◌++◌, slice_get, refl, sym, ap, ◌∙◌, subst}
 use Rattle.std.proofs.lemmas.Bool.{false≢true}
 use Rattle.std.proofs.lemmas.List.{map-append}
-use Rattle.indexmap.specs.IndexMap.{insert_entry}
 use Rattle.indexmap.specs.Layout.{set_value_at}
 use Rattle.models.specs.declared.model_kind.ModelKind.{ModelKind}
 use Rattle.history.specs.declared.event.Event.{Event}
 use Rattle.history.specs.WellFormed.{HistoryView, with_events}
 use Rattle.linspec.specs.declared.verdict.Verdict.{Verdict}
 use Rattle.checkpoints.specs.KeyLineView.{KeyHistory, KeyLineView, at_rest}
-use Rattle.monitor.specs.JudgedHistory.{JudgedHistory, with_kind, with_budget}
-use Rattle.monitor.specs.Monitors.{MonitorView}
-use Rattle.monitor.specs.Monitors.{at_rest as monitor_at_rest}
+use Rattle.monitor.specs.JudgedHistory.{JudgedHistory}
 use Rattle.monitor.specs.Settings.{SettingsView}
-use Rattle.monitor.specs.Rows.{LinesView, nows, cut_rows}
+use Rattle.monitor.specs.Rows.{LinesView, nows}
 use Rattle.monitor.specs.Judged.{IsJudged, AreRowsWith}
 use Rattle.monitor.specs.SoundMonitor.{judged_by_parts, with_events_of, IsReady, IsSoundMonitor}
 use Rattle.monitor.specs.declared.monitor.Prepared.{Prepared}
 use Rattle.monitor.specs.declared.monitor.Change.{Change}
-use Rattle.monitor.specs.declared.monitor.Change.TheVariants.{Fault, Append, Begin, Rewind, Kind, Budget}
+use Rattle.monitor.specs.declared.monitor.Change.TheVariants.{Append, Begin}
 
 -- the events that the history had prepared
 pub events_carried : (history history' : HistoryView) (kinds : SettingsView ModelKind) (budgets : SettingsView ℕ) → IsSome history.next
@@ -29,47 +26,6 @@ events_carried history history' kinds budgets some carried = by_next history.nex
         → judged_by_parts history' kinds budgets ≡ with_events_of o (judged_by_parts history kinds budgets)
     by_next None some is = absurd (false≢true some)
     by_next (Some events) some is = ap (λ (h : HistoryView). judged_by_parts h kinds budgets) is
-
--- a setting
-pub kind_carried : (history : HistoryView) (kinds kinds' : SettingsView ModelKind) (budgets : SettingsView ℕ) (key : ℕ) (kind : ModelKind) → kinds'.default ≡ kinds.default
-    → kinds'.set ≡ insert_entry nat_eq kinds.set key kind → judged_by_parts history kinds' budgets ≡ with_kind key kind (judged_by_parts history kinds budgets)
-kind_carried history kinds kinds' budgets key kind same is =
-    ap (λ (d : ModelKind). let h : JudgedHistory = record {
-      concurrency = history.concurrency;
-      kind = d;
-      budget = budgets.default;
-      kinds = kinds'.set;
-      budgets = budgets.set;
-      events = history.events;
-    } in h) same
-    ∙ ap (λ (s : List (ℕ × ModelKind)). let h : JudgedHistory = record {
-      concurrency = history.concurrency;
-      kind = kinds.default;
-      budget = budgets.default;
-      kinds = s;
-      budgets = budgets.set;
-      events = history.events;
-    } in h) is
-
-pub budget_carried : (history : HistoryView) (kinds : SettingsView ModelKind) (budgets budgets' : SettingsView ℕ) (key n : ℕ) → budgets'.default ≡ budgets.default
-    → budgets'.set ≡ insert_entry nat_eq budgets.set key n → judged_by_parts history kinds budgets' ≡ with_budget key n (judged_by_parts history kinds budgets)
-budget_carried history kinds budgets budgets' key n same is =
-    ap (λ (d : ℕ). let h : JudgedHistory = record {
-      concurrency = history.concurrency;
-      kind = kinds.default;
-      budget = d;
-      kinds = kinds.set;
-      budgets = budgets'.set;
-      events = history.events;
-    } in h) same
-    ∙ ap (λ (s : List (ℕ × ℕ)). let h : JudgedHistory = record {
-      concurrency = history.concurrency;
-      kind = kinds.default;
-      budget = budgets.default;
-      kinds = kinds.set;
-      budgets = s;
-      events = history.events;
-    } in h) is
 
 -- the rows with one more, and with another value of one
 pub nows_push : (rows : List (ℕ × KeyLineView)) (key : ℕ) (line : KeyLineView) → nows (rows ++ (key, line) ∷ []) ≡ nows rows ++ (key, line.now) ∷ []
@@ -104,22 +60,9 @@ prepared_ready history kinds budgets lines v prepared p change sound is which =
     subst (λ (c : Change). IsReady history kinds budgets lines c p.verdict) which
     (subst (λ (o : Option Prepared). IfSome o (λ q. IsReady history kinds budgets lines q.change q.verdict)) is sound.ready)
 
--- what a caller sees is what was prepared, at rest
-pub rests : (h now : JudgedHistory) (f : Prepared → JudgedHistory) (prepared : Option Prepared) (p : Prepared) (old : MonitorView)
-    → ◌≡◌ {A = MonitorView} (record { now = h; next = option_map f prepared }) old → prepared ≡ Some p → now ≡ f p → IfSome old.next (λ next. ◌≡◌ {A = MonitorView} (record { now = now; next = None }) (monitor_at_rest next))
-rests h now f prepared p old view is same =
-    subst (λ (s : MonitorView). IfSome s.next (λ next. ◌≡◌ {A = MonitorView} (record { now = now; next = None }) (monitor_at_rest next))) view
-    (subst (λ (o : Option Prepared). IfSome (option_map f o) (λ next. ◌≡◌ {A = MonitorView} (record { now = now; next = None }) (monitor_at_rest next))) (sym is)
-    (ap monitor_at_rest same))
-
--- each change, carried out
+-- an event, carried out in the history and in its key's line
 module _ (history history' : HistoryView) (kinds : SettingsView ModelKind) (budgets : SettingsView ℕ) (lines lines' : LinesView) (v : Verdict)
     (carried : IfSome history.next (λ events. history' ≡ with_events events history)) where
-  pub fault_carried : IsReady history kinds budgets lines Fault v → IsSoundMonitor history' kinds budgets lines v None
-  fault_carried ready =
-      sound_at_rest history' kinds budgets lines (with_events_of history.next (judged_by_parts history kinds budgets)) ready.rows v
-      (events_carried history history' kinds budgets ready.taken carried) (sym ready.brings) ready.judged
-
   pub append_carried : (place : ℕ) → IsReady history kinds budgets lines (Append place) v
       → ((rows : List (ℕ × KeyHistory)) → AreRowsWith lines (Some place) rows → nows lines'.rows ≡ rows) → IsSoundMonitor history' kinds budgets lines' v None
   append_carried place ready are =
@@ -131,23 +74,3 @@ module _ (history history' : HistoryView) (kinds : SettingsView ModelKind) (budg
   begin_carried key line ready are =
       sound_at_rest history' kinds budgets lines' (with_events_of history.next (judged_by_parts history kinds budgets)) ready.rows v
       (events_carried history history' kinds budgets ready.taken carried) (ap nows are ∙ nows_push lines.rows key line ∙ sym ready.brings.2) ready.judged
-
-  pub rewind_carried : (n kept : ℕ) → IsReady history kinds budgets lines (Rewind n kept) v → nows lines'.rows ≡ cut_rows n (take kept (nows lines.rows))
-      → IsSoundMonitor history' kinds budgets lines' v None
-  rewind_carried n kept ready are =
-      sound_at_rest history' kinds budgets lines' (with_events_of history.next (judged_by_parts history kinds budgets)) ready.rows v
-      (events_carried history history' kinds budgets ready.taken carried) (are ∙ sym ready.brings.2) ready.judged
-
-pub model_carried : (history : HistoryView) (kinds kinds' : SettingsView ModelKind) (budgets : SettingsView ℕ) (lines lines' : LinesView) (v : Verdict) (key : ℕ) (kind : ModelKind) (place : Option ℕ)
-    → IsReady history kinds budgets lines (Kind key kind place) v → kinds'.default ≡ kinds.default → kinds'.set ≡ insert_entry nat_eq kinds.set key kind
-    → ((rows : List (ℕ × KeyHistory)) → AreRowsWith lines place rows → nows lines'.rows ≡ rows) → IsSoundMonitor history kinds' budgets lines' v None
-model_carried history kinds kinds' budgets lines lines' v key kind place ready same is are =
-    sound_at_rest history kinds' budgets lines' (with_kind key kind (judged_by_parts history kinds budgets)) ready.rows v
-    (kind_carried history kinds kinds' budgets key kind same is) (are ready.rows ready.brings) ready.judged
-
-pub limit_carried : (history : HistoryView) (kinds : SettingsView ModelKind) (budgets budgets' : SettingsView ℕ) (lines lines' : LinesView) (v : Verdict) (key n : ℕ) (place : Option ℕ)
-    → IsReady history kinds budgets lines (Budget key n place) v → budgets'.default ≡ budgets.default → budgets'.set ≡ insert_entry nat_eq budgets.set key n
-    → ((rows : List (ℕ × KeyHistory)) → AreRowsWith lines place rows → nows lines'.rows ≡ rows) → IsSoundMonitor history kinds budgets' lines' v None
-limit_carried history kinds budgets budgets' lines lines' v key n place ready same is are =
-    sound_at_rest history kinds budgets' lines' (with_budget key n (judged_by_parts history kinds budgets)) ready.rows v
-    (budget_carried history kinds budgets budgets' key n same is) (are ready.rows ready.brings) ready.judged

@@ -212,7 +212,22 @@ rewind_ready law history history' kinds budgets lines lines' v before n kept w s
     count : kept ≡ length (filter (λ row. begins_below n row.1) (nows lines'.rows))
     count = kept_is ∙ ap (λ (l : List (ℕ × KeyHistory)). length (filter (λ row. begins_below n row.1) l)) (sym same)
 
--- a kind, and a budget
+-- what is judged, once a key has another kind, and another budget
+pub model_judged : JudgingLaw → (h : JudgedHistory) (lines lines' : LinesView) (v : Verdict) (k : ℕ) (kind : ModelKind) (budget : ℕ) (place : Option ℕ) (w : Verdict) → IsJudged h (nows lines.rows) v
+    → place ≡ position (nat_eq k) (keys_of lines.rows) → budget ≡ budget_of h k → (rebuilt : IsRebuilt kind budget place lines lines' w) → IsJudged (with_kind k kind h) rebuilt.rows w
+model_judged law h lines lines' v k kind budget place w judged at budget_is rebuilt =
+    kind_judged law h (nows lines.rows) v k kind place rebuilt.rows w judged
+    (sym (at ∙ ap (λ (l : List ℕ). position (nat_eq k) l) (keys_of_lines h lines.rows judged.rows_are)))
+    (subst (λ (b : ℕ). AreRowsJudgedBy kind b place (nows lines.rows) rebuilt.rows) budget_is rebuilt.judged) rebuilt.joined
+
+pub limit_judged : JudgingLaw → (h : JudgedHistory) (lines lines' : LinesView) (v : Verdict) (k n : ℕ) (kind : ModelKind) (place : Option ℕ) (w : Verdict) → IsJudged h (nows lines.rows) v
+    → place ≡ position (nat_eq k) (keys_of lines.rows) → kind ≡ kind_of h k → (rebuilt : IsRebuilt kind n place lines lines' w) → IsJudged (with_budget k n h) rebuilt.rows w
+limit_judged law h lines lines' v k n kind place w judged at kind_is rebuilt =
+    budget_judged law h (nows lines.rows) v k n place rebuilt.rows w judged
+    (sym (at ∙ ap (λ (l : List ℕ). position (nat_eq k) l) (keys_of_lines h lines.rows judged.rows_are)))
+    (subst (λ (x : ModelKind). AreRowsJudgedBy x n place (nows lines.rows) rebuilt.rows) kind_is rebuilt.judged) rebuilt.joined
+
+-- so it is prepared
 same_settings : {X : Type 0} (old new : SettingsView X) → new.default ≡ old.default → new.set ≡ old.set → (P : X → List (ℕ × X) → Type 0) → P old.default old.set → P new.default new.set
 same_settings old new default set P p = subst (λ d. P d new.set) (sym default) (subst (λ s. P old.default s) (sym set) p)
 
@@ -226,9 +241,7 @@ model_ready law history kinds kinds' budgets lines lines' v before k kind budget
     rows = rebuilt.rows;
     taken = room;
     brings = rebuilt.brings;
-    judged = kind_judged law (judged_by_parts history kinds' budgets) (nows lines.rows) v k kind place rebuilt.rows w now'
-        (sym (at ∙ ap (λ (l : List ℕ). position (nat_eq k) l) (keys_of_lines (judged_by_parts history kinds budgets) lines.rows sound.now.rows_are)))
-        (subst (λ (b : ℕ). AreRowsJudgedBy kind b place (nows lines.rows) rebuilt.rows) budget_is rebuilt.judged) rebuilt.joined;
+    judged = model_judged law (judged_by_parts history kinds' budgets) lines lines' v k kind budget place w now' at budget_is rebuilt;
   };
 }
   where
@@ -247,9 +260,7 @@ budget_ready law history kinds budgets budgets' lines lines' v before k n kind p
     rows = rebuilt.rows;
     taken = room;
     brings = rebuilt.brings;
-    judged = budget_judged law (judged_by_parts history kinds budgets') (nows lines.rows) v k n place rebuilt.rows w now'
-        (sym (at ∙ ap (λ (l : List ℕ). position (nat_eq k) l) (keys_of_lines (judged_by_parts history kinds budgets) lines.rows sound.now.rows_are)))
-        (subst (λ (x : ModelKind). AreRowsJudgedBy x n place (nows lines.rows) rebuilt.rows) kind_is rebuilt.judged) rebuilt.joined;
+    judged = limit_judged law (judged_by_parts history kinds budgets') lines lines' v k n kind place w now' at kind_is rebuilt;
   };
 }
   where
@@ -257,21 +268,6 @@ budget_ready law history kinds budgets budgets' lines lines' v before k n kind p
     now' =
         same_settings budgets budgets' default set
         (λ d s. IsJudged (record { concurrency = history.concurrency; kind = kinds.default; budget = d; kinds = kinds.set; budgets = s; events = history.events }) (nows lines.rows) v) sound.now
-
--- what is judged then
-pub model_judged : JudgingLaw → (h : JudgedHistory) (lines lines' : LinesView) (v : Verdict) (k : ℕ) (kind : ModelKind) (budget : ℕ) (place : Option ℕ) (w : Verdict) → IsJudged h (nows lines.rows) v
-    → place ≡ position (nat_eq k) (keys_of lines.rows) → budget ≡ budget_of h k → (rebuilt : IsRebuilt kind budget place lines lines' w) → IsJudged (with_kind k kind h) rebuilt.rows w
-model_judged law h lines lines' v k kind budget place w judged at budget_is rebuilt =
-    kind_judged law h (nows lines.rows) v k kind place rebuilt.rows w judged
-    (sym (at ∙ ap (λ (l : List ℕ). position (nat_eq k) l) (keys_of_lines h lines.rows judged.rows_are)))
-    (subst (λ (b : ℕ). AreRowsJudgedBy kind b place (nows lines.rows) rebuilt.rows) budget_is rebuilt.judged) rebuilt.joined
-
-pub limit_judged : JudgingLaw → (h : JudgedHistory) (lines lines' : LinesView) (v : Verdict) (k n : ℕ) (kind : ModelKind) (place : Option ℕ) (w : Verdict) → IsJudged h (nows lines.rows) v
-    → place ≡ position (nat_eq k) (keys_of lines.rows) → kind ≡ kind_of h k → (rebuilt : IsRebuilt kind n place lines lines' w) → IsJudged (with_budget k n h) rebuilt.rows w
-limit_judged law h lines lines' v k n kind place w judged at kind_is rebuilt =
-    budget_judged law h (nows lines.rows) v k n place rebuilt.rows w judged
-    (sym (at ∙ ap (λ (l : List ℕ). position (nat_eq k) l) (keys_of_lines h lines.rows judged.rows_are)))
-    (subst (λ (x : ModelKind). AreRowsJudgedBy x n place (nows lines.rows) rebuilt.rows) kind_is rebuilt.judged) rebuilt.joined
 
 -- the line at a place has another kind and budget prepared, and how it then stands joins to the verdict
 pub rebuilt_at : (kind : ModelKind) (budget place : ℕ) (lines lines' : LinesView) (status : KeyStatus) (v : Verdict) → place < length lines.rows
