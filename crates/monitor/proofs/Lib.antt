@@ -1,5 +1,14 @@
+pub mod Carried
+pub mod Changes
 pub mod Committing
 pub mod Cutting
+pub mod EachOnce
 pub mod Joins
+pub mod KeyPlaces
+pub mod KeyedEvents
 pub mod Places
+pub mod Prepared
 pub mod Preparing
+pub mod RowsAfter
+pub mod Statuses
+pub mod Verdicts

@@ -1,5 +1,5 @@
 -- Promise: what is judged: a history as it stands, and the kind and the budget of every key (this project's own)
-use Rattle.std.specs.Prelude.{◌≡◌, ℕ, ◌≤◌, nat_eq, not, unwrap_or, List, [], ◌∷◌, ◌++◌, take}
+use Rattle.std.specs.Prelude.{ℕ, ◌≤◌, nat_eq, not, unwrap_or, List, [], ◌∷◌, ◌++◌, take}
 use Rattle.std.specs.List.{filter, filter_map}
 use Rattle.std.specs.Map.{lookup}
 use Rattle.indexmap.specs.IndexMap.{insert_entry}

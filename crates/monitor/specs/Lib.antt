@@ -1,3 +1,4 @@
+pub mod Judged
 pub mod JudgedHistory
 pub mod Monitors
 pub mod Rows

@@ -1,5 +1,5 @@
 -- Promise: a monitor, as a caller sees it, and why a call of it is refused
-use Rattle.std.specs.Prelude.{◌≡◌, ℕ, ◌<◌, Option, Some, None, List, length}
+use Rattle.std.specs.Prelude.{ℕ, ◌<◌, Option, Some, None, length}
 use Rattle.edn.specs.declared.refusal.Refusal.{Refusal}
 use Rattle.edn.specs.declared.refusal.Refusal.TheVariants.{BadBudget, BadConcurrency, NoSuchIndex, NoMemory}
 use Rattle.history.specs.declared.event.Event.{Event}

@@ -1,8 +1,10 @@
 //! The live verdict on a history of many keys, each with its own kind of object and its own budget.
 #![tactic(auto)]
 
+mod laws;
 mod lines;
 mod monitor;
+mod parts;
 mod settings;
 
 pub use monitor::{KeyRow, Monitor};

@@ -1,17 +1,22 @@
 //! The monitor.
-ghost use Rattle.std.specs.Prelude.{◌≡◌, ◌<◌, ◌≤◌, Some, None, length, slice_get, IfOk, IfErr, IfSome, IsSome, IsOk, OnOk, OnErr, IsErrOf};
+ghost use Rattle.std.specs.Prelude.{◌≡◌, ◌<◌, ◌≤◌, Some, None, length, nat_eq, position, slice_get, IfOk, IfErr, IfSome, IsSome, OnOk, OnErr, IsErrOf};
+ghost use Rattle.history.specs.Events.{key_of};
 ghost use Rattle.history.specs.WellFormed.{IsConcurrency};
 ghost use Rattle.checkpoints.specs.KeyLineView.{IsStatusOf};
 ghost use Rattle.monitor.specs.JudgedHistory.{IsVerdictOn, with_event, rewound, with_kind, with_budget, IsBudget, opening_of, keys_in_order, history_of_key, kind_of, budget_of};
 ghost use Rattle.monitor.specs.Monitors.{at_rest, with_next, Admits, MayDecline, MayNotBegin, MayNotRewind, MayNotSetBudget};
 
+use crate::laws::{judging_law, next_event_law};
 use crate::lines::Lines;
+use crate::parts::{commit_line, first_line, prepare_in_history, prepare_rebuild};
 use crate::settings::Settings;
 use checkpoints::KeyLine;
+use checkpoints::laws::settled_law;
 use edn::Refusal;
 use history::{Event, History};
 use linspec::{KeyStatus, Verdict};
 use locality::join_with;
+use locality::laws::{bad_keys_law, no_keys_law};
 use models::{Key, ModelKind};
 use std::alloc::{AllocError, Global};
 use std::marker::Model;
@@ -107,6 +112,8 @@ impl Monitor {
         ensures refused { IfErr result (MayNotBegin concurrency budget) }
     {
         test_budget(budget)?;
+        judging_law();
+        no_keys_law();
         let history = History::new(alloc, concurrency)?;
         Ok(Monitor {
             alloc,
@@ -133,28 +140,13 @@ impl Monitor {
         ensures memory_last { IsErrOf result Refusal.NoMemory → Admits self.old.now event }
         ensures err { OnErr result (self.new ≡ at_rest self.old.now) }
     {
-        self.prepared = None;
         let Some(key) = event.key() else {
             return self.prepare_fault(event);
         };
-        let copy = event.copy();
-        let index = self.history.len();
-        self.history.prepare_push(event)?;
-        let (change, status) = match self.lines.find(key) {
-            Some(place) => {
-                let status = self.lines.prepare_push(place, index, copy?)?;
-                (Change::Append(place), status)
-            }
-            None => {
-                self.lines.reserve()?;
-                let line = self.first_line(key, index, copy?)?;
-                let status = line.status();
-                (Change::Begin(key, line), status)
-            }
-        };
-        let verdict = join_with(self.verdict, key, status);
-        self.prepared = Some(Prepared { change, verdict });
-        Ok(verdict)
+        match self.lines.find(key) {
+            Some(place) => self.prepare_next(key, place, event),
+            None => self.prepare_first(key, event),
+        }
     }
 
     /// Prepares to keep the first `n` events alone, and gives the verdict that [`commit`](Self::commit) will bring. Kinds
@@ -174,6 +166,7 @@ impl Monitor {
         ensures err { OnErr result (self.new ≡ at_rest self.old.now) }
     {
         self.prepared = None;
+        judging_law();
         self.history.prepare_cut(n)?;
         let (kept, verdict) = self.lines.prepare_cut(n)?;
         self.prepared = Some(Prepared {
@@ -196,10 +189,11 @@ impl Monitor {
         ensures err { OnErr result (self.new ≡ at_rest self.old.now) }
     {
         self.prepared = None;
+        judging_law();
         self.kinds.reserve()?;
         let place = self.lines.find(key);
         let budget = self.budgets.of(key);
-        let verdict = self.verdict_judged_by(place, kind, budget)?;
+        let verdict = prepare_rebuild(&mut self.lines, self.verdict, place, kind, budget)?;
         self.prepared = Some(Prepared {
             change: Change::Kind(key, kind, place),
             verdict,
@@ -223,11 +217,12 @@ impl Monitor {
         ensures err { OnErr result (self.new ≡ at_rest self.old.now) }
     {
         self.prepared = None;
+        judging_law();
         test_budget(n)?;
         self.budgets.reserve()?;
         let place = self.lines.find(key);
         let kind = self.kinds.of(key);
-        let verdict = self.verdict_judged_by(place, kind, n)?;
+        let verdict = prepare_rebuild(&mut self.lines, self.verdict, place, kind, n)?;
         self.prepared = Some(Prepared {
             change: Change::Budget(key, n, place),
             verdict,
@@ -249,7 +244,7 @@ impl Monitor {
             Change::Fault => self.history.commit(),
             Change::Append(place) => {
                 self.history.commit();
-                self.lines.commit(place);
+                commit_line(&mut self.lines, Some(place));
             }
             Change::Begin(key, line) => {
                 self.history.commit();
@@ -261,15 +256,11 @@ impl Monitor {
             }
             Change::Kind(key, kind, place) => {
                 self.kinds.put(key, kind);
-                if let Some(place) = place {
-                    self.lines.commit(place);
-                }
+                commit_line(&mut self.lines, place);
             }
             Change::Budget(key, n, place) => {
                 self.budgets.put(key, n);
-                if let Some(place) = place {
-                    self.lines.commit(place);
-                }
+                commit_line(&mut self.lines, place);
             }
         }
     }
@@ -385,7 +376,18 @@ impl Monitor {
     }
 
     // Prepares that an event comes next that speaks of no operation: no line sees it, and the verdict stays.
-    fn prepare_fault(&mut self, event: Event) -> Result<Verdict, Refusal> {
+    fn prepare_fault(&mut self, event: Event) -> Result<Verdict, Refusal>
+        requires { key_of event ≡ None }
+        ensures well_formed { OnOk result (Admits self.old.now event) }
+        ensures prepared { OnOk result
+            (self.new ≡ with_next (with_event event self.old.now) self.old) }
+        ensures verdict { IfOk result (IsVerdictOn (with_event event self.old.now)) }
+        ensures refused { IfErr result (MayDecline self.old.now event) }
+        ensures memory_last { IsErrOf result Refusal.NoMemory → Admits self.old.now event }
+        ensures err { OnErr result (self.new ≡ at_rest self.old.now) }
+    {
+        self.prepared = None;
+        judging_law();
         self.history.prepare_push(event)?;
         self.prepared = Some(Prepared {
             change: Change::Fault,
@@ -394,26 +396,59 @@ impl Monitor {
         Ok(self.verdict)
     }
 
-    // The line of a key that has its first event.
-    fn first_line(&self, key: Key, index: u32, event: Event) -> Result<KeyLine, AllocError> {
-        let mut line = KeyLine::new(self.alloc, self.kinds.of(key), self.budgets.of(key))?;
-        line.push(index, event)?;
-        Ok(line)
+    // Prepares that an event comes next, of a key that has the line at this place.
+    fn prepare_next(&mut self, key: Key, place: usize, event: Event) -> Result<Verdict, Refusal>
+        requires key { key_of event ≡ Some key }
+        requires place { position (nat_eq key) (keys_in_order self.old.now.events) ≡ Some place }
+        ensures well_formed { OnOk result (Admits self.old.now event) }
+        ensures prepared { OnOk result
+            (self.new ≡ with_next (with_event event self.old.now) self.old) }
+        ensures verdict { IfOk result (IsVerdictOn (with_event event self.old.now)) }
+        ensures refused { IfErr result (MayDecline self.old.now event) }
+        ensures memory_last { IsErrOf result Refusal.NoMemory → Admits self.old.now event }
+        ensures err { OnErr result (self.new ≡ at_rest self.old.now) }
+    {
+        self.prepared = None;
+        judging_law();
+        next_event_law();
+        settled_law();
+        bad_keys_law();
+        let (index, event) = prepare_in_history(&mut self.history, event)?;
+        let status = self.lines.prepare_push(place, index, event)?;
+        let verdict = join_with(self.verdict, key, status);
+        self.prepared = Some(Prepared {
+            change: Change::Append(place),
+            verdict,
+        });
+        Ok(verdict)
     }
 
-    // The verdict where the key with the line at this place, if it has one, is judged by this kind and budget. The line has
-    // that prepared.
-    fn verdict_judged_by(
-        &mut self,
-        place: Option<usize>,
-        kind: ModelKind,
-        budget: u32,
-    ) -> Result<Verdict, AllocError> {
-        let Some(place) = place else {
-            return Ok(self.verdict);
-        };
-        let status = self.lines.prepare_rebuild(place, kind, budget)?;
-        Ok(self.lines.joined_with(place, status))
+    // Prepares that an event comes next, the first one of its key.
+    fn prepare_first(&mut self, key: Key, event: Event) -> Result<Verdict, Refusal>
+        requires key { key_of event ≡ Some key }
+        requires new { position (nat_eq key) (keys_in_order self.old.now.events) ≡ None }
+        ensures well_formed { OnOk result (Admits self.old.now event) }
+        ensures prepared { OnOk result
+            (self.new ≡ with_next (with_event event self.old.now) self.old) }
+        ensures verdict { IfOk result (IsVerdictOn (with_event event self.old.now)) }
+        ensures refused { IfErr result (MayDecline self.old.now event) }
+        ensures memory_last { IsErrOf result Refusal.NoMemory → Admits self.old.now event }
+        ensures err { OnErr result (self.new ≡ at_rest self.old.now) }
+    {
+        self.prepared = None;
+        judging_law();
+        next_event_law();
+        let kind = self.kinds.of(key);
+        let budget = self.budgets.of(key);
+        let (index, event) = prepare_in_history(&mut self.history, event)?;
+        self.lines.reserve()?;
+        let line = first_line(self.alloc, kind, budget, index, event)?;
+        let verdict = join_with(self.verdict, key, line.status());
+        self.prepared = Some(Prepared {
+            change: Change::Begin(key, line),
+            verdict,
+        });
+        Ok(verdict)
     }
 }
 
