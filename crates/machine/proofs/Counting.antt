@@ -1,5 +1,5 @@
 -- No version is greater than the number of tickets that were served
-use Rattle.std.proofs.Common.{◌≡◌, ℕ, zero, suc, ◌+◌, ◌<◌, ◌≤◌, Bool, true, false, if◌then◌else◌, is_some, nat_lt, Some, None, List, [], ◌∷◌, ◌++◌, length, length-append, map, slice_get, slice_set, refl, sym, ap, ◌∙◌, subst, arith, Result, Ok, Err}
+use Rattle.std.proofs.Common.{◌≡◌, ℕ, zero, suc, ◌+◌, ◌<◌, ◌≤◌, Bool, true, false, if◌then◌else◌, is_some, nat_lt, Option, Some, None, List, [], ◌∷◌, ◌++◌, length, length-append, map, slice_get, slice_set, refl, sym, ap, ◌∙◌, subst, arith, Result, Ok, Err}
 use Rattle.std.proofs.lemmas.Option.{same_Some}
 use Rattle.std.proofs.lemmas.List.{length-map}
 use Rattle.edn.specs.declared.refusal.Refusal.{Refusal}
@@ -83,19 +83,19 @@ counted_move old new Stays h may = to_trial old new may h
 to : (m new : Machine) → new ≡ m → AreCounted m.store m.tickets → AreCounted new.store new.tickets
 to m new is h = subst (λ (x : Machine). AreCounted x.store x.tickets) (sym is) h
 
-by_move : (old new : Machine) → IsMove old new → AreCounted old.store old.tickets → AreCounted new.store new.tickets
-by_move old new m h = counted_move (trial_of old) (trial_of new) m.move h m.may
+by_move : (old new : Machine) (served : Option ℕ) → IsMove old new served → AreCounted old.store old.tickets → AreCounted new.store new.tickets
+by_move old new served m h = counted_move (trial_of old) (trial_of new) m.move h m.may
 
 counted_reply : (old new : Machine) (command : Command) (reply : Reply) → Replies old command reply new → AreCounted old.store old.tickets → AreCounted new.store new.tickets
 counted_reply old new (Append event) (Says v) may h = to (appended event old) new may.1 h
 counted_reply old new (Rewind n) (Says v) may h = to (cut_to n old) new may.1 (subst (VersionsWithin old.store) (sym (served-stale n old.tickets)) h)
 counted_reply old new (SetModel key kind) (Says v) may h = to (record old { judged = with_kind key kind old.judged }) new may.0 h
-counted_reply old new (SetBudget key n) reply may h = by_move old new (is_move old new (SetBudget key n) (Ok reply) tt may) h
-counted_reply old new Ask reply may h = by_move old new (is_move old new Ask (Ok reply) tt may) h
-counted_reply old new (Draw thread) reply may h = by_move old new (is_move old new (Draw thread) (Ok reply) tt may) h
-counted_reply old new (Serve number) reply may h = by_move old new (is_move old new (Serve number) (Ok reply) tt may) h
-counted_reply old new (Finish number) reply may h = by_move old new (is_move old new (Finish number) (Ok reply) tt may) h
-counted_reply old new Nemesis reply may h = by_move old new (is_move old new Nemesis (Ok reply) tt may) h
+counted_reply old new (SetBudget key n) reply may h = by_move old new _ (is_move old new (SetBudget key n) (Ok reply) tt may) h
+counted_reply old new Ask reply may h = by_move old new _ (is_move old new Ask (Ok reply) tt may) h
+counted_reply old new (Draw thread) reply may h = by_move old new _ (is_move old new (Draw thread) (Ok reply) tt may) h
+counted_reply old new (Serve number) reply may h = by_move old new _ (is_move old new (Serve number) (Ok reply) tt may) h
+counted_reply old new (Finish number) reply may h = by_move old new _ (is_move old new (Finish number) (Ok reply) tt may) h
+counted_reply old new Nemesis reply may h = by_move old new _ (is_move old new Nemesis (Ok reply) tt may) h
 counted_reply old new command reply may h = absurd may
 
 -- after any step the versions of the store are at most the serves

@@ -8,3 +8,4 @@ pub mod OneStep
 pub mod Tickets
 pub mod TicketSteps
 pub mod OnlyCurrent
+pub mod HistoryKept

@@ -20,15 +20,10 @@ use Rattle.test_store.proofs.OneServe.{SomeKind, some_kind}
 use Rattle.test_store.proofs.TruthKept.{FirstStep, first_step}
 use Rattle.trials.specs.declared.ticket.Ticket.{Ticket}
 use Rattle.trials.specs.Trials.{Answers, invocation, completion, fresh_ticket, served_as, IsStillOpen}
-use Rattle.trials.proofs.Places.{get_push, get_set}
+use Rattle.trials.proofs.Places.{get_push, get_set, get_more}
 use Rattle.trials.proofs.Answering.{answers}
 use Rattle.machine.specs.Machine.{stale_from}
 use Rattle.machine.specs.Tickets.{StandsFor, IsAnswered, AreTickets}
-
-get_more : {X : Type 0} (xs ys : List X) (k : ℕ) (x : X) → slice_get xs k ≡ Some x → slice_get (xs ++ ys) k ≡ Some x
-get_more [] ys k x h = cc
-get_more (z ∷ xs) ys zero x h = h
-get_more (z ∷ xs) ys (suc k) x h = get_more xs ys k x h
 
 get_last : {X : Type 0} (xs : List X) (x : X) → slice_get (xs ++ x ∷ []) (length xs) ≡ Some x
 get_last [] x = refl

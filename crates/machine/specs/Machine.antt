@@ -1,5 +1,6 @@
 -- Promise: the one-thread object with all its commands: its state, and what each may answer (this project's own)
 use Rattle.std.specs.Prelude.{◌≡◌, ℕ, zero, suc, ◌+◌, ◌-◌, ◌%◌, ◌^◌, ◌<◌, ◌≤◌, Bool, true, false, nat_lt, if◌then◌else◌, not, is_some, Option, Some, None, IsSome, Result, Ok, Err, List, [], ◌∷◌, ◌++◌, length, map, slice_get, slice_set, ◌⊎◌}
+use Rattle.std.specs.List.{filter_map}
 use Rattle.edn.specs.declared.refusal.Refusal.{Refusal}
 use Rattle.edn.specs.declared.refusal.Refusal.TheVariants.{Busy, WrongProcess, NotOpen, HistoryFull, NoSuchIndex, BadBudget, TapeFull, Idle, NotServed, AlreadyServed, Stale}
 use Rattle.models.specs.declared.operation.Op.{Op}
@@ -20,6 +21,7 @@ use Rattle.generators.specs.Draws.{ask_of, MayDraw}
 use Rattle.generators.specs.Words.{word}
 use Rattle.test_store.specs.declared.outcome.Mode.{Mode}
 use Rattle.test_store.specs.declared.outcome.Outcome.{Outcome}
+use Rattle.test_store.specs.declared.outcome.Outcome.TheVariants.{Done as WasDone, Lost}
 use Rattle.test_store.specs.Store as store
 use Rattle.test_store.specs.Store.{Cluster, MayServe, after_fault}
 use Rattle.trials.specs.declared.ticket.Ticket.{Ticket}
@@ -240,6 +242,20 @@ MayStep old command (Err why) new = Refuses old command why × (new ≡ old)
 abbrev pub Runs : Machine → List (Command × Result Reply Refusal) → Machine → Type 0
 Runs m [] end = m ≡ end
 Runs m (x ∷ run) end = (next : Machine) × MayStep m x.0 x.1 next × Runs next run end
+
+-- the ticket whose operation takes place, if one does: it is served, and is done or its reply is lost
+abbrev pub served_by : Command → Reply → Option ℕ
+served_by (Serve number) (Served (WasDone found)) = Some number
+served_by (Serve number) (Served Lost) = Some number
+served_by command reply = None
+
+abbrev pub served_ticket : Command → Result Reply Refusal → Option ℕ
+served_ticket command (Ok reply) = served_by command reply
+served_ticket command (Err why) = None
+
+-- the tickets whose operations take place in the run, in order
+abbrev pub serves_in : List (Command × Result Reply Refusal) → List ℕ
+serves_in run = filter_map (λ x. served_ticket x.0 x.1) run
 
 -- commands of a trial: no events of others, no rewinds and no changes of model
 abbrev pub IsOfTrial : Command → Type 0

@@ -5,22 +5,29 @@ ghost use Rattle.processes.specs.MoveRule.{current_of};
 ghost use Rattle.history.specs.declared.event.Event.{Event};
 ghost use Rattle.history.specs.Events.{marks};
 ghost use Rattle.history.specs.WellFormed.{moves_of, open_of, open_index, HasRoom, IsPart, IsHistoryOf, IsWellFormed};
-ghost use Rattle.linspec.specs.Orders.{IsLinearizable, product};
+ghost use Rattle.linspec.specs.Orders.{Taken, IsLegalOrder, IsLinearizable, product};
 ghost use Rattle.linspec.specs.declared.verdict.Verdict.{Verdict};
 ghost use Rattle.test_store.specs.declared.outcome.Mode.TheVariants.{Strict};
 ghost use Rattle.test_store.specs.declared.outcome.Outcome.{Outcome};
 ghost use Rattle.test_store.specs.Store.{IsCount, VersionsWithin};
 ghost use Rattle.trials.specs.declared.ticket.Ticket.{Ticket};
-ghost use Rattle.trials.specs.Trials.{completion, IsStillOpen};
+ghost use Rattle.trials.specs.Trials.{completion, IsStillOpen, AreOfTickets};
 ghost use Rattle.machine.specs.declared.command.Command.{Command};
 ghost use Rattle.machine.specs.declared.command.Reply.{Reply};
 ghost use Rattle.machine.specs.JudgedHistory.{kind_of, entries_in, IsVerdictOn};
-ghost use Rattle.machine.specs.Machine.{Machine, Setup, opening, most_tickets, MayStep, Runs, AreOfTrial};
+ghost use Rattle.machine.specs.Machine.{Machine, Setup, opening, most_tickets, MayStep, Runs, serves_in, AreOfTrial};
 ghost use Rattle.machine.specs.Tickets.{served_of, StandsFor, IsAnswered, AreTickets};
 
 /// No false alarm: whatever draws, serves, finishes, faults, budgets and questions lead there, refused ones among them, from
-/// an opening with a strict store, the history is linearizable over all keys together, and no verdict on it is Illegal.
+/// an opening with a strict store, the history is linearizable over all keys together: the serves that took place are a
+/// legal order of it. So no verdict on it is Illegal.
 pub fn no_false_alarm()
+    ensures order { (setup : Setup) (run : List (Command × Result Reply Refusal))
+        (m : Machine) → setup.mode ≡ Strict → IsCount setup.replicas → AreOfTrial run
+        → Runs (opening setup) run m
+        → (order : List Taken) × (s : (product (kind_of m.judged)).State)
+        × IsLegalOrder (product (kind_of m.judged)) (marks (entries_in m.judged)) order s
+        × AreOfTickets m.tickets (serves_in run) order }
     ensures linearizable { (setup : Setup) (run : List (Command × Result Reply Refusal))
         (m : Machine) → setup.mode ≡ Strict → IsCount setup.replicas → AreOfTrial run
         → Runs (opening setup) run m
@@ -36,6 +43,16 @@ pub fn one_step()
     ensures { (old new next : Machine) (command : Command) (outcome other : Result Reply Refusal)
         → MayStep old command outcome new → MayStep old command other next
         → (outcome ≡ other) × (new ≡ next) }
+{}
+
+/// The events are a history, each well-formed after those before it: at the opening, and after each step.
+pub fn history_law()
+    ensures opening { (setup : Setup) →
+        IsHistoryOf setup.concurrency (opening setup).judged.events }
+    ensures step { (old new : Machine) (command : Command) (outcome : Result Reply Refusal)
+        → MayStep old command outcome new
+        → IsHistoryOf old.judged.concurrency old.judged.events
+        → IsHistoryOf new.judged.concurrency new.judged.events }
 {}
 
 /// No version of the store is greater than the number of tickets that were served, of which there are fewer than 2^32. So a

@@ -5,4 +5,4 @@ pub mod command;
 mod laws;
 
 pub use command::{Command, Reply};
-pub use laws::{counted_law, no_false_alarm, one_step, tickets_law};
+pub use laws::{counted_law, history_law, no_false_alarm, one_step, tickets_law};

@@ -1,6 +1,7 @@
 pub mod Places
 pub mod Pushes
 pub mod Opens
+pub mod OfTickets
 pub mod Holding
 pub mod Verdicts
 pub mod Answering

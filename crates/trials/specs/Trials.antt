@@ -1,6 +1,7 @@
 -- Promise: a trial: clients draw operations, have them served by the store and finish them, while faults strike. It is what
 -- history, store and tickets go through in any run (this project's own; histories are those of the Jepsen documentation)
-use Rattle.std.specs.Prelude.{◌≡◌, ℕ, false, ◌%◌, Some, None, List, [], ◌∷◌, ◌++◌, length, slice_get, slice_set}
+use Rattle.std.specs.Prelude.{◌≡◌, ℕ, false, ◌%◌, Option, Some, None, List, [], ◌∷◌, ◌++◌, length, slice_get, slice_set}
+use Rattle.std.specs.List.{filter_map}
 use Rattle.models.specs.declared.operation.Op.{Op}
 use Rattle.models.specs.declared.operation.Name.{Name}
 use Rattle.models.specs.declared.operation.Part.{Part}
@@ -16,6 +17,7 @@ use Rattle.history.specs.declared.event.Fault.{Fault}
 use Rattle.history.specs.declared.event.Event.{Event}
 use Rattle.history.specs.Events.{Entry, entries_of, indexed_from}
 use Rattle.history.specs.WellFormed.{moves_of, open_of, IsWellFormed, IsOkPart, IsRepeat}
+use Rattle.linspec.specs.Orders.{Taken}
 use Rattle.test_store.specs.declared.outcome.Mode.TheVariants.{Strict}
 use Rattle.test_store.specs.declared.outcome.Outcome.{Outcome}
 use Rattle.test_store.specs.declared.outcome.Outcome.TheVariants.{Done, Refused, Lost}
@@ -158,6 +160,24 @@ MayMove old Stays new = new ≡ old
 abbrev pub Leads : Trial → List Move → Trial → Type 0
 Leads m [] end = m ≡ end
 Leads m (move ∷ moves) end = (next : Trial) × MayMove m move next × Leads next moves end
+
+-- the ticket whose operation takes place in the move, if one does: it is served, and is done or its reply is lost
+abbrev pub took_place : Move → Option ℕ
+took_place (Serves number (Done found)) = Some number
+took_place (Serves number Lost) = Some number
+took_place move = None
+
+-- the tickets whose operations take place in the moves, in order
+abbrev pub serves_of : List Move → List ℕ
+serves_of moves = filter_map took_place moves
+
+-- the operations of an order are those of these tickets, in turn
+abbrev pub AreOfTickets : List Ticket → List ℕ → List Taken → Type 0
+AreOfTickets tickets [] [] = Unit {0}
+AreOfTickets tickets (number ∷ numbers) (x ∷ order) =
+    ((t : Ticket) × (slice_get tickets number ≡ Some t) × (x.id ≡ t.index) × (x.op ≡ t.op))
+    × AreOfTickets tickets numbers order
+AreOfTickets tickets numbers order = ⊥
 
 abbrev pub entries_in : Trial → List Entry
 entries_in m = entries_of (indexed_from 0 m.events)

@@ -5,15 +5,21 @@ ghost use Rattle.models.specs.declared.operation.Op.{Op};
 ghost use Rattle.models.specs.declared.finding.Found.{Found};
 ghost use Rattle.models.specs.Objects.{object_of};
 ghost use Rattle.history.specs.Events.{marks};
-ghost use Rattle.linspec.specs.Orders.{IsLinearizable, product};
+ghost use Rattle.linspec.specs.Orders.{Taken, IsLegalOrder, IsLinearizable, product};
 ghost use Rattle.linspec.specs.declared.verdict.Verdict.{Verdict};
 ghost use Rattle.linspec.specs.Verdicts.{IsVerdict};
 ghost use Rattle.test_store.specs.Store.{IsCount};
-ghost use Rattle.trials.specs.Trials.{Answers, Trial, Move, opening, Leads, entries_in};
+ghost use Rattle.trials.specs.Trials.{Answers, Trial, Move, opening, Leads, serves_of, AreOfTickets, entries_in};
 
 /// No false alarm: whatever moves lead there from the opening, where the store is strict, the history is linearizable, over
-/// all keys together. So no verdict on it is Illegal, with whatever budgets, and so with whatever keys set aside.
+/// all keys together: the serves that took place are a legal order of it. So no verdict on it is Illegal, with whatever
+/// budgets, and so with whatever keys set aside.
 pub fn no_false_alarm()
+    ensures order { (c n : ℕ) (kind : ModelKind) (moves : List Move) (m : Trial)
+        → IsCount n → Leads (opening c n kind) moves m
+        → (order : List Taken) × (s : (product (λ _. kind)).State)
+        × IsLegalOrder (product (λ _. kind)) (marks (entries_in m)) order s
+        × AreOfTickets m.tickets (serves_of moves) order }
     ensures linearizable { (c n : ℕ) (kind : ModelKind) (moves : List Move) (m : Trial)
         → IsCount n → Leads (opening c n kind) moves m
         → IsLinearizable (product (λ _. kind)) (marks (entries_in m)) }

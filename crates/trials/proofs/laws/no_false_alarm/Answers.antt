@@ -1,8 +1,11 @@
 use Rattle.trials.specs.Trials.{entries_in}
 use Rattle.trials.proofs.Pushes.{keyed, well_formed}
-use Rattle.trials.proofs.Holding.{no_alarm}
+use Rattle.trials.proofs.Holding.{legal_order, no_alarm}
 use Rattle.trials.proofs.Verdicts.{never_illegal}
 use Rattle.trials.proofs.laws.no_false_alarm.Goals as goal
+
+pub returns-clause-order : goal.returns-clause-order
+returns-clause-order c d n kind moves m count leads = legal_order d n kind moves m count leads
 
 pub returns-clause-linearizable : goal.returns-clause-linearizable
 returns-clause-linearizable c d n kind moves m count leads = (no_alarm d n kind moves m count leads).0
