@@ -23,11 +23,13 @@ one_write v outcome = Draws 0 (write v) ∷ Serves 0 outcome ∷ Finishes 0 ∷ 
 
 -- there is a trial of these moves, whose history has these marks
 abbrev pub Happens : List Move → List Mark → Type 0
-Happens moves said = (m : Trial) × Leads (opening 1 3 Register) moves m × (marks (entries_in m) ≡ said)
+Happens moves said =
+    (m : Trial) × Leads (opening 1 3 Register) moves m × (marks (entries_in m) ≡ said)
 
 -- nothing stands in its way: it returns
 abbrev pub IsDoneTrial : ℤ → Type 0
-IsDoneTrial v = Happens (one_write v (Done Nothing)) (Invoked 0 (write v) ∷ Returned 0 (Number v) ∷ [])
+IsDoneTrial v =
+    Happens (one_write v (Done Nothing)) (Invoked 0 (write v) ∷ Returned 0 (Number v) ∷ [])
 
 -- a reply is lost: it crashes
 abbrev pub IsLostTrial : ℤ → Type 0
