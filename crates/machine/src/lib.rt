@@ -1,4 +1,4 @@
-//! The one-thread object with all its commands, as a relation; and laws of it, of which one is that it raises no false alarm.
+//! The one-thread object with all its commands, as a relation, and laws of it: one is that it raises no false alarm.
 #![tactic(auto)]
 
 pub mod command;

@@ -5,3 +5,4 @@ pub mod OfTickets
 pub mod Holding
 pub mod Verdicts
 pub mod Answering
+pub mod Worked

@@ -1,5 +1,5 @@
 //! No false alarm.
-ghost use Rattle.std.specs.Prelude.{ℕ, List};
+ghost use Rattle.std.specs.Prelude.{ℕ, ℤ, List};
 ghost use Rattle.models.specs.declared.model_kind.ModelKind.{ModelKind};
 ghost use Rattle.models.specs.declared.operation.Op.{Op};
 ghost use Rattle.models.specs.declared.finding.Found.{Found};
@@ -10,6 +10,7 @@ ghost use Rattle.linspec.specs.declared.verdict.Verdict.{Verdict};
 ghost use Rattle.linspec.specs.Verdicts.{IsVerdict};
 ghost use Rattle.test_store.specs.Store.{IsCount};
 ghost use Rattle.trials.specs.Trials.{Answers, Trial, Move, opening, Leads, serves_of, AreOfTickets, entries_in};
+ghost use Rattle.trials.specs.Examples.{IsDoneTrial, IsLostTrial, IsRefusedTrial};
 
 /// No false alarm: whatever moves lead there from the opening, where the store is strict, the history is linearizable, over
 /// all keys together: the serves that took place are a legal order of it. So no verdict on it is Illegal, with whatever
@@ -34,4 +35,11 @@ pub fn no_false_alarm()
 pub fn answers_law()
     ensures { (kind : ModelKind) (s t : (object_of kind).State) (op : Op) (found : Found)
         → (object_of kind).Steps s op found t → Answers op.name op.part found }
+{}
+
+/// There are trials: in one a write returns, in one its reply is lost, and in one it is refused.
+pub fn trials_law()
+    ensures done { (v : ℤ) → IsDoneTrial v }
+    ensures lost { (v : ℤ) → IsLostTrial v }
+    ensures refused { (v : ℤ) → IsRefusedTrial v }
 {}

@@ -4,5 +4,5 @@
 mod laws;
 pub mod ticket;
 
-pub use laws::{answers_law, no_false_alarm};
+pub use laws::{answers_law, no_false_alarm, trials_law};
 pub use ticket::Ticket;
