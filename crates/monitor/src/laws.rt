@@ -18,7 +18,8 @@ use locality::laws::join_law;
 /// What joins how the keys stand is the verdict.
 pub(crate) fn judging_law()
     ensures { (h : JudgedHistory) (rows : List (ℕ × KeyHistory)) (v : Verdict) →
-        IsHistoryOf h.concurrency h.events → rows ≡ rows_of h → JoinsRows rows v → IsJudged h rows v }
+        IsHistoryOf h.concurrency h.events → rows ≡ rows_of h → JoinsRows rows v
+        → IsJudged h rows v }
 {
     history_law();
     join_law();

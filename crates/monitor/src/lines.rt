@@ -120,7 +120,8 @@ impl Lines {
         ensures kept_lines { IfOk result (λ cut.
             cut.0 ≡ length (filter (λ row. begins_below n row.1) (nows self.old.rows))) }
         ensures verdict { IfOk result (λ cut.
-            JoinsRows (cut_rows n (filter (λ row. begins_below n row.1) (nows self.old.rows))) cut.1) }
+            JoinsRows (cut_rows n (filter (λ row. begins_below n row.1) (nows self.old.rows)))
+            cut.1) }
         ensures next { OnOk result (AreCutAt n self.new.rows) }
         ensures kept { nows self.new.rows ≡ nows self.old.rows }
         ensures room { self.old.room ≤ self.new.room }
