@@ -13,3 +13,10 @@ pub mod Growing
 pub mod Pending
 pub mod Masks
 pub mod Indexed
+pub mod Rows
+pub mod Leading
+pub mod Showing
+pub mod Including
+pub mod Telling
+pub mod Putting
+pub mod Starting

@@ -16,9 +16,10 @@ use Rattle.frontier.specs.declared.kept_end.KeptEnd.{KeptEnd}
 use Rattle.frontier.specs.declared.frontier.Frontier.{Frontier}
 use Rattle.frontier.specs.declared.frontier.Step.{Step}
 use Rattle.frontier.specs.declared.frontier.Step.TheVariants.{Alive, Dead, Over}
-use Rattle.frontier.specs.KeptEnds.{ArePending, end_kept, ends_of}
+use Rattle.frontier.specs.KeptEnds.{AreIncluded, ArePending, end_kept, ends_of}
 use Rattle.frontier.specs.Meaning.{StandsFor, Blows, IsStep}
-use Rattle.frontier.specs.EndSteps.{is_in}
+use Rattle.frontier.specs.EndSteps.{is_in, is_other}
+use Rattle.frontier.proofs.Including.{included_after_fail}
 use Rattle.frontier.proofs.TheEnds.{AreTheEnds}
 use Rattle.frontier.proofs.Generating.{Generates, generates_by, reached_by, generates_after_fail, none_left, some_left}
 
@@ -26,10 +27,11 @@ module _ {M : Type 0} (o : Object) (f : Frontier M o.State) (marks : List Mark) 
   pub generates_of : StandsFor o f marks → Generates o (ends_of f) marks
   generates_of stands = generates_by o (ends_of f) f.calls.items marks stands.well_kept.pending stands.ends
 
-  pub stands_by : Generates o (ends_of f) marks → Pairwise (λ d e. d ≢ e) (ends_of f) → ArePending f.calls.items marks → Pairwise (λ (c d : PendingOp). c.id ≢ d.id) f.calls.items → StandsFor o f marks
-  stands_by gen once pending calls_once = record {
+  pub stands_by : Generates o (ends_of f) marks → Pairwise (λ d e. d ≢ e) (ends_of f) → ArePending f.calls.items marks → Pairwise (λ (c d : PendingOp). c.id ≢ d.id) f.calls.items → AreIncluded f.calls.items (ends_of f)
+      → StandsFor o f marks
+  stands_by gen once pending calls_once included = record {
     ends = reached_by o (ends_of f) f.calls.items marks pending gen;
-    well_kept = record { once = once; pending = pending; calls_once = calls_once };
+    well_kept = record { once = once; included = included; pending = pending; calls_once = calls_once };
   }
 
   -- one that keeps the same stands for the same
@@ -40,6 +42,7 @@ module _ {M : Type 0} (o : Object) (f : Frontier M o.State) (marks : List Mark) 
         ends = reached_by o (ends_of g) g.calls.items marks pending (subst (λ l. Generates o l marks) (sym same_ends) (generates_of stands));
         well_kept = record {
           once = subst (Pairwise (λ d e. d ≢ e)) (sym same_ends) stands.well_kept.once;
+          included = subst (λ l. AreIncluded l (ends_of g)) (sym same_calls) (subst (AreIncluded f.calls.items) (sym same_ends) stands.well_kept.included);
           pending = pending;
           calls_once = subst (Pairwise (λ (c d : PendingOp). c.id ≢ d.id)) (sym same_calls) stands.well_kept.calls_once;
         };
@@ -65,6 +68,12 @@ pub once_after_fail : {S : Type 0} (items left : List (KeptEnd S)) (id : ℕ) �
 once_after_fail items left id is once =
     subst (Pairwise (λ d e. d ≢ e)) (sym (ap (map end_kept) is ∙ map-filter end_kept (λ e. not (is_in e id false)) items))
     (Pairwise-filter (λ e. not (is_in e id false)) (λ d e. d ≢ e) (map end_kept items) once)
+
+pub kept_included_after_fail : {S : Type 0} (calls : List PendingOp) (marks : List Mark) → ArePending calls marks → (items left : List (KeptEnd S)) (id : ℕ) → IsOpen marks id → AreIncluded calls (map end_kept items)
+    → left ≡ filter (λ k. not (is_in (end_kept k) id false)) items → AreIncluded (filter (is_other id) calls) (map end_kept left)
+kept_included_after_fail calls marks are items left id is_open included is =
+    subst (AreIncluded (filter (is_other id) calls)) (sym (ap (map end_kept) is ∙ map-filter end_kept (λ e. not (is_in e id false)) items))
+    (included_after_fail calls marks are id is_open (map end_kept items) included)
 
 pub not_over_by : (o : Object) (items : List (KeptEnd o.State)) (marks : List Mark) → AreTheEnds o (map end_kept items) marks → (budget : ℕ) → length items ≤ budget → ¬ HasMoreThan o marks budget
 not_over_by o items marks are budget le h =

@@ -1,5 +1,5 @@
 -- Invariant: how a frontier keeps ends, and the operations that may still take place
-use Rattle.std.specs.Prelude.{◌≢◌, ◌↔◌, ℕ, Option, List, map, Bool, IsTrue}
+use Rattle.std.specs.Prelude.{◌≡◌, ◌≢◌, ◌↔◌, ℕ, Option, Some, List, map, Bool, true, false, IsTrue}
 use Rattle.std.specs.List.{Contains}
 use Rattle.std.specs.Ordering.{nat_cmp}
 use Rattle.std.specs.FinMap as finmap
@@ -53,9 +53,20 @@ ArePending calls marks =
     (c : PendingOp) → Contains calls c
     ↔ (IsPending marks c.id c.op × (IsTrue c.crashed ↔ Contains marks (Crashed c.id)))
 
+-- each operation that the end includes is among the calls
+pub record IsIncluded {S : Type 0} (calls : List PendingOp) (e : End S) : Type 0 where
+  pub pending : (id : ℕ) (found : Found) → finmap.get e.pending id ≡ Some found →
+      (c : PendingOp) × Contains calls c × (c.id ≡ id) × (c.crashed ≡ false)
+  pub crashed : (id : ℕ) → IsTrue (finset.contains e.crashed id) →
+      (c : PendingOp) × Contains calls c × (c.id ≡ id) × (c.crashed ≡ true)
+
+abbrev pub AreIncluded : {S : Type 0} → List PendingOp → List (End S) → Type 0
+AreIncluded {S} calls ends = (e : End S) → Contains ends e → IsIncluded calls e
+
 -- each end that is kept is kept once, and the operations that may still take place are those of the
--- history, each once
+-- history, each once; each operation that an end includes is one of them
 pub record IsWellKept {M S : Type 0} (f : Frontier M S) (marks : List Mark) : Type 0 where
   pub once : Pairwise (λ d e. d ≢ e) (ends_of f)
+  pub included : AreIncluded f.calls.items (ends_of f)
   pub pending : ArePending f.calls.items marks
   pub calls_once : Pairwise (λ c d. c.id ≢ d.id) f.calls.items

@@ -19,8 +19,8 @@ pub struct KeptEnd<S> {
     pub crashed: Vec<u32>,
 }
 
-// What the operation found, where it is among these.
-fn found_in(pending: &[(u32, Found)], id: u32) -> Option<&Found>
+/// What the operation found, where it is among these.
+pub fn found_in(pending: &[(u32, Found)], id: u32) -> Option<&Found>
     ensures { option_copied result ≡ found_at pending.now id }
 {
     for entry in pending {
@@ -56,8 +56,8 @@ fn same_pending(a: &[(u32, Found)], b: &[(u32, Found)]) -> bool
     agree_on(a, b) && agree_on(b, a)
 }
 
-// Whether the operation is among these.
-fn has(ids: &[u32], id: u32) -> bool
+/// Whether the operation is among these.
+pub fn has(ids: &[u32], id: u32) -> bool
     ensures { result ≡ has_crashed ids.now id }
 {
     ids.contains(&id)
@@ -123,17 +123,6 @@ impl<S> KeptEnd<S> {
         found_in(&self.pending, id).is_some()
     }
 
-    /// Whether the call is in it.
-    pub fn has_call(&self, call: &PendingOp) -> bool
-        ensures { result ≡ is_in (end_kept self.now) call.now.id call.now.crashed }
-    {
-        if call.crashed {
-            has(&self.crashed, call.id)
-        } else {
-            self.includes(call.id)
-        }
-    }
-
     /// Whether the open operation is in it, and what it found there fits the answer.
     pub fn fits_at(&self, id: u32, answer: &Answer) -> bool
         ensures { IsTrue result ↔ FitsAt (end_kept self.now) id answer.now }
@@ -142,6 +131,20 @@ impl<S> KeptEnd<S> {
             Some(found) => finding::fits(found, answer),
             None => false,
         }
+    }
+
+    /// The call takes place in it, and finds this.
+    pub fn include(&mut self, call: &PendingOp, found: Found) -> Result<(), AllocError>
+        ensures { let id = call.now.id in let crashed = call.now.crashed in let old = end_kept self.old in
+            is_in old id crashed ≡ false
+            → OnOk result (end_kept self.new ≡ with_call old id crashed found self.old.state) }
+    {
+        if call.crashed {
+            self.crashed.push(call.id)?;
+        } else {
+            self.pending.push((call.id, found))?;
+        }
+        Ok(())
     }
 
     /// The open operation is done now.
@@ -161,32 +164,6 @@ impl<S> KeptEnd<S> {
         }
         Ok(())
     }
-}
-
-/// The end with the call, after which the state is this.
-pub fn with_call<S: Drop>(
-    alloc: Global,
-    kept: &KeptEnd<S>,
-    call: &PendingOp,
-    state: S,
-    found: Found,
-) -> Result<KeptEnd<S>, AllocError>
-    requires { is_in (end_kept kept.now) call.now.id call.now.crashed ≡ false }
-    ensures { let id = call.now.id in let crashed = call.now.crashed in
-        IfOk result (λ next. end_kept next ≡ with_call (end_kept kept.now) id crashed found state) }
-{
-    let mut pending = copied(alloc, &kept.pending)?;
-    let mut crashed = kept.crashed.clone()?;
-    if call.crashed {
-        crashed.push(call.id)?;
-    } else {
-        pending.push((call.id, found))?;
-    }
-    Ok(KeptEnd {
-        state,
-        pending,
-        crashed,
-    })
 }
 
 // Whether the end stands at this place of the list.

@@ -8,6 +8,7 @@ pub mod frontier;
 mod kept_end;
 mod pending_op;
 mod places;
+mod table;
 
 pub use any_frontier::AnyFrontier;
 pub use frontier::{Frontier, Step};

@@ -1,44 +1,50 @@
-use Rattle.std.proofs.Common.{rules, arith, map, subst, length, ◌≤◌, ◌≡◌, sym}
-use Rattle.std.specs.List.{Contains}
-use Rattle.std.proofs.lemmas.List.{take_all, length-map}
+use Rattle.std.proofs.Common.{rules, ◌≡◌, ◌≤◌, length, sym, subst, arith}
+use Rattle.std.proofs.lemmas.List.{length-map}
 use Rattle.models.specs.Objects.{of_table}
 use Rattle.linspec.proofs.Lists.{Contains-nil}
-use Rattle.frontier.specs.KeptEnds.{end_kept}
-use Rattle.frontier.specs.Places.{IsIndexed}
-use Rattle.frontier.proofs.Adding.{IsFront-itself, IsFront-trans}
-use Rattle.frontier.proofs.Growing.{Grows-itself, grows_more, done_more, cost_more}
+use Rattle.frontier.specs.Tables.{Shows, items_of, rows_of}
+use Rattle.frontier.proofs.Growing.{Grows-itself, cost_more}
+use Rattle.frontier.proofs.Showing.{all_done, done_on, end_at, grows_on}
 use Rattle.frontier.proofs.extend.grow.Goals as goal
 
 pub loop-at-init : goal.loop-at-init
 loop-at-init g c =
     let o = of_table g.row.M-State.Denot g.M.SeqObject.start_state g.M.SeqObject.apply_to in
     record {
-      grows = Grows-itself o c.args.calls.now (map end_kept c.args.ends.now.items);
-      indexed = subst (IsIndexed c.in_ok-places.places) c.deref.ensures.value c.in_ok-places.ensures;
-      front = IsFront-itself c.args.ends.now.items;
-      done = λ e f h n. absurd (Contains-nil e h);
+      grown = λ once ends shown. (ends, shown, Grows-itself o c.args.calls.now ends, (λ e f h n. absurd (Contains-nil e h)));
       cost = omega arith;
     }
-
-pub returns-then-at-len-clause-closed : goal.returns-then-at-len-clause-closed
-returns-then-at-len-clause-closed g c is e f h n =
-    c.loop-at.invariant.done e f
-    (subst (λ l. Contains l e) (sym (take_all c.loop-at.at (map (end_kept {S = g.row.M-State.Denot}) c.loop-at.ends.items) (let l : length (map (end_kept {S = g.row.M-State.Denot}) c.loop-at.ends.items) ≡ length c.loop-at.ends.items = length-map c.loop-at.ends.items (end_kept {S = g.row.M-State.Denot}) in omega arith))) h) n
 
 pub loop-at-preserved : goal.loop-at-preserved
 loop-at-preserved g c =
     let o = of_table g.row.M-State.Denot g.M.SeqObject.start_state g.M.SeqObject.apply_to in
-    let front = c.in_ok-grow_from.ensures.front in
-    let adds = c.in_ok-grow_from.ensures.adds in
     record {
-      grows = grows_more o c.args.calls.now end_kept c.args.ends.now.items c.loop-at.ends.items c.grow_from.new.ends.items c.loop-at.at c.index.result.now c.in_ok-kept.kept (omega arith) c.index.ensures c.in_ok-kept.ensures front adds c.loop-at.invariant.grows;
-      indexed = c.in_ok-grow_from.ensures.indexed;
-      front = IsFront-trans c.args.ends.now.items c.loop-at.ends.items c.grow_from.new.ends.items c.loop-at.invariant.front front;
-      done = done_more o c.args.calls.now end_kept c.args.ends.now.items c.loop-at.ends.items c.grow_from.new.ends.items c.loop-at.at c.index.result.now c.in_ok-kept.kept (omega arith) c.index.ensures c.in_ok-kept.ensures front adds c.loop-at.invariant.done;
+      grown = λ once ends shown.
+          let s = c.loop-at.invariant.grown once ends shown in
+          let p = end_at c.args.calls.now c.loop-at.table s.0 s.1 c.loop-at.at c.in-Some.row.now (sym c.in-Some.ensures.key) in
+          let same : c.in-Some.row.now.items ≡ c.deref-in-loop-at.result.now = search rules in
+          let w = c.in_ok-grow_from.ensures.adds once p.0 s.0 (subst (λ r. Shows c.loop-at.table c.args.calls.now r p.0) same p.2) s.1 in
+          (w.more, w.shown, grows_on o c.args.calls.now ends s.0 c.loop-at.at p.0 p.1 c.grow_from.new.table w s.2, done_on o c.args.calls.now ends s.0 c.loop-at.at p.0 p.1 c.grow_from.new.table w s.3);
       cost = cost_more c.args.applied.now c.loop-at.applied c.grow_from.new.applied c.loop-at.at (length c.args.calls.now) c.loop-at.invariant.cost c.in_ok-grow_from.ensures.cost;
     }
 
-pub returns-clause-closed : goal.returns-clause-closed
-returns-clause-closed g c is e f h n =
-    c.loop-at.invariant.done e f
-    (subst (λ l. Contains l e) (sym (take_all c.loop-at.at (map (end_kept {S = g.row.M-State.Denot}) c.loop-at.ends.items) (let l : length (map (end_kept {S = g.row.M-State.Denot}) c.loop-at.ends.items) ≡ length c.loop-at.ends.items = length-map c.loop-at.ends.items (end_kept {S = g.row.M-State.Denot}) in let all : length c.loop-at.ends.items ≤ c.args.budget = search rules in omega arith))) h) n
+pub returns-then-at-len-clause-grows : goal.returns-then-at-len-clause-grows
+returns-then-at-len-clause-grows g c once ends shown =
+    let o = of_table g.row.M-State.Denot g.M.SeqObject.start_state g.M.SeqObject.apply_to in
+    let s = c.loop-at.invariant.grown once ends shown in
+    let m : length (rows_of c.loop-at.table) ≡ length c.loop-at.table.rows.keys = length-map c.loop-at.table.rows.keys items_of in
+    let long = s.1.long in
+    record { more = s.0; shown = s.1; grows = s.2; closed = λ is. all_done o c.args.calls.now s.0 c.loop-at.at (omega (arith, m, long)) s.3 }
+
+pub returns-clause-grows : goal.returns-clause-grows
+returns-clause-grows g c once ends shown =
+    let o = of_table g.row.M-State.Denot g.M.SeqObject.start_state g.M.SeqObject.apply_to in
+    let s = c.loop-at.invariant.grown once ends shown in
+    let m : length (rows_of c.loop-at.table) ≡ length c.loop-at.table.rows.keys = length-map c.loop-at.table.rows.keys items_of in
+    let long = s.1.long in
+    record {
+      more = s.0;
+      shown = s.1;
+      grows = s.2;
+      closed = λ is. all_done o c.args.calls.now s.0 c.loop-at.at (let all : length c.loop-at.table.rows.keys ≤ c.args.budget = search rules in omega (arith, m, long, all)) s.3;
+    }

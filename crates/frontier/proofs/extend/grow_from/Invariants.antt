@@ -1,16 +1,15 @@
-use Rattle.std.proofs.Common.{◌≤◌, ◌+◌, map, take}
+use Rattle.std.proofs.Common.{◌≤◌, ◌+◌, List, take}
 use Rattle.models.specs.Objects.{of_table}
-use Rattle.history.specs.Events.{IsFront}
-use Rattle.frontier.specs.KeptEnds.{end_kept}
-use Rattle.frontier.specs.Places.{IsIndexed}
-use Rattle.frontier.specs.EndSteps.{Next, Adds}
+use Rattle.linspec.specs.Ends.{End}
+use Rattle.frontier.specs.EndSteps.{Next}
+use Rattle.frontier.specs.Tables.{AreShown, HasEachOnce, Shows, ShownWith, Widens}
 use Rattle.frontier.proofs.extend.grow_from.Given as goal
 
-abbrev pub invariant-loop-call : goal.invariant-loop-call
-invariant-loop-call g l =
+abbrev pub invariant-loop-at : goal.invariant-loop-at
+invariant-loop-at g l =
     record {
-      adds : Adds (Next (of_table g.row.M-State.Denot g.M.SeqObject.start_state g.M.SeqObject.apply_to) (take l.call-index l.calls) (end_kept l.kept)) (map end_kept l.initial.ends.items) (map end_kept l.ends.items);
-      indexed : IsIndexed l.places l.ends.items;
-      front : IsFront l.initial.ends.items l.ends.items;
-      cost : l.applied ≤ l.initial.applied + l.call-index;
+      widens : Widens l.initial.table l.table;
+      grown : HasEachOnce l.calls → (e : End g.row.M-State.Denot) (ends : List (End g.row.M-State.Denot)) → Shows l.initial.table l.calls l.row e → AreShown l.initial.table l.calls ends
+          → ShownWith l.table l.calls ends (Next (of_table g.row.M-State.Denot g.M.SeqObject.start_state g.M.SeqObject.apply_to) (take l.at l.calls) e);
+      cost : l.applied ≤ l.initial.applied + l.at;
     }

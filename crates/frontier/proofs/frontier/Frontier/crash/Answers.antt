@@ -2,10 +2,11 @@ use Rattle.std.proofs.Common.{◌≡◌, ◌∷◌, ◌++◌, ap, map, sym, ◌�
 use Rattle.std.proofs.lemmas.List.{with_items_is, length-map}
 use Rattle.models.specs.Objects.{of_table}
 use Rattle.history.specs.Events.Mark.{Crashed}
-use Rattle.frontier.specs.KeptEnds.{end_kept, ArePending}
+use Rattle.frontier.specs.KeptEnds.{end_kept, AreIncluded, ArePending}
 use Rattle.frontier.specs.EndSteps.{crash_call, Along, Adds, Crashes}
 use Rattle.frontier.proofs.Standing.{generates_of, stands_by}
 use Rattle.frontier.proofs.Generating.{generates_after_crash}
+use Rattle.frontier.proofs.Including.{included_after_crash}
 use Rattle.frontier.proofs.Pending.{AreOnce, calls_after_crash, once_after_crash}
 use Rattle.frontier.proofs.frontier.Frontier.crash.Goals as goal
 
@@ -22,3 +23,5 @@ returns-clause-kept g c marks stands is_open =
     (subst (λ l. ArePending l (marks ++ Crashed c.args.id ∷ [])) (sym calls)
     (calls_after_crash c.args.self.now.calls.items marks stands.well_kept.pending c.args.id is_open))
     (subst AreOnce (sym calls) (once_after_crash c.args.self.now.calls.items c.args.id stands.well_kept.calls_once))
+    (subst (λ l. AreIncluded l (map end_kept c.in_ok-self.field-0.items)) (sym calls)
+    (included_after_crash c.args.self.now.calls.items c.args.id (map end_kept c.args.self.now.ends.items) (map end_kept c.in_ok-self.field-0.items) stands.well_kept.included adds))

@@ -2,9 +2,10 @@ use Rattle.std.proofs.Common.{◌∷◌, ◌++◌, [], refl, sym, subst}
 use Rattle.std.proofs.lemmas.Result.{err_from_is_err_and}
 use Rattle.models.specs.Objects.{of_table}
 use Rattle.history.specs.Events.Mark.{Invoked}
-use Rattle.frontier.specs.KeptEnds.{ArePending}
+use Rattle.frontier.specs.KeptEnds.{AreIncluded, ArePending, ends_of}
 use Rattle.frontier.proofs.Standing.{generates_of, stands_by, stands_too}
 use Rattle.frontier.proofs.Generating.{generates_after_invoke}
+use Rattle.frontier.proofs.Including.{included_more}
 use Rattle.frontier.proofs.Pending.{AreOnce, calls_after_invoke, once_after_invoke}
 use Rattle.frontier.proofs.frontier.Frontier.invoke.Goals as goal
 
@@ -22,3 +23,4 @@ returns-clause-kept g c marks stands new =
     stands.well_kept.once
     (subst (λ l. ArePending l (marks ++ Invoked c.args.id c.args.op ∷ [])) (sym c.in_ok-push.ensures.items) (calls_after_invoke c.args.self.now.calls.items marks stands.well_kept.pending c.args.id c.args.op new))
     (subst AreOnce (sym c.in_ok-push.ensures.items) (once_after_invoke c.args.self.now.calls.items marks stands.well_kept.pending c.args.id c.args.op new stands.well_kept.calls_once))
+    (subst (λ l. AreIncluded l (ends_of c.args.self.now)) (sym c.in_ok-push.ensures.items) (included_more c.args.self.now.calls.items _ (ends_of c.args.self.now) stands.well_kept.included))

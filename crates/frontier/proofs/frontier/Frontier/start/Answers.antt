@@ -4,6 +4,7 @@ use Rattle.frontier.specs.KeptEnds.{ArePending}
 use Rattle.frontier.proofs.Standing.{stands_by}
 use Rattle.frontier.proofs.Generating.{generates_all}
 use Rattle.frontier.proofs.AfterEvents.{kept_at_start, calls_at_start}
+use Rattle.frontier.proofs.Including.{included_of_start}
 use Rattle.frontier.proofs.Pending.{AreOnce}
 use Rattle.frontier.proofs.frontier.Frontier.start.Goals as goal
 
@@ -17,3 +18,7 @@ returns-clause-stands g c =
     stands_by o _ [] (generates_all o _ [] are) are.once
     (subst (λ l. ArePending l []) (sym c.new-3.ensures.items) calls_at_start)
     (subst AreOnce (sym c.new-3.ensures.items) tt)
+    (included_of_start _ c.push.new.self.items
+    (record { state = c.start.result; pending = c.new.result; crashed = c.new-2.result })
+    (c.in_ok-push.ensures.items ∙ ap (λ l. l ++ (record { state = c.start.result; pending = c.new.result; crashed = c.new-2.result } ∷ [])) c.new-ends.ensures.items)
+    c.new.ensures.items c.new-2.ensures.items)
