@@ -53,6 +53,11 @@ sound_at_rest history kinds budgets lines h rows v same are judged = record {
   ready = tt;
 }
 
+-- the same of what is prepared, by another name
+pub renamed : {history : HistoryView} {kinds : SettingsView ModelKind} {budgets : SettingsView ℕ} {lines : LinesView} {v : Verdict} {p q : Option Prepared} → q ≡ p
+    → IsSoundMonitor history kinds budgets lines v p → IsSoundMonitor history kinds budgets lines v q
+renamed {history = history} {kinds = kinds} {budgets = budgets} {lines = lines} {v = v} same sound = subst (λ (o : Option Prepared). IsSoundMonitor history kinds budgets lines v o) (sym same) sound
+
 -- what was prepared
 pub prepared_ready : (history : HistoryView) (kinds : SettingsView ModelKind) (budgets : SettingsView ℕ) (lines : LinesView) (v : Verdict) (prepared : Option Prepared) (p : Prepared) (change : Change)
     → IsSoundMonitor history kinds budgets lines v prepared → prepared ≡ Some p → p.change ≡ change → IsReady history kinds budgets lines change p.verdict

@@ -165,14 +165,17 @@ impl Monitor {
             n ≤ length self.old.now.events }
         ensures err { OnErr result (self.new ≡ at_rest self.old.now) }
     {
-        self.prepared = None;
+        clear(&mut self.prepared);
         judging_law();
         self.history.prepare_cut(n)?;
         let (kept, verdict) = self.lines.prepare_cut(n)?;
-        self.prepared = Some(Prepared {
-            change: Change::Rewind(n, kept),
-            verdict,
-        });
+        put(
+            &mut self.prepared,
+            Prepared {
+                change: Change::Rewind(n, kept),
+                verdict,
+            },
+        );
         Ok(verdict)
     }
 
@@ -188,16 +191,19 @@ impl Monitor {
         ensures verdict { IfOk result (IsVerdictOn (with_kind key kind self.old.now)) }
         ensures err { OnErr result (self.new ≡ at_rest self.old.now) }
     {
-        self.prepared = None;
+        clear(&mut self.prepared);
         judging_law();
         self.kinds.reserve()?;
         let place = self.lines.find(key);
         let budget = self.budgets.of(key);
         let verdict = prepare_rebuild(&mut self.lines, self.verdict, place, kind, budget)?;
-        self.prepared = Some(Prepared {
-            change: Change::Kind(key, kind, place),
-            verdict,
-        });
+        put(
+            &mut self.prepared,
+            Prepared {
+                change: Change::Kind(key, kind, place),
+                verdict,
+            },
+        );
         Ok(verdict)
     }
 
@@ -216,17 +222,20 @@ impl Monitor {
         ensures memory_last { IsErrOf result Refusal.NoMemory → IsBudget n }
         ensures err { OnErr result (self.new ≡ at_rest self.old.now) }
     {
-        self.prepared = None;
+        clear(&mut self.prepared);
         judging_law();
         test_budget(n)?;
         self.budgets.reserve()?;
         let place = self.lines.find(key);
         let kind = self.kinds.of(key);
         let verdict = prepare_rebuild(&mut self.lines, self.verdict, place, kind, n)?;
-        self.prepared = Some(Prepared {
-            change: Change::Budget(key, n, place),
-            verdict,
-        });
+        put(
+            &mut self.prepared,
+            Prepared {
+                change: Change::Budget(key, n, place),
+                verdict,
+            },
+        );
         Ok(verdict)
     }
 
@@ -386,13 +395,16 @@ impl Monitor {
         ensures memory_last { IsErrOf result Refusal.NoMemory → Admits self.old.now event }
         ensures err { OnErr result (self.new ≡ at_rest self.old.now) }
     {
-        self.prepared = None;
+        clear(&mut self.prepared);
         judging_law();
         self.history.prepare_push(event)?;
-        self.prepared = Some(Prepared {
-            change: Change::Fault,
-            verdict: self.verdict,
-        });
+        put(
+            &mut self.prepared,
+            Prepared {
+                change: Change::Fault,
+                verdict: self.verdict,
+            },
+        );
         Ok(self.verdict)
     }
 
@@ -408,7 +420,7 @@ impl Monitor {
         ensures memory_last { IsErrOf result Refusal.NoMemory → Admits self.old.now event }
         ensures err { OnErr result (self.new ≡ at_rest self.old.now) }
     {
-        self.prepared = None;
+        clear(&mut self.prepared);
         judging_law();
         next_event_law();
         settled_law();
@@ -416,10 +428,13 @@ impl Monitor {
         let (index, event) = prepare_in_history(&mut self.history, event)?;
         let status = self.lines.prepare_push(place, index, event)?;
         let verdict = join_with(self.verdict, key, status);
-        self.prepared = Some(Prepared {
-            change: Change::Append(place),
-            verdict,
-        });
+        put(
+            &mut self.prepared,
+            Prepared {
+                change: Change::Append(place),
+                verdict,
+            },
+        );
         Ok(verdict)
     }
 
@@ -435,7 +450,7 @@ impl Monitor {
         ensures memory_last { IsErrOf result Refusal.NoMemory → Admits self.old.now event }
         ensures err { OnErr result (self.new ≡ at_rest self.old.now) }
     {
-        self.prepared = None;
+        clear(&mut self.prepared);
         judging_law();
         next_event_law();
         let kind = self.kinds.of(key);
@@ -444,10 +459,13 @@ impl Monitor {
         self.lines.reserve()?;
         let line = first_line(self.alloc, kind, budget, index, event)?;
         let verdict = join_with(self.verdict, key, line.status());
-        self.prepared = Some(Prepared {
-            change: Change::Begin(key, line),
-            verdict,
-        });
+        put(
+            &mut self.prepared,
+            Prepared {
+                change: Change::Begin(key, line),
+                verdict,
+            },
+        );
         Ok(verdict)
     }
 }
@@ -462,4 +480,18 @@ fn test_budget(budget: u32) -> Result<(), Refusal>
         return Err(Refusal::BadBudget);
     }
     Ok(())
+}
+
+// Drops what is prepared.
+fn clear(prepared: &mut Option<Prepared>)
+    ensures { prepared.new ≡ None }
+{
+    *prepared = None;
+}
+
+// Keeps what is prepared, in place of what was.
+fn put(prepared: &mut Option<Prepared>, next: Prepared)
+    ensures { prepared.new ≡ Some next }
+{
+    *prepared = Some(next);
 }

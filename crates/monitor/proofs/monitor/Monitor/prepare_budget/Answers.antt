@@ -2,14 +2,16 @@ use Rattle.std.proofs.Common.{subst}
 use Rattle.monitor.specs.JudgedHistory.{IsVerdictOn, with_budget}
 use Rattle.monitor.specs.Monitors.{MonitorView}
 use Rattle.monitor.specs.SoundMonitor.{judged_by_parts}
+use Rattle.monitor.proofs.Carried.{renamed}
 use Rattle.monitor.proofs.Prepared.{budget_ready, limit_judged}
 use Rattle.monitor.proofs.monitor.Monitor.prepare_budget.Goals as goal
 
 pub invariant_of-self-2 : goal.invariant_of-self-2
 invariant_of-self-2 c =
-    budget_ready c.judging_law.ensures c.self.inside.history c.self.inside.kinds c.self.inside.budgets c.reserve.new.self c.self.inside.lines c.prepare_rebuild.new.lines c.self.inside.verdict
+    renamed c.put.ensures
+    (budget_ready c.judging_law.ensures c.self.inside.history c.self.inside.kinds c.self.inside.budgets c.reserve.new.self c.self.inside.lines c.prepare_rebuild.new.lines c.self.inside.verdict
     c.self.inside.prepared c.args.key c.args.n c.of-kind.result c.find-place.result c.in_ok-verdict.verdict c.self.invariant c.in_ok-reserve.ensures.default c.in_ok-reserve.ensures.same
-    c.in_ok-reserve.ensures.room c.find-place.ensures c.of-kind.ensures c.in_ok-verdict.ensures.rebuilt c.in_ok-verdict.ensures.kept
+    c.in_ok-reserve.ensures.room c.find-place.ensures c.of-kind.ensures c.in_ok-verdict.ensures.rebuilt c.in_ok-verdict.ensures.kept)
 
 pub returns-clause-verdict : goal.returns-clause-verdict
 returns-clause-verdict c =

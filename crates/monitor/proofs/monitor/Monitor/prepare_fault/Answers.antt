@@ -3,13 +3,15 @@ use Rattle.monitor.specs.JudgedHistory.{IsVerdictOn, with_event}
 use Rattle.monitor.specs.Monitors.{MonitorView}
 use Rattle.monitor.specs.SoundMonitor.{judged_by_parts}
 use Rattle.monitor.proofs.Changes.{fault_judged}
+use Rattle.monitor.proofs.Carried.{renamed}
 use Rattle.monitor.proofs.Prepared.{fault_ready}
 use Rattle.monitor.proofs.monitor.Monitor.prepare_fault.Goals as goal
 
 pub invariant_of-self-2 : goal.invariant_of-self-2
 invariant_of-self-2 c =
-    fault_ready c.judging_law.ensures c.self.inside.history c.prepare_push.new.self c.self.inside.kinds c.self.inside.budgets c.self.inside.lines c.self.inside.verdict c.self.inside.prepared
-    c.args.event c.self.invariant c.in_ok-prepare_push.ensures.prepared c.in_ok-prepare_push.ensures.well_formed c.requires
+    renamed c.put.ensures
+    (fault_ready c.judging_law.ensures c.self.inside.history c.prepare_push.new.self c.self.inside.kinds c.self.inside.budgets c.self.inside.lines c.self.inside.verdict c.self.inside.prepared
+    c.args.event c.self.invariant c.in_ok-prepare_push.ensures.prepared c.in_ok-prepare_push.ensures.well_formed c.requires)
 
 pub returns-clause-verdict : goal.returns-clause-verdict
 returns-clause-verdict c =

@@ -3,6 +3,7 @@ use Rattle.std.specs.List.{position}
 use Rattle.monitor.specs.JudgedHistory.{IsVerdictOn, with_event, keys_in_order}
 use Rattle.monitor.specs.Monitors.{MonitorView}
 use Rattle.monitor.specs.SoundMonitor.{judged_by_parts}
+use Rattle.monitor.proofs.Carried.{renamed}
 use Rattle.monitor.proofs.Prepared.{may_begin, begin_judged, first_ready}
 use Rattle.monitor.proofs.monitor.Monitor.prepare_first.Goals as goal
 
@@ -15,12 +16,13 @@ first_line-requires c =
 
 pub invariant_of-self-2 : goal.invariant_of-self-2
 invariant_of-self-2 c =
-    first_ready c.judging_law.ensures c.self.inside.history c.prepare_in_history.new.history c.self.inside.kinds c.self.inside.budgets c.self.inside.lines c.reserve.new.self
+    renamed c.put.ensures
+    (first_ready c.judging_law.ensures c.self.inside.history c.prepare_in_history.new.history c.self.inside.kinds c.self.inside.budgets c.self.inside.lines c.reserve.new.self
     c.self.inside.verdict c.self.inside.prepared c.args.event c.in_ok-index.event c.args.key c.in_ok-index.index c.of-kind.result c.of-budget.result c.in_ok-line.line c.status.result
     c.join_with-verdict.result c.self.invariant c.in_ok-index.ensures.prepared c.in_ok-index.ensures.well_formed c.requires.key
     (subst (λ (s : MonitorView). position (nat_eq c.args.key) (keys_in_order s.now.events) ≡ None) (sym c.self.view_is) c.requires.new)
     c.in_ok-index.ensures.copied.0 c.in_ok-index.ensures.copied.1 c.of-kind.ensures c.of-budget.ensures c.in_ok-reserve.ensures.same c.in_ok-reserve.ensures.room c.in_ok-line.ensures
-    c.status.ensures c.join_with-verdict.ensures
+    c.status.ensures c.join_with-verdict.ensures)
 
 pub returns-clause-verdict : goal.returns-clause-verdict
 returns-clause-verdict c =

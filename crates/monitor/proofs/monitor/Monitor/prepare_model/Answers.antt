@@ -2,14 +2,16 @@ use Rattle.std.proofs.Common.{subst}
 use Rattle.monitor.specs.JudgedHistory.{IsVerdictOn, with_kind}
 use Rattle.monitor.specs.Monitors.{MonitorView}
 use Rattle.monitor.specs.SoundMonitor.{judged_by_parts}
+use Rattle.monitor.proofs.Carried.{renamed}
 use Rattle.monitor.proofs.Prepared.{model_ready, model_judged}
 use Rattle.monitor.proofs.monitor.Monitor.prepare_model.Goals as goal
 
 pub invariant_of-self-2 : goal.invariant_of-self-2
 invariant_of-self-2 c =
-    model_ready c.judging_law.ensures c.self.inside.history c.self.inside.kinds c.reserve.new.self c.self.inside.budgets c.self.inside.lines c.prepare_rebuild.new.lines c.self.inside.verdict
+    renamed c.put.ensures
+    (model_ready c.judging_law.ensures c.self.inside.history c.self.inside.kinds c.reserve.new.self c.self.inside.budgets c.self.inside.lines c.prepare_rebuild.new.lines c.self.inside.verdict
     c.self.inside.prepared c.args.key c.args.kind c.of-budget.result c.find-place.result c.in_ok-verdict.verdict c.self.invariant c.in_ok-reserve.ensures.default c.in_ok-reserve.ensures.same
-    c.in_ok-reserve.ensures.room c.find-place.ensures c.of-budget.ensures c.in_ok-verdict.ensures.rebuilt c.in_ok-verdict.ensures.kept
+    c.in_ok-reserve.ensures.room c.find-place.ensures c.of-budget.ensures c.in_ok-verdict.ensures.rebuilt c.in_ok-verdict.ensures.kept)
 
 pub returns-clause-verdict : goal.returns-clause-verdict
 returns-clause-verdict c =
