@@ -13,8 +13,6 @@ mod key_lines;
 #[cfg(test)]
 mod monitors;
 #[cfg(test)]
-mod objects;
-#[cfg(test)]
 mod one_thread;
 #[cfg(test)]
 mod plain_checker;
