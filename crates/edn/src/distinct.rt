@@ -14,6 +14,7 @@ use std::collections::BTreeSet;
 pub trait Keyed {
     ghost key_value: { Self → Value };
 
+    /// The key of the pair, or the member itself.
     fn key(&self) -> &Edn
         ensures { value_of result.now ≡ key_value self.now };
 }
