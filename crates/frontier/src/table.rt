@@ -104,7 +104,7 @@ fn row_of<M: SeqObject>(
     ensures rows { rows_of table.new ≡ rows_of table.old }
 {
     let state = M::copy(alloc, &kept.state)?;
-    let mut row = Vec::with_capacity(alloc, 8)?;
+    let mut row = Vec::with_capacity(alloc, calls.len().saturating_add(1))?;
     row.push(states::number_of::<M>(alloc, &mut table.states, state)?)?;
     for call in calls {
         let found = found_by(kept, call)?;
