@@ -20,4 +20,3 @@ pub mod Including
 pub mod Telling
 pub mod Putting
 pub mod Starting
-pub mod Stating
