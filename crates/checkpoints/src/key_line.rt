@@ -1,5 +1,6 @@
 //! The line of one key.
-ghost use Rattle.std.specs.Prelude.{◌≡◌, ◌≤◌, if◌then◌else◌, Some, None, [], ◌∷◌, ◌++◌, take, length, nat_lt, is_ok, IsSome, IfSome, IfOk, OnOk, OnErr};
+ghost use Rattle.std.specs.Prelude.{◌≡◌, ◌≤◌, if◌then◌else◌, Some, None, [], ◌∷◌, ◌++◌, take, length, nat_lt};
+ghost use Rattle.std.specs.Prelude.{is_ok, IsSome, IfSome, IfOk, OnOk, OnErr};
 ghost use Rattle.history.specs.ProcessRule.{IsHistory};
 ghost use Rattle.checkpoints.specs.KeyLineView.{IsStatusOf, without_events, at_rest, with_next, with_pushed, cut_at, judged_by};
 ghost use Rattle.checkpoints.specs.KeyLineView.{events_below, loses_at, begins_below, replays_at, count_on};
@@ -31,6 +32,10 @@ struct Prepared {
 /// key is over at that ok, whatever else is known of it (this project's own).
 ///
 /// A line is that of one key because it is given that key's events alone; it looks at no key itself.
+///
+/// After each 64th event it saves a copy of the ends, with the status, to go back to where events are cut. A key that is
+/// dead or over has no ends, and then the status alone is saved. So beside the events a line takes the memory of its ends
+/// once for each 64 events: at 2^20 events 16,384 times, which is 1 GiB where a copy takes 64 KiB.
 ///
 /// Each change is prepared, which may fail and changes nothing but what is prepared, and then committed. What was prepared
 /// before is dropped.
@@ -93,8 +98,9 @@ impl KeyLine {
     }
 
     /// Prepares to append this event, and gives the status that [`commit`](Self::commit) will bring. The index is the
-    /// event's place in the whole history. It takes the time of a copy of the ends of the events so far, and of what the
-    /// event does to them: see [`Frontier`](frontier::Frontier)'s `invoke`, `ok`, `fail` and `crash`.
+    /// event's place in the whole history. It takes the time of a copy of the ends of the events so far, of two where the
+    /// event is a 64th one, and of what the event does to them: see [`Frontier`](frontier::Frontier)'s `invoke`, `ok`,
+    /// `fail` and `crash`. It is one replay.
     ///
     /// # Errors
     ///
@@ -128,14 +134,17 @@ impl KeyLine {
     }
 
     /// Prepares to keep the events whose index is below `n` alone, and gives the status that [`commit`](Self::commit) will
-    /// bring. It takes the time of all kept events, each given to a fresh frontier.
+    /// bring. It takes the time of a copy of the ends that were saved after the last 64th event that stays, and of fewer
+    /// than 64 replays: of the events behind it, each given to that copy. Where it takes no event away, it makes none, and
+    /// copies the ends as they are.
     ///
     /// # Errors
     ///
     /// `AllocError` where memory was refused: then nothing is prepared, and the rest is as it was.
     pub fn prepare_cut(&mut self, n: u32) -> Result<KeyStatus, AllocError>
         ensures status { IfOk result (IsStatusOf (cut_at n self.old.line.now)) }
-        ensures prepared { OnOk result (self.new.line ≡ with_next (cut_at n self.old.line.now) self.old.line) }
+        ensures prepared { OnOk result
+            (self.new.line ≡ with_next (cut_at n self.old.line.now) self.old.line) }
         ensures err { OnErr result (self.new.line ≡ at_rest self.old.line.now) }
         ensures counted { self.new.replayed ≡ self.old.replayed }
         ensures due { OnOk result
@@ -172,7 +181,8 @@ impl KeyLine {
     }
 
     /// Prepares to judge the same events by another kind of object and another budget, and gives the status that
-    /// [`commit`](Self::commit) will bring. It takes the time of all events, each given to a fresh frontier.
+    /// [`commit`](Self::commit) will bring. It takes the time of all events, each given to a fresh frontier, which is one
+    /// replay each; a copy of the ends is saved after each 64th. What was saved before goes.
     ///
     /// # Errors
     ///
@@ -242,7 +252,8 @@ impl KeyLine {
     /// `AllocError` where memory was refused: then nothing is prepared, and the rest is as it was.
     pub fn push(&mut self, index: u32, event: Event) -> Result<(), AllocError>
         requires { IsHistory (self.old.line.now.events ++ (index, event) ∷ []) }
-        ensures ok { OnOk result (self.new.line ≡ at_rest (with_pushed index event self.old.line.now)) }
+        ensures ok { OnOk result
+            (self.new.line ≡ at_rest (with_pushed index event self.old.line.now)) }
         ensures err { OnErr result (self.new.line ≡ at_rest self.old.line.now) }
         ensures counted { self.new.replayed
             ≡ (if is_ok result then count_on self.old.replayed 1 else self.old.replayed) }
@@ -262,7 +273,8 @@ impl KeyLine {
         ensures ok { OnOk result (self.new.line ≡ at_rest (cut_at n self.old.line.now)) }
         ensures err { OnErr result (self.new.line ≡ at_rest self.old.line.now) }
         ensures counted { self.new.replayed ≡ (if is_ok result
-            then count_on self.old.replayed (replays_at n self.old.line.now) else self.old.replayed) }
+            then count_on self.old.replayed (replays_at n self.old.line.now)
+            else self.old.replayed) }
     {
         self.prepare_cut(n)?;
         self.commit();
@@ -276,10 +288,12 @@ impl KeyLine {
     ///
     /// `AllocError` where memory was refused: then nothing is prepared, and the rest is as it was.
     pub fn rebuild(&mut self, kind: ModelKind, budget: u32) -> Result<(), AllocError>
-        ensures ok { OnOk result (self.new.line ≡ at_rest (judged_by kind budget self.old.line.now)) }
+        ensures ok { OnOk result
+            (self.new.line ≡ at_rest (judged_by kind budget self.old.line.now)) }
         ensures err { OnErr result (self.new.line ≡ at_rest self.old.line.now) }
         ensures counted { self.new.replayed ≡ (if is_ok result
-            then count_on self.old.replayed (length self.old.line.now.events) else self.old.replayed) }
+            then count_on self.old.replayed (length self.old.line.now.events)
+            else self.old.replayed) }
     {
         self.prepare_rebuild(kind, budget)?;
         self.commit();

@@ -53,11 +53,11 @@ impl Model for Core {
     ghost use Rattle.harness.specs.CoreInvariant.{machine_of, next_of, IsSoundCore};
 
     ghost view = { λ a. record {
-      machine = machine_of a.history a.line;
-      next = next_of a.history a.line a.change;
+      machine = machine_of a.history a.line.line;
+      next = next_of a.history a.line.line a.change;
     } };
 
-    ghost invariant = { λ a. IsSoundCore a.history a.line a.judged a.change };
+    ghost invariant = { λ a. IsSoundCore a.history a.line.line a.judged a.change };
 }
 
 impl Core {

@@ -20,11 +20,12 @@ pub(crate) fn prepare_event(
     event: Event,
 ) -> Result<KeyStatus, Refusal>
     requires operation { key_of event ≢ None }
-    requires same { line.old.now.events ≡ op_events (indexed_from 0 history.old.events) }
-    ensures readied { IfOk result (Prepares history.old history.new line.old line.new event) }
+    requires same { line.old.line.now.events ≡ op_events (indexed_from 0 history.old.events) }
+    ensures readied { IfOk result
+        (Prepares history.old history.new line.old.line line.new.line event) }
     ensures refused { IfErr result (MayRefuse history.old.concurrency history.old.events event) }
     ensures memory_last { IsErrOf result Refusal.NoMemory → Admits history.old event }
-    ensures kept { OnErr result (Keeps history.old history.new line.old line.new) }
+    ensures kept { OnErr result (Keeps history.old history.new line.old.line line.new.line) }
 {
     process_rule_law();
     let copy = event.copy();
@@ -41,13 +42,14 @@ fn prepare_in_line(
     index: u32,
     copy: Result<Event, AllocError>,
 ) -> Result<KeyStatus, AllocError>
-    requires { IfOk copy (λ event. IsHistory (line.old.now.events ++ (index, event) ∷ [])) }
+    requires { IfOk copy (λ event. IsHistory (line.old.line.now.events ++ (index, event) ∷ [])) }
     ensures prepared { OnOk result (IfOk copy
-        (λ event. line.new ≡ with_next (with_pushed index event line.old.now) line.old)) }
+        (λ event.
+        line.new.line ≡ with_next (with_pushed index event line.old.line.now) line.old.line)) }
     ensures status { IfOk result (λ status. IfOk copy (λ event.
-        IsStatusOf (with_pushed index event line.old.now) status)) }
+        IsStatusOf (with_pushed index event line.old.line.now) status)) }
     ensures copied { OnOk result (IsOk copy) }
-    ensures kept { OnErr result (KeepsLine line.old line.new) }
+    ensures kept { OnErr result (KeepsLine line.old.line line.new.line) }
 {
     line.prepare_push(index, copy?)
 }
