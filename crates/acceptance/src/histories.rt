@@ -205,23 +205,95 @@ fn faults_are_copied_and_counted(rt: HostRuntime) -> Result<(), Fail> {
 #[test]
 fn prepared_events(rt: HostRuntime) -> Result<(), Fail> {
     let mut history = History::new(rt.alloc(), 1)?;
-    history.prepare(write(EventKind::Invoke, 0, 3))?;
+    history.prepare_push(write(EventKind::Invoke, 0, 3))?;
     assert_eq!(rt;
-        history.prepare(write(EventKind::Ok, 0, 3)),
+        history.prepare_push(write(EventKind::Ok, 0, 3)),
         Err(Refusal::NotOpen)
     );
-    history.prepare(write(EventKind::Invoke, 0, 4))?;
+    history.prepare_push(write(EventKind::Invoke, 0, 4))?;
     assert!(rt; history.is_empty());
     assert_eq!(rt; history.open_at(0), None);
     history.commit();
     assert_eq!(rt; history.len(), 1);
     assert_eq!(rt; history.open_at(0), Some(0));
     assert_eq!(rt;
-        history.prepare(write(EventKind::Ok, 0, 3)),
+        history.prepare_push(write(EventKind::Ok, 0, 3)),
         Err(Refusal::Mismatch)
     );
     history.push(write(EventKind::Ok, 0, 4))?;
     assert_eq!(rt; history.open_at(0), None);
+    Ok(())
+}
+
+// A cut leaves the first events, and the threads as these made them; it waits for its commit, and another change takes its
+// place.
+#[test]
+fn cuts(rt: HostRuntime) -> Result<(), Fail> {
+    let mut history = History::new(rt.alloc(), 2)?;
+    history.push(write(EventKind::Invoke, 0, 2))?;
+    history.push(write(EventKind::Info, 0, 2))?;
+    history.push(write(EventKind::Invoke, 2, 9))?;
+    assert_eq!(rt; history.cut(4), Err(Refusal::NoSuchIndex));
+    history.cut(3)?;
+    assert_eq!(rt; history.len(), 3);
+    assert_eq!(rt; history.current(0), 2);
+    assert_eq!(rt; history.open_at(0), Some(2));
+    history.prepare_push(write(EventKind::Ok, 2, 9))?;
+    history.prepare_cut(1)?;
+    assert_eq!(rt; history.len(), 3);
+    assert_eq!(rt; history.current(0), 2);
+    history.commit();
+    assert_eq!(rt; history.len(), 1);
+    assert_eq!(rt; history.current(0), 0);
+    assert_eq!(rt; history.open_at(0), Some(0));
+    assert_eq!(rt;
+        history.push(write(EventKind::Invoke, 2, 9)),
+        Err(Refusal::WrongProcess)
+    );
+    history.push(write(EventKind::Ok, 0, 2))?;
+    assert_eq!(rt; history.open_at(0), None);
+    history.cut(0)?;
+    assert!(rt; history.is_empty());
+    assert_eq!(rt; history.cut(1), Err(Refusal::NoSuchIndex));
+    history.push(write(EventKind::Invoke, 0, 5))?;
+    assert_eq!(rt; history.open_at(0), Some(0));
+    Ok(())
+}
+
+// A process completes its operation with its key; the events of a key keep their indices.
+#[test]
+fn several_keys(rt: HostRuntime) -> Result<(), Fail> {
+    let alloc = rt.alloc();
+    let mut history = History::new(alloc, 2)?;
+    for (line, want) in [
+        (
+            "{:type :invoke, :process 0, :f :write, :value [7 3]}",
+            Ok(()),
+        ),
+        (
+            "{:type :invoke, :process 1, :f :write, :value [8 3]}",
+            Ok(()),
+        ),
+        (
+            "{:type :ok, :process 0, :f :write, :value [8 3]}",
+            Err(Refusal::Mismatch),
+        ),
+        (
+            "{:type :invoke, :process 0, :f :write, :value [8 3]}",
+            Err(Refusal::Busy),
+        ),
+        ("{:type :ok, :process 0, :f :write, :value [7 3]}", Ok(())),
+        ("{:type :ok, :process 1, :f :write, :value [8 3]}", Ok(())),
+    ] {
+        assert_eq!(rt; answer(alloc, &mut history, line), want, "{line}");
+    }
+    assert_eq!(rt; history.len(), 4);
+    let events = history.events_of(8)?;
+    assert_eq!(rt; events.len(), 2);
+    for (event, index) in events.iter().zip([1, 3].iter()) {
+        assert_eq!(rt; event.0, *index);
+    }
+    assert_eq!(rt; history.events_of(9)?.len(), 0);
     Ok(())
 }
 

@@ -1,5 +1,4 @@
--- What one more event changes: the last event and the open operation of a process, the current process of a thread,
--- and the key of the first operation
+-- What one more event changes: the last event and the open operation of a process, the current process of a thread
 use Rattle.std.proofs.Common.{◌≡◌, ℕ, suc, ◌+◌, ◌≤◌, true, false, cond, Option, Some, None, is_some, List, [], ◌∷◌, ◌++◌, length, slice_get, option_map, option_and_then, refl, sym, ap, ◌∙◌, subst, append_assoc, ⊎_elim, arith}
 use Rattle.std.specs.Option.{option_or}
 use Rattle.std.specs.List.{cons_option}
@@ -18,8 +17,7 @@ use Rattle.history.specs.declared.event.Process.TheVariants.{Client, Nemesis}
 use Rattle.history.specs.declared.event.Body.{Body}
 use Rattle.history.specs.declared.event.Body.TheVariants.{Op as AnOp, Fault as AFault}
 use Rattle.history.specs.declared.event.Event.{Event}
-use Rattle.history.specs.Events.{key_of}
-use Rattle.history.specs.WellFormed.{move_in, move_of, moves_of, is_of_process, last_event_from, last_event_of, invoked_in, invoked_at, open_of, first_key}
+use Rattle.history.specs.WellFormed.{move_in, move_of, moves_of, is_of_process, last_event_from, last_event_of, invoked_in, invoked_at, open_of}
 
 option_or-none : {X : Type 0} (o : Option X) → option_or o None ≡ o
 option_or-none None = refl
@@ -127,7 +125,3 @@ busy_along before (e ∷ after) kept = subst BusyIsOpen (append_assoc before (e 
 
 pub busy_is_open : (events : List Event) (p : ℕ) → is_busy (moves_of events) p ≡ is_some (open_of events p)
 busy_is_open events p = busy_along [] events (λ q. refl) p
-
-pub first_key-push : (events : List Event) (e : Event) → first_key (events ++ e ∷ []) ≡ option_or (first_key events) (key_of e)
-first_key-push [] e = option_or-none (key_of e)
-first_key-push (x ∷ events) e = ap (option_or (key_of x)) (first_key-push events e) ∙ sym (option_or-assoc (key_of x) (first_key events) (key_of e))

@@ -67,7 +67,7 @@ has_next c events e pos most few rule well = by_event e.index e.kind e.process e
     by_event : (index : Option ℕ) (kind : EventKind) (process : Process) (body : Body) → IsWellFormed c events (record { index = index; kind = kind; process = process; body = body }) → HasNext process
     by_event index kind (Client p) (AnOp op) w = client_has_next c events index kind p op pos most few rule w
     by_event index Info Nemesis (AFault fault) w = tt
-    by_event index _ _ _ w = absurd w.0.0
+    by_event index _ _ _ w = absurd w.0
 
 abbrev at_of : Option (ℕ × Op) → Option ℕ
 at_of o = option_map (λ (x : ℕ × Op). x.0) o

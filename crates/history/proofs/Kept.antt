@@ -1,6 +1,5 @@
 -- What a history keeps, before any event and after one more
 use Rattle.std.proofs.Common.{◌≡◌, ◌≢◌, ℕ, ◌+◌, ◌^◌, ◌<◌, Option, Some, None, List, [], ◌∷◌, ◌++◌, length, slice_get, slice_set, refl, sym, ap, ◌∙◌, subst, length-append, ⊎_elim, ◌⊎◌, inl, inr, arith}
-use Rattle.std.specs.Option.{option_or}
 use Rattle.std.proofs.lemmas.Bool.{cases_eq}
 use Rattle.std.proofs.lemmas.Option.{slice_get-get_or, get_or_from_slice_get, slice_get_within}
 use Rattle.std.proofs.lemmas.List.{length-set, get_or-set_same, get_or-set_other}
@@ -16,10 +15,9 @@ use Rattle.history.specs.declared.event.Process.TheVariants.{Client, Nemesis}
 use Rattle.history.specs.declared.event.Body.{Body}
 use Rattle.history.specs.declared.event.Body.TheVariants.{Op as AnOp, Fault as AFault}
 use Rattle.history.specs.declared.event.Event.{Event}
-use Rattle.history.specs.Events.{key_of}
 use Rattle.history.specs.WellFormed.{IsConcurrency, IsWellFormed, IsHistoryOf, move_by, moves_of, open_index}
 use Rattle.history.specs.HistoryInvariant.{open_after, MovesOn, HasNext, IsSoundHistory}
-use Rattle.history.proofs.Appending.{first_key-push, moves_of-some, moves_of-none}
+use Rattle.history.proofs.Appending.{moves_of-some, moves_of-none}
 use Rattle.history.proofs.Keeping.{by_client, by_nemesis, may_move, has_next, own_open, other_open, nemesis_open}
 
 no_more : {X : Type 0} (xs ys : List X) → xs ++ ys ≡ [] → ys ≡ []
@@ -105,12 +103,12 @@ step : (c : ℕ) (events : List Event) (index : Option ℕ) (kind : EventKind) (
     → Stands c (events ++ record { index = index; kind = kind; process = process; body = body } ∷ []) threads' later
 step c events index kind (Client p) (AnOp op) threads threads' opened later pos kept well moves = client_stands c events index kind p op threads threads' opened later pos kept well moves
 step c events index Info Nemesis (AFault fault) threads threads' opened later pos kept well moves = nemesis_stands c events index (AFault fault) threads threads' opened later kept moves.0 moves.1
-step c events index _ _ _ threads threads' opened later pos kept well moves = absurd well.0.0
+step c events index _ _ _ threads threads' opened later pos kept well moves = absurd well.0
 
 -- one more event
-kept_after : (c : ℕ) (events : List Event) (threads threads' : List Thread) (opened later : List (Option ℕ)) (key : Option ℕ) (e : Event) → IsSoundHistory c events threads opened key → IsWellFormed c events e
-    → MovesOn (length events) e.kind e.process threads threads' opened later → IsSoundHistory c (events ++ e ∷ []) threads' later (option_or key (key_of e))
-kept_after c events threads threads' opened later key e kept well moves = record {
+pub kept_after : (c : ℕ) (events : List Event) (threads threads' : List Thread) (opened later : List (Option ℕ)) (e : Event) → IsSoundHistory c events threads opened → IsWellFormed c events e
+    → MovesOn (length events) e.kind e.process threads threads' opened later → IsSoundHistory c (events ++ e ∷ []) threads' later
+kept_after c events threads threads' opened later e kept well moves = record {
   concurrency = kept.concurrency;
   history = history-push c events e kept.history well;
   limit = (let more : length (events ++ e ∷ []) ≡ length events + 1 = length-append events (e ∷ []) in let room : length events < 2 ^ 20 = well.2 in omega arith);
@@ -118,14 +116,13 @@ kept_after c events threads threads' opened later key e kept well moves = record
   stand = after.1;
   opens = after.2;
   opens_are = after.3;
-  key_is = ap (λ k. option_or k (key_of e)) kept.key_is ∙ sym (first_key-push events e);
 }
   where
     after : Stands c (events ++ e ∷ []) threads' later
     after = step c events e.index e.kind e.process e.body threads threads' opened later (let limits : IsConcurrency c = kept.concurrency in omega arith) (kept.number, kept.stand, kept.opens, kept.opens_are) well moves
 
 -- no event
-pub kept_at_first : (c : ℕ) (threads : List Thread) (opened : List (Option ℕ)) → IsConcurrency c → length threads ≡ c → StandAfter threads [] → length opened ≡ c → ((t : ℕ) → t < c → slice_get opened t ≡ Some None) → IsSoundHistory c [] threads opened None
+pub kept_at_first : (c : ℕ) (threads : List Thread) (opened : List (Option ℕ)) → IsConcurrency c → length threads ≡ c → StandAfter threads [] → length opened ≡ c → ((t : ℕ) → t < c → slice_get opened t ≡ Some None) → IsSoundHistory c [] threads opened
 kept_at_first c threads opened limits number stand opens are = record {
   concurrency = limits;
   history = history-nil c;
@@ -134,18 +131,17 @@ kept_at_first c threads opened limits number stand opens are = record {
   stand = stand;
   opens = opens;
   opens_are = are;
-  key_is = refl;
 }
 
 -- the process of a well-formed event has a next one
-pub next_of : (c : ℕ) (events : List Event) (threads : List Thread) (opened : List (Option ℕ)) (key : Option ℕ) (e : Event) → IsSoundHistory c events threads opened key → IsWellFormed c events e → HasNext e.process
-next_of c events threads opened key e kept well =
+pub next_of : (c : ℕ) (events : List Event) (threads : List Thread) (opened : List (Option ℕ)) (e : Event) → IsSoundHistory c events threads opened → IsWellFormed c events e → HasNext e.process
+next_of c events threads opened e kept well =
     (let limits : IsConcurrency c = kept.concurrency in
     has_next c events e (omega arith) (omega arith) kept.limit (subst (λ k. FollowMoveRule k (moves_of events)) kept.number kept.stand.rule) well)
 
 -- a prepared event, appended
-pub committed : (c : ℕ) (events events' : List Event) (threads threads' : List Thread) (opened later : List (Option ℕ)) (key key' : Option ℕ) (n : ℕ) (e : Event) → IsSoundHistory c events threads opened key → IsWellFormed c events e → n ≡ length events
-    → MovesOn n e.kind e.process threads threads' opened later → events' ≡ events ++ e ∷ [] → key' ≡ option_or key (key_of e) → IsSoundHistory c events' threads' later key'
-committed c events events' threads threads' opened later key key' n e kept well index moves more first =
-    subst (λ k. IsSoundHistory c events' threads' later k) (sym first) (subst (λ l. IsSoundHistory c l threads' later (option_or key (key_of e))) (sym more)
-    (kept_after c events threads threads' opened later key e kept well (subst (λ k. MovesOn k e.kind e.process threads threads' opened later) index moves)))
+pub committed : (c : ℕ) (events events' : List Event) (threads threads' : List Thread) (opened later : List (Option ℕ)) (n : ℕ) (e : Event) → IsSoundHistory c events threads opened → IsWellFormed c events e → n ≡ length events
+    → MovesOn n e.kind e.process threads threads' opened later → events' ≡ events ++ e ∷ [] → IsSoundHistory c events' threads' later
+committed c events events' threads threads' opened later n e kept well index moves more =
+    subst (λ l. IsSoundHistory c l threads' later) (sym more)
+    (kept_after c events threads threads' opened later e kept well (subst (λ k. MovesOn k e.kind e.process threads threads' opened later) index moves))

@@ -3,6 +3,7 @@ pub mod ProcessRule
 pub mod Keeping
 pub mod Carrying
 pub mod Kept
+pub mod Fronts
 pub mod OpenOperations
 pub mod Refusing
 pub mod Replicas
@@ -10,5 +11,6 @@ pub mod Values
 pub mod OneEvent
 pub mod OneRefusal
 pub mod OpEvents
+pub mod KeyEvents
 pub mod ReadEach
 pub mod Written

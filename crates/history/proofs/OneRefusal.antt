@@ -74,7 +74,7 @@ AfterValue c events e why = Test (IsIndex events e.index) BadIndex why (AfterInd
 
 -- the tests of an event in turn
 abbrev Tests : ℕ → List Event → Event → Refusal → Type 0
-Tests c events e why = Test (IsValue events e) BadValue why (AfterValue c events e why)
+Tests c events e why = Test (IsValue e) BadValue why (AfterValue c events e why)
 
 tests : (c : ℕ) (events : List Event) (e : Event) (why : Refusal) → Refuses c events e why → Tests c events e why
 tests c events e BadValue h = inl (refl, h)
@@ -84,7 +84,7 @@ tests c events e _ h = inr (h.0.0, inr (h.0.1, inr (h.0.2, h.1)))
 
 one_of_tests : (c : ℕ) (events : List Event) (e : Event) (why other : Refusal) → Tests c events e why → Tests c events e other → why ≡ other
 one_of_tests c events e why other a b =
-    one_test (IsValue events e) BadValue why other (AfterValue c events e why) (AfterValue c events e other)
+    one_test (IsValue e) BadValue why other (AfterValue c events e why) (AfterValue c events e other)
     (λ x y. one_test (IsIndex events e.index) BadIndex why other (AfterIndex c events e why) (AfterIndex c events e other)
     (λ v w. one_test (HasRoom events) HistoryFull why other (Breaks c events e why) (Breaks c events e other) (λ r s. one_rule c events e.kind e.process e.body why other r s) v w) x y) a b
 

@@ -26,7 +26,7 @@ entries_from-op_events last (x ∷ events) = by_event (op_event x.1) refl (λ l.
 pub entries_of-op_events : (events : List (ℕ × Event)) → entries_of (op_events events) ≡ entries_of events
 entries_of-op_events events = entries_from-op_events (λ _. 0) events
 
-sooner : (n m : ℕ) (busy : ℕ → Option ℕ) (events : List (ℕ × Event)) → n ≤ m → MayComeFrom m busy events → MayComeFrom n busy events
+pub sooner : (n m : ℕ) (busy : ℕ → Option ℕ) (events : List (ℕ × Event)) → n ≤ m → MayComeFrom m busy events → MayComeFrom n busy events
 sooner n m busy [] le may = tt
 sooner n m busy (x ∷ events) le may = (let b : m ≤ x.0 = may.0 in let c : n ≤ x.0 = omega arith in c, may.1, may.2)
 

@@ -32,7 +32,7 @@ may_come c before index Ok (Client p) (AnOp op) busy agree well = agree p ∙ ap
 may_come c before index Fail (Client p) (AnOp op) busy agree well = agree p ∙ ap (option_map (λ (x : ℕ × Op). x.1.key)) well.3.2 ∙ ap Some (sym well.3.3.1)
 may_come c before index Info (Client p) (AnOp op) busy agree well = agree p ∙ ap (option_map (λ (x : ℕ × Op). x.1.key)) well.3.2 ∙ ap Some (sym well.3.3.1)
 may_come c before index Info Nemesis (AFault fault) busy agree well = tt
-may_come c before index _ _ _ busy agree well = absurd well.0.0
+may_come c before index _ _ _ busy agree well = absurd well.0
 
 -- at the process of the event the new key is open, or none; every other process is as before
 after_client : (before : List Event) (e : Event) (p : ℕ) (now : Option ℕ) (busy : ℕ → Option ℕ) → Agrees busy before → ((q : ℕ) → is_of_process q (move_of e) ≡ (q == p)) → open_key (before ++ e ∷ []) p ≡ now
@@ -61,7 +61,7 @@ after c before index Info (Client p) (AnOp op) busy agree well =
     (ap (option_map (λ (x : ℕ × Op). x.1.key)) (open_of-own before (record { index = index; kind = Info; process = Client p; body = AnOp op }) p (eq-eqb p p refl)))
 after c before index Info Nemesis (AFault fault) busy agree well = λ q.
     agree q ∙ ap (option_map (λ (x : ℕ × Op). x.1.key)) (sym (open_of-other before (record { index = index; kind = Info; process = Nemesis; body = AFault fault }) q refl))
-after c before index _ _ _ busy agree well = absurd well.0.0
+after c before index _ _ _ busy agree well = absurd well.0
 
 come_from : (c : ℕ) (before events : List Event) (n : ℕ) (busy : ℕ → Option ℕ) → n ≡ length before → Agrees busy before → IsHistoryOf c (before ++ events) → MayComeFrom n busy (indexed_from n events)
 come_from c before [] n busy len agree h = tt

@@ -1,11 +1,11 @@
 -- What an event is written as spells the event
-use Rattle.std.proofs.Common.{◌≡◌, ℕ, suc, ℤ, ◌+◌, ◌<◌, ◌≤◌, ◌^◌, true, false, cond, Bool, Option, Some, None, IfSome, Result, Ok, Err, IfOk, Vec, ◌<ℤ◌, ⊎_elim, Global, List, [], ◌∷◌, ◌++◌, length, map, take, drop, get_or, option_map, codes, refl, sym, ap, ◌∙◌, subst, rules, arith}
+use Rattle.std.proofs.Common.{◌≡◌, ℕ, suc, ℤ, ◌+◌, ◌<◌, ◌≤◌, ◌^◌, true, false, cond, Bool, Option, Some, None, IfSome, Result, Ok, Err, IfOk, Vec, ◌<ℤ◌, ⊎_elim, Global, List, [], ◌∷◌, ◌++◌, length, map, take, get_or, option_map, codes, refl, sym, ap, ◌∙◌, subst, rules, arith}
 use Rattle.std.specs.Prelude.{int_lt}
 use Rattle.std.specs.declared.cmp.Ordering.TheVariants.{Less, Equal, Greater}
 use Rattle.std.proofs.lemmas.Bool.{lt-ltb, cases_Bool}
 use Rattle.std.proofs.lemmas.Int.{ints}
 use Rattle.std.proofs.lemmas.Cmp.{int_ranked}
-use Rattle.std.proofs.lemmas.List.{take_more, take_all, drop_more, take-append-drop, map-append, append-nil, length-take-le}
+use Rattle.std.proofs.lemmas.List.{take_more, take_all, map-append, append-nil, length-take-le}
 use Rattle.std.proofs.lemmas.List.Elements.{Contains-append_left, Contains-push, filter-append}
 use Rattle.edn.specs.Value.{Value, int, keyword, vector, members, no_pairs, pair}
 use Rattle.edn.specs.View.{list_of, value_of, values_of}
@@ -23,6 +23,7 @@ use Rattle.history.specs.Events.{indexed_from, is_event_of, events_of_key}
 use Rattle.history.specs.Spelling.{text_of_kind, int_in, number_in, numbers_in, groups_in, with_first, each_in, ascending, set_in, SpellsProcess, SpellsBody, Spells}
 use Rattle.history.specs.WellFormed.{IsInTables, IsHistoryOf}
 use Rattle.history.specs.EventMap.{number, numbers, kind_of_fault, name_of_body, event_value, with_index, IsToldBy}
+use Rattle.history.proofs.Fronts.{well_formed_at}
 
 pub view-Vector : (v : Vec Edn Global) → value_of (Vector v) ≡ vector (values_of v.items)
 view-Vector v = search (rules, the_lemmas)
@@ -138,10 +139,7 @@ map_spells v i e process value name is named small spelled told tables = (
 
 -- an event of a history is in the tables
 pub event_in_tables : (c : ℕ) (events : List Event) (i : ℕ) (e : Event) → IsHistoryOf c events → i < length events → e ≡ get_or events i e → IsInTables e.kind e.process e.body
-event_in_tables c events i e h below is =
-    (let cut : events ≡ take i events ++ e ∷ drop (i + 1) events =
-    sym (take-append-drop i events) ∙ ap (λ l. take i events ++ l) (drop_more events i e below ∙ ap (λ x. x ∷ drop (i + 1) events) (sym is)) in
-    let well = h (take i events) (drop (i + 1) events) e cut in well.0.0)
+event_in_tables c events i e h below is = (well_formed_at c events i e h below is).0
 
 pub ok_told : {E : Type 0} (r : Result Edn E) (P Q : Edn → Type 0) → ((x : Edn) → P x → Q x) → IfOk r P → IfOk r Q
 ok_told (Ok x) P Q f h = f x h

@@ -1,5 +1,5 @@
 -- Invariant: what a history keeps beside its events
-use Rattle.std.specs.Prelude.{◌≡◌, ℕ, ◌+◌, ◌<◌, ◌≤◌, ◌^◌, Option, Some, None, IfSome, List, [], ◌∷◌, ◌++◌, length, take, slice_get, slice_set}
+use Rattle.std.specs.Prelude.{◌≡◌, ℕ, ◌+◌, ◌<◌, ◌≤◌, ◌^◌, Option, Some, None, List, [], ◌∷◌, ◌++◌, length, take, slice_get, slice_set}
 use Rattle.processes.specs.declared.threads.Thread.{Thread}
 use Rattle.processes.specs.MoveRule.{Move, thread_of, MayMove}
 use Rattle.processes.specs.Threads.{StandAfter}

@@ -1,11 +1,11 @@
 //! What a history keeps of its clients.
-ghost use Rattle.std.specs.Prelude.{◌≡◌, ℕ, ◌+◌, ◌<◌, ◌^◌, [], Some, None, length, slice_get, slice_set, IfOk, IfErr, OnOk};
+ghost use Rattle.std.specs.Prelude.{◌≡◌, ℕ, ◌+◌, ◌<◌, ◌≤◌, ◌^◌, [], Some, None, length, slice_get, slice_set, IfOk, IfErr, OnOk};
 ghost use Rattle.processes.specs.MoveRule.{IsConcurrency};
 ghost use Rattle.processes.specs.Threads.{StandAfter, MayNotStart};
-ghost use Rattle.history.specs.WellFormed.{move_by};
-ghost use Rattle.history.specs.HistoryInvariant.{open_after, CarriesOn, MovesOn, HasNext};
+ghost use Rattle.history.specs.WellFormed.{move_by, IsHistoryOf};
+ghost use Rattle.history.specs.HistoryInvariant.{open_after, CarriesOn, MovesOn, HasNext, IsSoundHistory};
 
-use crate::event::{EventKind, Process};
+use crate::event::{Event, EventKind, Process};
 use edn::Refusal;
 use processes::Threads;
 use std::alloc::{AllocError, Global};
@@ -31,6 +31,23 @@ impl Clients {
         let threads = Threads::new(alloc, concurrency)?;
         let opened = none_open(alloc, concurrency)?;
         Ok(Clients { threads, opened })
+    }
+
+    /// Those that the events of a history make. Takes the time of all events.
+    pub fn after(alloc: Global, concurrency: u32, events: &[Event]) -> Result<Clients, Refusal>
+        requires limits { IsConcurrency concurrency }
+        requires history { IsHistoryOf concurrency events.now }
+        requires limit { length events.now ≤ 2 ^ 20 }
+        ensures sound { IfOk result (λ clients. IsSoundHistory concurrency events.now
+            clients.threads clients.opened.items) }
+        ensures refused { IfErr result (λ why. why ≡ Refusal.NoMemory) }
+    {
+        let mut clients = Clients::new(alloc, concurrency)?;
+        for i in 0..events.len() {
+            let event = &events[i];
+            clients.move_on(i as u32, event.kind, event.process);
+        }
+        Ok(clients)
     }
 
     /// After an event of this index the thread of its process moves on. Where its process may not do so, nothing is said.

@@ -29,7 +29,6 @@ const MOST_EVENTS: u32 = 1_048_576;
 /// before is dropped.
 #[derive(Drop)]
 pub struct History {
-    alloc: Global,
     concurrency: u32,
     events: Vec<Event>,
     clients: Clients,
@@ -45,9 +44,8 @@ enum Prepared {
 }
 
 impl Model for History {
-    ghost use Rattle.std.specs.Prelude.{vec_capacity};
+    ghost use Rattle.std.specs.Prelude.{IfSome, option_map, vec_capacity};
     ghost use Rattle.history.specs.WellFormed.{HistoryView};
-    ghost use Rattle.std.specs.Option.{option_map};
     ghost use Rattle.history.specs.HistoryInvariant.{IsSoundHistory, IsReady, brought};
 
     ghost Value = { HistoryView };
@@ -76,7 +74,6 @@ impl History {
     {
         let clients = Clients::new(alloc, concurrency)?;
         Ok(History {
-            alloc,
             concurrency,
             events: Vec::new(alloc),
             clients,
@@ -124,7 +121,11 @@ impl History {
         if n > self.len() {
             return Err(Refusal::NoSuchIndex);
         }
-        Err(Refusal::NoMemory)
+        let alloc = *self.events.allocator();
+        let kept = &self.events.as_slice()[..n as usize];
+        let clients = Clients::after(alloc, self.concurrency, kept)?;
+        self.prepared = Some(Prepared::Cut(n, clients));
+        Ok(())
     }
 
     /// Carries out what is prepared. It takes no memory and cannot fail, and the time of what it takes away.
@@ -133,21 +134,18 @@ impl History {
         ensures { IfSome self.old.next (λ events. self.new ≡ with_events events self.old) }
     {
         match self.prepared.take() {
-            Some(Prepared::Push(event)) => self.append(event),
+            Some(Prepared::Push(event)) => {
+                let place = self.events.len();
+                self.clients
+                    .move_on(place as u32, event.kind, event.process);
+                self.events.push(event).unwrap();
+            }
             Some(Prepared::Cut(n, clients)) => {
                 self.events.truncate(n as usize);
                 self.clients = clients;
             }
             None => unreachable!(),
         }
-    }
-
-    // Appends a well-formed event, for which there is room.
-    fn append(&mut self, event: Event) {
-        let place = self.events.len();
-        self.clients
-            .move_on(place as u32, event.kind, event.process);
-        self.events.push(event).unwrap();
     }
 
     /// Appends an event that is well-formed after those before it: [`prepare_push`](History::prepare_push) and

@@ -17,7 +17,7 @@ pub use event::{Body, Event, EventKind, Fault, Process};
 pub use groups::Groups;
 pub use history::History;
 pub use laws::{
-    crashed_process_is_replaced, key_events_law, one_event, one_refusal, order_of_a_set_says_nothing,
-    process_rule_law, refusals_in_order,
+    crashed_process_is_replaced, key_events_law, one_event, one_refusal,
+    order_of_a_set_says_nothing, process_rule_law, refusals_in_order,
 };
 pub use spelling::from_edn;

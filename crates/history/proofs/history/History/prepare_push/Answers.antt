@@ -1,6 +1,6 @@
 use Rattle.std.proofs.lemmas.Result.{err_from_is_err_and}
 use Rattle.history.proofs.Refusing.{may_refuse}
-use Rattle.history.proofs.history.History.prepare.Goals as goal
+use Rattle.history.proofs.history.History.prepare_push.Goals as goal
 
 pub returns-in_err-test-clause-refused : goal.returns-in_err-test-clause-refused
 returns-in_err-test-clause-refused c =
