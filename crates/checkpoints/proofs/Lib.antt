@@ -1,5 +1,3 @@
-pub mod Counts
-pub mod SavedStates
 pub mod Soundness
 pub mod Pushes
 pub mod Statuses
