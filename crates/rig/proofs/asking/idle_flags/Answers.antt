@@ -1,7 +1,0 @@
-use Rattle.rig.proofs.asking.idle_flags.Goals as goal
-
-pub loop-thread-preserved : goal.loop-thread-preserved
-loop-thread-preserved c = ?
-
-pub returns-clause-flags : goal.returns-clause-flags
-returns-clause-flags c = ?
