@@ -20,3 +20,4 @@ pub mod Including
 pub mod Telling
 pub mod Putting
 pub mod Starting
+pub mod Stating

@@ -18,20 +18,20 @@ use Rattle.frontier.proofs.Rows.{clash, one_end, one_row, says_more, place_of, h
 
 -- tables that widen
 pub widens_itself : {S : Type 0} (t : Table S) → Widens t t
-widens_itself t = record { states = IsFront-itself t.states.items; founds = IsFront-itself t.founds.items; states_once = λ h. h; founds_once = λ h. h }
+widens_itself t = record { states = IsFront-itself t.states; founds = IsFront-itself t.founds.items; states_once = λ h. h; founds_once = λ h. h }
 
 pub widens_on : {S : Type 0} (t u v : Table S) → Widens t u → Widens u v → Widens t v
 widens_on t u v a b = record {
-  states = IsFront-trans t.states.items u.states.items v.states.items a.states b.states;
+  states = IsFront-trans t.states u.states v.states a.states b.states;
   founds = IsFront-trans t.founds.items u.founds.items v.founds.items a.founds b.founds;
   states_once = λ h. b.states_once (a.states_once h);
   founds_once = λ h. b.founds_once (a.founds_once h);
 }
 
 -- a table whose states or whose found things are more
-pub widens_states : {S : Type 0} (t u : Table S) (states : Vec S Global) → Widens t u → IsFront u.states.items states.items → (IsOnceIn u.states.items → IsOnceIn states.items) → Widens t (record { states = states; founds = u.founds; rows = u.rows })
+pub widens_states : {S : Type 0} (t u : Table S) (states : List S) → Widens t u → IsFront u.states states → (IsOnceIn u.states → IsOnceIn states) → Widens t (record { states = states; founds = u.founds; rows = u.rows })
 widens_states t u states w front once = record {
-  states = IsFront-trans t.states.items u.states.items states.items w.states front;
+  states = IsFront-trans t.states u.states states w.states front;
   founds = w.founds;
   states_once = λ h. once (w.states_once h);
   founds_once = w.founds_once;
@@ -45,9 +45,9 @@ widens_founds t u founds w front once = record {
   founds_once = λ h. once (w.founds_once h);
 }
 
-pub widens_rows : {S : Type 0} (t u : Table S) → u.states.items ≡ t.states.items → u.founds.items ≡ t.founds.items → Widens t u
+pub widens_rows : {S : Type 0} (t u : Table S) → u.states ≡ t.states → u.founds.items ≡ t.founds.items → Widens t u
 widens_rows t u a b = record {
-  states = subst (IsFront t.states.items) (sym a) (IsFront-itself t.states.items);
+  states = subst (IsFront t.states) (sym a) (IsFront-itself t.states);
   founds = subst (IsFront t.founds.items) (sym b) (IsFront-itself t.founds.items);
   states_once = λ h. subst IsOnceIn (sym a) h;
   founds_once = λ h. subst IsOnceIn (sym b) h;
@@ -57,9 +57,9 @@ widens_rows t u a b = record {
 no_get : {X : Type 0} (xs : List X) (i : ℕ) (x : X) → xs ≡ [] → slice_get xs i ≡ Some x → ⊥
 no_get xs i x none h = clash x _ (ap (λ l. slice_get l i) none) h
 
-pub shown_none : {S : Type 0} (calls : List PendingOp) (t : Table S) → t.states.items ≡ [] → t.founds.items ≡ [] → rows_of t ≡ [] → AreShown t calls []
+pub shown_none : {S : Type 0} (calls : List PendingOp) (t : Table S) → t.states ≡ [] → t.founds.items ≡ [] → rows_of t ≡ [] → AreShown t calls []
 shown_none calls t a b c = record {
-  states_once = λ i j x h k. absurd (no_get t.states.items i x a h);
+  states_once = λ i j x h k. absurd (no_get t.states i x a h);
   founds_once = λ i j x h k. absurd (no_get t.founds.items i x b h);
   long = ap length c;
   each = λ i row e h k. absurd (no_get (rows_of t) i row c h);
@@ -70,7 +70,7 @@ shown_first calls t R a = record { more = []; shown = a; front = IsFront-itself 
 
 module _ {S : Type 0} (calls : List PendingOp) (t u : Table S) where
   pub shows_more : (row : List ℕ) (e : End S) → Widens t u → Shows t calls row e → Shows u calls row e
-  shows_more row e w a = says_more t.states.items t.founds.items calls u.states.items u.founds.items row e w.states w.founds a
+  shows_more row e w a = says_more t.states t.founds.items calls u.states u.founds.items row e w.states w.founds a
 
   pub shown_more : (ends : List (End S)) → Widens t u → rows_of u ≡ rows_of t → AreShown t calls ends → AreShown u calls ends
   shown_more ends w same a = record {
@@ -87,14 +87,14 @@ module _ {S : Type 0} (calls : List PendingOp) (t u : Table S) where
         let p = place_of (rows_of t) row h in
         let lt : p.0 < length ends = (let b = slice_get_within (rows_of t) p.0 row p.1 in let l = a.long in omega (arith, b, l)) in
         let e = some_at ends p.0 lt in
-        subst (Contains ends) (one_end t.states.items t.founds.items calls row e.0 f (a.each p.0 row e.0 p.1 e.1) shows) (has_place ends p.0 e.0 e.1)
+        subst (Contains ends) (one_end t.states t.founds.items calls row e.0 f (a.each p.0 row e.0 p.1 e.1) shows) (has_place ends p.0 e.0 e.1)
 
     back : Contains ends f → Contains (rows_of t) row
     back h =
         let p = place_of ends f h in
         let lt : p.0 < length (rows_of t) = (let b = slice_get_within ends p.0 f p.1 in let l = a.long in omega (arith, b, l)) in
         let r = some_at (rows_of t) p.0 lt in
-        subst (Contains (rows_of t)) (one_row t.states.items t.founds.items calls a.states_once a.founds_once r.0 row f (a.each p.0 r.0 f r.1 p.1) shows) (has_place (rows_of t) p.0 r.0 r.1)
+        subst (Contains (rows_of t)) (one_row t.states t.founds.items calls a.states_once a.founds_once r.0 row f (a.each p.0 r.0 f r.1 p.1) shows) (has_place (rows_of t) p.0 r.0 r.1)
 
     pushed : rows_of u ≡ rows_of t ++ row ∷ [] → (i : ℕ) (r : List ℕ) (e : End S) → slice_get (rows_of u) i ≡ Some r → slice_get (ends ++ f ∷ []) i ≡ Some e → Shows u calls r e
     pushed push i r e h k =

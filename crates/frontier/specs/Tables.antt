@@ -58,7 +58,7 @@ pub record Says {S : Type 0} (states : List S) (founds : List Found) (calls : Li
   pub included : IsIncluded calls e
 
 abbrev pub Shows : {S : Type 0} → Table S → List PendingOp → List ℕ → End S → Type 0
-Shows t calls row e = Says t.states.items t.founds.items calls row e
+Shows t calls row e = Says t.states t.founds.items calls row e
 
 abbrev pub items_of : Vec ℕ Global → List ℕ
 items_of row = row.items
@@ -74,7 +74,7 @@ IsStateWithout e c (Some s) = (is_in e c.id c.crashed ≡ false) × (s.now ≡ e
 -- the rows say these ends, in order, and no number stands for two things
 pub record AreShown {S : Type 0} (t : Table S) (calls : List PendingOp) (ends : List (End S))
     : Type 0 where
-  pub states_once : IsOnceIn t.states.items
+  pub states_once : IsOnceIn t.states
   pub founds_once : IsOnceIn t.founds.items
   pub long : length (rows_of t) ≡ length ends
   pub each : (i : ℕ) (row : List ℕ) (e : End S) → slice_get (rows_of t) i ≡ Some row →
@@ -82,9 +82,9 @@ pub record AreShown {S : Type 0} (t : Table S) (calls : List PendingOp) (ends : 
 
 -- more stands there than before, and what stood there stays
 pub record Widens {S : Type 0} (old new : Table S) : Type 0 where
-  pub states : IsFront old.states.items new.states.items
+  pub states : IsFront old.states new.states
   pub founds : IsFront old.founds.items new.founds.items
-  pub states_once : IsOnceIn old.states.items → IsOnceIn new.states.items
+  pub states_once : IsOnceIn old.states → IsOnceIn new.states
   pub founds_once : IsOnceIn old.founds.items → IsOnceIn new.founds.items
 
 -- the row is with the others
@@ -124,5 +124,6 @@ pub record ShownGrown (o : Object) (t : Table o.State) (calls : List PendingOp)
 pub record IsToldBefore {S : Type 0} (calls : List PendingOp) (e k : End S) (n : ℕ) : Type 0 where
   pub state : k.state ≡ e.state
   pub included : IsIncluded calls k
-  pub before : (i : ℕ) (c : PendingOp) → slice_get calls i ≡ Some c → i < n → found_by k c ≡ found_by e c
+  pub before : (i : ℕ) (c : PendingOp) → slice_get calls i ≡ Some c → i < n
+      → found_by k c ≡ found_by e c
   pub after : (i : ℕ) (c : PendingOp) → slice_get calls i ≡ Some c → n ≤ i → found_by k c ≡ None

@@ -135,8 +135,8 @@ impl<S> KeptEnd<S> {
 
     /// The call takes place in it, and finds this.
     pub fn include(&mut self, call: &PendingOp, found: Found) -> Result<(), AllocError>
-        ensures { let id = call.now.id in let crashed = call.now.crashed in let old = end_kept self.old in
-            is_in old id crashed ≡ false
+        ensures { let id = call.now.id in let crashed = call.now.crashed in
+            let old = end_kept self.old in is_in old id crashed ≡ false
             → OnOk result (end_kept self.new ≡ with_call old id crashed found self.old.state) }
     {
         if call.crashed {

@@ -8,6 +8,7 @@ pub mod frontier;
 mod kept_end;
 mod pending_op;
 mod places;
+mod states;
 mod table;
 
 pub use any_frontier::AnyFrontier;

@@ -13,6 +13,7 @@ ghost use Rattle.frontier.specs.Tables.{LeadsTo, Shows, Widens, found_by, items_
 
 use crate::kept_end::{KeptEnd, found_in, has};
 use crate::pending_op::PendingOp;
+use crate::states::{self, States};
 use indexmap::IndexSet;
 use models::{Found, Op, SeqObject};
 use std::alloc::{AllocError, Global};
@@ -21,26 +22,10 @@ use std::alloc::{AllocError, Global};
 /// zero where it is not in, and else one more than where what it found stands. States and what was found stand once, so
 /// equal ends are equal rows.
 #[derive(Drop)]
-pub struct Table<S> {
-    pub states: Vec<S>,
+pub struct Table<S: Ord + Drop> {
+    pub states: States<S>,
     pub founds: Vec<Found>,
     pub rows: IndexSet<Vec<usize>>,
-}
-
-// Where the state stands; it is put there if it is new.
-fn state_at<M: SeqObject>(states: &mut Vec<M::State>, state: M::State) -> Result<usize, AllocError>
-    ensures there { IfOk result (λ at. slice_get states.new.items at ≡ Some state) }
-    ensures front { IsFront states.old.items states.new.items }
-    ensures once { IsOnceIn states.old.items → IsOnceIn states.new.items }
-{
-    for at in 0..states.len() {
-        if M::same(&states[at], &state) {
-            return Ok(at);
-        }
-    }
-    let at = states.len();
-    states.push(state)?;
-    Ok(at)
 }
 
 // The number of what was found: one more than where it stands. It is put there if it is new.
@@ -99,7 +84,8 @@ pub fn copied(alloc: Global, row: &[usize]) -> Result<Vec<usize>, AllocError>
 
 /// Puts the row with the others, if it is not there.
 pub fn put(rows: &mut IndexSet<Vec<usize>>, row: Vec<usize>) -> Result<(), AllocError>
-    ensures { OnOk result (IsPut row.items (map items_of rows.old.keys) (map items_of rows.new.keys)) }
+    ensures { let old = map items_of rows.old.keys in let new = map items_of rows.new.keys in
+        OnOk result (IsPut row.items old new) }
 {
     rows.insert(row)?;
     Ok(())
@@ -118,8 +104,8 @@ fn row_of<M: SeqObject>(
     ensures rows { rows_of table.new ≡ rows_of table.old }
 {
     let state = M::copy(alloc, &kept.state)?;
-    let mut row = Vec::with_capacity(alloc, 8)?;
-    row.push(state_at::<M>(&mut table.states, state)?)?;
+    let mut row = Vec::with_capacity(alloc, calls.len().saturating_add(1))?;
+    row.push(states::number_of::<M>(alloc, &mut table.states, state)?)?;
     for call in calls {
         let found = found_by(kept, call)?;
         row.push(slot_of(&mut table.founds, found)?)?;
@@ -143,7 +129,7 @@ fn step<M: SeqObject>(
 }
 
 // The state of the row's end.
-fn state_of<'a, S>(table: &'a Table<S>, row: &[usize]) -> Option<&'a S>
+fn state_of<'a, S: Ord + Drop>(table: &'a Table<S>, row: &[usize]) -> Option<&'a S>
     ensures { (calls : List PendingOp) (e : End S) → Shows table.now calls row.now e
         → IsSomeAnd result (λ s. s.now ≡ e.state) }
 {
@@ -164,7 +150,7 @@ fn is_zero(row: &[usize], at: usize) -> bool
 }
 
 // The state of the row's end, if the call at this place is not in.
-fn state_without<'a, S>(
+fn state_without<'a, S: Ord + Drop>(
     table: &'a Table<S>,
     row: &[usize],
     calls: &[PendingOp],
@@ -201,12 +187,13 @@ fn row_with<M: SeqObject>(
     ensures next { (calls : List PendingOp) (c : PendingOp) (e : End M.State) → HasEachOnce calls
         → slice_get calls at ≡ Some c → Shows table.old calls row.now e
         → (told : Found) → found ≡ told_by c.crashed told
-        → IfOk result (λ next. Shows table.new calls next.items (with_call e c.id c.crashed told state)) }
+        → IfOk result (λ next.
+        Shows table.new calls next.items (with_call e c.id c.crashed told state)) }
     ensures widens { Widens table.old table.new }
     ensures rows { rows_of table.new ≡ rows_of table.old }
 {
     let mut next = copied(alloc, row)?;
-    next[0] = state_at::<M>(&mut table.states, state)?;
+    next[0] = states::number_of::<M>(alloc, &mut table.states, state)?;
     next[at + 1] = slot_at(&mut table.founds, found)?;
     Ok(next)
 }
@@ -250,10 +237,11 @@ pub fn of_ends<M: SeqObject>(
     calls: &[PendingOp],
 ) -> Result<Table<M::State>, AllocError>
     ensures { AreIncluded calls.now (map end_kept ends.now)
-        → IfOk result (λ table. ShownWith table calls.now [] (Along IsThat (map end_kept ends.now))) }
+        → IfOk result (λ table.
+        ShownWith table calls.now [] (Along IsThat (map end_kept ends.now))) }
 {
     let mut table = Table {
-        states: Vec::new(alloc),
+        states: States::new(alloc),
         founds: Vec::new(alloc),
         rows: IndexSet::new(alloc),
     };
@@ -265,7 +253,7 @@ pub fn of_ends<M: SeqObject>(
 }
 
 // What the call at this place found, by the row, if it is in.
-fn found_in_row<'a, S>(
+fn found_in_row<'a, S: Ord + Drop>(
     table: &'a Table<S>,
     row: &[usize],
     calls: &[PendingOp],
@@ -282,7 +270,7 @@ fn found_in_row<'a, S>(
 }
 
 // What the call at this place tells goes into the end.
-fn include_at<S>(
+fn include_at<S: Ord + Drop>(
     kept: &mut KeptEnd<S>,
     table: &Table<S>,
     row: &[usize],
