@@ -21,3 +21,4 @@ pub mod Telling
 pub mod Putting
 pub mod Starting
 pub mod Stating
+pub mod Moving

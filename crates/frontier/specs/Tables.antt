@@ -1,6 +1,5 @@
 -- Invariant: ends as rows of numbers
 use Rattle.std.specs.Prelude.{◌<◌, ◌≤◌, ◌≡◌, ◌≢◌, ◌↔◌, ℕ, ◌+◌, ◌⊎◌, Bool, true, false, Option, Some, None, List, [], ◌∷◌, ◌++◌, map, length, slice_get, get_or, Vec}
-use Rattle.std.specs.Borrow.{Bor}
 use Rattle.std.specs.Global.{Global}
 use Rattle.std.specs.List.{Contains}
 use Rattle.std.specs.FinMap as finmap
@@ -14,7 +13,7 @@ use Rattle.linspec.specs.Ends.{End}
 use Rattle.frontier.specs.declared.pending_op.PendingOp.{PendingOp}
 use Rattle.frontier.specs.declared.table.Table.{Table}
 use Rattle.frontier.specs.KeptEnds.{IsIncluded}
-use Rattle.frontier.specs.EndSteps.{TakesLast, is_in, Next, Adds, Grows}
+use Rattle.frontier.specs.EndSteps.{TakesLast, Next, Adds, Grows}
 
 -- what the call found in the end, if it is in it; a crashed one tells nothing
 abbrev pub nothing_if : Bool → Option Found
@@ -65,11 +64,6 @@ items_of row = row.items
 
 abbrev pub rows_of : {S : Type 0} → Table S → List (List ℕ)
 rows_of t = map items_of t.rows.keys
-
--- the state of the end, if the call is not in
-abbrev pub IsStateWithout : {S : Type 0} → End S → PendingOp → Option (Bor S) → Type 0
-IsStateWithout e c None = is_in e c.id c.crashed ≡ true
-IsStateWithout e c (Some s) = (is_in e c.id c.crashed ≡ false) × (s.now ≡ e.state)
 
 -- the rows say these ends, in order, and no number stands for two things
 pub record AreShown {S : Type 0} (t : Table S) (calls : List PendingOp) (ends : List (End S))

@@ -6,6 +6,7 @@ mod ends;
 mod extend;
 pub mod frontier;
 mod kept_end;
+mod moves;
 mod pending_op;
 mod places;
 mod states;

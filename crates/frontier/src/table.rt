@@ -1,17 +1,19 @@
 //! Ends as rows of numbers.
-ghost use Rattle.std.specs.Prelude.{◌≡◌, ◌+◌, ◌-◌, ◌^◌, ◌<◌, ◌≤◌, min, Some, slice_get, map, length, option_map};
-ghost use Rattle.std.specs.Prelude.{◌↔◌, IsTrue, IfOk, OnOk, IsSome, IsSomeAnd, option_copied, List, [], ◌∷◌, ◌++◌};
+ghost use Rattle.std.specs.Prelude.{◌≡◌, ◌+◌, ◌-◌, ◌^◌, ◌<◌, ◌≤◌, min, set, Some, slice_get, map, length, option_map};
+ghost use Rattle.std.specs.Prelude.{◌↔◌, IsTrue, IfOk, OnOk, IsSomeAnd, option_copied, List, [], ◌∷◌, ◌++◌};
 ghost use Rattle.std.specs.Option.{option_to_list};
 ghost use Rattle.models.specs.Objects.{of_table};
 ghost use Rattle.history.specs.Events.{IsFront};
 ghost use Rattle.linspec.specs.Ends.{End};
 ghost use Rattle.frontier.specs.KeptEnds.{AreIncluded, IsIncluded, end_kept};
-ghost use Rattle.frontier.specs.EndSteps.{Along, with_call};
+ghost use Rattle.frontier.specs.EndSteps.{Along};
+ghost use Rattle.frontier.specs.Moves.{AreMoves};
 ghost use Rattle.frontier.specs.Tables.{HasEachOnce, IsOnceIn, IsPut, IsSlot};
-ghost use Rattle.frontier.specs.Tables.{AreShown, IsStateWithout, IsThat, IsToldBefore, ShownWith, told_by};
+ghost use Rattle.frontier.specs.Tables.{AreShown, IsThat, IsToldBefore, ShownWith, told_by};
 ghost use Rattle.frontier.specs.Tables.{LeadsTo, Shows, Widens, found_by, items_of, rows_of};
 
 use crate::kept_end::{KeptEnd, found_in, has};
+use crate::moves::{self, Move};
 use crate::pending_op::PendingOp;
 use crate::states::{self, States};
 use indexmap::IndexSet;
@@ -28,8 +30,8 @@ pub struct Table<S: Ord + Drop> {
     pub rows: IndexSet<Vec<usize>>,
 }
 
-// The number of what was found: one more than where it stands. It is put there if it is new.
-fn slot_at(founds: &mut Vec<Found>, found: Found) -> Result<usize, AllocError>
+/// The number of what was found: one more than where it stands. It is put there if it is new.
+pub fn slot_at(founds: &mut Vec<Found>, found: Found) -> Result<usize, AllocError>
     ensures slot { IfOk result (λ slot. IsSlot founds.new.items slot (Some found)) }
     ensures front { IsFront founds.old.items founds.new.items }
     ensures once { IsOnceIn founds.old.items → IsOnceIn founds.new.items }
@@ -113,8 +115,8 @@ fn row_of<M: SeqObject>(
     Ok(row)
 }
 
-// The outcome of the operation in the state: one step, which is counted. No other function tries an operation.
-fn step<M: SeqObject>(
+/// The outcome of the operation in the state: one step, which is counted. No other function tries an operation.
+pub fn step<M: SeqObject>(
     alloc: Global,
     state: &M::State,
     op: &Op,
@@ -141,7 +143,8 @@ fn state_of<'a, S: Ord + Drop>(table: &'a Table<S>, row: &[usize]) -> Option<&'a
 
 // Whether the number at this place is zero.
 fn is_zero(row: &[usize], at: usize) -> bool
-    ensures { IsTrue result ↔ (slice_get row.now at ≡ Some 0) }
+    ensures zero { IsTrue result ↔ (slice_get row.now at ≡ Some 0) }
+    ensures within { IsTrue result → at < length row.now }
 {
     match row.get(at) {
         Some(number) => *number == 0,
@@ -149,52 +152,27 @@ fn is_zero(row: &[usize], at: usize) -> bool
     }
 }
 
-// The state of the row's end, if the call at this place is not in.
-fn state_without<'a, S: Ord + Drop>(
-    table: &'a Table<S>,
-    row: &[usize],
-    calls: &[PendingOp],
-    at: usize,
-) -> Option<&'a S>
-    requires { at < length calls.now }
-    ensures there { IsSome result → at + 1 < length row.now }
-    ensures state { (c : PendingOp) (e : End S) → slice_get calls.now at ≡ Some c
-        → Shows table.now calls.now row.now e → IsStateWithout e c result }
-{
-    if !is_zero(row, at + 1) {
-        return None;
-    }
-    state_of(table, row)
-}
-
-// What is told of what the call found.
-fn told_by(crashed: bool, found: Found) -> Found
+/// What is told of what the call found.
+pub fn told_by(crashed: bool, found: Found) -> Found
     ensures { result ≡ told_by crashed found }
 {
     if crashed { Found::Unit } else { found }
 }
 
-// The row with the call at this place, which finds this, after which the state is this.
-fn row_with<M: SeqObject>(
+// The row with this number of a state, and with this number at the place of a call.
+fn row_with(
     alloc: Global,
-    table: &mut Table<M::State>,
     row: &[usize],
     at: usize,
-    state: M::State,
-    found: Found,
+    to: usize,
+    slot: usize,
 ) -> Result<Vec<usize>, AllocError>
     requires { at + 1 < length row.now }
-    ensures next { (calls : List PendingOp) (c : PendingOp) (e : End M.State) → HasEachOnce calls
-        → slice_get calls at ≡ Some c → Shows table.old calls row.now e
-        → (told : Found) → found ≡ told_by c.crashed told
-        → IfOk result (λ next.
-        Shows table.new calls next.items (with_call e c.id c.crashed told state)) }
-    ensures widens { Widens table.old table.new }
-    ensures rows { rows_of table.new ≡ rows_of table.old }
+    ensures { IfOk result (λ next. next.items ≡ set (set row.now 0 to) (at + 1) slot) }
 {
     let mut next = copied(alloc, row)?;
-    next[0] = states::number_of::<M>(alloc, &mut table.states, state)?;
-    next[at + 1] = slot_at(&mut table.founds, found)?;
+    next[0] = to;
+    next[at + 1] = slot;
     Ok(next)
 }
 
@@ -202,31 +180,32 @@ fn row_with<M: SeqObject>(
 pub fn extended<M: SeqObject>(
     alloc: Global,
     table: &mut Table<M::State>,
+    moves: &mut Vec<Move>,
     row: &[usize],
     calls: &[PendingOp],
     at: usize,
     applied: &mut u64,
 ) -> Result<Option<Vec<usize>>, AllocError>
     requires within { at < length calls.now }
+    ensures moves { AreMoves M.apply_to table.old calls.now moves.old.items
+        → OnOk result (AreMoves M.apply_to table.new calls.now moves.new.items) }
     ensures next { let object = of_table M.State M.start_state M.apply_to in
-        HasEachOnce calls.now → (c : PendingOp) (e : End M.State) → slice_get calls.now at ≡ Some c
+        AreMoves M.apply_to table.old calls.now moves.old.items → HasEachOnce calls.now
+        → (c : PendingOp) (e : End M.State) → slice_get calls.now at ≡ Some c
         → Shows table.old calls.now row.now e
         → IfOk result (λ next. LeadsTo object table.new calls.now e c (option_map items_of next)) }
     ensures widens { Widens table.old table.new }
     ensures rows { rows_of table.new ≡ rows_of table.old }
     ensures cost { applied.new ≤ applied.old + 1 }
 {
-    let call = &calls[at];
-    let outcome = match state_without(table, row, calls, at) {
-        Some(state) => step::<M>(alloc, state, &call.op, applied)?,
-        None => return Ok(None),
-    };
-    match outcome {
-        None => Ok(None),
-        Some((state, found)) => {
-            let told = told_by(call.crashed, found);
-            Ok(Some(row_with::<M>(alloc, table, row, at, state, told)?))
-        }
+    if !is_zero(row, at + 1) {
+        return Ok(None);
+    }
+    let number = row[0];
+    match moves::tried::<M>(alloc, table, moves, number, calls, at, applied)? {
+        Move::To(to, slot) => Ok(Some(row_with(alloc, row, at, to, slot)?)),
+        Move::Nowhere => Ok(None),
+        Move::Untried => Ok(None),
     }
 }
 
