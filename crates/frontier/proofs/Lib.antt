@@ -22,3 +22,5 @@ pub mod Putting
 pub mod Starting
 pub mod Stating
 pub mod Moving
+pub mod Settling
+pub mod Judging

@@ -99,7 +99,7 @@ module _ {S : Type 0} where
   not_in_by e id true h = no_nothing (finset.contains e.crashed id) h
   not_in_by e id false h = ap is_some h
 
-  told_pending : (e : End S) (c : PendingOp) (id : ℕ) → c.id ≡ id → c.crashed ≡ false → found_by e c ≡ finmap.get e.pending id
+  pub told_pending : (e : End S) (c : PendingOp) (id : ℕ) → c.id ≡ id → c.crashed ≡ false → found_by e c ≡ finmap.get e.pending id
   told_pending e c id a b = ap (λ k. found_in_end e c.id k) b ∙ ap (λ i. finmap.get e.pending i) a
 
   told_crashed : (e : End S) (c : PendingOp) (id : ℕ) → c.id ≡ id → c.crashed ≡ true → found_by e c ≡ nothing_if (finset.contains e.crashed id)

@@ -11,7 +11,7 @@ use Rattle.frontier.specs.declared.pending_op.PendingOp.{PendingOp}
 use Rattle.frontier.specs.declared.table.Table.{Table}
 use Rattle.frontier.specs.EndSteps.{TakesLast, Next, Along, Grows}
 use Rattle.models.specs.declared.finding.Found.{Found}
-use Rattle.frontier.specs.Tables.{AreShown, IsOnceIn, IsPut, LeadsTo, Shows, ShownWith, Widens, items_of, rows_of}
+use Rattle.frontier.specs.Tables.{AreShown, IsOnceIn, IsPut, LeadsTo, Says, Shows, ShownWith, Widens, items_of, rows_of}
 use Rattle.frontier.proofs.Adding.{IsFront-itself, IsFront-push, IsFront-trans, Adds-old, Adds-new, Adds-change, Adds-more, Adds-none, Adds-start, one_more}
 use Rattle.frontier.proofs.Reaching.{reached_next}
 use Rattle.frontier.proofs.Rows.{clash, one_end, one_row, says_more, place_of, has_place, some_at, get_push}
@@ -135,6 +135,14 @@ end_at calls t ends a i row h =
     let l = a.long in
     let e = some_at ends i (omega (arith, b, l)) in
     (e.0, e.1, a.each i row.items e.0 at e.1)
+
+-- the row of the end at a place
+pub end_here : {S : Type 0} (calls : List PendingOp) (t : Table S) (ends : List (End S)) → AreShown t calls ends → (i : ℕ) (e : End S) → slice_get ends i ≡ Some e → Says t.states t.founds.items calls (get_or (rows_of t) i []) e
+end_here calls t ends a i e h =
+    let b = slice_get_within ends i e h in
+    let l = a.long in
+    let r = some_at (rows_of t) i (omega (arith, b, l)) in
+    subst (λ row. Says t.states t.founds.items calls row e) (sym (get_or_from_slice_get (rows_of t) i r.0 [] r.1)) (a.each i r.0 e r.1 h)
 
 pub taken_more : {X : Type 0} (xs : List X) (i : ℕ) (x : X) → slice_get xs i ≡ Some x → take (i + 1) xs ≡ take i xs ++ x ∷ []
 taken_more xs i x h = one_more xs i x (slice_get_within xs i x h) (sym (get_or_from_slice_get xs i x x h))

@@ -13,7 +13,7 @@ use Rattle.linspec.specs.Ends.{End}
 use Rattle.frontier.specs.declared.pending_op.PendingOp.{PendingOp}
 use Rattle.frontier.specs.declared.table.Table.{Table}
 use Rattle.frontier.specs.KeptEnds.{IsIncluded}
-use Rattle.frontier.specs.EndSteps.{TakesLast, Next, Adds, Grows}
+use Rattle.frontier.specs.EndSteps.{TakesLast, Next, IsReached, Adds, Grows}
 
 -- what the call found in the end, if it is in it; a crashed one tells nothing
 abbrev pub nothing_if : Bool → Option Found
@@ -46,6 +46,13 @@ IsOnceIn {X} xs =
 -- each call is of another operation
 abbrev pub HasEachOnce : List PendingOp → Type 0
 HasEachOnce calls = Pairwise (λ c d. c.id ≢ d.id) calls
+
+-- the call at this place is of this operation, which is open
+pub record IsOpenAt (calls : List PendingOp) (at id : ℕ) : Type 0 where
+  pub call : PendingOp
+  pub there : slice_get calls at ≡ Some call
+  pub same : call.id ≡ id
+  pub not_crashed : call.crashed ≡ false
 
 -- the row says the end
 pub record Says {S : Type 0} (states : List S) (founds : List Found) (calls : List PendingOp)
@@ -121,3 +128,11 @@ pub record IsToldBefore {S : Type 0} (calls : List PendingOp) (e k : End S) (n :
   pub before : (i : ℕ) (c : PendingOp) → slice_get calls i ≡ Some c → i < n
       → found_by k c ≡ found_by e c
   pub after : (i : ℕ) (c : PendingOp) → slice_get calls i ≡ Some c → n ≤ i → found_by k c ≡ None
+
+-- the rows say all ends that the calls lead to from these, one after another: no more than the budget
+pub record ShowsAll (o : Object) (t : Table o.State) (calls : List PendingOp)
+    (ends : List (End o.State)) (budget : ℕ) : Type 0 where
+  pub all : List (End o.State)
+  pub shown : AreShown t calls all
+  pub adds : Adds (IsReached o calls ends) ends all
+  pub within : length all ≤ budget

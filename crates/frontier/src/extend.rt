@@ -1,13 +1,13 @@
 //! The ends that calls lead to from others.
 ghost use Rattle.std.specs.Prelude.{◌≡◌, ◌↔◌, ◌+◌, ◌*◌, ◌<◌, ◌≤◌, true, false};
-ghost use Rattle.std.specs.Prelude.{List, map, length, slice_get, Some, IfOk, OnOk, OnErr};
+ghost use Rattle.std.specs.Prelude.{List, map, length, slice_get, Some, None, IfOk, OnOk};
 ghost use Rattle.models.specs.Objects.{of_table};
 ghost use Rattle.linspec.specs.Ends.{End};
 ghost use Rattle.frontier.specs.KeptEnds.{AreIncluded, end_kept};
 ghost use Rattle.frontier.specs.Moves.{AreMoves};
-ghost use Rattle.frontier.specs.EndSteps.{TakesLast, Next, IsReached, Grows, Adds};
+ghost use Rattle.frontier.specs.EndSteps.{TakesLast, Next, Grows};
 ghost use Rattle.frontier.specs.Tables.{AreShown, HasEachOnce, Shows, Widens, rows_of};
-ghost use Rattle.frontier.specs.Tables.{ShownWith, ShownGrown};
+ghost use Rattle.frontier.specs.Tables.{ShowsAll, ShownWith, ShownGrown};
 
 use crate::kept_end::KeptEnd;
 use crate::moves::Move;
@@ -102,32 +102,29 @@ fn grow<M: SeqObject>(
     Ok(table.rows.len() <= budget as usize)
 }
 
-/// Adds the ends that the calls lead to, one after another, where these are known: each call is of another operation, and
-/// each end includes calls alone. False where they are more than the budget: then, and where there is no memory, no end is
-/// added. Each call is tried at most once on each end, and no more ends than the budget are extended.
+/// All ends as rows: these ends and what the calls lead to from them, one after another. `None` where they are more than
+/// the budget. This is so where each call is of another operation, and each end includes calls alone. No more ends than
+/// the budget are extended.
 pub fn extend<M: SeqObject>(
-    ends: &mut Vec<KeptEnd<M::State>>,
+    alloc: Global,
+    ends: &[KeptEnd<M::State>],
     calls: &[PendingOp],
     budget: u32,
     applied: &mut u64,
-) -> Result<bool, AllocError>
+) -> Result<Option<Table<M::State>>, AllocError>
     ensures all { let object = of_table M.State M.start_state M.apply_to in
-        let old = map end_kept ends.old.items in let new = map end_kept ends.new.items in
-        HasEachOnce calls.now → AreIncluded calls.now old → IfOk result (λ all. all ≡ true
-        → Adds (IsReached object calls.now old) old new × (length ends.new.items ≤ budget)) }
+        let old = map end_kept ends.now in
+        HasEachOnce calls.now → AreIncluded calls.now old → IfOk result (λ found.
+        (table : Table M.State) → found ≡ Some table → ShowsAll object table calls.now old budget) }
     ensures over { let object = of_table M.State M.start_state M.apply_to in
-        let old = map end_kept ends.old.items in
-        HasEachOnce calls.now → AreIncluded calls.now old → IfOk result (λ all. all ≡ false
+        let old = map end_kept ends.now in
+        HasEachOnce calls.now → AreIncluded calls.now old → IfOk result (λ found. found ≡ None
         → (more : List (End M.State)) × Grows object calls.now old more × (budget < length more)) }
-    ensures over_keeps { IfOk result (λ all. all ≡ false → ends.new.items ≡ ends.old.items) }
-    ensures no_memory { OnErr result (ends.new.items ≡ ends.old.items) }
     ensures cost { applied.new ≤ applied.old + (budget + 1) * length calls.now }
 {
-    let alloc = *ends.allocator();
     let mut table = table::of_ends::<M>(alloc, ends, calls)?;
     if !grow::<M>(alloc, &mut table, calls, budget, applied)? {
-        return Ok(false);
+        return Ok(None);
     }
-    *ends = table::ends_of::<M>(alloc, &table, calls)?;
-    Ok(true)
+    Ok(Some(table))
 }

@@ -3,12 +3,12 @@ ghost use Rattle.std.specs.Prelude.{◌≡◌, ◌↔◌, Bool, true, false, IsT
 ghost use Rattle.std.specs.List.{All, Contains};
 ghost use Rattle.history.specs.Events.{IsFront};
 ghost use Rattle.frontier.specs.KeptEnds.{end_kept, found_at, pending_in, crashed_in, has_crashed};
-ghost use Rattle.frontier.specs.EndSteps.{settled, FitsAt, after_crash, is_in, with_call, Adds};
+ghost use Rattle.frontier.specs.EndSteps.{settled, after_crash, is_in, with_call, Adds};
 ghost use Rattle.frontier.specs.Places.{IsIndexed, StandsAt};
 
 use crate::pending_op::PendingOp;
 use crate::places::{Places, bucket_of};
-use models::{Answer, Found, SeqObject, finding};
+use models::{Found, SeqObject};
 use std::alloc::{AllocError, Global};
 
 /// What a legal order leaves: the state, what each open operation in it found, and the crashed operations in it.
@@ -121,16 +121,6 @@ impl<S> KeptEnd<S> {
         ensures { result ≡ is_in (end_kept self.now) id false }
     {
         found_in(&self.pending, id).is_some()
-    }
-
-    /// Whether the open operation is in it, and what it found there fits the answer.
-    pub fn fits_at(&self, id: u32, answer: &Answer) -> bool
-        ensures { IsTrue result ↔ FitsAt (end_kept self.now) id answer.now }
-    {
-        match found_in(&self.pending, id) {
-            Some(found) => finding::fits(found, answer),
-            None => false,
-        }
     }
 
     /// The call takes place in it, and finds this.

@@ -231,8 +231,8 @@ pub fn of_ends<M: SeqObject>(
     Ok(table)
 }
 
-// What the call at this place found, by the row, if it is in.
-fn found_in_row<'a, S: Ord + Drop>(
+/// What the call at this place found, by the row, if it is in.
+pub fn found_in_row<'a, S: Ord + Drop>(
     table: &'a Table<S>,
     row: &[usize],
     calls: &[PendingOp],
@@ -270,8 +270,8 @@ fn include_at<S: Ord + Drop>(
     }
 }
 
-// The end that the row says.
-fn kept_of<M: SeqObject>(
+/// The end that the row says.
+pub fn kept_of<M: SeqObject>(
     alloc: Global,
     table: &Table<M::State>,
     row: &[usize],
@@ -292,43 +292,4 @@ fn kept_of<M: SeqObject>(
         include_at(&mut kept, table, row, calls, at)?;
     }
     Ok(Some(kept))
-}
-
-// Puts the end that the row says after the others.
-fn push_end<M: SeqObject>(
-    alloc: Global,
-    ends: &mut Vec<KeptEnd<M::State>>,
-    table: &Table<M::State>,
-    row: &[usize],
-    calls: &[PendingOp],
-) -> Result<(), AllocError>
-    ensures { HasEachOnce calls.now → (e : End M.State) → Shows table.now calls.now row.now e
-        → OnOk result (map end_kept ends.new.items ≡ map end_kept ends.old.items ++ e ∷ []) }
-{
-    match kept_of::<M>(alloc, table, row, calls)? {
-        Some(kept) => {
-            ends.push(kept)?;
-            Ok(())
-        }
-        None => Ok(()),
-    }
-}
-
-/// The ends that the rows say, in order.
-pub fn ends_of<M: SeqObject>(
-    alloc: Global,
-    table: &Table<M::State>,
-    calls: &[PendingOp],
-) -> Result<Vec<KeptEnd<M::State>>, AllocError>
-    ensures { HasEachOnce calls.now → (ends : List (End M.State))
-        → AreShown table.now calls.now ends → IfOk result (λ kept. map end_kept kept.items ≡ ends) }
-{
-    let mut ends = Vec::with_capacity(alloc, table.rows.len())?;
-    for at in 0..table.rows.len() {
-        let Some(row) = table.rows.get_index(at) else {
-            unreachable!()
-        };
-        push_end::<M>(alloc, &mut ends, table, row, calls)?;
-    }
-    Ok(ends)
 }
