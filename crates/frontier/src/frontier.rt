@@ -147,10 +147,10 @@ impl<M: SeqObject> Frontier<M> {
             self.budget,
             &mut self.applied,
         )?;
-        let Some(table) = found else {
+        let Some(mut table) = found else {
             return Ok(Step::Over);
         };
-        self.ends = ends::settled_ends::<M>(self.alloc, &table, &self.calls, id, answer)?;
+        self.ends = ends::settled_ends::<M>(self.alloc, &mut table, &self.calls, id, answer)?;
         pending_op::drop_call(&mut self.calls, id);
         Ok(step_of(self.ends.len()))
     }

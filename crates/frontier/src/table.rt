@@ -1,6 +1,6 @@
 //! Ends as rows of numbers.
 ghost use Rattle.std.specs.Prelude.{◌≡◌, ◌+◌, ◌-◌, ◌^◌, ◌<◌, ◌≤◌, min, set, Some, slice_get, map, length, option_map};
-ghost use Rattle.std.specs.Prelude.{◌↔◌, IsTrue, IfOk, OnOk, IsSomeAnd, option_copied, List, [], ◌∷◌, ◌++◌};
+ghost use Rattle.std.specs.Prelude.{◌↔◌, IsTrue, IfOk, OnOk, IsSome, IsSomeAnd, option_copied, List, [], ◌∷◌, ◌++◌};
 ghost use Rattle.std.specs.Option.{option_to_list};
 ghost use Rattle.models.specs.Objects.{of_table};
 ghost use Rattle.history.specs.Events.{IsFront};
@@ -239,8 +239,9 @@ pub fn found_in_row<'a, S: Ord + Drop>(
     at: usize,
 ) -> Option<&'a Found>
     requires { at < length calls.now }
-    ensures { (c : PendingOp) (e : End S) → slice_get calls.now at ≡ Some c
+    ensures found { (c : PendingOp) (e : End S) → slice_get calls.now at ≡ Some c
         → Shows table.now calls.now row.now e → option_copied result ≡ found_by e c }
+    ensures within { IsSome result → at + 1 < length row.now }
 {
     match row.get(at + 1) {
         Some(slot) if *slot > 0 => table.founds.get(*slot - 1),
@@ -270,8 +271,8 @@ fn include_at<S: Ord + Drop>(
     }
 }
 
-/// The end that the row says.
-pub fn kept_of<M: SeqObject>(
+// The end that the row says.
+fn kept_of<M: SeqObject>(
     alloc: Global,
     table: &Table<M::State>,
     row: &[usize],
@@ -292,4 +293,43 @@ pub fn kept_of<M: SeqObject>(
         include_at(&mut kept, table, row, calls, at)?;
     }
     Ok(Some(kept))
+}
+
+// Puts the end that the row says after the others.
+fn push_end<M: SeqObject>(
+    alloc: Global,
+    ends: &mut Vec<KeptEnd<M::State>>,
+    table: &Table<M::State>,
+    row: &[usize],
+    calls: &[PendingOp],
+) -> Result<(), AllocError>
+    ensures { HasEachOnce calls.now → (e : End M.State) → Shows table.now calls.now row.now e
+        → OnOk result (map end_kept ends.new.items ≡ map end_kept ends.old.items ++ e ∷ []) }
+{
+    match kept_of::<M>(alloc, table, row, calls)? {
+        Some(kept) => {
+            ends.push(kept)?;
+            Ok(())
+        }
+        None => Ok(()),
+    }
+}
+
+/// The ends that the rows say, in order.
+pub fn ends_of<M: SeqObject>(
+    alloc: Global,
+    table: &Table<M::State>,
+    calls: &[PendingOp],
+) -> Result<Vec<KeptEnd<M::State>>, AllocError>
+    ensures { HasEachOnce calls.now → (ends : List (End M.State))
+        → AreShown table.now calls.now ends → IfOk result (λ kept. map end_kept kept.items ≡ ends) }
+{
+    let mut ends = Vec::with_capacity(alloc, table.rows.len())?;
+    for at in 0..table.rows.len() {
+        let Some(row) = table.rows.get_index(at) else {
+            unreachable!()
+        };
+        push_end::<M>(alloc, &mut ends, table, row, calls)?;
+    }
+    Ok(ends)
 }
