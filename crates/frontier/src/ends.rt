@@ -84,7 +84,7 @@ fn settle_rows<S: Ord + Drop>(
         };
         if fits_in_row(table, row, calls, call, answer) {
             let settled = row_without(alloc, row, call)?;
-            table::put(&mut rows, settled)?;
+            table::put(alloc, &mut rows, &settled)?;
         }
     }
     table.rows = rows;

@@ -2,7 +2,7 @@ use Rattle.std.proofs.Common.{◌≡◌, ◌+◌, arith, length, map, take, [], 
 use Rattle.std.proofs.lemmas.Bool.{true≢false}
 use Rattle.std.proofs.lemmas.List.{length-map, take_all}
 use Rattle.frontier.specs.EndSteps.{Settles, settled, Along}
-use Rattle.frontier.specs.Tables.{Shows, ShownWith, items_of, rows_of}
+use Rattle.frontier.specs.Tables.{IsPut, Shows, ShownWith, items_of, rows_of}
 use Rattle.frontier.proofs.Settling.{says_settled, settles_less}
 use Rattle.frontier.proofs.Showing.{end_at, no_get, shown_after, shown_first, widens_itself, widens_rows}
 use Rattle.frontier.proofs.ends.settle_rows.Goals as goal
@@ -34,7 +34,7 @@ loop-at-preserved g c once id here ends shown =
           (λ f q. ((c.fits_in_row.ensures.fits id p.0 here shows).0 w.if-fits_in_row.true, q)) (λ f r. r.1)
           (widens_itself _) refl
           (says_settled c.args.calls.now c.args.table.now.states c.args.table.now.founds.items once c.args.call id here p.0 w.deref-then-fits_in_row.result.now w.in_ok-settled.settled.items again w.in_ok-settled.ensures)
-          (widens_rows _ _ refl refl) w.in_ok-put.ensures (c.loop-at.invariant once id here ends shown))
+          (widens_rows _ _ refl refl) (subst (λ r. IsPut r (map items_of c.loop-at.rows.keys) (map items_of w.put.new.rows.keys)) w.deref-then-fits_in_row-2.ensures.value w.in_ok-put.ensures) (c.loop-at.invariant once id here ends shown))
       | else-fits_in_row w ↦
           subst (λ rows. ShownWith (record { states = c.args.table.now.states; founds = c.args.table.now.founds; rows = rows }) c.args.calls.now [] (Along (Settles id c.args.answer.now) (take (c.loop-at.at + 1) ends))) (sym w.rows-is)
           (settles_less c.args.calls.now (record { states = c.args.table.now.states; founds = c.args.table.now.founds; rows = c.loop-at.rows }) ends id c.args.answer.now c.loop-at.at p.0 p.1
