@@ -1,5 +1,5 @@
 -- Promise: the line of one key, as a caller sees it
-use Rattle.std.specs.Prelude.{ℕ, Bool, Option, Some, None, List, [], ◌∷◌, ◌++◌, length, nat_lt}
+use Rattle.std.specs.Prelude.{ℕ, ◌+◌, ◌-◌, ◌%◌, ◌^◌, min, Bool, if◌then◌else◌, Option, Some, None, List, [], ◌∷◌, ◌++◌, length, nat_lt}
 use Rattle.std.specs.List.{filter}
 use Rattle.models.specs.declared.model_kind.ModelKind.{ModelKind}
 use Rattle.models.specs.Objects.{object_of}
@@ -23,6 +23,13 @@ without_events kind budget = record { kind = kind; budget = budget; events = [] 
 pub record KeyLineView : Type 0 where
   pub now : KeyHistory
   pub next : Option KeyHistory
+
+-- a line, and how many replays there were so far, and will have been where a prepared change is committed. A replay is one
+-- event that is given to what judges the key, for the first time or again
+pub record CountedLine : Type 0 where
+  pub line : KeyLineView
+  pub replayed : ℕ
+  pub due : ℕ
 
 abbrev pub at_rest : KeyHistory → KeyLineView
 at_rest h = record { now = h; next = None }
@@ -54,3 +61,11 @@ loses_at n h = nat_lt (length (events_below n h.events)) (length h.events)
 -- the key has an event of index below n
 abbrev pub begins_below : ℕ → KeyHistory → Bool
 begins_below n h = nat_lt 0 (length (events_below n h.events))
+
+-- the replays of a cut at n: where it takes events away, those that stay behind the last 64th one
+abbrev pub replays_at : ℕ → KeyHistory → ℕ
+replays_at n h = if loses_at n h then length (events_below n h.events) % 64 else 0
+
+-- a count goes on, and stops at the greatest u64
+abbrev pub count_on : ℕ → ℕ → ℕ
+count_on count more = min (count + more) (2 ^ 64 - 1)
