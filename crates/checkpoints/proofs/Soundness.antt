@@ -12,10 +12,10 @@ use Rattle.checkpoints.specs.declared.key_state.KeyState.{KeyState}
 use Rattle.checkpoints.specs.declared.key_line.Prepared.{Prepared}
 use Rattle.checkpoints.specs.declared.saving.Saves.{Saves}
 use Rattle.checkpoints.specs.KeyState.{IsKeyState, status_of}
-use Rattle.checkpoints.specs.KeyLineView.{KeyHistory, CountedLine, IsStatusOf, events_below, with_pushed, cut_at, judged_by}
+use Rattle.checkpoints.specs.KeyLineView.{KeyHistory, KeyLineView, IsStatusOf, events_below, with_pushed, cut_at, judged_by}
 use Rattle.checkpoints.specs.Saved.{AreSaved}
 use Rattle.checkpoints.specs.Saves.{saved_by, HasRoom, IsSaveOf}
-use Rattle.checkpoints.specs.SoundLine.{kept_and_added, brought, count_due, HasPlace, IsJudged, IsReady, IsSoundLine}
+use Rattle.checkpoints.specs.SoundLine.{kept_and_added, brought, replays_of, HasPlace, IsJudged, IsReady, IsSoundLine}
 use Rattle.checkpoints.proofs.Judging.{status_is}
 use Rattle.checkpoints.proofs.Cutting.{IsHistory-take}
 use Rattle.checkpoints.proofs.SavedStates.{AreSaved-take, AreSaved-after}
@@ -58,29 +58,30 @@ read_stands kind budget events read same history state stands = subst (λ l. IsK
 abbrev pub history_of : ModelKind → ℕ → List (ℕ × Event) → KeyHistory
 history_of kind budget events = record { kind = kind; budget = budget; events = events }
 
-abbrev pub seen_as : ModelKind → ℕ → List (ℕ × Event) → Option Prepared → ℕ → CountedLine
+abbrev pub seen_as : ModelKind → ℕ → List (ℕ × Event) → Option Prepared → ℕ → KeyLineView
 seen_as kind budget events prepared replayed = record {
-  line = record { now = history_of kind budget events; next = option_map (brought events) prepared };
+  now = history_of kind budget events;
+  next = option_map (brought events) prepared;
   replayed = replayed;
-  due = count_due replayed prepared;
+  due = replays_of prepared;
 }
 
-module _ (kind : ModelKind) (budget : ℕ) (events : List (ℕ × Event)) (prepared : Option Prepared) (replayed : ℕ) (line : CountedLine) (seen : seen_as kind budget events prepared replayed ≡ line) where
-  pub history_seen : (x : ℕ × Event) → IsHistory (line.line.now.events ++ x ∷ []) → IsHistory (events ++ x ∷ [])
-  history_seen x h = subst (λ (v : CountedLine). IsHistory (v.line.now.events ++ x ∷ [])) (sym seen) h
+module _ (kind : ModelKind) (budget : ℕ) (events : List (ℕ × Event)) (prepared : Option Prepared) (replayed : ℕ) (line : KeyLineView) (seen : seen_as kind budget events prepared replayed ≡ line) where
+  pub history_seen : (x : ℕ × Event) → IsHistory (line.now.events ++ x ∷ []) → IsHistory (events ++ x ∷ [])
+  history_seen x h = subst (λ (v : KeyLineView). IsHistory (v.now.events ++ x ∷ [])) (sym seen) h
 
-  pub status_seen : (state : KeyState) → IsKeyState kind budget events state → (s : KeyStatus) → s ≡ status_of state → IsStatusOf line.line.now s
-  status_seen state stands s is = subst (λ (v : CountedLine). IsStatusOf v.line.now s) seen (status_right kind budget events state stands s is)
+  pub status_seen : (state : KeyState) → IsKeyState kind budget events state → (s : KeyStatus) → s ≡ status_of state → IsStatusOf line.now s
+  status_seen state stands s is = subst (λ (v : KeyLineView). IsStatusOf v.now s) seen (status_right kind budget events state stands s is)
 
-  pub next_seen : (index : ℕ) (event : Event) (s : KeyStatus) → IsKeyStatus (object_of kind) budget (entries_of (events ++ (index, event) ∷ [])) s → IsStatusOf (with_pushed index event line.line.now) s
-  next_seen index event s h = subst (λ (v : CountedLine). IsStatusOf (with_pushed index event v.line.now) s) seen h
+  pub next_seen : (index : ℕ) (event : Event) (s : KeyStatus) → IsKeyStatus (object_of kind) budget (entries_of (events ++ (index, event) ∷ [])) s → IsStatusOf (with_pushed index event line.now) s
+  next_seen index event s h = subst (λ (v : KeyLineView). IsStatusOf (with_pushed index event v.now) s) seen h
 
-  pub cut_seen : (n k : ℕ) → take k events ≡ events_below n events → (s : KeyStatus) → IsKeyStatus (object_of kind) budget (entries_of (take k events)) s → IsStatusOf (cut_at n line.line.now) s
+  pub cut_seen : (n k : ℕ) → take k events ≡ events_below n events → (s : KeyStatus) → IsKeyStatus (object_of kind) budget (entries_of (take k events)) s → IsStatusOf (cut_at n line.now) s
   cut_seen n k first s is =
-      subst (λ (v : CountedLine). IsStatusOf (cut_at n v.line.now) s) seen (subst (λ l. IsKeyStatus (object_of kind) budget (entries_of l) s) first is)
+      subst (λ (v : KeyLineView). IsStatusOf (cut_at n v.now) s) seen (subst (λ l. IsKeyStatus (object_of kind) budget (entries_of l) s) first is)
 
-  pub rebuilt_seen : (other : ModelKind) (new_budget : ℕ) (s : KeyStatus) → IsKeyStatus (object_of other) new_budget (entries_of events) s → IsStatusOf (judged_by other new_budget line.line.now) s
-  rebuilt_seen other new_budget s is = subst (λ (v : CountedLine). IsStatusOf (judged_by other new_budget v.line.now) s) seen is
+  pub rebuilt_seen : (other : ModelKind) (new_budget : ℕ) (s : KeyStatus) → IsKeyStatus (object_of other) new_budget (entries_of events) s → IsStatusOf (judged_by other new_budget line.now) s
+  rebuilt_seen other new_budget s is = subst (λ (v : KeyLineView). IsStatusOf (judged_by other new_budget v.now) s) seen is
 
 -- the first so many are those below an index, read from their place
 pub first_seen : (n k : ℕ) (events read : List (ℕ × Event)) → read ≡ events → IsHistory events → (IsHistory read → take k read ≡ events_below n read) → take k events ≡ events_below n events

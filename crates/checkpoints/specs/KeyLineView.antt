@@ -19,23 +19,21 @@ pub record KeyHistory : Type 0 where
 abbrev pub without_events : ModelKind → ℕ → KeyHistory
 without_events kind budget = record { kind = kind; budget = budget; events = [] }
 
--- what a line has, and what commit will bring, where a change is prepared
+-- what a line has, and what commit will bring, where a change is prepared; how many replays the committed changes took, and how
+-- many the prepared one. A replay is one event that is given to what judges the key, for the first time or again
 pub record KeyLineView : Type 0 where
   pub now : KeyHistory
   pub next : Option KeyHistory
-
--- a line, and how many replays there were so far, and will have been where a prepared change is committed. A replay is one
--- event that is given to what judges the key, for the first time or again
-pub record CountedLine : Type 0 where
-  pub line : KeyLineView
   pub replayed : ℕ
   pub due : ℕ
 
-abbrev pub at_rest : KeyHistory → KeyLineView
-at_rest h = record { now = h; next = None }
+abbrev pub at_rest : KeyHistory → ℕ → KeyLineView
+at_rest h replayed = record { now = h; next = None; replayed = replayed; due = 0 }
 
-abbrev pub with_next : KeyHistory → KeyLineView → KeyLineView
-with_next next line = record { now = line.now; next = Some next }
+-- this is prepared, and took so many replays
+abbrev pub with_next : KeyHistory → ℕ → KeyLineView → KeyLineView
+with_next next due line =
+    record { now = line.now; next = Some next; replayed = line.replayed; due = due }
 
 -- from scratch, how the key stands
 abbrev pub IsStatusOf : KeyHistory → KeyStatus → Type 0

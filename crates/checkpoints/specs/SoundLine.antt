@@ -23,10 +23,10 @@ brought events p = record {
   events = kept_and_added p.kept p.added events;
 }
 
--- the count that a prepared change brings; the count stays where none is prepared
-abbrev pub count_due : ℕ → Option Prepared → ℕ
-count_due replayed None = replayed
-count_due replayed (Some p) = p.replayed
+-- the replays of what is prepared
+abbrev pub replays_of : Option Prepared → ℕ
+replays_of None = 0
+replays_of (Some p) = p.replays
 
 -- where an event is added, there is a place for it
 abbrev pub HasPlace : ℕ → ℕ → Option (ℕ × Event) → Type 0

@@ -1,6 +1,6 @@
 //! The line of one key.
-ghost use Rattle.std.specs.Prelude.{◌≡◌, ◌≤◌, if◌then◌else◌, Some, None, [], ◌∷◌, ◌++◌, take, length, nat_lt};
-ghost use Rattle.std.specs.Prelude.{is_ok, IsSome, IfSome, IfOk, OnOk, OnErr};
+ghost use Rattle.std.specs.Prelude.{◌≡◌, ◌≤◌, Some, None, [], ◌∷◌, ◌++◌, take, length, nat_lt};
+ghost use Rattle.std.specs.Prelude.{IsSome, IfSome, IfOk, OnOk, OnErr};
 ghost use Rattle.history.specs.ProcessRule.{IsHistory};
 ghost use Rattle.checkpoints.specs.KeyLineView.{IsStatusOf, without_events, at_rest, with_next, with_pushed, cut_at, judged_by};
 ghost use Rattle.checkpoints.specs.KeyLineView.{events_below, loses_at, begins_below, replays_at, count_on};
@@ -14,7 +14,7 @@ use std::alloc::{AllocError, Global};
 use std::marker::Model;
 
 /// What may be committed: the first so many events stay, one may follow, and the key, judged by this kind and budget, then
-/// stands so, after so many replays.
+/// stands so. It took so many replays.
 #[derive(Drop)]
 struct Prepared {
     kind: ModelKind,
@@ -23,7 +23,7 @@ struct Prepared {
     added: Option<(u32, Event)>,
     state: KeyState,
     saves: Saves,
-    replayed: u64,
+    replays: u64,
 }
 
 /// The events of one key with their indices, in the order in which they came, and what is known of the key. It is alive
@@ -54,18 +54,16 @@ pub struct KeyLine {
 impl Model for KeyLine {
     ghost use Rattle.std.specs.Prelude.{vec_capacity};
     ghost use Rattle.std.specs.Option.{option_map};
-    ghost use Rattle.checkpoints.specs.KeyLineView.{CountedLine};
-    ghost use Rattle.checkpoints.specs.SoundLine.{IsSoundLine, brought, count_due};
+    ghost use Rattle.checkpoints.specs.KeyLineView.{KeyLineView};
+    ghost use Rattle.checkpoints.specs.SoundLine.{IsSoundLine, brought, replays_of};
 
-    ghost Value = { CountedLine };
+    ghost Value = { KeyLineView };
 
     ghost view = { λ a. record {
-      line = record {
-        now = record { kind = a.kind; budget = a.budget; events = a.events.items };
-        next = option_map (brought a.events.items) a.prepared;
-      };
+      now = record { kind = a.kind; budget = a.budget; events = a.events.items };
+      next = option_map (brought a.events.items) a.prepared;
       replayed = a.replayed;
-      due = count_due a.replayed a.prepared;
+      due = replays_of a.prepared;
     } };
 
     ghost invariant = { λ a.
@@ -81,8 +79,7 @@ impl KeyLine {
     ///
     /// `AllocError` where memory was refused.
     pub fn new(alloc: Global, kind: ModelKind, budget: u32) -> Result<Self, AllocError>
-        ensures line { IfOk result (λ made. made.line ≡ at_rest (without_events kind budget)) }
-        ensures counted { IfOk result (λ made. made.replayed ≡ 0) }
+        ensures { IfOk result (λ made. made ≡ at_rest (without_events kind budget) 0) }
     {
         let state = KeyState::start(alloc, kind, budget)?;
         Ok(KeyLine {
@@ -106,13 +103,11 @@ impl KeyLine {
     ///
     /// `AllocError` where memory was refused: then nothing is prepared, and the rest is as it was.
     pub fn prepare_push(&mut self, index: u32, event: Event) -> Result<KeyStatus, AllocError>
-        requires { IsHistory (self.old.line.now.events ++ (index, event) ∷ []) }
-        ensures status { IfOk result (IsStatusOf (with_pushed index event self.old.line.now)) }
+        requires { IsHistory (self.old.now.events ++ (index, event) ∷ []) }
+        ensures status { IfOk result (IsStatusOf (with_pushed index event self.old.now)) }
         ensures prepared { OnOk result
-            (self.new.line ≡ with_next (with_pushed index event self.old.line.now) self.old.line) }
-        ensures err { OnErr result (self.new.line ≡ at_rest self.old.line.now) }
-        ensures counted { self.new.replayed ≡ self.old.replayed }
-        ensures due { OnOk result (self.new.due ≡ count_on self.old.replayed 1) }
+            (self.new ≡ with_next (with_pushed index event self.old.now) 1 self.old) }
+        ensures err { OnErr result (self.new ≡ at_rest self.old.now self.old.replayed) }
     {
         drop_prepared(&mut self.prepared);
         let state = self.state.copy()?.after(index, &event)?;
@@ -127,7 +122,7 @@ impl KeyLine {
             added: Some((index, event)),
             state,
             saves,
-            replayed: self.replayed.saturating_add(1),
+            replays: 1,
         };
         prepare(&mut self.prepared, next);
         Ok(status)
@@ -142,17 +137,14 @@ impl KeyLine {
     ///
     /// `AllocError` where memory was refused: then nothing is prepared, and the rest is as it was.
     pub fn prepare_cut(&mut self, n: u32) -> Result<KeyStatus, AllocError>
-        ensures status { IfOk result (IsStatusOf (cut_at n self.old.line.now)) }
+        ensures status { IfOk result (IsStatusOf (cut_at n self.old.now)) }
         ensures prepared { OnOk result
-            (self.new.line ≡ with_next (cut_at n self.old.line.now) self.old.line) }
-        ensures err { OnErr result (self.new.line ≡ at_rest self.old.line.now) }
-        ensures counted { self.new.replayed ≡ self.old.replayed }
-        ensures due { OnOk result
-            (self.new.due ≡ count_on self.old.replayed (replays_at n self.old.line.now)) }
+            (self.new ≡ with_next (cut_at n self.old.now) (replays_at n self.old.now) self.old) }
+        ensures err { OnErr result (self.new ≡ at_rest self.old.now self.old.replayed) }
     {
         drop_prepared(&mut self.prepared);
         let kept = count_below(&self.events, n);
-        let mut replayed = self.replayed;
+        let mut replays = 0;
         let state = if kept < self.events.len() {
             gone_back(
                 self.alloc,
@@ -161,7 +153,7 @@ impl KeyLine {
                 &self.events,
                 &self.saved,
                 kept,
-                &mut replayed,
+                &mut replays,
             )?
         } else {
             self.state.copy()?
@@ -174,7 +166,7 @@ impl KeyLine {
             added: None,
             state,
             saves: Saves::Kept,
-            replayed,
+            replays,
         };
         prepare(&mut self.prepared, next);
         Ok(status)
@@ -188,17 +180,14 @@ impl KeyLine {
     ///
     /// `AllocError` where memory was refused: then nothing is prepared, and the rest is as it was.
     pub fn prepare_rebuild(&mut self, kind: ModelKind, budget: u32) -> Result<KeyStatus, AllocError>
-        ensures status { IfOk result (IsStatusOf (judged_by kind budget self.old.line.now)) }
-        ensures prepared { OnOk result
-            (self.new.line ≡ with_next (judged_by kind budget self.old.line.now) self.old.line) }
-        ensures err { OnErr result (self.new.line ≡ at_rest self.old.line.now) }
-        ensures counted { self.new.replayed ≡ self.old.replayed }
-        ensures due { OnOk result
-            (self.new.due ≡ count_on self.old.replayed (length self.old.line.now.events)) }
+        ensures status { IfOk result (IsStatusOf (judged_by kind budget self.old.now)) }
+        ensures prepared { OnOk result (self.new
+            ≡ with_next (judged_by kind budget self.old.now) (length self.old.now.events) self.old) }
+        ensures err { OnErr result (self.new ≡ at_rest self.old.now self.old.replayed) }
     {
         drop_prepared(&mut self.prepared);
-        let mut replayed = self.replayed;
-        let (state, saved) = judged_anew(self.alloc, kind, budget, &self.events, &mut replayed)?;
+        let mut replays = 0;
+        let (state, saved) = judged_anew(self.alloc, kind, budget, &self.events, &mut replays)?;
         let status = state.status();
         let next = Prepared {
             kind,
@@ -207,7 +196,7 @@ impl KeyLine {
             added: None,
             state,
             saves: Saves::Anew(saved),
-            replayed,
+            replays,
         };
         prepare(&mut self.prepared, next);
         Ok(status)
@@ -215,9 +204,9 @@ impl KeyLine {
 
     /// Carries out what is prepared. Takes no memory.
     pub fn commit(&mut self)
-        requires { IsSome self.old.line.next }
-        ensures line { IfSome self.old.line.next (λ next. self.new.line ≡ at_rest next) }
-        ensures counted { self.new.replayed ≡ self.old.due }
+        requires { IsSome self.old.next }
+        ensures { IfSome self.old.next (λ next.
+            self.new ≡ at_rest next (count_on self.old.replayed self.old.due)) }
     {
         if let Some(next) = self.prepared.take() {
             let Prepared {
@@ -227,7 +216,7 @@ impl KeyLine {
                 added,
                 state,
                 saves,
-                replayed,
+                replays,
             } = next;
             self.events.truncate(kept);
             if let Some(event) = added {
@@ -241,7 +230,7 @@ impl KeyLine {
             self.kind = kind;
             self.budget = budget;
             self.state = state;
-            self.replayed = replayed;
+            self.replayed = self.replayed.saturating_add(replays);
         }
     }
 
@@ -251,12 +240,10 @@ impl KeyLine {
     ///
     /// `AllocError` where memory was refused: then nothing is prepared, and the rest is as it was.
     pub fn push(&mut self, index: u32, event: Event) -> Result<(), AllocError>
-        requires { IsHistory (self.old.line.now.events ++ (index, event) ∷ []) }
-        ensures ok { OnOk result
-            (self.new.line ≡ at_rest (with_pushed index event self.old.line.now)) }
-        ensures err { OnErr result (self.new.line ≡ at_rest self.old.line.now) }
-        ensures counted { self.new.replayed
-            ≡ (if is_ok result then count_on self.old.replayed 1 else self.old.replayed) }
+        requires { IsHistory (self.old.now.events ++ (index, event) ∷ []) }
+        ensures ok { OnOk result (self.new
+            ≡ at_rest (with_pushed index event self.old.now) (count_on self.old.replayed 1)) }
+        ensures err { OnErr result (self.new ≡ at_rest self.old.now self.old.replayed) }
     {
         self.prepare_push(index, event)?;
         self.commit();
@@ -270,11 +257,9 @@ impl KeyLine {
     ///
     /// `AllocError` where memory was refused: then nothing is prepared, and the rest is as it was.
     pub fn cut(&mut self, n: u32) -> Result<(), AllocError>
-        ensures ok { OnOk result (self.new.line ≡ at_rest (cut_at n self.old.line.now)) }
-        ensures err { OnErr result (self.new.line ≡ at_rest self.old.line.now) }
-        ensures counted { self.new.replayed ≡ (if is_ok result
-            then count_on self.old.replayed (replays_at n self.old.line.now)
-            else self.old.replayed) }
+        ensures ok { OnOk result (self.new ≡ at_rest (cut_at n self.old.now)
+            (count_on self.old.replayed (replays_at n self.old.now))) }
+        ensures err { OnErr result (self.new ≡ at_rest self.old.now self.old.replayed) }
     {
         self.prepare_cut(n)?;
         self.commit();
@@ -288,12 +273,9 @@ impl KeyLine {
     ///
     /// `AllocError` where memory was refused: then nothing is prepared, and the rest is as it was.
     pub fn rebuild(&mut self, kind: ModelKind, budget: u32) -> Result<(), AllocError>
-        ensures ok { OnOk result
-            (self.new.line ≡ at_rest (judged_by kind budget self.old.line.now)) }
-        ensures err { OnErr result (self.new.line ≡ at_rest self.old.line.now) }
-        ensures counted { self.new.replayed ≡ (if is_ok result
-            then count_on self.old.replayed (length self.old.line.now.events)
-            else self.old.replayed) }
+        ensures ok { OnOk result (self.new ≡ at_rest (judged_by kind budget self.old.now)
+            (count_on self.old.replayed (length self.old.now.events))) }
+        ensures err { OnErr result (self.new ≡ at_rest self.old.now self.old.replayed) }
     {
         self.prepare_rebuild(kind, budget)?;
         self.commit();
@@ -302,13 +284,13 @@ impl KeyLine {
 
     /// What is known of the key. Takes no memory.
     pub fn status(&self) -> KeyStatus
-        ensures { IsStatusOf self.now.line.now result }
+        ensures { IsStatusOf self.now.now result }
     {
         self.state.status()
     }
 
-    /// How many replays there were so far: one for each event that was pushed, and one for each that a cut or a rebuild gave
-    /// again to what judges the key. It rises where a change is committed, and stops at the greatest `u64`. Takes no memory.
+    /// How many replays the committed changes took: one for each event that was pushed, and one for each that a cut or a
+    /// rebuild gave again to what judges the key. It stops at the greatest `u64`. Takes no memory.
     pub fn replayed(&self) -> u64
         ensures { result ≡ self.now.replayed }
     {
@@ -316,9 +298,19 @@ impl KeyLine {
         count
     }
 
+    /// How many replays the prepared change took, and 0 where none is prepared. Takes no memory.
+    pub fn due(&self) -> u64
+        ensures { result ≡ self.now.due }
+    {
+        match &self.prepared {
+            Some(prepared) => prepared.replays,
+            None => 0,
+        }
+    }
+
     /// How many events the line has. Takes no memory.
     pub fn len(&self) -> usize
-        ensures { result ≡ length self.now.line.now.events }
+        ensures { result ≡ length self.now.now.events }
     {
         self.events.len()
     }
@@ -326,14 +318,14 @@ impl KeyLine {
     /// Whether a cut at `n` takes events of the key away: its last event has an index of `n` or more. Takes no memory, and
     /// constant time.
     pub fn loses(&self, n: u32) -> bool
-        ensures { result ≡ loses_at n self.now.line.now }
+        ensures { result ≡ loses_at n self.now.now }
     {
         has_from(&self.events, n)
     }
 
     /// Whether the key has an event of index below `n`: its first one has. Takes no memory, and constant time.
     pub fn begins_below(&self, n: u32) -> bool
-        ensures { result ≡ begins_below n self.now.line.now }
+        ensures { result ≡ begins_below n self.now.now }
     {
         has_below(&self.events, n)
     }
