@@ -11,11 +11,11 @@ use std::test::Fail;
 
 const KEY: Key = 7;
 
+/// The threads of each history.
+const THREADS: u32 = 3;
+
 /// The most operations of a history, few enough for their orders to be tried.
 const MOST_OPERATIONS: u32 = 8;
-
-/// How many of them are open at once, in a history of operations that are all open.
-const OPEN: u32 = 8;
 
 /// More ends than histories of so few operations have.
 const BUDGET: u32 = 1_000_000;
@@ -143,7 +143,6 @@ struct Thread {
 struct Run {
     alloc: Global,
     kind: ModelKind,
-    threads: u32,
     history: History,
     frontier: AnyFrontier,
     invoked: u32,
@@ -153,12 +152,11 @@ struct Run {
 }
 
 impl Run {
-    fn new(alloc: Global, kind: ModelKind, threads: u32) -> Result<Run, Fail> {
+    fn new(alloc: Global, kind: ModelKind) -> Result<Run, Fail> {
         Ok(Run {
             alloc,
             kind,
-            threads,
-            history: History::new(alloc, threads)?,
+            history: History::new(alloc, THREADS)?,
             frontier: AnyFrontier::start(alloc, kind, BUDGET)?,
             invoked: 0,
             alive: true,
@@ -243,7 +241,7 @@ impl Run {
         let op = call.request.with(call.request.part());
         let _ = self.append(call.id, EventKind::Info, thread.process, op)?;
         self.crashed = true;
-        Ok(idle(thread.process.wrapping_add(self.threads)))
+        Ok(idle(thread.process.wrapping_add(THREADS)))
     }
 
     fn settle(&mut self, step: Step) -> Result<(), Fail> {
@@ -314,7 +312,7 @@ fn compare(
     kind: ModelKind,
     tally: Tally,
 ) -> Result<Tally, Fail> {
-    let mut run = Run::new(alloc, kind, 3)?;
+    let mut run = Run::new(alloc, kind)?;
     let (mut a, mut b, mut c) = (idle(0), idle(1), idle(2));
     for _ in 0..6 + numbers.below(9) {
         match numbers.below(3) {
@@ -352,53 +350,5 @@ fn orders_and_ends_agree(rt: HostRuntime) -> Result<(), Fail> {
     }
     assert_eq!(rt; (all.legal, all.illegal), (116, 184));
     assert_eq!(rt; (all.open, all.failed, all.crashed), (259, 155, 158));
-    Ok(())
-}
-
-/// Counts one more history, in which eight operations are open at once and one of them then ends, after both answers about
-/// it were compared.
-fn compare_open(
-    alloc: Global,
-    numbers: &mut Numbers,
-    kind: ModelKind,
-    tally: Tally,
-) -> Result<Tally, Fail> {
-    let mut run = Run::new(alloc, kind, OPEN)?;
-    let mut threads = Vec::new(alloc);
-    for process in 0..OPEN {
-        threads.push(run.invoke(numbers, idle(process))?)?;
-    }
-    let last = numbers.below(OPEN);
-    let mut place: u32 = 0;
-    for thread in threads {
-        if place == last {
-            let _ = run.go_on(numbers, thread)?;
-        }
-        place = place.wrapping_add(1);
-    }
-    if brute(alloc, &run.history, &[(KEY, kind)])? != run.alive {
-        return Err("the answers differ".into());
-    }
-    Ok(tally.with(&run, true))
-}
-
-/// Of 100 more histories each has eight operations that are open at once.
-#[test]
-fn orders_and_ends_agree_on_eight_open(rt: HostRuntime) -> Result<(), Fail> {
-    let mut numbers = Numbers { state: 2 };
-    let mut all = NONE;
-    for kind in [
-        ModelKind::Register,
-        ModelKind::CasRegister,
-        ModelKind::Mutex,
-        ModelKind::Set,
-    ] {
-        for _ in 0..25 {
-            all = compare_open(rt.alloc(), &mut numbers, kind, all)?;
-        }
-    }
-    assert_eq!(rt; all.legal.wrapping_add(all.illegal), 100);
-    assert!(rt; all.legal >= 10);
-    assert!(rt; all.illegal >= 10);
     Ok(())
 }
