@@ -1,10 +1,12 @@
 //! Lines of a few events, against statuses that follow from the definitions by hand.
-ghost use Rattle.std.specs.Prelude.{◌≡◌, None};
+ghost use Rattle.std.specs.Prelude.{◌≡◌, None, IfOk};
+ghost use Rattle.acceptance.specs.LongLine.{writes_from};
 
 use checkpoints::KeyLine;
 use history::{Body, Event, EventKind, Fault, Process};
 use linspec::KeyStatus;
 use models::{ModelKind, Name, Op, Part};
+use std::alloc::{AllocError, Global};
 use std::test::Fail;
 
 fn event(process: u32, kind: EventKind, name: Name, part: Part) -> Event
@@ -101,5 +103,72 @@ fn rewind_revives(rt: HostRuntime) -> Result<(), Fail> {
     line.cut(2)?;
     assert_eq!(rt; line.len(), 2);
     assert!(rt; matches!(line.status(), KeyStatus::Alive));
+    Ok(())
+}
+
+// 65 times a write of 1 that returns: 130 events, of indices 0 to 129.
+fn written(alloc: Global) -> Result<KeyLine, AllocError>
+    ensures { IfOk result (λ made. made.now.events ≡ writes_from 0 65) }
+{
+    let mut line = KeyLine::new(alloc, ModelKind::Register, 4096)?;
+    for round in 0..65 {
+        line.push(
+            2 * round,
+            event(0, EventKind::Invoke, Name::Write, Part::Int(1)),
+        )?;
+        line.push(
+            2 * round + 1,
+            event(0, EventKind::Ok, Name::Write, Part::Int(1)),
+        )?;
+    }
+    Ok(line)
+}
+
+// How many events a cut of such a line judges again, and how many it leaves.
+fn after_cut(alloc: Global, n: u32) -> Result<(u64, usize), AllocError> {
+    let mut line = written(alloc)?;
+    let before = line.replayed();
+    line.cut(n)?;
+    Ok((line.replayed().wrapping_sub(before), line.len()))
+}
+
+// A cut judges again only what stays behind the last 64th event.
+#[test]
+fn rewind_replays_few(rt: HostRuntime) -> Result<(), Fail> {
+    for (n, again) in [(130, 0), (129, 1), (127, 63), (64, 0)] {
+        let (replayed, left) = after_cut(rt.alloc(), n)?;
+        assert_eq!(rt; replayed, again, "cut at {n}");
+        assert_eq!(rt; left, n as usize);
+    }
+    Ok(())
+}
+
+// Each event that is pushed is one replay, another kind judges each once more, and a cut counts once it is committed.
+#[test]
+fn replays_are_counted(rt: HostRuntime) -> Result<(), Fail> {
+    let mut line = written(rt.alloc())?;
+    assert!(rt; matches!(line.status(), KeyStatus::Alive));
+    assert_eq!(rt; line.replayed(), 130);
+    line.rebuild(ModelKind::CasRegister, 4096)?;
+    assert_eq!(rt; line.replayed(), 260);
+    line.prepare_cut(127)?;
+    assert_eq!(rt; line.due(), 63);
+    assert_eq!(rt; line.replayed(), 260);
+    Ok(())
+}
+
+// Whether a cut takes events away, and whether there are events before it.
+#[test]
+fn cuts_of_a_line(rt: HostRuntime) -> Result<(), Fail> {
+    let mut line = KeyLine::new(rt.alloc(), ModelKind::Register, 4096)?;
+    assert!(rt; !line.loses(0));
+    assert!(rt; !line.begins_below(9));
+    line.push(3, event(0, EventKind::Invoke, Name::Write, Part::Int(1)))?;
+    line.push(5, event(0, EventKind::Ok, Name::Write, Part::Int(1)))?;
+    assert!(rt; line.loses(0));
+    assert!(rt; line.loses(5));
+    assert!(rt; !line.loses(6));
+    assert!(rt; !line.begins_below(3));
+    assert!(rt; line.begins_below(4));
     Ok(())
 }
