@@ -1,5 +1,6 @@
 -- What commit brings
-use Rattle.std.proofs.Common.{◌≡◌, ℕ, Option, Some, None, IfSome, IsSome, option_map, option_and_then, List, [], ◌∷◌, ◌++◌, map, refl, sym, ap, ◌∙◌, subst}
+use Rattle.std.proofs.Common.{◌≡◌, ℕ, zero, suc, ◌<◌, Option, Some, None, IfSome, IsSome, option_map, option_and_then, List, [], ◌∷◌, ◌++◌, length, get_or, slice_get, map, refl, sym, ap, ◌∙◌, subst, arith}
+use Rattle.std.proofs.Math.ListN.{set}
 use Rattle.history.specs.declared.event.Fault.{Fault}
 use Rattle.nemesis.specs.Schedules.{after_first}
 use Rattle.generators.specs.Sources.{SourceView, upcoming, committed}
@@ -7,6 +8,7 @@ use Rattle.test_store.specs.declared.outcome.Outcome.{Outcome}
 use Rattle.test_store.specs.Store.{Cluster, StoreView}
 use Rattle.test_store.specs.Store.{at_rest as store_at_rest}
 use Rattle.trials.specs.declared.ticket.Ticket.{Ticket}
+use Rattle.trials.specs.Trials.{served_as}
 use Rattle.monitor.specs.JudgedHistory.{JudgedHistory}
 use Rattle.monitor.specs.Monitors.{MonitorView}
 use Rattle.monitor.specs.Monitors.{at_rest as monitor_at_rest}
@@ -14,7 +16,7 @@ use Rattle.machine.specs.Machine.{Machine, stale_from}
 use Rattle.harness.specs.declared.core_object.Change.{Change}
 use Rattle.harness.specs.declared.core_object.Change.TheVariants.{Nothing, Judged, Rewind as Cut, Draw as Invoke, Serve as Serving, StrikeDue, StrikeDrawn}
 use Rattle.harness.specs.CoreView.{CoreView, at_rest}
-use Rattle.harness.specs.SoundCore.{machine_of, judged_as, moved_on, struck_as, with_outcome, next_of, IsSoundMachine, IsSoundCore}
+use Rattle.harness.specs.SoundCore.{machine_of, judged_as, moved_on, struck_as, served_at, with_outcome, next_of, IsSoundMachine, IsSoundCore}
 use Rattle.harness.proofs.Preparing.{seen}
 
 -- the machine is then what the prepared change led to
@@ -87,6 +89,35 @@ module _ (monitor monitor' : MonitorView) (source source' : SourceView) (schedul
       ∙ ap (λ (x : SourceView). seen (monitor_at_rest h) x schedule (store_at_rest s) tickets Nothing) moved))
 
 -- and it is sound
-pub sound_done : (next : Option Machine) (new : CoreView) (cap : ℕ) → IsSome next → IfSome next IsSoundMachine → IfSome next (λ (n : Machine). new ≡ at_rest n) → IsSoundCore new.machine None cap Nothing
-sound_done None new cap some sound is = absurd some
-sound_done (Some n) new cap some sound is = record { now = subst (λ (x : CoreView). IsSoundMachine x.machine) (sym is) sound; then = tt; ready = tt }
+pub sound_done : (next : Option Machine) (new : CoreView) (room : ℕ) → IsSome next → IfSome next IsSoundMachine → IfSome next (λ (n : Machine). new ≡ at_rest n) → IsSoundCore new.machine None room Nothing
+sound_done None new room some sound is = absurd (cc some)
+sound_done (Some n) new room some sound is = record { now = subst (λ (x : CoreView). IsSoundMachine x.machine) (sym is) sound; then = tt; ready = tt }
+
+at_place : (tickets : List Ticket) (number : ℕ) (t : Ticket) → number < length tickets → t ≡ get_or tickets number t → slice_get tickets number ≡ Some t
+at_place [] number t l is = (let none : ⊥ = omega (arith, l) in absurd none)
+at_place (u ∷ tickets) zero t l is = ap (λ (x : Ticket). Some x) (sym is)
+at_place (u ∷ tickets) (suc number) t l is = at_place tickets number t (omega (arith, l)) is
+
+-- the outcome is noted with the ticket
+pub noted : (tickets : List Ticket) (number : ℕ) (outcome : Outcome) (t after : Ticket) → number < length tickets → t ≡ get_or tickets number t → after ≡ served_as outcome t → set tickets number after ≡ with_outcome number outcome tickets
+noted tickets number outcome t after l is served =
+    ap (λ (x : Ticket). set tickets number x) served
+    ∙ ap (λ (o : Option Ticket). served_at number outcome o tickets) (sym (at_place tickets number t l is))
+
+-- the same where the change was taken out, so that nothing is prepared any more
+pub serve_brings : (monitor : MonitorView) (source : SourceView) (schedule : List (ℕ × Fault)) (store store' : StoreView) (tickets tickets' : List Ticket) (change left : Change) (number : ℕ) (outcome : Outcome) → change ≡ Serving number outcome → left ≡ Nothing
+    → IfSome store.next (λ (next : Cluster). store' ≡ store_at_rest next) → tickets' ≡ with_outcome number outcome tickets
+    → IfSome (next_of monitor source store (machine_of monitor source schedule store tickets) change) (λ (next : Machine). seen monitor source schedule store' tickets' left ≡ at_rest next)
+serve_brings monitor source schedule store store' tickets tickets' change left number outcome is nothing done same =
+    subst (λ (x : Change). IfSome (next_of monitor source store (machine_of monitor source schedule store tickets) change) (λ (next : Machine). seen monitor source schedule store' tickets' x ≡ at_rest next)) (sym nothing)
+    (serve_done monitor monitor source source schedule schedule store store' tickets tickets' change number outcome is done same)
+
+pub serve_sound : (monitor : MonitorView) (source : SourceView) (schedule : List (ℕ × Fault)) (store store' : StoreView) (tickets tickets' : List Ticket) (change left : Change) (number : ℕ) (outcome : Outcome) (room : ℕ) → change ≡ Serving number outcome → left ≡ Nothing
+    → IfSome store.next (λ (next : Cluster). store' ≡ store_at_rest next) → tickets' ≡ with_outcome number outcome tickets
+    → IsSome (next_of monitor source store (machine_of monitor source schedule store tickets) change)
+    → IfSome (next_of monitor source store (machine_of monitor source schedule store tickets) change) IsSoundMachine
+    → IsSoundCore (machine_of monitor source schedule store' tickets') (next_of monitor source store' (machine_of monitor source schedule store' tickets') left) room left
+serve_sound monitor source schedule store store' tickets tickets' change left number outcome room is nothing done same some sound =
+    subst (λ (x : Change). IsSoundCore (machine_of monitor source schedule store' tickets') (next_of monitor source store' (machine_of monitor source schedule store' tickets') x) room x) (sym nothing)
+    (sound_done (next_of monitor source store (machine_of monitor source schedule store tickets) change) (seen monitor source schedule store' tickets' Nothing) room some sound
+    (serve_done monitor monitor source source schedule schedule store store' tickets tickets' change number outcome is done same))

@@ -1,5 +1,5 @@
 -- A draw, a serve, a finish and a fault that are prepared in the parts are prepared in the whole
-use Rattle.std.proofs.Common.{◌≡◌, ℕ, zero, suc, ◌%◌, ◌^◌, ◌-◌, ◌<◌, ◌≤◌, Option, Some, None, IfSome, IsSome, Ok, Err, List, [], ◌∷◌, ◌++◌, length, slice_get, slice_set, inl, inr, refl, sym, ap, ◌∙◌, subst, arith}
+use Rattle.std.proofs.Common.{◌≡◌, ℕ, zero, suc, ◌%◌, ◌^◌, ◌-◌, ◌<◌, ◌≤◌, Option, Some, None, List, [], ◌∷◌, ◌++◌, length, slice_get, inl, inr, refl, sym, ap, ◌∙◌, subst, arith}
 use Rattle.models.specs.declared.operation.Op.{Op}
 use Rattle.history.specs.declared.event.Event.{Event}
 use Rattle.history.specs.declared.event.Fault.{Fault}
@@ -16,11 +16,10 @@ use Rattle.generators.specs.Sources.{SourceView, upcoming}
 use Rattle.test_store.specs.declared.outcome.Outcome.{Outcome}
 use Rattle.test_store.specs.Store.{Cluster, StoreView, MayServe, MayStrike, VersionsOf, row_of, after_fault}
 use Rattle.trials.specs.declared.ticket.Ticket.{Ticket}
-use Rattle.trials.specs.Trials.{invocation, completion, strike, fresh_ticket, served_as, IsStillOpen}
-use Rattle.monitor.specs.JudgedHistory.{JudgedHistory, IsVerdictOn, with_event}
+use Rattle.trials.specs.Trials.{invocation, strike, fresh_ticket, IsStillOpen}
+use Rattle.monitor.specs.JudgedHistory.{IsVerdictOn, with_event}
 use Rattle.monitor.specs.Monitors.{MonitorView, Admits}
 use Rattle.monitor.specs.Monitors.{with_next as monitor_with_next}
-use Rattle.machine.specs.declared.command.Command.{Command}
 use Rattle.machine.specs.declared.command.Command.TheVariants.{Draw, Serve, Finish, Nemesis}
 use Rattle.machine.specs.declared.command.Reply.{Reply}
 use Rattle.machine.specs.declared.command.Reply.TheVariants.{Verdict as Says, Drawn as HasDrawn, Pending as IsPending, Done as IsDone, Served, Fault as Struck}
@@ -28,11 +27,8 @@ use Rattle.machine.specs.Machine.{Machine, HasTicket, ThreadMayDraw, Gives, idle
 use Rattle.machine.specs.Tickets.{IsAnswered, served_of}
 use Rattle.machine.proofs.Counting.{served-le}
 use Rattle.machine.proofs.Tickets.{may_complete}
-use Rattle.harness.specs.declared.asking.Drew.{Drew}
-use Rattle.harness.specs.declared.asking.Drew.TheVariants.{Op as DrewOp, Pending as DrewPending, Done as DrewDone}
-use Rattle.harness.specs.declared.core_object.Change.{Change}
 use Rattle.harness.specs.declared.core_object.Change.TheVariants.{Same, Judged, Draw as Invoke, Serve as Serving, StrikeDue, StrikeDrawn}
-use Rattle.harness.specs.Asking.{MayGive, MayGiveOp, MayGiveFault, drawn_of}
+use Rattle.harness.specs.Asking.{MayGive}
 use Rattle.harness.specs.CoreView.{CoreView, IsPrepared}
 use Rattle.harness.specs.SoundCore.{machine_of, judged_as, moved_on, served_at, IsSoundMachine}
 use Rattle.harness.specs.Tickets.{MayFinish, MayServe as MayBeServed}

@@ -1,5 +1,5 @@
 -- Whether each thread is idle
-use Rattle.std.proofs.Common.{◌≡◌, ℕ, zero, suc, ◌+◌, ◌<◌, Bool, not, is_some, List, [], ◌∷◌, ◌++◌, length, take, refl, sym, ap, ◌∙◌, arith}
+use Rattle.std.proofs.Common.{◌≡◌, ℕ, zero, suc, ◌+◌, ◌<◌, Bool, true, false, not, Option, is_some, List, [], ◌∷◌, ◌++◌, length, take, refl, sym, ap, ◌∙◌, arith}
 use Rattle.std.proofs.Math.ListN.{set}
 use Rattle.std.proofs.lemmas.List.{take_more_set}
 use Rattle.history.specs.declared.event.Event.{Event}
@@ -19,3 +19,11 @@ flags_more c events flags t b l is before =
     ∙ ap (λ (xs : List Bool). xs ++ not (is_some (open_index c events t)) ∷ []) before
     ∙ sym (idle_more c events 0 t t (omega arith))
     ∙ ap (λ (n : ℕ). idle_from c events 0 n) (let e : suc t ≡ t + 1 = omega arith in e)
+
+twice : (b : Bool) → b ≡ not (not b)
+twice true = refl
+twice false = refl
+
+-- a thread is idle where it has no open operation
+pub idle_by : (o opened : Option ℕ) (b : Bool) → o ≡ opened → is_some o ≡ not b → b ≡ not (is_some opened)
+idle_by o opened b is h = twice b ∙ ap not (sym h) ∙ ap (λ (x : Option ℕ). not (is_some x)) is

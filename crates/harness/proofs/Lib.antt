@@ -1,3 +1,4 @@
+pub mod Asked
 pub mod Committing
 pub mod Driving
 pub mod Fitting

@@ -1,15 +1,14 @@
 -- A command that is prepared in the parts is prepared in the whole
-use Rattle.std.proofs.Common.{◌≡◌, ℕ, ◌%◌, ◌<◌, ◌≤◌, Option, Some, None, IfSome, IsSome, IfErr, Result, Ok, Err, List, [], ◌∷◌, ◌++◌, length, slice_get, slice_set, refl, sym, ap, ◌∙◌, subst, arith}
+use Rattle.std.proofs.Common.{◌≡◌, ℕ, ◌≤◌, Option, None, IfSome, IfErr, Result, Ok, Err, List, length, refl, sym, ap, subst}
 use Rattle.edn.specs.declared.refusal.Refusal.{Refusal}
 use Rattle.edn.specs.declared.refusal.Refusal.TheVariants.{NoMemory}
-use Rattle.models.specs.declared.operation.Op.{Op}
 use Rattle.models.specs.declared.model_kind.ModelKind.{ModelKind}
 use Rattle.history.specs.declared.event.Event.{Event}
 use Rattle.history.specs.declared.event.Fault.{Fault}
 use Rattle.history.specs.WellFormed.{HistoryView}
 use Rattle.linspec.specs.declared.verdict.Verdict.{Verdict}
 use Rattle.generators.specs.Sources.{SourceView}
-use Rattle.test_store.specs.Store.{Cluster, StoreView}
+use Rattle.test_store.specs.Store.{StoreView}
 use Rattle.trials.specs.declared.ticket.Ticket.{Ticket}
 use Rattle.monitor.specs.JudgedHistory.{JudgedHistory, IsVerdictOn, IsBudget, with_event, rewound, with_kind, with_budget}
 use Rattle.monitor.specs.Monitors.{MonitorView, Admits}
@@ -21,7 +20,7 @@ use Rattle.machine.specs.declared.command.Reply.TheVariants.{Verdict as Says}
 use Rattle.machine.specs.Machine.{Machine, Refuses, MayStep, cut_to}
 use Rattle.harness.specs.declared.core_object.Change.{Change}
 use Rattle.harness.specs.declared.core_object.Change.TheVariants.{Nothing, Same, Judged, Rewind as Cut}
-use Rattle.harness.specs.CoreView.{CoreView, at_rest, with_next, IsPrepared, MayWantMemory, MayDecline}
+use Rattle.harness.specs.CoreView.{CoreView, IsPrepared, MayDecline}
 use Rattle.harness.specs.SoundCore.{machine_of, judged_as, next_of, IsSoundMachine, IsReady, IsSoundCore}
 use Rattle.harness.specs.Tickets.{IsOf}
 use Rattle.harness.proofs.Showing.{Shows}

@@ -1,5 +1,5 @@
 -- A step of the whole is a step of the relation, and raises no false alarm
-use Rattle.std.proofs.Common.{◌≡◌, ◌≢◌, ◌∙◌, Bool, true, false, true≢false, Result, Ok, Err, IfOk, IfErr, List, [], ◌∷◌, ◌++◌, refl, sym, ap, subst}
+use Rattle.std.proofs.Common.{◌≡◌, ◌≢◌, ◌∙◌, Bool, true, false, true≢false, Option, IfSome, Result, Ok, Err, IfOk, IfErr, List, [], ◌∷◌, ◌++◌, refl, sym, ap, subst}
 use Rattle.std.specs.Prelude.{IsErrOf}
 use Rattle.edn.specs.declared.refusal.Refusal.{Refusal}
 use Rattle.edn.specs.declared.refusal.Refusal.TheVariants.{NoMemory}
@@ -12,7 +12,7 @@ use Rattle.monitor.specs.JudgedHistory.{kind_of, entries_in}
 use Rattle.machine.specs.declared.command.Command.{Command}
 use Rattle.machine.specs.declared.command.Reply.{Reply}
 use Rattle.machine.specs.Machine.{Machine, Setup, opening, MayStep, Runs, AreOfTrial}
-use Rattle.harness.specs.CoreView.{CoreView, IsPrepared, MayWantMemory, MayDecline}
+use Rattle.harness.specs.CoreView.{CoreView, at_rest, with_next, IsPrepared, MayWantMemory, MayDecline}
 use Rattle.harness.proofs.Preparing.{declined}
 
 abbrev pub Outcome : Type 0
@@ -71,3 +71,22 @@ no_alarm law old new command result steps stays setup run strict count ok runs =
 -- a command that is answered as its arm says
 pub arm_answered : (r : Result (Reply × Verdict) Refusal) (m : Machine) (command arm : Command) (new : CoreView) → command ≡ arm → IfOk r (λ (a : Reply × Verdict). IsPrepared m arm a new) → IfOk r (λ (a : Reply × Verdict). IsPrepared m command a new)
 arm_answered r m command arm new is h = subst (λ (c : Command). IfOk r (λ (a : Reply × Verdict). IsPrepared m c a new)) (sym is) h
+
+-- the same where the command was refused, and where it was answered
+module _ (law : Law) (old new : Machine) (command : Command) where
+  pub refused_alarm : (result : Outcome) (why : Refusal) → result ≡ Err why → (why ≢ NoMemory → MayStep old command (Err why) old) → new ≡ old
+      → (setup : Setup) (run : List (Command × Outcome)) → setup.mode ≡ Strict → IsCount setup.replicas → AreOfTrial (run ++ (command, result) ∷ []) → Runs (opening setup) run old → NoAlarm new
+  refused_alarm result why is may same = no_alarm law old new command result
+      (λ not. subst (λ (r : Outcome). MayStep old command r new) (sym is) (subst (λ (m : Machine). MayStep old command (Err why) m) (sym same) (may (λ q. not (is ∙ ap (λ (w : Refusal). let r : Outcome = Err w in r) q)))))
+      (λ _. same)
+
+  pub answered_alarm : (reply : Reply) (next : Machine) → MayStep old command (Ok reply) next → new ≡ next
+      → (setup : Setup) (run : List (Command × Outcome)) → setup.mode ≡ Strict → IsCount setup.replicas → AreOfTrial (run ++ (command, Ok reply) ∷ []) → Runs (opening setup) run old → NoAlarm new
+  answered_alarm reply next step same = no_alarm law old new command (Ok reply)
+      (λ _. subst (λ (m : Machine). MayStep old command (Ok reply) m) (sym same) step)
+      (λ q. absurd (cc q))
+
+-- what was committed is what was prepared
+pub committed_as : (prepared new : CoreView) (m next : Machine) → prepared ≡ with_next m next → IfSome prepared.next (λ (n : Machine). new ≡ at_rest n) → new.machine ≡ next
+committed_as prepared new m next is done =
+    ap (λ (v : CoreView). v.machine) (subst (λ (o : Option Machine). IfSome o (λ (n : Machine). new ≡ at_rest n)) (ap (λ (v : CoreView). v.next) is) done)

@@ -1,5 +1,5 @@
 -- Which fault strikes next, and why none does
-use Rattle.std.proofs.Common.{◌≡◌, ℕ, ◌<◌, ◌≤◌, ◌^◌, ◌⊎◌, ⊎_elim, inl, inr, Bool, true, false, nat_le, if◌then◌else◌, Option, Some, None, IsSome, List, [], ◌∷◌, length, refl, sym, ap, ◌∙◌, subst, arith}
+use Rattle.std.proofs.Common.{◌≡◌, ℕ, ◌<◌, ◌≤◌, ◌⊎◌, ⊎_elim, inl, inr, Bool, true, false, nat_le, if◌then◌else◌, Option, Some, None, List, [], ◌∷◌, length, refl, sym, ap, ◌∙◌, subst, arith}
 use Rattle.history.specs.declared.event.Event.{Event}
 use Rattle.history.specs.declared.event.Fault.{Fault}
 use Rattle.history.specs.WellFormed.{HistoryView, HasRoom}
@@ -13,8 +13,7 @@ use Rattle.test_store.specs.Store.{StoreView, MayStrike}
 use Rattle.trials.specs.declared.ticket.Ticket.{Ticket}
 use Rattle.monitor.specs.Monitors.{MonitorView}
 use Rattle.machine.specs.Machine.{Machine, NextFault, HasNoFault, first_due}
-use Rattle.harness.specs.Asking.{MayGiveFault}
-use Rattle.harness.specs.SoundCore.{machine_of, moved_on, IsSoundMachine}
+use Rattle.harness.specs.SoundCore.{machine_of, moved_on}
 use Rattle.harness.proofs.Showing.{Shows}
 use Rattle.harness.proofs.Driving.{GivesBy, given}
 

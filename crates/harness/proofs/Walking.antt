@@ -14,7 +14,7 @@ pub comes_on : (A B C P : Type 0) → Comes A B → Comes A (P × C) → P → C
 comes_on A B C P c s p = ((λ x. c.0 (s.1 (p, x))), (λ b. (s.0 (c.1 b)).1))
 
 pub comes_not : (A B C P : Type 0) → Comes A B → Comes A (P × C) → ¬ P → ¬ B
-comes_not A B C P c s no b = no (s.0 (c.1 b)).0
+comes_not A B C P c s denied b = denied (s.0 (c.1 b)).0
 
 pub same_type : (A B : Type 0) → A → B → Comes A B
 same_type A B a b = ((λ _. b), (λ _. a))

@@ -1,5 +1,5 @@
 -- Promise: the one-thread object, as a caller sees it, and when a command of it may want memory (this project's own)
-use Rattle.std.specs.Prelude.{◌≡◌, ℕ, ◌≤◌, Option, Some, None, IsSome, Result, Ok, List, length}
+use Rattle.std.specs.Prelude.{◌≡◌, ◌≤◌, Option, Some, None, IsSome, Ok, length}
 use Rattle.edn.specs.declared.refusal.Refusal.{Refusal}
 use Rattle.edn.specs.declared.refusal.Refusal.TheVariants.{NoMemory}
 use Rattle.history.specs.WellFormed.{HasRoom}

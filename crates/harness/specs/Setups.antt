@@ -1,5 +1,5 @@
 -- Promise: how the one-thread object is opened, and why it is not (this project's own)
-use Rattle.std.specs.Prelude.{ℕ, List}
+use Rattle.std.specs.Prelude.{[]}
 use Rattle.edn.specs.declared.refusal.Refusal.{Refusal}
 use Rattle.edn.specs.declared.refusal.Refusal.TheVariants.{BadValue, BadBudget, BadConcurrency, NoMemory, NoSuchReplica}
 use Rattle.history.specs.WellFormed.{IsConcurrency}

@@ -1,7 +1,7 @@
 -- Invariant: what the one-thread object keeps true of its parts
-use Rattle.std.specs.Prelude.{◌≡◌, ℕ, ◌<◌, ◌≤◌, Option, Some, None, IfSome, option_map, option_and_then, List, [], ◌∷◌, ◌++◌, length, map, slice_get, slice_set}
+use Rattle.std.specs.Prelude.{ℕ, ◌<◌, ◌≤◌, Option, Some, None, IfSome, option_map, option_and_then, List, [], ◌∷◌, ◌++◌, length, map, slice_get, slice_set}
 use Rattle.history.specs.declared.event.Fault.{Fault}
-use Rattle.history.specs.WellFormed.{HistoryView, IsPart}
+use Rattle.history.specs.WellFormed.{IsPart}
 use Rattle.nemesis.specs.Schedules.{after_first}
 use Rattle.generators.specs.declared.item.Item.{Item}
 use Rattle.generators.specs.declared.item.Item.TheVariants.{Op as AnOp, Fault as AFault}

@@ -1,5 +1,5 @@
 -- Invariant: what the tests of a command have shown
-use Rattle.std.specs.Prelude.{◌≡◌, ℕ, Option, Some, None, List}
+use Rattle.std.specs.Prelude.{◌≡◌, ℕ, Some, None, List}
 use Rattle.history.specs.declared.event.Event.{Event}
 use Rattle.history.specs.WellFormed.{HistoryView, HasRoom}
 use Rattle.test_store.specs.declared.outcome.Outcome.{Outcome}

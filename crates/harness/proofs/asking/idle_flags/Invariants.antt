@@ -1,4 +1,4 @@
-use Rattle.std.proofs.Common.{◌≡◌, ◌≤◌, length, take}
+use Rattle.std.proofs.Common.{◌≡◌, length, take}
 use Rattle.machine.specs.Machine.{idle_from}
 use Rattle.harness.proofs.asking.idle_flags.Given as goal
 

@@ -1,4 +1,4 @@
-use Rattle.std.proofs.Common.{◌≡◌, ◌↔◌, ℕ, ◌+◌, Bool, List, IsTrue, drop, refl, sym, ap, ◌∙◌, subst, true≢false}
+use Rattle.std.proofs.Common.{◌≡◌, ◌↔◌, ◌+◌, Bool, List, IsTrue, drop, refl, sym, ap, ◌∙◌, subst, true≢false}
 use Rattle.std.proofs.lemmas.List.{drop_all}
 use Rattle.generators.specs.declared.item.Item.{Item}
 use Rattle.generators.specs.declared.form.Gen.{Gen}
@@ -19,24 +19,24 @@ by_children test g children shown form same r is also h =
 
 pub all_items_pass-returns-in-Mix : goal.all_items_pass-returns-in-Mix
 all_items_pass-returns-in-Mix t c =
-    by_children c.args.test c.args.generator.now c.in-Mix.children.now.items c.deref.result.now mix (λ gs. refl) c.all_children_pass.result (ap generator_of c.in-Mix.is ∙ view-Mix c.in-Mix.children.now) c.deref.ensures.value c.all_children_pass.ensures
+    by_children c.args.test c.args.generator.now c.in-Mix.children.items c.deref-in-Mix.result.now mix (λ gs. refl) c.all_children_pass.result (ap generator_of c.in-Mix.is ∙ view-Mix c.in-Mix.children) c.deref-in-Mix.ensures.value c.all_children_pass.ensures
 
 pub all_items_pass-returns-in-Seq : goal.all_items_pass-returns-in-Seq
 all_items_pass-returns-in-Seq t c =
-    by_children c.args.test c.args.generator.now c.in-Seq.children.now.items c.deref.result.now seq (λ gs. refl) c.all_children_pass.result (ap generator_of c.in-Seq.is ∙ view-Seq c.in-Seq.children.now) c.deref.ensures.value c.all_children_pass.ensures
+    by_children c.args.test c.args.generator.now c.in-Seq.children.items c.deref-in-Seq.result.now seq (λ gs. refl) c.all_children_pass-in-Seq.result (ap generator_of c.in-Seq.is ∙ view-Seq c.in-Seq.children) c.deref-in-Seq.ensures.value c.all_children_pass-in-Seq.ensures
 
 pub all_items_pass-returns-in-Phases : goal.all_items_pass-returns-in-Phases
 all_items_pass-returns-in-Phases t c =
-    by_children c.args.test c.args.generator.now c.in-Phases.children.now.items c.deref.result.now phases (λ gs. refl) c.all_children_pass.result (ap generator_of c.in-Phases.is ∙ view-Phases c.in-Phases.children.now) c.deref.ensures.value c.all_children_pass.ensures
+    by_children c.args.test c.args.generator.now c.in-Phases.children.items c.deref-in-Phases.result.now phases (λ gs. refl) c.all_children_pass-in-Phases.result (ap generator_of c.in-Phases.is ∙ view-Phases c.in-Phases.children) c.deref-in-Phases.ensures.value c.all_children_pass-in-Phases.ensures
 
 pub all_items_pass-returns-in-EachThread : goal.all_items_pass-returns-in-EachThread
 all_items_pass-returns-in-EachThread t c =
-    by_children c.args.test c.args.generator.now c.in-EachThread.children.now.items c.deref.result.now each_thread (λ gs. refl) c.all_children_pass.result (ap generator_of c.in-EachThread.is ∙ view-EachThread c.in-EachThread.children.now) c.deref.ensures.value c.all_children_pass.ensures
+    by_children c.args.test c.args.generator.now c.in-EachThread.children.items c.deref-in-EachThread.result.now each_thread (λ gs. refl) c.all_children_pass-in-EachThread.result (ap generator_of c.in-EachThread.is ∙ view-EachThread c.in-EachThread.children) c.deref-in-EachThread.ensures.value c.all_children_pass-in-EachThread.ensures
 
 pub all_items_pass-returns-in-Ops : goal.all_items_pass-returns-in-Ops
 all_items_pass-returns-in-Ops t c =
-    let turn = each_turn (Passes c.args.test) c.items.result.now c.in-Ops.items.now c.items.ensures in
-    subst (λ (x : Generator). IsTrue c.each_passes.result ↔ AllItems (Passes c.args.test) x) (sym (ap generator_of c.in-Ops.is ∙ view-Ops c.in-Ops.items.now))
+    let turn = each_turn (Passes c.args.test) c.items.result.now c.in-Ops.items c.items.ensures in
+    subst (λ (x : Generator). IsTrue c.each_passes.result ↔ AllItems (Passes c.args.test) x) (sym (ap generator_of c.in-Ops.is ∙ view-Ops c.in-Ops.items))
     ((λ h. turn.0 (c.each_passes.ensures.0 h)), (λ h. c.each_passes.ensures.1 (turn.1 h)))
 
 pub all_children_pass-returns-then-not-all_items_pass : goal.all_children_pass-returns-then-not-all_items_pass

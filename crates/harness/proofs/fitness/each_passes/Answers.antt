@@ -1,4 +1,4 @@
-use Rattle.std.proofs.Common.{ℕ, ◌+◌, drop, refl, sym, subst, true≢false}
+use Rattle.std.proofs.Common.{◌+◌, drop, refl, sym, subst, true≢false}
 use Rattle.std.proofs.lemmas.List.{drop_all}
 use Rattle.generators.specs.declared.item.Item.{Item}
 use Rattle.generators.specs.Generators.{Each}

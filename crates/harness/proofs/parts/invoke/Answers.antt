@@ -1,4 +1,4 @@
-use Rattle.std.proofs.Common.{◌≡◌, ℕ, sym, ap, ◌∙◌, subst}
+use Rattle.std.proofs.Common.{◌≡◌, ℕ, sym, ◌∙◌, subst}
 use Rattle.processes.specs.MoveRule.{current_of}
 use Rattle.models.specs.declared.operation.Op.{Op}
 use Rattle.history.specs.declared.event.Event.{Event}

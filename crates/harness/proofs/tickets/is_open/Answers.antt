@@ -2,7 +2,7 @@ use Rattle.std.proofs.Common.{sym, ap, ◌∙◌, Some}
 use Rattle.std.proofs.lemmas.Bool.{eqb-true, eq-eqb}
 use Rattle.std.proofs.lemmas.Option.{same_Some}
 use Rattle.machine.proofs.OnlyCurrent.{by_index}
-use Rattle.harness.proofs.OpenTickets.{open_by_index, none_some}
+use Rattle.harness.proofs.OpenTickets.{open_by_index}
 use Rattle.harness.proofs.tickets.is_open.Goals as goal
 
 pub returns-then-current-ticket : goal.returns-then-current-ticket

@@ -1,4 +1,4 @@
-use Rattle.std.proofs.Common.{◌≡◌, length, take, drop, map, ◌++◌}
+use Rattle.std.proofs.Common.{◌≡◌, take, drop, map, ◌++◌}
 use Rattle.machine.specs.Machine.{stale_from}
 use Rattle.harness.proofs.tickets.make_stale.Given as goal
 

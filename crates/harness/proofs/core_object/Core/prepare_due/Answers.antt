@@ -3,11 +3,10 @@ use Rattle.std.specs.Vec.{vec_capacity}
 use Rattle.edn.specs.declared.refusal.Refusal.TheVariants.{HistoryFull}
 use Rattle.history.specs.declared.event.Event.{Event}
 use Rattle.history.specs.declared.event.Fault.{Fault}
-use Rattle.history.specs.WellFormed.{HasRoom}
 use Rattle.test_store.specs.Store.{MayStrike}
 use Rattle.machine.specs.declared.command.Command.TheVariants.{Nemesis}
 use Rattle.machine.specs.declared.command.Reply.TheVariants.{Fault as Struck}
-use Rattle.machine.specs.Machine.{Refuses, first_due}
+use Rattle.machine.specs.Machine.{Refuses}
 use Rattle.harness.specs.declared.core_object.Change.TheVariants.{StrikeDue}
 use Rattle.harness.specs.CoreView.{CoreView, IsPrepared}
 use Rattle.harness.specs.SoundCore.{machine_of}

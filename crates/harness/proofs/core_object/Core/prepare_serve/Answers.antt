@@ -17,8 +17,8 @@ use Rattle.harness.proofs.core_object.Core.prepare_serve.Goals as goal
 pub returns-in_err-ticket-clause-refused : goal.returns-in_err-ticket-clause-refused
 returns-in_err-ticket-clause-refused c =
     let a = c.self.inside in
-    let r = c.from_residual-in_err-ticket.result in
-    let (e, same, from) = err_from_is_err_and r c.from_residual-in_err-ticket.ensures.1 in
+    let r = c.from_residual.result in
+    let (e, same, from) = err_from_is_err_and r c.from_residual.ensures.1 in
     declines_at r e c.in_err-ticket.field-0.0 _ c.args.self.now (Serve c.args.number) same from c.self.view_is
     (c.in_err-ticket.ensures.refused (machine_of a.monitor a.source a.schedule a.store a.tickets.items)
     (is_of a.monitor a.source a.schedule a.store a.tickets.items c.as_slice.result.now c.history.result.now (c.history.ensures.concurrency, c.history.ensures.events) c.as_slice.ensures.value))
