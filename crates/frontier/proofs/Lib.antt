@@ -20,3 +20,7 @@ pub mod Including
 pub mod Telling
 pub mod Putting
 pub mod Starting
+pub mod Stating
+pub mod Moving
+pub mod Settling
+pub mod Judging

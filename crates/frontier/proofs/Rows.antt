@@ -1,8 +1,6 @@
 -- ends as rows of numbers
 use Rattle.std.proofs.Common.{◌≡◌, ◌≢◌, ℕ, zero, suc, ◌+◌, ◌<◌, ◌⊎◌, inl, inr, ⊎_elim, Bool, true, false, Option, Some, None, is_some, unwrap_or, List, [], ◌∷◌, ◌++◌, map, length, slice_get, get_or, set, refl, sym, ap, ◌∙◌, subst, arith, add-one}
 use Rattle.std.specs.List.{Contains}
-use Rattle.std.specs.Borrow.{Bor}
-use Rattle.std.specs.Option.{IsSomeAnd}
 use Rattle.std.specs.Cmp.{nat_cmp_total}
 use Rattle.std.specs.FinMap as finmap
 use Rattle.std.specs.FinSet as finset
@@ -18,7 +16,7 @@ use Rattle.linspec.proofs.FinLaws.{get-insert_same, get-insert_other, contains-i
 use Rattle.frontier.specs.declared.pending_op.PendingOp.{PendingOp}
 use Rattle.frontier.specs.EndSteps.{is_in, with_call}
 use Rattle.frontier.specs.KeptEnds.{IsIncluded}
-use Rattle.frontier.specs.Tables.{HasEachOnce, IsOnceIn, IsSlot, IsStateWithout, Says, found_by, found_in_end, nothing_if, told_by}
+use Rattle.frontier.specs.Tables.{HasEachOnce, IsOnceIn, IsSlot, Says, found_by, found_in_end, nothing_if, told_by}
 use Rattle.frontier.proofs.Changes.{same_parts}
 
 -- places of lists
@@ -101,7 +99,7 @@ module _ {S : Type 0} where
   not_in_by e id true h = no_nothing (finset.contains e.crashed id) h
   not_in_by e id false h = ap is_some h
 
-  told_pending : (e : End S) (c : PendingOp) (id : ℕ) → c.id ≡ id → c.crashed ≡ false → found_by e c ≡ finmap.get e.pending id
+  pub told_pending : (e : End S) (c : PendingOp) (id : ℕ) → c.id ≡ id → c.crashed ≡ false → found_by e c ≡ finmap.get e.pending id
   told_pending e c id a b = ap (λ k. found_in_end e c.id k) b ∙ ap (λ i. finmap.get e.pending i) a
 
   told_crashed : (e : End S) (c : PendingOp) (id : ℕ) → c.id ≡ id → c.crashed ≡ true → found_by e c ≡ nothing_if (finset.contains e.crashed id)
@@ -260,10 +258,6 @@ in_unless founds e c row k within slot other = by (is_in e c.id c.crashed) refl
     by false is =
         let zero' : get_or row k 0 ≡ 0 = subst (IsSlot founds (get_or row k 0)) (not_told e c.id c.crashed is) slot in
         absurd (other (slice_get-get_or row k 0 within ∙ ap Some zero'))
-
-pub state_there : {S : Type 0} (e : End S) (c : PendingOp) (r : Option (Bor S)) → is_in e c.id c.crashed ≡ false → IsSomeAnd r (λ s. s.now ≡ e.state) → IsStateWithout e c r
-state_there e c None out h = absurd h
-state_there e c (Some s) out h = (out, h)
 
 -- a row that is made, a number after another
 pub slots_more : {S : Type 0} (founds more : List Found) (calls : List PendingOp) (e : End S) (row longer : List ℕ) (n slot : ℕ) (c : PendingOp) → IsFront founds more → length row ≡ n + 1 → longer ≡ row ++ slot ∷ []

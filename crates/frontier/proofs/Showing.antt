@@ -11,27 +11,27 @@ use Rattle.frontier.specs.declared.pending_op.PendingOp.{PendingOp}
 use Rattle.frontier.specs.declared.table.Table.{Table}
 use Rattle.frontier.specs.EndSteps.{TakesLast, Next, Along, Grows}
 use Rattle.models.specs.declared.finding.Found.{Found}
-use Rattle.frontier.specs.Tables.{AreShown, IsOnceIn, IsPut, LeadsTo, Shows, ShownWith, Widens, items_of, rows_of}
+use Rattle.frontier.specs.Tables.{AreShown, IsOnceIn, IsPut, LeadsTo, Says, Shows, ShownWith, Widens, items_of, rows_of}
 use Rattle.frontier.proofs.Adding.{IsFront-itself, IsFront-push, IsFront-trans, Adds-old, Adds-new, Adds-change, Adds-more, Adds-none, Adds-start, one_more}
 use Rattle.frontier.proofs.Reaching.{reached_next}
 use Rattle.frontier.proofs.Rows.{clash, one_end, one_row, says_more, place_of, has_place, some_at, get_push}
 
 -- tables that widen
 pub widens_itself : {S : Type 0} (t : Table S) → Widens t t
-widens_itself t = record { states = IsFront-itself t.states.items; founds = IsFront-itself t.founds.items; states_once = λ h. h; founds_once = λ h. h }
+widens_itself t = record { states = IsFront-itself t.states; founds = IsFront-itself t.founds.items; states_once = λ h. h; founds_once = λ h. h }
 
 pub widens_on : {S : Type 0} (t u v : Table S) → Widens t u → Widens u v → Widens t v
 widens_on t u v a b = record {
-  states = IsFront-trans t.states.items u.states.items v.states.items a.states b.states;
+  states = IsFront-trans t.states u.states v.states a.states b.states;
   founds = IsFront-trans t.founds.items u.founds.items v.founds.items a.founds b.founds;
   states_once = λ h. b.states_once (a.states_once h);
   founds_once = λ h. b.founds_once (a.founds_once h);
 }
 
 -- a table whose states or whose found things are more
-pub widens_states : {S : Type 0} (t u : Table S) (states : Vec S Global) → Widens t u → IsFront u.states.items states.items → (IsOnceIn u.states.items → IsOnceIn states.items) → Widens t (record { states = states; founds = u.founds; rows = u.rows })
+pub widens_states : {S : Type 0} (t u : Table S) (states : List S) → Widens t u → IsFront u.states states → (IsOnceIn u.states → IsOnceIn states) → Widens t (record { states = states; founds = u.founds; rows = u.rows })
 widens_states t u states w front once = record {
-  states = IsFront-trans t.states.items u.states.items states.items w.states front;
+  states = IsFront-trans t.states u.states states w.states front;
   founds = w.founds;
   states_once = λ h. once (w.states_once h);
   founds_once = w.founds_once;
@@ -45,9 +45,9 @@ widens_founds t u founds w front once = record {
   founds_once = λ h. once (w.founds_once h);
 }
 
-pub widens_rows : {S : Type 0} (t u : Table S) → u.states.items ≡ t.states.items → u.founds.items ≡ t.founds.items → Widens t u
+pub widens_rows : {S : Type 0} (t u : Table S) → u.states ≡ t.states → u.founds.items ≡ t.founds.items → Widens t u
 widens_rows t u a b = record {
-  states = subst (IsFront t.states.items) (sym a) (IsFront-itself t.states.items);
+  states = subst (IsFront t.states) (sym a) (IsFront-itself t.states);
   founds = subst (IsFront t.founds.items) (sym b) (IsFront-itself t.founds.items);
   states_once = λ h. subst IsOnceIn (sym a) h;
   founds_once = λ h. subst IsOnceIn (sym b) h;
@@ -57,9 +57,9 @@ widens_rows t u a b = record {
 no_get : {X : Type 0} (xs : List X) (i : ℕ) (x : X) → xs ≡ [] → slice_get xs i ≡ Some x → ⊥
 no_get xs i x none h = clash x _ (ap (λ l. slice_get l i) none) h
 
-pub shown_none : {S : Type 0} (calls : List PendingOp) (t : Table S) → t.states.items ≡ [] → t.founds.items ≡ [] → rows_of t ≡ [] → AreShown t calls []
+pub shown_none : {S : Type 0} (calls : List PendingOp) (t : Table S) → t.states ≡ [] → t.founds.items ≡ [] → rows_of t ≡ [] → AreShown t calls []
 shown_none calls t a b c = record {
-  states_once = λ i j x h k. absurd (no_get t.states.items i x a h);
+  states_once = λ i j x h k. absurd (no_get t.states i x a h);
   founds_once = λ i j x h k. absurd (no_get t.founds.items i x b h);
   long = ap length c;
   each = λ i row e h k. absurd (no_get (rows_of t) i row c h);
@@ -70,7 +70,7 @@ shown_first calls t R a = record { more = []; shown = a; front = IsFront-itself 
 
 module _ {S : Type 0} (calls : List PendingOp) (t u : Table S) where
   pub shows_more : (row : List ℕ) (e : End S) → Widens t u → Shows t calls row e → Shows u calls row e
-  shows_more row e w a = says_more t.states.items t.founds.items calls u.states.items u.founds.items row e w.states w.founds a
+  shows_more row e w a = says_more t.states t.founds.items calls u.states u.founds.items row e w.states w.founds a
 
   pub shown_more : (ends : List (End S)) → Widens t u → rows_of u ≡ rows_of t → AreShown t calls ends → AreShown u calls ends
   shown_more ends w same a = record {
@@ -87,14 +87,14 @@ module _ {S : Type 0} (calls : List PendingOp) (t u : Table S) where
         let p = place_of (rows_of t) row h in
         let lt : p.0 < length ends = (let b = slice_get_within (rows_of t) p.0 row p.1 in let l = a.long in omega (arith, b, l)) in
         let e = some_at ends p.0 lt in
-        subst (Contains ends) (one_end t.states.items t.founds.items calls row e.0 f (a.each p.0 row e.0 p.1 e.1) shows) (has_place ends p.0 e.0 e.1)
+        subst (Contains ends) (one_end t.states t.founds.items calls row e.0 f (a.each p.0 row e.0 p.1 e.1) shows) (has_place ends p.0 e.0 e.1)
 
     back : Contains ends f → Contains (rows_of t) row
     back h =
         let p = place_of ends f h in
         let lt : p.0 < length (rows_of t) = (let b = slice_get_within ends p.0 f p.1 in let l = a.long in omega (arith, b, l)) in
         let r = some_at (rows_of t) p.0 lt in
-        subst (Contains (rows_of t)) (one_row t.states.items t.founds.items calls a.states_once a.founds_once r.0 row f (a.each p.0 r.0 f r.1 p.1) shows) (has_place (rows_of t) p.0 r.0 r.1)
+        subst (Contains (rows_of t)) (one_row t.states t.founds.items calls a.states_once a.founds_once r.0 row f (a.each p.0 r.0 f r.1 p.1) shows) (has_place (rows_of t) p.0 r.0 r.1)
 
     pushed : rows_of u ≡ rows_of t ++ row ∷ [] → (i : ℕ) (r : List ℕ) (e : End S) → slice_get (rows_of u) i ≡ Some r → slice_get (ends ++ f ∷ []) i ≡ Some e → Shows u calls r e
     pushed push i r e h k =
@@ -135,6 +135,14 @@ end_at calls t ends a i row h =
     let l = a.long in
     let e = some_at ends i (omega (arith, b, l)) in
     (e.0, e.1, a.each i row.items e.0 at e.1)
+
+-- the row of the end at a place
+pub end_here : {S : Type 0} (calls : List PendingOp) (t : Table S) (ends : List (End S)) → AreShown t calls ends → (i : ℕ) (e : End S) → slice_get ends i ≡ Some e → Says t.states t.founds.items calls (get_or (rows_of t) i []) e
+end_here calls t ends a i e h =
+    let b = slice_get_within ends i e h in
+    let l = a.long in
+    let r = some_at (rows_of t) i (omega (arith, b, l)) in
+    subst (λ row. Says t.states t.founds.items calls row e) (sym (get_or_from_slice_get (rows_of t) i r.0 [] r.1)) (a.each i r.0 e r.1 h)
 
 pub taken_more : {X : Type 0} (xs : List X) (i : ℕ) (x : X) → slice_get xs i ≡ Some x → take (i + 1) xs ≡ take i xs ++ x ∷ []
 taken_more xs i x h = one_more xs i x (slice_get_within xs i x h) (sym (get_or_from_slice_get xs i x x h))

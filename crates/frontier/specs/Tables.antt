@@ -1,6 +1,5 @@
 -- Invariant: ends as rows of numbers
 use Rattle.std.specs.Prelude.{◌<◌, ◌≤◌, ◌≡◌, ◌≢◌, ◌↔◌, ℕ, ◌+◌, ◌⊎◌, Bool, true, false, Option, Some, None, List, [], ◌∷◌, ◌++◌, map, length, slice_get, get_or, Vec}
-use Rattle.std.specs.Borrow.{Bor}
 use Rattle.std.specs.Global.{Global}
 use Rattle.std.specs.List.{Contains}
 use Rattle.std.specs.FinMap as finmap
@@ -14,7 +13,7 @@ use Rattle.linspec.specs.Ends.{End}
 use Rattle.frontier.specs.declared.pending_op.PendingOp.{PendingOp}
 use Rattle.frontier.specs.declared.table.Table.{Table}
 use Rattle.frontier.specs.KeptEnds.{IsIncluded}
-use Rattle.frontier.specs.EndSteps.{TakesLast, is_in, Next, Adds, Grows}
+use Rattle.frontier.specs.EndSteps.{TakesLast, Next, IsReached, Adds, Grows}
 
 -- what the call found in the end, if it is in it; a crashed one tells nothing
 abbrev pub nothing_if : Bool → Option Found
@@ -48,6 +47,13 @@ IsOnceIn {X} xs =
 abbrev pub HasEachOnce : List PendingOp → Type 0
 HasEachOnce calls = Pairwise (λ c d. c.id ≢ d.id) calls
 
+-- the call at this place is of this operation, which is open
+pub record IsOpenAt (calls : List PendingOp) (at id : ℕ) : Type 0 where
+  pub call : PendingOp
+  pub there : slice_get calls at ≡ Some call
+  pub same : call.id ≡ id
+  pub not_crashed : call.crashed ≡ false
+
 -- the row says the end
 pub record Says {S : Type 0} (states : List S) (founds : List Found) (calls : List PendingOp)
     (row : List ℕ) (e : End S) : Type 0 where
@@ -58,7 +64,7 @@ pub record Says {S : Type 0} (states : List S) (founds : List Found) (calls : Li
   pub included : IsIncluded calls e
 
 abbrev pub Shows : {S : Type 0} → Table S → List PendingOp → List ℕ → End S → Type 0
-Shows t calls row e = Says t.states.items t.founds.items calls row e
+Shows t calls row e = Says t.states t.founds.items calls row e
 
 abbrev pub items_of : Vec ℕ Global → List ℕ
 items_of row = row.items
@@ -66,15 +72,10 @@ items_of row = row.items
 abbrev pub rows_of : {S : Type 0} → Table S → List (List ℕ)
 rows_of t = map items_of t.rows.keys
 
--- the state of the end, if the call is not in
-abbrev pub IsStateWithout : {S : Type 0} → End S → PendingOp → Option (Bor S) → Type 0
-IsStateWithout e c None = is_in e c.id c.crashed ≡ true
-IsStateWithout e c (Some s) = (is_in e c.id c.crashed ≡ false) × (s.now ≡ e.state)
-
 -- the rows say these ends, in order, and no number stands for two things
 pub record AreShown {S : Type 0} (t : Table S) (calls : List PendingOp) (ends : List (End S))
     : Type 0 where
-  pub states_once : IsOnceIn t.states.items
+  pub states_once : IsOnceIn t.states
   pub founds_once : IsOnceIn t.founds.items
   pub long : length (rows_of t) ≡ length ends
   pub each : (i : ℕ) (row : List ℕ) (e : End S) → slice_get (rows_of t) i ≡ Some row →
@@ -82,9 +83,9 @@ pub record AreShown {S : Type 0} (t : Table S) (calls : List PendingOp) (ends : 
 
 -- more stands there than before, and what stood there stays
 pub record Widens {S : Type 0} (old new : Table S) : Type 0 where
-  pub states : IsFront old.states.items new.states.items
+  pub states : IsFront old.states new.states
   pub founds : IsFront old.founds.items new.founds.items
-  pub states_once : IsOnceIn old.states.items → IsOnceIn new.states.items
+  pub states_once : IsOnceIn old.states → IsOnceIn new.states
   pub founds_once : IsOnceIn old.founds.items → IsOnceIn new.founds.items
 
 -- the row is with the others
@@ -124,5 +125,14 @@ pub record ShownGrown (o : Object) (t : Table o.State) (calls : List PendingOp)
 pub record IsToldBefore {S : Type 0} (calls : List PendingOp) (e k : End S) (n : ℕ) : Type 0 where
   pub state : k.state ≡ e.state
   pub included : IsIncluded calls k
-  pub before : (i : ℕ) (c : PendingOp) → slice_get calls i ≡ Some c → i < n → found_by k c ≡ found_by e c
+  pub before : (i : ℕ) (c : PendingOp) → slice_get calls i ≡ Some c → i < n
+      → found_by k c ≡ found_by e c
   pub after : (i : ℕ) (c : PendingOp) → slice_get calls i ≡ Some c → n ≤ i → found_by k c ≡ None
+
+-- the rows say all ends that the calls lead to from these, one after another: no more than the budget
+pub record ShowsAll (o : Object) (t : Table o.State) (calls : List PendingOp)
+    (ends : List (End o.State)) (budget : ℕ) : Type 0 where
+  pub all : List (End o.State)
+  pub shown : AreShown t calls all
+  pub adds : Adds (IsReached o calls ends) ends all
+  pub within : length all ≤ budget

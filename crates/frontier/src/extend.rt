@@ -1,14 +1,16 @@
 //! The ends that calls lead to from others.
 ghost use Rattle.std.specs.Prelude.{◌≡◌, ◌↔◌, ◌+◌, ◌*◌, ◌<◌, ◌≤◌, true, false};
-ghost use Rattle.std.specs.Prelude.{List, map, length, slice_get, Some, IfOk, OnOk, OnErr};
+ghost use Rattle.std.specs.Prelude.{List, map, length, slice_get, Some, None, IfOk, OnOk};
 ghost use Rattle.models.specs.Objects.{of_table};
 ghost use Rattle.linspec.specs.Ends.{End};
 ghost use Rattle.frontier.specs.KeptEnds.{AreIncluded, end_kept};
-ghost use Rattle.frontier.specs.EndSteps.{TakesLast, Next, IsReached, Grows, Adds};
+ghost use Rattle.frontier.specs.Moves.{AreMoves};
+ghost use Rattle.frontier.specs.EndSteps.{TakesLast, Next, Grows};
 ghost use Rattle.frontier.specs.Tables.{AreShown, HasEachOnce, Shows, Widens, rows_of};
-ghost use Rattle.frontier.specs.Tables.{ShownWith, ShownGrown};
+ghost use Rattle.frontier.specs.Tables.{ShowsAll, ShownWith, ShownGrown};
 
 use crate::kept_end::KeptEnd;
+use crate::moves::Move;
 use crate::pending_op::PendingOp;
 use crate::table::{self, Table};
 use models::SeqObject;
@@ -18,21 +20,24 @@ use std::alloc::{AllocError, Global};
 fn grow_at<M: SeqObject>(
     alloc: Global,
     table: &mut Table<M::State>,
+    moves: &mut Vec<Move>,
     row: &[usize],
     calls: &[PendingOp],
     at: usize,
     applied: &mut u64,
 ) -> Result<(), AllocError>
     requires { at < length calls.now }
+    ensures moves { AreMoves M.apply_to table.old calls.now moves.old.items
+        → OnOk result (AreMoves M.apply_to table.new calls.now moves.new.items) }
     ensures adds { let object = of_table M.State M.start_state M.apply_to in
-        HasEachOnce calls.now → (c : PendingOp) (e : End M.State) (ends : List (End M.State))
+        AreMoves M.apply_to table.old calls.now moves.old.items → HasEachOnce calls.now → (c : PendingOp) (e : End M.State) (ends : List (End M.State))
         → slice_get calls.now at ≡ Some c → Shows table.old calls.now row.now e
         → AreShown table.old calls.now ends
         → OnOk result (ShownWith table.new calls.now ends (TakesLast object e c)) }
     ensures widens { Widens table.old table.new }
     ensures cost { applied.new ≤ applied.old + 1 }
 {
-    match table::extended::<M>(alloc, table, row, calls, at, applied)? {
+    match table::extended::<M>(alloc, table, moves, row, calls, at, applied)? {
         Some(next) => {
             table::put(&mut table.rows, next)?;
             Ok(())
@@ -45,18 +50,21 @@ fn grow_at<M: SeqObject>(
 fn grow_from<M: SeqObject>(
     alloc: Global,
     table: &mut Table<M::State>,
+    moves: &mut Vec<Move>,
     row: &[usize],
     calls: &[PendingOp],
     applied: &mut u64,
 ) -> Result<(), AllocError>
+    ensures moves { AreMoves M.apply_to table.old calls.now moves.old.items
+        → OnOk result (AreMoves M.apply_to table.new calls.now moves.new.items) }
     ensures adds { let object = of_table M.State M.start_state M.apply_to in
-        HasEachOnce calls.now → (e : End M.State) (ends : List (End M.State))
+        AreMoves M.apply_to table.old calls.now moves.old.items → HasEachOnce calls.now → (e : End M.State) (ends : List (End M.State))
         → Shows table.old calls.now row.now e → AreShown table.old calls.now ends
         → OnOk result (ShownWith table.new calls.now ends (Next object calls.now e)) }
     ensures cost { applied.new ≤ applied.old + length calls.now }
 {
     for at in 0..calls.len() {
-        grow_at::<M>(alloc, table, row, calls, at, applied)?;
+        grow_at::<M>(alloc, table, moves, row, calls, at, applied)?;
     }
     Ok(())
 }
@@ -77,6 +85,7 @@ fn grow<M: SeqObject>(
     ensures beyond { IfOk result (λ all. all ≡ false → budget < length (rows_of table.new)) }
     ensures cost { applied.new ≤ applied.old + (budget + 1) * length calls.now }
 {
+    let mut moves = Vec::new(alloc);
     for at in 0..budget as usize {
         if table.rows.len() > budget as usize {
             return Ok(false);
@@ -88,37 +97,34 @@ fn grow<M: SeqObject>(
             unreachable!()
         };
         let row = table::copied(alloc, row)?;
-        grow_from::<M>(alloc, table, &row, calls, applied)?;
+        grow_from::<M>(alloc, table, &mut moves, &row, calls, applied)?;
     }
     Ok(table.rows.len() <= budget as usize)
 }
 
-/// Adds the ends that the calls lead to, one after another, where these are known: each call is of another operation, and
-/// each end includes calls alone. False where they are more than the budget: then, and where there is no memory, no end is
-/// added. Each call is tried at most once on each end, and no more ends than the budget are extended.
+/// All ends as rows: these ends and what the calls lead to from them, one after another. `None` where they are more than
+/// the budget. This is so where each call is of another operation, and each end includes calls alone. No more ends than
+/// the budget are extended.
 pub fn extend<M: SeqObject>(
-    ends: &mut Vec<KeptEnd<M::State>>,
+    alloc: Global,
+    ends: &[KeptEnd<M::State>],
     calls: &[PendingOp],
     budget: u32,
     applied: &mut u64,
-) -> Result<bool, AllocError>
+) -> Result<Option<Table<M::State>>, AllocError>
     ensures all { let object = of_table M.State M.start_state M.apply_to in
-        let old = map end_kept ends.old.items in let new = map end_kept ends.new.items in
-        HasEachOnce calls.now → AreIncluded calls.now old → IfOk result (λ all. all ≡ true
-        → Adds (IsReached object calls.now old) old new × (length ends.new.items ≤ budget)) }
+        let old = map end_kept ends.now in
+        HasEachOnce calls.now → AreIncluded calls.now old → IfOk result (λ found.
+        (table : Table M.State) → found ≡ Some table → ShowsAll object table calls.now old budget) }
     ensures over { let object = of_table M.State M.start_state M.apply_to in
-        let old = map end_kept ends.old.items in
-        HasEachOnce calls.now → AreIncluded calls.now old → IfOk result (λ all. all ≡ false
+        let old = map end_kept ends.now in
+        HasEachOnce calls.now → AreIncluded calls.now old → IfOk result (λ found. found ≡ None
         → (more : List (End M.State)) × Grows object calls.now old more × (budget < length more)) }
-    ensures over_keeps { IfOk result (λ all. all ≡ false → ends.new.items ≡ ends.old.items) }
-    ensures no_memory { OnErr result (ends.new.items ≡ ends.old.items) }
     ensures cost { applied.new ≤ applied.old + (budget + 1) * length calls.now }
 {
-    let alloc = *ends.allocator();
     let mut table = table::of_ends::<M>(alloc, ends, calls)?;
     if !grow::<M>(alloc, &mut table, calls, budget, applied)? {
-        return Ok(false);
+        return Ok(None);
     }
-    *ends = table::ends_of::<M>(alloc, &table, calls)?;
-    Ok(true)
+    Ok(Some(table))
 }

@@ -140,11 +140,17 @@ impl<M: SeqObject> Frontier<M> {
             CostsAtMost (budget_of self.old) old (Returned id answer.now)
             (applied_of self.old) (applied_of self.new) }
     {
-        let all = extend::extend::<M>(&mut self.ends, &self.calls, self.budget, &mut self.applied)?;
-        if !all {
+        let found = extend::extend::<M>(
+            self.alloc,
+            &self.ends,
+            &self.calls,
+            self.budget,
+            &mut self.applied,
+        )?;
+        let Some(table) = found else {
             return Ok(Step::Over);
-        }
-        self.ends = ends::settled_ends::<M>(self.alloc, &self.ends, id, answer)?;
+        };
+        self.ends = ends::settled_ends::<M>(self.alloc, &table, &self.calls, id, answer)?;
         pending_op::drop_call(&mut self.calls, id);
         Ok(step_of(self.ends.len()))
     }

@@ -3,12 +3,12 @@ ghost use Rattle.std.specs.Prelude.{◌≡◌, ◌↔◌, Bool, true, false, IsT
 ghost use Rattle.std.specs.List.{All, Contains};
 ghost use Rattle.history.specs.Events.{IsFront};
 ghost use Rattle.frontier.specs.KeptEnds.{end_kept, found_at, pending_in, crashed_in, has_crashed};
-ghost use Rattle.frontier.specs.EndSteps.{settled, FitsAt, after_crash, is_in, with_call, Adds};
+ghost use Rattle.frontier.specs.EndSteps.{settled, after_crash, is_in, with_call, Adds};
 ghost use Rattle.frontier.specs.Places.{IsIndexed, StandsAt};
 
 use crate::pending_op::PendingOp;
 use crate::places::{Places, bucket_of};
-use models::{Answer, Found, SeqObject, finding};
+use models::{Found, SeqObject};
 use std::alloc::{AllocError, Global};
 
 /// What a legal order leaves: the state, what each open operation in it found, and the crashed operations in it.
@@ -123,20 +123,10 @@ impl<S> KeptEnd<S> {
         found_in(&self.pending, id).is_some()
     }
 
-    /// Whether the open operation is in it, and what it found there fits the answer.
-    pub fn fits_at(&self, id: u32, answer: &Answer) -> bool
-        ensures { IsTrue result ↔ FitsAt (end_kept self.now) id answer.now }
-    {
-        match found_in(&self.pending, id) {
-            Some(found) => finding::fits(found, answer),
-            None => false,
-        }
-    }
-
     /// The call takes place in it, and finds this.
     pub fn include(&mut self, call: &PendingOp, found: Found) -> Result<(), AllocError>
-        ensures { let id = call.now.id in let crashed = call.now.crashed in let old = end_kept self.old in
-            is_in old id crashed ≡ false
+        ensures { let id = call.now.id in let crashed = call.now.crashed in
+            let old = end_kept self.old in is_in old id crashed ≡ false
             → OnOk result (end_kept self.new ≡ with_call old id crashed found self.old.state) }
     {
         if call.crashed {

@@ -6,8 +6,10 @@ mod ends;
 mod extend;
 pub mod frontier;
 mod kept_end;
+mod moves;
 mod pending_op;
 mod places;
+mod states;
 mod table;
 
 pub use any_frontier::AnyFrontier;

@@ -1,18 +1,21 @@
 //! Ends as rows of numbers.
-ghost use Rattle.std.specs.Prelude.{◌≡◌, ◌+◌, ◌-◌, ◌^◌, ◌<◌, ◌≤◌, min, Some, slice_get, map, length, option_map};
-ghost use Rattle.std.specs.Prelude.{◌↔◌, IsTrue, IfOk, OnOk, IsSome, IsSomeAnd, option_copied, List, [], ◌∷◌, ◌++◌};
+ghost use Rattle.std.specs.Prelude.{◌≡◌, ◌+◌, ◌-◌, ◌^◌, ◌<◌, ◌≤◌, min, set, Some, slice_get, map, length, option_map};
+ghost use Rattle.std.specs.Prelude.{◌↔◌, IsTrue, IfOk, OnOk, IsSomeAnd, option_copied, List, [], ◌∷◌, ◌++◌};
 ghost use Rattle.std.specs.Option.{option_to_list};
 ghost use Rattle.models.specs.Objects.{of_table};
 ghost use Rattle.history.specs.Events.{IsFront};
 ghost use Rattle.linspec.specs.Ends.{End};
 ghost use Rattle.frontier.specs.KeptEnds.{AreIncluded, IsIncluded, end_kept};
-ghost use Rattle.frontier.specs.EndSteps.{Along, with_call};
+ghost use Rattle.frontier.specs.EndSteps.{Along};
+ghost use Rattle.frontier.specs.Moves.{AreMoves};
 ghost use Rattle.frontier.specs.Tables.{HasEachOnce, IsOnceIn, IsPut, IsSlot};
-ghost use Rattle.frontier.specs.Tables.{AreShown, IsStateWithout, IsThat, IsToldBefore, ShownWith, told_by};
+ghost use Rattle.frontier.specs.Tables.{AreShown, IsThat, IsToldBefore, ShownWith, told_by};
 ghost use Rattle.frontier.specs.Tables.{LeadsTo, Shows, Widens, found_by, items_of, rows_of};
 
 use crate::kept_end::{KeptEnd, found_in, has};
+use crate::moves::{self, Move};
 use crate::pending_op::PendingOp;
+use crate::states::{self, States};
 use indexmap::IndexSet;
 use models::{Found, Op, SeqObject};
 use std::alloc::{AllocError, Global};
@@ -21,30 +24,14 @@ use std::alloc::{AllocError, Global};
 /// zero where it is not in, and else one more than where what it found stands. States and what was found stand once, so
 /// equal ends are equal rows.
 #[derive(Drop)]
-pub struct Table<S> {
-    pub states: Vec<S>,
+pub struct Table<S: Ord + Drop> {
+    pub states: States<S>,
     pub founds: Vec<Found>,
     pub rows: IndexSet<Vec<usize>>,
 }
 
-// Where the state stands; it is put there if it is new.
-fn state_at<M: SeqObject>(states: &mut Vec<M::State>, state: M::State) -> Result<usize, AllocError>
-    ensures there { IfOk result (λ at. slice_get states.new.items at ≡ Some state) }
-    ensures front { IsFront states.old.items states.new.items }
-    ensures once { IsOnceIn states.old.items → IsOnceIn states.new.items }
-{
-    for at in 0..states.len() {
-        if M::same(&states[at], &state) {
-            return Ok(at);
-        }
-    }
-    let at = states.len();
-    states.push(state)?;
-    Ok(at)
-}
-
-// The number of what was found: one more than where it stands. It is put there if it is new.
-fn slot_at(founds: &mut Vec<Found>, found: Found) -> Result<usize, AllocError>
+/// The number of what was found: one more than where it stands. It is put there if it is new.
+pub fn slot_at(founds: &mut Vec<Found>, found: Found) -> Result<usize, AllocError>
     ensures slot { IfOk result (λ slot. IsSlot founds.new.items slot (Some found)) }
     ensures front { IsFront founds.old.items founds.new.items }
     ensures once { IsOnceIn founds.old.items → IsOnceIn founds.new.items }
@@ -99,7 +86,8 @@ pub fn copied(alloc: Global, row: &[usize]) -> Result<Vec<usize>, AllocError>
 
 /// Puts the row with the others, if it is not there.
 pub fn put(rows: &mut IndexSet<Vec<usize>>, row: Vec<usize>) -> Result<(), AllocError>
-    ensures { OnOk result (IsPut row.items (map items_of rows.old.keys) (map items_of rows.new.keys)) }
+    ensures { let old = map items_of rows.old.keys in let new = map items_of rows.new.keys in
+        OnOk result (IsPut row.items old new) }
 {
     rows.insert(row)?;
     Ok(())
@@ -118,8 +106,8 @@ fn row_of<M: SeqObject>(
     ensures rows { rows_of table.new ≡ rows_of table.old }
 {
     let state = M::copy(alloc, &kept.state)?;
-    let mut row = Vec::with_capacity(alloc, 8)?;
-    row.push(state_at::<M>(&mut table.states, state)?)?;
+    let mut row = Vec::with_capacity(alloc, calls.len().saturating_add(1))?;
+    row.push(states::number_of::<M>(alloc, &mut table.states, state)?)?;
     for call in calls {
         let found = found_by(kept, call)?;
         row.push(slot_of(&mut table.founds, found)?)?;
@@ -127,8 +115,8 @@ fn row_of<M: SeqObject>(
     Ok(row)
 }
 
-// The outcome of the operation in the state: one step, which is counted. No other function tries an operation.
-fn step<M: SeqObject>(
+/// The outcome of the operation in the state: one step, which is counted. No other function tries an operation.
+pub fn step<M: SeqObject>(
     alloc: Global,
     state: &M::State,
     op: &Op,
@@ -143,7 +131,7 @@ fn step<M: SeqObject>(
 }
 
 // The state of the row's end.
-fn state_of<'a, S>(table: &'a Table<S>, row: &[usize]) -> Option<&'a S>
+fn state_of<'a, S: Ord + Drop>(table: &'a Table<S>, row: &[usize]) -> Option<&'a S>
     ensures { (calls : List PendingOp) (e : End S) → Shows table.now calls row.now e
         → IsSomeAnd result (λ s. s.now ≡ e.state) }
 {
@@ -155,7 +143,8 @@ fn state_of<'a, S>(table: &'a Table<S>, row: &[usize]) -> Option<&'a S>
 
 // Whether the number at this place is zero.
 fn is_zero(row: &[usize], at: usize) -> bool
-    ensures { IsTrue result ↔ (slice_get row.now at ≡ Some 0) }
+    ensures zero { IsTrue result ↔ (slice_get row.now at ≡ Some 0) }
+    ensures within { IsTrue result → at < length row.now }
 {
     match row.get(at) {
         Some(number) => *number == 0,
@@ -163,51 +152,27 @@ fn is_zero(row: &[usize], at: usize) -> bool
     }
 }
 
-// The state of the row's end, if the call at this place is not in.
-fn state_without<'a, S>(
-    table: &'a Table<S>,
-    row: &[usize],
-    calls: &[PendingOp],
-    at: usize,
-) -> Option<&'a S>
-    requires { at < length calls.now }
-    ensures there { IsSome result → at + 1 < length row.now }
-    ensures state { (c : PendingOp) (e : End S) → slice_get calls.now at ≡ Some c
-        → Shows table.now calls.now row.now e → IsStateWithout e c result }
-{
-    if !is_zero(row, at + 1) {
-        return None;
-    }
-    state_of(table, row)
-}
-
-// What is told of what the call found.
-fn told_by(crashed: bool, found: Found) -> Found
+/// What is told of what the call found.
+pub fn told_by(crashed: bool, found: Found) -> Found
     ensures { result ≡ told_by crashed found }
 {
     if crashed { Found::Unit } else { found }
 }
 
-// The row with the call at this place, which finds this, after which the state is this.
-fn row_with<M: SeqObject>(
+// The row with this number of a state, and with this number at the place of a call.
+fn row_with(
     alloc: Global,
-    table: &mut Table<M::State>,
     row: &[usize],
     at: usize,
-    state: M::State,
-    found: Found,
+    to: usize,
+    slot: usize,
 ) -> Result<Vec<usize>, AllocError>
     requires { at + 1 < length row.now }
-    ensures next { (calls : List PendingOp) (c : PendingOp) (e : End M.State) → HasEachOnce calls
-        → slice_get calls at ≡ Some c → Shows table.old calls row.now e
-        → (told : Found) → found ≡ told_by c.crashed told
-        → IfOk result (λ next. Shows table.new calls next.items (with_call e c.id c.crashed told state)) }
-    ensures widens { Widens table.old table.new }
-    ensures rows { rows_of table.new ≡ rows_of table.old }
+    ensures { IfOk result (λ next. next.items ≡ set (set row.now 0 to) (at + 1) slot) }
 {
     let mut next = copied(alloc, row)?;
-    next[0] = state_at::<M>(&mut table.states, state)?;
-    next[at + 1] = slot_at(&mut table.founds, found)?;
+    next[0] = to;
+    next[at + 1] = slot;
     Ok(next)
 }
 
@@ -215,31 +180,32 @@ fn row_with<M: SeqObject>(
 pub fn extended<M: SeqObject>(
     alloc: Global,
     table: &mut Table<M::State>,
+    moves: &mut Vec<Move>,
     row: &[usize],
     calls: &[PendingOp],
     at: usize,
     applied: &mut u64,
 ) -> Result<Option<Vec<usize>>, AllocError>
     requires within { at < length calls.now }
+    ensures moves { AreMoves M.apply_to table.old calls.now moves.old.items
+        → OnOk result (AreMoves M.apply_to table.new calls.now moves.new.items) }
     ensures next { let object = of_table M.State M.start_state M.apply_to in
-        HasEachOnce calls.now → (c : PendingOp) (e : End M.State) → slice_get calls.now at ≡ Some c
+        AreMoves M.apply_to table.old calls.now moves.old.items → HasEachOnce calls.now
+        → (c : PendingOp) (e : End M.State) → slice_get calls.now at ≡ Some c
         → Shows table.old calls.now row.now e
         → IfOk result (λ next. LeadsTo object table.new calls.now e c (option_map items_of next)) }
     ensures widens { Widens table.old table.new }
     ensures rows { rows_of table.new ≡ rows_of table.old }
     ensures cost { applied.new ≤ applied.old + 1 }
 {
-    let call = &calls[at];
-    let outcome = match state_without(table, row, calls, at) {
-        Some(state) => step::<M>(alloc, state, &call.op, applied)?,
-        None => return Ok(None),
-    };
-    match outcome {
-        None => Ok(None),
-        Some((state, found)) => {
-            let told = told_by(call.crashed, found);
-            Ok(Some(row_with::<M>(alloc, table, row, at, state, told)?))
-        }
+    if !is_zero(row, at + 1) {
+        return Ok(None);
+    }
+    let number = row[0];
+    match moves::tried::<M>(alloc, table, moves, number, calls, at, applied)? {
+        Move::To(to, slot) => Ok(Some(row_with(alloc, row, at, to, slot)?)),
+        Move::Nowhere => Ok(None),
+        Move::Untried => Ok(None),
     }
 }
 
@@ -250,10 +216,11 @@ pub fn of_ends<M: SeqObject>(
     calls: &[PendingOp],
 ) -> Result<Table<M::State>, AllocError>
     ensures { AreIncluded calls.now (map end_kept ends.now)
-        → IfOk result (λ table. ShownWith table calls.now [] (Along IsThat (map end_kept ends.now))) }
+        → IfOk result (λ table.
+        ShownWith table calls.now [] (Along IsThat (map end_kept ends.now))) }
 {
     let mut table = Table {
-        states: Vec::new(alloc),
+        states: States::new(alloc),
         founds: Vec::new(alloc),
         rows: IndexSet::new(alloc),
     };
@@ -264,8 +231,8 @@ pub fn of_ends<M: SeqObject>(
     Ok(table)
 }
 
-// What the call at this place found, by the row, if it is in.
-fn found_in_row<'a, S>(
+/// What the call at this place found, by the row, if it is in.
+pub fn found_in_row<'a, S: Ord + Drop>(
     table: &'a Table<S>,
     row: &[usize],
     calls: &[PendingOp],
@@ -282,7 +249,7 @@ fn found_in_row<'a, S>(
 }
 
 // What the call at this place tells goes into the end.
-fn include_at<S>(
+fn include_at<S: Ord + Drop>(
     kept: &mut KeptEnd<S>,
     table: &Table<S>,
     row: &[usize],
@@ -303,8 +270,8 @@ fn include_at<S>(
     }
 }
 
-// The end that the row says.
-fn kept_of<M: SeqObject>(
+/// The end that the row says.
+pub fn kept_of<M: SeqObject>(
     alloc: Global,
     table: &Table<M::State>,
     row: &[usize],
@@ -325,43 +292,4 @@ fn kept_of<M: SeqObject>(
         include_at(&mut kept, table, row, calls, at)?;
     }
     Ok(Some(kept))
-}
-
-// Puts the end that the row says after the others.
-fn push_end<M: SeqObject>(
-    alloc: Global,
-    ends: &mut Vec<KeptEnd<M::State>>,
-    table: &Table<M::State>,
-    row: &[usize],
-    calls: &[PendingOp],
-) -> Result<(), AllocError>
-    ensures { HasEachOnce calls.now → (e : End M.State) → Shows table.now calls.now row.now e
-        → OnOk result (map end_kept ends.new.items ≡ map end_kept ends.old.items ++ e ∷ []) }
-{
-    match kept_of::<M>(alloc, table, row, calls)? {
-        Some(kept) => {
-            ends.push(kept)?;
-            Ok(())
-        }
-        None => Ok(()),
-    }
-}
-
-/// The ends that the rows say, in order.
-pub fn ends_of<M: SeqObject>(
-    alloc: Global,
-    table: &Table<M::State>,
-    calls: &[PendingOp],
-) -> Result<Vec<KeptEnd<M::State>>, AllocError>
-    ensures { HasEachOnce calls.now → (ends : List (End M.State))
-        → AreShown table.now calls.now ends → IfOk result (λ kept. map end_kept kept.items ≡ ends) }
-{
-    let mut ends = Vec::with_capacity(alloc, table.rows.len())?;
-    for at in 0..table.rows.len() {
-        let Some(row) = table.rows.get_index(at) else {
-            unreachable!()
-        };
-        push_end::<M>(alloc, &mut ends, table, row, calls)?;
-    }
-    Ok(ends)
 }

@@ -4,6 +4,7 @@ use Rattle.models.specs.Objects.{of_table}
 use Rattle.linspec.proofs.Lists.{Contains-nil}
 use Rattle.frontier.specs.Tables.{Shows, items_of, rows_of}
 use Rattle.frontier.proofs.Growing.{Grows-itself, cost_more}
+use Rattle.frontier.proofs.Moving.{moves_none}
 use Rattle.frontier.proofs.Showing.{all_done, done_on, end_at, grows_on}
 use Rattle.frontier.proofs.extend.grow.Goals as goal
 
@@ -11,6 +12,7 @@ pub loop-at-init : goal.loop-at-init
 loop-at-init g c =
     let o = of_table g.row.M-State.Denot g.M.SeqObject.start_state g.M.SeqObject.apply_to in
     record {
+      moves = moves_none g.M.SeqObject.apply_to c.args.calls.now c.args.table.now c.new-moves.result.items c.new-moves.ensures.items;
       grown = λ once ends shown. (ends, shown, Grows-itself o c.args.calls.now ends, (λ e f h n. absurd (Contains-nil e h)));
       cost = omega arith;
     }
@@ -19,11 +21,12 @@ pub loop-at-preserved : goal.loop-at-preserved
 loop-at-preserved g c =
     let o = of_table g.row.M-State.Denot g.M.SeqObject.start_state g.M.SeqObject.apply_to in
     record {
+      moves = c.in_ok-grow_from.ensures.moves c.loop-at.invariant.moves;
       grown = λ once ends shown.
           let s = c.loop-at.invariant.grown once ends shown in
           let p = end_at c.args.calls.now c.loop-at.table s.0 s.1 c.loop-at.at c.in-Some.row.now (sym c.in-Some.ensures.key) in
           let same : c.in-Some.row.now.items ≡ c.deref-in-loop-at.result.now = search rules in
-          let w = c.in_ok-grow_from.ensures.adds once p.0 s.0 (subst (λ r. Shows c.loop-at.table c.args.calls.now r p.0) same p.2) s.1 in
+          let w = c.in_ok-grow_from.ensures.adds c.loop-at.invariant.moves once p.0 s.0 (subst (λ r. Shows c.loop-at.table c.args.calls.now r p.0) same p.2) s.1 in
           (w.more, w.shown, grows_on o c.args.calls.now ends s.0 c.loop-at.at p.0 p.1 c.grow_from.new.table w s.2, done_on o c.args.calls.now ends s.0 c.loop-at.at p.0 p.1 c.grow_from.new.table w s.3);
       cost = cost_more c.args.applied.now c.loop-at.applied c.grow_from.new.applied c.loop-at.at (length c.args.calls.now) c.loop-at.invariant.cost c.in_ok-grow_from.ensures.cost;
     }

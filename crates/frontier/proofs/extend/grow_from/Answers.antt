@@ -11,7 +11,8 @@ use Rattle.frontier.proofs.extend.grow_from.Goals as goal
 pub loop-at-init : goal.loop-at-init
 loop-at-init g c = record {
   widens = widens_itself c.args.table.now;
-  grown = λ once e ends shows shown. record { more = ends; shown = shown; front = IsFront-itself ends; adds = Adds-start (TakesLast (of_table g.row.M-State.Denot g.M.SeqObject.start_state g.M.SeqObject.apply_to) e) ends };
+  moves = λ known. known;
+  grown = λ known once e ends shows shown. record { more = ends; shown = shown; front = IsFront-itself ends; adds = Adds-start (TakesLast (of_table g.row.M-State.Denot g.M.SeqObject.start_state g.M.SeqObject.apply_to) e) ends };
   cost = omega arith;
 }
 
@@ -20,15 +21,19 @@ loop-at-preserved g c =
     let o = of_table g.row.M-State.Denot g.M.SeqObject.start_state g.M.SeqObject.apply_to in
     record {
       widens = widens_on c.args.table.now c.loop-at.table c.grow_at.new.table c.loop-at.invariant.widens c.in_ok-grow_at.ensures.widens;
-      grown = λ once e ends shows shown.
+      moves = λ known. c.in_ok-grow_at.ensures.moves (c.loop-at.invariant.moves known);
+      grown = λ known once e ends shows shown.
           let call = some_at c.args.calls.now c.loop-at.at (omega arith) in
-          let s = c.loop-at.invariant.grown once e ends shows shown in
+          let s = c.loop-at.invariant.grown known once e ends shows shown in
           next_there o c.args.calls.now e ends c.loop-at.at call.0 call.1 c.loop-at.table c.grow_at.new.table s
-          (c.in_ok-grow_at.ensures.adds once call.0 e s.more call.1 (shows_more c.args.calls.now c.args.table.now c.loop-at.table c.args.row.now e c.loop-at.invariant.widens shows) s.shown);
+          (c.in_ok-grow_at.ensures.adds (c.loop-at.invariant.moves known) once call.0 e s.more call.1 (shows_more c.args.calls.now c.args.table.now c.loop-at.table c.args.row.now e c.loop-at.invariant.widens shows) s.shown);
       cost = (let a = c.loop-at.invariant.cost in let b = c.in_ok-grow_at.ensures.cost in omega (arith, a, b));
     }
 
 pub returns-clause-adds : goal.returns-clause-adds
-returns-clause-adds g c once e ends shows shown =
+returns-clause-adds g c known once e ends shows shown =
     let o = of_table g.row.M-State.Denot g.M.SeqObject.start_state g.M.SeqObject.apply_to in
-    subst (λ l. ShownWith c.loop-at.table c.args.calls.now ends (Next o l e)) (take_all c.loop-at.at c.args.calls.now (omega arith)) (c.loop-at.invariant.grown once e ends shows shown)
+    subst (λ l. ShownWith c.loop-at.table c.args.calls.now ends (Next o l e)) (take_all c.loop-at.at c.args.calls.now (omega arith)) (c.loop-at.invariant.grown known once e ends shows shown)
+
+pub returns-clause-moves : goal.returns-clause-moves
+returns-clause-moves g c known = c.loop-at.invariant.moves known

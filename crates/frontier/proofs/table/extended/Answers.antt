@@ -1,20 +1,38 @@
-use Rattle.std.proofs.Common.{◌≡◌, ◌∷◌, [], length, refl, sym, ap, ◌∙◌}
-use Rattle.std.specs.Option.{option_to_list}
-use Rattle.std.proofs.lemmas.Option.{slice_get_read}
-use Rattle.frontier.specs.declared.pending_op.PendingOp.{PendingOp}
+use Rattle.std.proofs.Common.{rules, ◌≡◌, ◌+◌, Some, None, ◌∷◌, [], length, set, slice_get, get_or, refl, sym, ap, ◌∙◌, subst, arith}
+use Rattle.std.proofs.lemmas.Bool.{true≢false}
+use Rattle.std.proofs.lemmas.Option.{get_or_from_slice_get, slice_get_within}
 use Rattle.frontier.specs.EndSteps.{with_call}
-use Rattle.frontier.specs.Tables.{told_by}
-use Rattle.frontier.proofs.Leading.{leads_there}
-use Rattle.frontier.proofs.Rows.{one_of}
+use Rattle.frontier.specs.Moves.{IsTo}
+use Rattle.frontier.specs.Tables.{found_by}
+use Rattle.frontier.proofs.Leading.{leads_there, leads_nowhere}
+use Rattle.frontier.proofs.Rows.{in_unless, not_in_by, says_with, zero_none}
+use Rattle.frontier.proofs.Showing.{shows_more}
 use Rattle.frontier.proofs.table.extended.Goals as goal
 
-pub returns-in_ok-row_with-in-Some-outcome-clause-next : goal.returns-in_ok-row_with-in-Some-outcome-clause-next
-returns-in_ok-row_with-in-Some-outcome-clause-next g c once call e here shows =
-    let same : c.index-calls-at.result ≡ call = one_of c.index-calls-at.result call (sym (slice_get_read c.args.calls.now (length c.args.calls.now) c.args.at c.index-calls-at.result refl c.requires.within c.index-calls-at.is) ∙ here) in
-    let out = c.in-Some.ensures.state call e here shows in
-    let only : g.M.SeqObject.apply_to call.op e.state ≡ (c.in-Some-outcome.state, c.in-Some-outcome.found) ∷ [] =
-    ap (g.M.SeqObject.apply_to call.op) (sym out.1) ∙ ap (λ (x : PendingOp). g.M.SeqObject.apply_to x.op c.in-Some.state.now) (sym same) ∙ sym c.in_ok-outcome-in-Some.ensures.outcome ∙ ap option_to_list c.in-Some-outcome.is in (
-      with_call e call.id call.crashed c.in-Some-outcome.found c.in-Some-outcome.state,
-      c.in_ok-row_with-in-Some-outcome.ensures.next c.args.calls.now call e once here shows c.in-Some-outcome.found (c.told_by-told.ensures ∙ ap (λ (x : PendingOp). told_by x.crashed c.in-Some-outcome.found) same),
-      leads_there g.row.M-State.Denot g.M.SeqObject.start_state g.M.SeqObject.apply_to e call out.0 c.in-Some-outcome.state c.in-Some-outcome.found only,
+pub returns-then-not-is_zero-clause-next : goal.returns-then-not-is_zero-clause-next
+returns-then-not-is_zero-clause-next g c known once call e here shows f last =
+    true≢false
+    (sym (in_unless c.args.table.now.founds.items e call c.args.row.now (c.args.at + 1) (let long = shows.long in let within = slice_get_within c.args.calls.now c.args.at call here in omega (arith, long, within))
+    (shows.slots c.args.at call here) (λ h. true≢false (sym (c.is_zero.ensures.zero.1 h) ∙ c.if-not-is_zero.true))) ∙ last.not_in)
+
+pub returns-in_ok-row_with-in-To-clause-next : goal.returns-in_ok-row_with-in-To-clause-next
+returns-in_ok-row_with-in-To-clause-next g c known once call e here shows =
+    let does = subst (IsTo c.tried.new.table call.crashed (g.M.SeqObject.apply_to call.op e.state)) c.in-To.is (c.in_ok-to.ensures.does known e.state call shows.state here) in
+    let out = not_in_by e call.id call.crashed
+    (zero_none c.args.table.now.founds.items (get_or c.args.row.now (c.args.at + 1) 0) (found_by e call)
+    (get_or_from_slice_get c.args.row.now (c.args.at + 1) 0 0 (c.is_zero.ensures.zero.0 c.if-not-is_zero.false)) (shows.slots c.args.at call here)) in (
+      with_call e call.id call.crashed does.1 does.0,
+      says_with c.tried.new.table.states c.tried.new.table.founds.items c.args.calls.now once c.args.at call here e c.args.row.now
+          (shows_more c.args.calls.now c.args.table.now c.tried.new.table c.args.row.now e c.in_ok-to.ensures.widens shows)
+          c.in-To.to c.in-To.slot does.0 does.1 c.in_ok-row_with-in-To.field-0.items does.3 does.4 c.in_ok-row_with-in-To.ensures,
+      leads_there g.row.M-State.Denot g.M.SeqObject.start_state g.M.SeqObject.apply_to e call out does.0 does.1 does.2,
     )
+
+pub returns-in-Nowhere-clause-next : goal.returns-in-Nowhere-clause-next
+returns-in-Nowhere-clause-next g c known once call e here shows =
+    leads_nowhere g.row.M-State.Denot g.M.SeqObject.start_state g.M.SeqObject.apply_to e call e.state None refl refl
+    (sym (subst (IsTo c.tried.new.table call.crashed (g.M.SeqObject.apply_to call.op e.state)) c.in-Nowhere.is (c.in_ok-to.ensures.does known e.state call shows.state here)))
+
+pub returns-in-Untried-clause-next : goal.returns-in-Untried-clause-next
+returns-in-Untried-clause-next g c known once call e here shows f last =
+    subst (IsTo c.tried.new.table call.crashed (g.M.SeqObject.apply_to call.op e.state)) c.in-Untried.is (c.in_ok-to.ensures.does known e.state call shows.state here)

@@ -8,7 +8,7 @@ use Rattle.frontier.proofs.Showing.{shown_after, shown_first, shown_none, widens
 use Rattle.frontier.proofs.table.of_ends.Goals as goal
 
 pub loop-kept-init : goal.loop-kept-init
-loop-kept-init g c included = shown_first c.args.calls.now _ IsThat (shown_none c.args.calls.now _ c.new.ensures.items c.new-2.ensures.items (ap (map _) c.new-3.ensures.empty))
+loop-kept-init g c included = shown_first c.args.calls.now _ IsThat (shown_none c.args.calls.now _ c.new.ensures c.new-2.ensures.items (ap (map _) c.new-3.ensures.empty))
 
 pub loop-kept-preserved : goal.loop-kept-preserved
 loop-kept-preserved g c included =
