@@ -1,10 +1,12 @@
 //! Lines of a few events, against statuses that follow from the definitions by hand.
-ghost use Rattle.std.specs.Prelude.{◌≡◌, None};
+ghost use Rattle.std.specs.Prelude.{◌≡◌, None, IfOk};
+ghost use Rattle.acceptance.specs.LongLine.{writes_from};
 
 use checkpoints::KeyLine;
 use history::{Body, Event, EventKind, Fault, Process};
 use linspec::KeyStatus;
 use models::{ModelKind, Name, Op, Part};
+use std::alloc::{AllocError, Global};
 use std::test::Fail;
 
 fn event(process: u32, kind: EventKind, name: Name, part: Part) -> Event
@@ -101,5 +103,67 @@ fn rewind_revives(rt: HostRuntime) -> Result<(), Fail> {
     line.cut(2)?;
     assert_eq!(rt; line.len(), 2);
     assert!(rt; matches!(line.status(), KeyStatus::Alive));
+    Ok(())
+}
+
+// 65 times a write of 1 that returns: 130 events, of indices 0 to 129.
+fn written(alloc: Global) -> Result<KeyLine, AllocError>
+    ensures { IfOk result (λ made. made.line.now.events ≡ writes_from 0 65) }
+{
+    let mut line = KeyLine::new(alloc, ModelKind::Register, 4096)?;
+    for round in 0..65 {
+        line.push(
+            2 * round,
+            event(0, EventKind::Invoke, Name::Write, Part::Int(1)),
+        )?;
+        line.push(
+            2 * round + 1,
+            event(0, EventKind::Ok, Name::Write, Part::Int(1)),
+        )?;
+    }
+    Ok(line)
+}
+
+// A cut judges again only what stays behind the last 64th event.
+#[test]
+fn rewind_replays_few(rt: HostRuntime) -> Result<(), Fail> {
+    let mut line = written(rt.alloc())?;
+    assert_eq!(rt; line.len(), 130);
+    assert!(rt; matches!(line.status(), KeyStatus::Alive));
+    assert_eq!(rt; line.replayed(), 130);
+    line.cut(130)?;
+    assert_eq!(rt; line.replayed(), 130);
+    line.cut(129)?;
+    assert_eq!(rt; line.replayed(), 131);
+    assert_eq!(rt; line.len(), 129);
+    assert!(rt; matches!(line.status(), KeyStatus::Alive));
+    let mut second = written(rt.alloc())?;
+    second.cut(127)?;
+    assert_eq!(rt; second.replayed(), 193);
+    assert!(rt; matches!(second.status(), KeyStatus::Alive));
+    let mut third = written(rt.alloc())?;
+    third.cut(64)?;
+    assert_eq!(rt; third.replayed(), 130);
+    assert_eq!(rt; third.len(), 64);
+    assert!(rt; matches!(third.status(), KeyStatus::Alive));
+    third.rebuild(ModelKind::CasRegister, 4096)?;
+    assert_eq!(rt; third.replayed(), 194);
+    assert!(rt; matches!(third.status(), KeyStatus::Alive));
+    Ok(())
+}
+
+// Whether a cut takes events away, and whether there are events before it.
+#[test]
+fn cuts_of_a_line(rt: HostRuntime) -> Result<(), Fail> {
+    let mut line = KeyLine::new(rt.alloc(), ModelKind::Register, 4096)?;
+    assert!(rt; !line.loses(0));
+    assert!(rt; !line.begins_below(9));
+    line.push(3, event(0, EventKind::Invoke, Name::Write, Part::Int(1)))?;
+    line.push(5, event(0, EventKind::Ok, Name::Write, Part::Int(1)))?;
+    assert!(rt; line.loses(0));
+    assert!(rt; line.loses(5));
+    assert!(rt; !line.loses(6));
+    assert!(rt; !line.begins_below(3));
+    assert!(rt; line.begins_below(4));
     Ok(())
 }

@@ -1,7 +1,7 @@
 -- the events below an index are the first so many, since indices rise
-use Rattle.std.proofs.Common.{◌≡◌, ℕ, zero, suc, ◌+◌, ◌<◌, ◌≤◌, ⊎_elim, Bool, true, false, not, nat_lt, nat_le, Option, None, List, [], ◌∷◌, ◌++◌, length, take, slice_index_or, refl, sym, ap, ◌∙◌, arith}
+use Rattle.std.proofs.Common.{◌≡◌, ℕ, zero, suc, ◌+◌, ◌<◌, ◌≤◌, ⊎_elim, Bool, true, false, not, nat_lt, nat_le, Option, None, List, [], ◌∷◌, ◌++◌, length, take, drop, slice_index_or, refl, sym, ap, ◌∙◌, subst, append_assoc, arith}
 use Rattle.std.proofs.lemmas.Bool.{cases_Bool, cases_lt, lt-ltb, le-ltb, le-leb, lt-leb}
-use Rattle.std.proofs.lemmas.List.{take_more, take_all, get_or_default}
+use Rattle.std.proofs.lemmas.List.{take_more, take_all, get_or_default, take-append-drop}
 use Rattle.std.proofs.lemmas.List.Filters.{length-filter_both}
 use Rattle.std.specs.List.{filter}
 use Rattle.std.specs.List.Sorted.{IsNonDecreasingBy}
@@ -47,6 +47,15 @@ may_come_take n busy (suc k) (x ∷ events) h = (h.0, h.1, may_come_take (x.0 + 
 pub IsHistory-take : (k : ℕ) (events : List (ℕ × Event)) → IsHistory events → IsHistory (take k events)
 IsHistory-take k events h = may_come_take 0 (λ _. None) k events h
 
+may_come_front : (n : ℕ) (busy : ℕ → Option ℕ) (xs ys : List (ℕ × Event)) → MayComeFrom n busy (xs ++ ys) → MayComeFrom n busy xs
+may_come_front n busy [] ys h = tt
+may_come_front n busy (x ∷ xs) ys h = (h.0, h.1, may_come_front (x.0 + 1) (busy_after busy (op_event x.1)) xs ys h.2)
+
+-- so are the first events of a part behind others
+pub IsHistory-front : (before events : List (ℕ × Event)) (k : ℕ) → IsHistory (before ++ events) → IsHistory (before ++ take k events)
+IsHistory-front before events k h = may_come_front 0 (λ _. None) (before ++ take k events) (drop k events)
+    (subst IsHistory (sym (append_assoc before (take k events) (drop k events) ∙ ap (λ l. before ++ l) (take-append-drop k events))) h)
+
 pub first_ones : (events : List (ℕ × Event)) (n i : ℕ) → i ≤ length events
     → ((k : ℕ) (d : ℕ × Event) → k < i → nat_lt (slice_index_or events k d).0 n ≡ true)
     → ((k : ℕ) (d : ℕ × Event) → i ≤ k → k < length events → nat_lt (slice_index_or events k d).0 n ≡ false)
@@ -56,6 +65,10 @@ first_ones events n i le passes fails = kept (λ x. nat_lt x.0 n) events i le pa
 -- one more is taken
 pub one_more_taken : (events : List (ℕ × Event)) (i : ℕ) (x : ℕ × Event) → i < length events → x ≡ slice_index_or events i x → take (i + 1) events ≡ take i events ++ x ∷ []
 one_more_taken events i x lt is = take_more events i x lt ∙ ap (λ y. take i events ++ y ∷ []) (sym is)
+
+-- so it is of a part behind others
+pub one_more_behind : (before events : List (ℕ × Event)) (i : ℕ) (x : ℕ × Event) → i < length events → x ≡ slice_index_or events i x → before ++ take (i + 1) events ≡ (before ++ take i events) ++ x ∷ []
+one_more_behind before events i x lt is = ap (λ l. before ++ l) (one_more_taken events i x lt is) ∙ sym (append_assoc before (take i events) (x ∷ []))
 
 -- where one does not pass, a filter keeps fewer
 fewer : {X : Type 0} (p : X → Bool) (xs : List X) (k : ℕ) (d : X) → k < length xs → p (slice_index_or xs k d) ≡ false → length (filter p xs) < length xs

@@ -1,3 +1,5 @@
+pub mod Counts
+pub mod SavedStates
 pub mod Soundness
 pub mod Pushes
 pub mod Statuses

@@ -1,91 +1,130 @@
 -- what a line keeps where its prepared change is carried out, dropped or replaced
-use Rattle.std.proofs.Common.{◌≡◌, ℕ, ◌≤◌, Option, Some, None, option_map, List, [], ◌∷◌, ◌++◌, length, take, sym, ap, ◌∙◌, subst}
+use Rattle.std.proofs.Common.{◌≡◌, ℕ, ◌/◌, ◌≤◌, Option, Some, None, option_map, List, [], ◌∷◌, ◌++◌, length, take, sym, ap, ◌∙◌, subst, arith}
 use Rattle.std.proofs.lemmas.List.{take_all}
 use Rattle.models.specs.declared.model_kind.ModelKind.{ModelKind}
+use Rattle.models.specs.Objects.{object_of}
 use Rattle.history.specs.declared.event.Event.{Event}
+use Rattle.history.specs.Events.{entries_of}
 use Rattle.history.specs.ProcessRule.{IsHistory}
 use Rattle.linspec.specs.declared.verdict.KeyStatus.{KeyStatus}
+use Rattle.linspec.specs.Verdicts.{IsKeyStatus}
 use Rattle.checkpoints.specs.declared.key_state.KeyState.{KeyState}
 use Rattle.checkpoints.specs.declared.key_line.Prepared.{Prepared}
+use Rattle.checkpoints.specs.declared.saving.Saves.{Saves}
 use Rattle.checkpoints.specs.KeyState.{IsKeyState, status_of}
-use Rattle.checkpoints.specs.KeyLineView.{KeyHistory, KeyLineView, IsStatusOf, events_below, cut_at, judged_by}
-use Rattle.checkpoints.specs.SoundLine.{kept_and_added, brought, HasPlace, IsJudged, IsSoundLine}
+use Rattle.checkpoints.specs.KeyLineView.{KeyHistory, KeyLineView, IsStatusOf, events_below, with_pushed, cut_at, judged_by}
+use Rattle.checkpoints.specs.Saved.{AreSaved}
+use Rattle.checkpoints.specs.Saves.{saved_by, HasRoom, IsSaveOf}
+use Rattle.checkpoints.specs.SoundLine.{kept_and_added, brought, replays_of, HasPlace, IsJudged, IsReady, IsSoundLine}
 use Rattle.checkpoints.proofs.Judging.{status_is}
 use Rattle.checkpoints.proofs.Cutting.{IsHistory-take}
-
-abbrev pub history_of : ModelKind → ℕ → List (ℕ × Event) → KeyHistory
-history_of kind budget events = record { kind = kind; budget = budget; events = events }
+use Rattle.checkpoints.proofs.SavedStates.{AreSaved-take, AreSaved-after}
 
 -- all of the events, and one more
 pub all_and : (events : List (ℕ × Event)) (k : ℕ) → length events ≤ k → (x : ℕ × Event) → kept_and_added k (Some x) events ≡ events ++ x ∷ []
 all_and events k le x = ap (λ l. l ++ x ∷ []) (take_all k events le)
 
 -- the status of a state is that of what it was judged by
-pub status_right : (h : KeyHistory) (state : KeyState) → IsJudged h state → (s : KeyStatus) → s ≡ status_of state → IsStatusOf h s
-status_right h state judged s is = subst (IsStatusOf h) (sym is) (status_is h.kind h.budget h.events state judged.stands)
+pub status_right : (kind : ModelKind) (budget : ℕ) (events : List (ℕ × Event)) (state : KeyState) → IsKeyState kind budget events state → (s : KeyStatus) → s ≡ status_of state → IsKeyStatus (object_of kind) budget (entries_of events) s
+status_right kind budget events state stands s is = subst (IsKeyStatus (object_of kind) budget (entries_of events)) (sym is) (status_is kind budget events state stands)
 
--- what is prepared, where the event is added behind all others
-pub pushed : (kind : ModelKind) (budget : ℕ) (events : List (ℕ × Event)) (k : ℕ) → length events ≤ k → (x : ℕ × Event) (state : KeyState) → IsHistory (events ++ x ∷ []) → IsKeyState kind budget (events ++ x ∷ []) state
-    → IsJudged (brought events (record { kind = kind; budget = budget; kept = k; added = Some x; state = state })) state
-pushed kind budget events k le x state history stands = subst (λ l. IsJudged (history_of kind budget l) state) (sym (all_and events k le x)) (record { history = history; stands = stands })
+module _ (kind : ModelKind) (budget : ℕ) (events : List (ℕ × Event)) (state : KeyState) (saved : List KeyState) (now : IsJudged kind budget events state saved) where
+  -- an event is added behind all others
+  pub pushed : (k : ℕ) → k ≡ length events → (x : ℕ × Event) (after : KeyState) (saves : Saves) → IsHistory (events ++ x ∷ []) → IsKeyState kind budget (events ++ x ∷ []) after → IsSaveOf kind budget events x saves
+      → IsJudged kind budget (kept_and_added k (Some x) events) after (saved_by k saves saved)
+  pushed k all x after saves history stands is = subst (λ l. IsJudged kind budget l after (saved_by k saves saved)) (sym (all_and events k (omega arith) x))
+      (record { history = history; stands = stands; saved_are = AreSaved-after kind budget events saved now.saved_are x k all saves is })
 
--- what was found of the first so many of the events, read from their place
-pub replayed_judged : (kind : ModelKind) (budget k : ℕ) (events read : List (ℕ × Event)) → read ≡ events → IsHistory events → (state : KeyState) → (IsHistory (take k read) → IsKeyState kind budget (take k read) state) → IsJudged (history_of kind budget (take k events)) state
-replayed_judged kind budget k events read same h state found =
-    let whole : IsHistory (take k read) = subst (λ l. IsHistory (take k l)) (sym same) (IsHistory-take k events h) in
-    subst (λ l. IsJudged (history_of kind budget (take k l)) state) same (record { history = whole; stands = found whole })
+  -- the first so many events are kept
+  pub cut_judged : (k : ℕ) → k ≤ length events → (after : KeyState) → IsKeyState kind budget (take k events) after → IsJudged kind budget (take k events) after (take (k / 64) saved)
+  cut_judged k le after stands = record { history = IsHistory-take k events now.history; stands = stands; saved_are = AreSaved-take kind budget events saved now.saved_are k le }
 
-pub rebuilt_judged : (kind : ModelKind) (budget : ℕ) (events read : List (ℕ × Event)) → read ≡ events → IsHistory events → (state : KeyState) → (IsHistory read → IsKeyState kind budget read state) → IsJudged (history_of kind budget events) state
-rebuilt_judged kind budget events read same h state found =
-    let whole : IsHistory read = subst IsHistory (sym same) h in
-    subst (λ l. IsJudged (history_of kind budget l) state) same (record { history = whole; stands = found whole })
+  -- a copy stands for the first so many, where these are all
+  pub copy_stands : (k : ℕ) → length events ≤ k → (after : KeyState) → IsKeyState kind budget events after → IsKeyState kind budget (take k events) after
+  copy_stands k le after stands = subst (λ l. IsKeyState kind budget l after) (sym (take_all k events le)) stands
+
+-- another kind and budget judge the same events
+pub rebuilt_judged : (kind : ModelKind) (budget : ℕ) (events read : List (ℕ × Event)) → read ≡ events → IsHistory events → (state : KeyState) (saved : List KeyState) → (IsHistory read → IsKeyState kind budget read state) → (IsHistory read → AreSaved kind budget read saved)
+    → (k : ℕ) → length events ≤ k → IsJudged kind budget (take k events) state saved
+rebuilt_judged kind budget events read same history state saved stands are k le =
+    let whole : IsHistory read = subst IsHistory (sym same) history in
+    subst (λ l. IsJudged kind budget l state saved) (same ∙ sym (take_all k events le)) (record { history = whole; stands = stands whole; saved_are = are whole })
+
+-- what was found of the events, read from their place
+pub read_stands : (kind : ModelKind) (budget : ℕ) (events read : List (ℕ × Event)) → read ≡ events → IsHistory events → (state : KeyState) → (IsHistory read → IsKeyState kind budget read state) → IsKeyState kind budget events state
+read_stands kind budget events read same history state stands = subst (λ l. IsKeyState kind budget l state) same (stands (subst IsHistory (sym same) history))
 
 -- a fact of the fields is one of what a caller sees
-abbrev pub seen_as : ModelKind → ℕ → List (ℕ × Event) → Option Prepared → KeyLineView
-seen_as kind budget events prepared = record { now = history_of kind budget events; next = option_map (brought events) prepared }
+abbrev pub history_of : ModelKind → ℕ → List (ℕ × Event) → KeyHistory
+history_of kind budget events = record { kind = kind; budget = budget; events = events }
 
-module _ (kind : ModelKind) (budget : ℕ) (events : List (ℕ × Event)) (prepared : Option Prepared) (line : KeyLineView) (seen : seen_as kind budget events prepared ≡ line) where
+abbrev pub seen_as : ModelKind → ℕ → List (ℕ × Event) → Option Prepared → ℕ → KeyLineView
+seen_as kind budget events prepared replayed = record {
+  now = history_of kind budget events;
+  next = option_map (brought events) prepared;
+  replayed = replayed;
+  due = replays_of prepared;
+}
+
+module _ (kind : ModelKind) (budget : ℕ) (events : List (ℕ × Event)) (prepared : Option Prepared) (replayed : ℕ) (line : KeyLineView) (seen : seen_as kind budget events prepared replayed ≡ line) where
   pub history_seen : (x : ℕ × Event) → IsHistory (line.now.events ++ x ∷ []) → IsHistory (events ++ x ∷ [])
   history_seen x h = subst (λ (v : KeyLineView). IsHistory (v.now.events ++ x ∷ [])) (sym seen) h
 
-  pub status_seen : (state : KeyState) → IsJudged (history_of kind budget events) state → (s : KeyStatus) → s ≡ status_of state → IsStatusOf line.now s
-  status_seen state judged s is = subst (λ (v : KeyLineView). IsStatusOf v.now s) seen (status_right (history_of kind budget events) state judged s is)
+  pub status_seen : (state : KeyState) → IsKeyState kind budget events state → (s : KeyStatus) → s ≡ status_of state → IsStatusOf line.now s
+  status_seen state stands s is = subst (λ (v : KeyLineView). IsStatusOf v.now s) seen (status_right kind budget events state stands s is)
 
-  pub next_seen : (x : ℕ × Event) (s : KeyStatus) → IsStatusOf (history_of kind budget (events ++ x ∷ [])) s → IsStatusOf (record line.now { events = line.now.events ++ x ∷ [] }) s
-  next_seen x s h = subst (λ (v : KeyLineView). IsStatusOf (record v.now { events = v.now.events ++ x ∷ [] }) s) seen h
+  pub next_seen : (index : ℕ) (event : Event) (s : KeyStatus) → IsKeyStatus (object_of kind) budget (entries_of (events ++ (index, event) ∷ [])) s → IsStatusOf (with_pushed index event line.now) s
+  next_seen index event s h = subst (λ (v : KeyLineView). IsStatusOf (with_pushed index event v.now) s) seen h
 
-  pub cut_seen : (n k : ℕ) (read : List (ℕ × Event)) → read ≡ events → (IsHistory read → take k read ≡ events_below n read) → IsHistory events → (s : KeyStatus) → IsStatusOf (history_of kind budget (take k events)) s → IsStatusOf (cut_at n line.now) s
-  cut_seen n k read same first h s is =
-      let firsts : take k events ≡ events_below n events = subst (λ l. take k l ≡ events_below n l) same (first (subst IsHistory (sym same) h)) in
-      subst (λ (v : KeyLineView). IsStatusOf (cut_at n v.now) s) seen (subst (λ l. IsStatusOf (history_of kind budget l) s) firsts is)
+  pub cut_seen : (n k : ℕ) → take k events ≡ events_below n events → (s : KeyStatus) → IsKeyStatus (object_of kind) budget (entries_of (take k events)) s → IsStatusOf (cut_at n line.now) s
+  cut_seen n k first s is =
+      subst (λ (v : KeyLineView). IsStatusOf (cut_at n v.now) s) seen (subst (λ l. IsKeyStatus (object_of kind) budget (entries_of l) s) first is)
 
-  pub rebuilt_seen : (other : ModelKind) (new_budget : ℕ) (s : KeyStatus) → IsStatusOf (history_of other new_budget events) s → IsStatusOf (judged_by other new_budget line.now) s
+  pub rebuilt_seen : (other : ModelKind) (new_budget : ℕ) (s : KeyStatus) → IsKeyStatus (object_of other) new_budget (entries_of events) s → IsStatusOf (judged_by other new_budget line.now) s
   rebuilt_seen other new_budget s is = subst (λ (v : KeyLineView). IsStatusOf (judged_by other new_budget v.now) s) seen is
 
-module _ (kind : ModelKind) (budget : ℕ) (events : List (ℕ × Event)) (state : KeyState) (room : ℕ) (prepared : Option Prepared) (sound : IsSoundLine kind budget events state room prepared) where
+-- the first so many are those below an index, read from their place
+pub first_seen : (n k : ℕ) (events read : List (ℕ × Event)) → read ≡ events → IsHistory events → (IsHistory read → take k read ≡ events_below n read) → take k events ≡ events_below n events
+first_seen n k events read same history first = subst (λ l. take k l ≡ events_below n l) same (first (subst IsHistory (sym same) history))
+
+pub within_seen : (k : ℕ) (events read : List (ℕ × Event)) → read ≡ events → k ≤ length read → k ≤ length events
+within_seen k events read same le = subst (λ l. k ≤ length l) same le
+
+-- how the key stands after the first so many, read from their place
+pub gone_stands : (kind : ModelKind) (budget k : ℕ) (events read : List (ℕ × Event)) → read ≡ events → (saved read_saved : List KeyState) → read_saved ≡ saved → IsHistory events → AreSaved kind budget events saved → (state : KeyState)
+    → (IsHistory read → AreSaved kind budget read read_saved → IsKeyState kind budget (take k read) state) → IsKeyState kind budget (take k events) state
+gone_stands kind budget k events read same saved read_saved same_saved history are state found =
+    subst (λ l. IsKeyState kind budget (take k l) state) same
+    (found (subst IsHistory (sym same) history) (subst (λ l. AreSaved kind budget l read_saved) (sym same) (subst (AreSaved kind budget events) (sym same_saved) are)))
+
+module _ (kind : ModelKind) (budget : ℕ) (events : List (ℕ × Event)) (state : KeyState) (saved : List KeyState) (room saves_room : ℕ) (prepared : Option Prepared) (sound : IsSoundLine kind budget events state saved room saves_room prepared) where
   -- nothing is prepared
-  pub IsSoundLine-dropped : (new : List (ℕ × Event)) → new ≡ events → (new_room : ℕ) (left : Option Prepared) → left ≡ None → IsSoundLine kind budget new state new_room left
-  IsSoundLine-dropped new same new_room left none = record {
-    now = subst (λ l. IsJudged (history_of kind budget l) state) (sym same) sound.now;
+  pub IsSoundLine-dropped : (new : List (ℕ × Event)) → new ≡ events → (new_saved : List KeyState) → new_saved ≡ saved → (new_room new_saves_room : ℕ) (left : Option Prepared) → left ≡ None
+      → IsSoundLine kind budget new state new_saved new_room new_saves_room left
+  IsSoundLine-dropped new same new_saved same_saved new_room new_saves_room left none = record {
+    now = subst (λ l. IsJudged kind budget l state new_saved) (sym same) (subst (IsJudged kind budget events state) (sym same_saved) sound.now);
     next = λ q e. (let clash : None ≡ Some q = sym none ∙ e in cc);
-    place = λ q e. (let clash : None ≡ Some q = sym none ∙ e in cc);
   }
 
   -- a change is prepared
-  pub IsSoundLine-prepared : (new : List (ℕ × Event)) → new ≡ events → (new_room : ℕ) (p : Prepared) → IsJudged (brought events p) p.state → HasPlace (length events) new_room p.added → IsSoundLine kind budget new state new_room (Some p)
-  IsSoundLine-prepared new same new_room p judged place = record {
-    now = subst (λ l. IsJudged (history_of kind budget l) state) (sym same) sound.now;
-    next = λ q is. (let eq : p ≡ q = cc in subst (λ (w : Prepared). IsJudged (brought new w) w.state) eq (subst (λ l. IsJudged (brought l p) p.state) (sym same) judged));
-    place = λ q is. (let eq : p ≡ q = cc in subst (λ (w : Prepared). HasPlace (length new) new_room w.added) eq (subst (λ l. HasPlace (length l) new_room p.added) (sym same) place));
+  pub IsSoundLine-prepared : (new : List (ℕ × Event)) → new ≡ events → (new_saved : List KeyState) → new_saved ≡ saved → (new_room new_saves_room : ℕ) (p : Prepared) (left : Option Prepared) → left ≡ Some p → IsReady events saved new_room new_saves_room p
+      → IsSoundLine kind budget new state new_saved new_room new_saves_room left
+  IsSoundLine-prepared new same new_saved same_saved new_room new_saves_room p left left_is ready = record {
+    now = subst (λ l. IsJudged kind budget l state new_saved) (sym same) (subst (IsJudged kind budget events state) (sym same_saved) sound.now);
+    next = λ q is. (let both : Some p ≡ Some q = sym left_is ∙ is in let eq : p ≡ q = cc in subst (IsReady new new_saved new_room new_saves_room) eq
+        (subst (λ l. IsReady l new_saved new_room new_saves_room p) (sym same) (subst (λ l. IsReady events l new_room new_saves_room p) (sym same_saved) ready)));
   }
 
   pub has_place : (p : Prepared) → prepared ≡ Some p → HasPlace (length events) room p.added
-  has_place p is = sound.place p is
+  has_place p is = (sound.next p is).place
+
+  pub has_room : (p : Prepared) → prepared ≡ Some p → HasRoom (length saved) saves_room p.saves
+  has_room p is = (sound.next p is).saves_place
 
   -- it is carried out
-  pub IsSoundLine-committed : (p : Prepared) → prepared ≡ Some p → (left : Option Prepared) → left ≡ None → (new : List (ℕ × Event)) (new_room : ℕ) → new ≡ kept_and_added p.kept p.added events → IsSoundLine p.kind p.budget new p.state new_room left
-  IsSoundLine-committed p is left none new new_room are = record {
-    now = subst (λ l. IsJudged (history_of p.kind p.budget l) p.state) (sym are) (sound.next p is);
+  pub IsSoundLine-committed : (p : Prepared) → prepared ≡ Some p → (left : Option Prepared) → left ≡ None → (new : List (ℕ × Event)) (new_saved : List KeyState) (new_room new_saves_room : ℕ) → new ≡ kept_and_added p.kept p.added events → new_saved ≡ saved_by p.kept p.saves saved
+      → IsSoundLine p.kind p.budget new p.state new_saved new_room new_saves_room left
+  IsSoundLine-committed p is left none new new_saved new_room new_saves_room are are_saved = record {
+    now = subst (λ l. IsJudged p.kind p.budget l p.state new_saved) (sym are) (subst (IsJudged p.kind p.budget (kept_and_added p.kept p.added events) p.state) (sym are_saved) (sound.next p is).judged);
     next = λ q e. (let clash : None ≡ Some q = sym none ∙ e in cc);
-    place = λ q e. (let clash : None ≡ Some q = sym none ∙ e in cc);
   }

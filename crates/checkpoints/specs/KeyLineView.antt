@@ -1,5 +1,5 @@
 -- Promise: the line of one key, as a caller sees it
-use Rattle.std.specs.Prelude.{ℕ, Bool, Option, Some, None, List, [], ◌∷◌, ◌++◌, length, nat_lt}
+use Rattle.std.specs.Prelude.{ℕ, ◌+◌, ◌-◌, ◌%◌, ◌^◌, min, Bool, if◌then◌else◌, Option, Some, None, List, [], ◌∷◌, ◌++◌, length, nat_lt}
 use Rattle.std.specs.List.{filter}
 use Rattle.models.specs.declared.model_kind.ModelKind.{ModelKind}
 use Rattle.models.specs.Objects.{object_of}
@@ -19,16 +19,21 @@ pub record KeyHistory : Type 0 where
 abbrev pub without_events : ModelKind → ℕ → KeyHistory
 without_events kind budget = record { kind = kind; budget = budget; events = [] }
 
--- what a line has, and what commit will bring, where a change is prepared
+-- what a line has, and what commit will bring, where a change is prepared; how many replays the committed changes took, and how
+-- many the prepared one. A replay is one event that is given to what judges the key, for the first time or again
 pub record KeyLineView : Type 0 where
   pub now : KeyHistory
   pub next : Option KeyHistory
+  pub replayed : ℕ
+  pub due : ℕ
 
-abbrev pub at_rest : KeyHistory → KeyLineView
-at_rest h = record { now = h; next = None }
+abbrev pub at_rest : KeyHistory → ℕ → KeyLineView
+at_rest h replayed = record { now = h; next = None; replayed = replayed; due = 0 }
 
-abbrev pub with_next : KeyHistory → KeyLineView → KeyLineView
-with_next next line = record { now = line.now; next = Some next }
+-- this is prepared, and took so many replays
+abbrev pub with_next : KeyHistory → ℕ → KeyLineView → KeyLineView
+with_next next due line =
+    record { now = line.now; next = Some next; replayed = line.replayed; due = due }
 
 -- from scratch, how the key stands
 abbrev pub IsStatusOf : KeyHistory → KeyStatus → Type 0
@@ -54,3 +59,11 @@ loses_at n h = nat_lt (length (events_below n h.events)) (length h.events)
 -- the key has an event of index below n
 abbrev pub begins_below : ℕ → KeyHistory → Bool
 begins_below n h = nat_lt 0 (length (events_below n h.events))
+
+-- the replays of a cut at n: where it takes events away, those that stay behind the last 64th one
+abbrev pub replays_at : ℕ → KeyHistory → ℕ
+replays_at n h = if loses_at n h then length (events_below n h.events) % 64 else 0
+
+-- a count goes on, and stops at the greatest u64
+abbrev pub count_on : ℕ → ℕ → ℕ
+count_on count more = min (count + more) (2 ^ 64 - 1)

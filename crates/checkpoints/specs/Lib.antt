@@ -1,4 +1,6 @@
 pub mod LiveKey
 pub mod KeyState
 pub mod KeyLineView
+pub mod Saved
+pub mod Saves
 pub mod SoundLine

@@ -7,6 +7,8 @@ use Rattle.checkpoints.specs.declared.key_state.KeyState.{KeyState}
 use Rattle.checkpoints.specs.declared.key_line.Prepared.{Prepared}
 use Rattle.checkpoints.specs.KeyState.{IsKeyState}
 use Rattle.checkpoints.specs.KeyLineView.{KeyHistory}
+use Rattle.checkpoints.specs.Saved.{AreSaved}
+use Rattle.checkpoints.specs.Saves.{saved_by, HasRoom}
 
 -- the first so many events, and one more if there is one
 abbrev pub kept_and_added : ℕ → Option (ℕ × Event) → List (ℕ × Event) → List (ℕ × Event)
@@ -21,19 +23,33 @@ brought events p = record {
   events = kept_and_added p.kept p.added events;
 }
 
+-- the replays of what is prepared
+abbrev pub replays_of : Option Prepared → ℕ
+replays_of None = 0
+replays_of (Some p) = p.replays
+
 -- where an event is added, there is a place for it
 abbrev pub HasPlace : ℕ → ℕ → Option (ℕ × Event) → Type 0
 HasPlace length room None = Unit {0}
 HasPlace length room (Some x) = length < room
 
--- the events are a history, and its key stands so after them
-pub record IsJudged (h : KeyHistory) (state : KeyState) : Type 0 where
-  pub history : IsHistory h.events
-  pub stands : IsKeyState h.kind h.budget h.events state
+-- the events are a history, its key stands so after them, and stood as is saved
+pub record IsJudged (kind : ModelKind) (budget : ℕ) (events : List (ℕ × Event)) (state : KeyState)
+    (saved : List KeyState) : Type 0 where
+  pub history : IsHistory events
+  pub stands : IsKeyState kind budget events state
+  pub saved_are : AreSaved kind budget events saved
 
--- so are they where what is prepared is carried out, which needs no memory
+-- what a prepared change brings is so too, and carrying it out needs no memory
+pub record IsReady (events : List (ℕ × Event)) (saved : List KeyState) (room saves_room : ℕ)
+    (p : Prepared) : Type 0 where
+  pub judged : IsJudged p.kind p.budget (kept_and_added p.kept p.added events) p.state
+      (saved_by p.kept p.saves saved)
+  pub place : HasPlace (length events) room p.added
+  pub saves_place : HasRoom (length saved) saves_room p.saves
+
 pub record IsSoundLine (kind : ModelKind) (budget : ℕ) (events : List (ℕ × Event))
-    (state : KeyState) (room : ℕ) (prepared : Option Prepared) : Type 0 where
-  pub now : IsJudged (record { kind = kind; budget = budget; events = events }) state
-  pub next : (p : Prepared) → prepared ≡ Some p → IsJudged (brought events p) p.state
-  pub place : (p : Prepared) → prepared ≡ Some p → HasPlace (length events) room p.added
+    (state : KeyState) (saved : List KeyState) (room saves_room : ℕ) (prepared : Option Prepared)
+    : Type 0 where
+  pub now : IsJudged kind budget events state saved
+  pub next : (p : Prepared) → prepared ≡ Some p → IsReady events saved room saves_room p

@@ -1,10 +1,12 @@
 //! The line of one key.
-ghost use Rattle.std.specs.Prelude.{◌≡◌, ◌≤◌, [], ◌∷◌, ◌++◌, take, length, nat_lt, IsSome, IfSome, IfOk, OnOk, OnErr};
+ghost use Rattle.std.specs.Prelude.{◌≡◌, ◌≤◌, Some, None, [], ◌∷◌, ◌++◌, take, length, nat_lt};
+ghost use Rattle.std.specs.Prelude.{IsSome, IfSome, IfOk, OnOk, OnErr};
 ghost use Rattle.history.specs.ProcessRule.{IsHistory};
 ghost use Rattle.checkpoints.specs.KeyLineView.{IsStatusOf, without_events, at_rest, with_next, with_pushed, cut_at, judged_by};
-ghost use Rattle.checkpoints.specs.KeyLineView.{events_below, loses_at, begins_below};
+ghost use Rattle.checkpoints.specs.KeyLineView.{events_below, loses_at, begins_below, replays_at, count_on};
 
 use crate::key_state::KeyState;
+use crate::saving::{Saves, gone_back, judged_anew, saved_of, saves_after};
 use history::Event;
 use linspec::KeyStatus;
 use models::ModelKind;
@@ -12,7 +14,7 @@ use std::alloc::{AllocError, Global};
 use std::marker::Model;
 
 /// What may be committed: the first so many events stay, one may follow, and the key, judged by this kind and budget, then
-/// stands so.
+/// stands so. It took so many replays.
 #[derive(Drop)]
 struct Prepared {
     kind: ModelKind,
@@ -20,6 +22,8 @@ struct Prepared {
     kept: usize,
     added: Option<(u32, Event)>,
     state: KeyState,
+    saves: Saves,
+    replays: u64,
 }
 
 /// The events of one key with their indices, in the order in which they came, and what is known of the key. It is alive
@@ -28,6 +32,10 @@ struct Prepared {
 /// key is over at that ok, whatever else is known of it (this project's own).
 ///
 /// A line is that of one key because it is given that key's events alone; it looks at no key itself.
+///
+/// After each 64th event it saves a copy of the ends, with the status, to go back to where events are cut. A key that is
+/// dead or over has no ends, and then the status alone is saved. So beside the events a line takes the memory of its ends
+/// once for each 64 events: at 2^20 events 16,384 times, which is 1 GiB where a copy takes 64 KiB.
 ///
 /// Each change is prepared, which may fail and changes nothing but what is prepared, and then committed. What was prepared
 /// before is dropped.
@@ -38,6 +46,8 @@ pub struct KeyLine {
     budget: u32,
     events: Vec<(u32, Event)>,
     state: KeyState,
+    saved: Vec<KeyState>,
+    replayed: u64,
     prepared: Option<Prepared>,
 }
 
@@ -45,17 +55,20 @@ impl Model for KeyLine {
     ghost use Rattle.std.specs.Prelude.{vec_capacity};
     ghost use Rattle.std.specs.Option.{option_map};
     ghost use Rattle.checkpoints.specs.KeyLineView.{KeyLineView};
-    ghost use Rattle.checkpoints.specs.SoundLine.{IsSoundLine, brought};
+    ghost use Rattle.checkpoints.specs.SoundLine.{IsSoundLine, brought, replays_of};
 
     ghost Value = { KeyLineView };
 
     ghost view = { λ a. record {
       now = record { kind = a.kind; budget = a.budget; events = a.events.items };
       next = option_map (brought a.events.items) a.prepared;
+      replayed = a.replayed;
+      due = replays_of a.prepared;
     } };
 
     ghost invariant = { λ a.
-        IsSoundLine a.kind a.budget a.events.items a.state (vec_capacity a.events) a.prepared };
+        IsSoundLine a.kind a.budget a.events.items a.state a.saved.items (vec_capacity a.events)
+        (vec_capacity a.saved) a.prepared };
 }
 
 impl KeyLine {
@@ -66,7 +79,7 @@ impl KeyLine {
     ///
     /// `AllocError` where memory was refused.
     pub fn new(alloc: Global, kind: ModelKind, budget: u32) -> Result<Self, AllocError>
-        ensures { IfOk result (λ line. line ≡ at_rest (without_events kind budget)) }
+        ensures { IfOk result (λ made. made ≡ at_rest (without_events kind budget) 0) }
     {
         let state = KeyState::start(alloc, kind, budget)?;
         Ok(KeyLine {
@@ -75,13 +88,16 @@ impl KeyLine {
             budget,
             events: Vec::new(alloc),
             state,
+            saved: Vec::new(alloc),
+            replayed: 0,
             prepared: None,
         })
     }
 
     /// Prepares to append this event, and gives the status that [`commit`](Self::commit) will bring. The index is the
-    /// event's place in the whole history. It takes the time of a copy of the ends of the events so far, and of what the
-    /// event does to them: see [`Frontier`](frontier::Frontier)'s `invoke`, `ok`, `fail` and `crash`.
+    /// event's place in the whole history. It takes the time of a copy of the ends of the events so far, of two where the
+    /// event is a 64th one, and of what the event does to them: see [`Frontier`](frontier::Frontier)'s `invoke`, `ok`,
+    /// `fail` and `crash`. It is one replay.
     ///
     /// # Errors
     ///
@@ -90,77 +106,107 @@ impl KeyLine {
         requires { IsHistory (self.old.now.events ++ (index, event) ∷ []) }
         ensures status { IfOk result (IsStatusOf (with_pushed index event self.old.now)) }
         ensures prepared { OnOk result
-            (self.new ≡ with_next (with_pushed index event self.old.now) self.old) }
-        ensures err { OnErr result (self.new ≡ at_rest self.old.now) }
+            (self.new ≡ with_next (with_pushed index event self.old.now) 1 self.old) }
+        ensures err { OnErr result (self.new ≡ at_rest self.old.now self.old.replayed) }
     {
-        self.prepared = None;
+        drop_prepared(&mut self.prepared);
         let state = self.state.copy()?.after(index, &event)?;
         self.events.reserve(1)?;
+        let count = self.events.len();
+        let saves = saves_after(&mut self.saved, &state, count)?;
         let status = state.status();
-        self.prepared = Some(Prepared {
+        let next = Prepared {
             kind: self.kind,
             budget: self.budget,
-            kept: self.events.len(),
+            kept: count,
             added: Some((index, event)),
             state,
-        });
+            saves,
+            replays: 1,
+        };
+        prepare(&mut self.prepared, next);
         Ok(status)
     }
 
     /// Prepares to keep the events whose index is below `n` alone, and gives the status that [`commit`](Self::commit) will
-    /// bring. It takes the time of all kept events, each given to a fresh frontier.
+    /// bring. It takes the time of a copy of the ends that were saved after the last 64th event that stays, and of fewer
+    /// than 64 replays: of the events behind it, each given to that copy. Where it takes no event away, it makes none, and
+    /// copies the ends as they are.
     ///
     /// # Errors
     ///
     /// `AllocError` where memory was refused: then nothing is prepared, and the rest is as it was.
     pub fn prepare_cut(&mut self, n: u32) -> Result<KeyStatus, AllocError>
         ensures status { IfOk result (IsStatusOf (cut_at n self.old.now)) }
-        ensures prepared { OnOk result (self.new ≡ with_next (cut_at n self.old.now) self.old) }
-        ensures err { OnErr result (self.new ≡ at_rest self.old.now) }
+        ensures prepared { OnOk result
+            (self.new ≡ with_next (cut_at n self.old.now) (replays_at n self.old.now) self.old) }
+        ensures err { OnErr result (self.new ≡ at_rest self.old.now self.old.replayed) }
     {
-        self.prepared = None;
+        drop_prepared(&mut self.prepared);
         let kept = count_below(&self.events, n);
-        let state = KeyState::replayed(self.alloc, self.kind, self.budget, &self.events[..kept])?;
+        let mut replays = 0;
+        let state = if kept < self.events.len() {
+            gone_back(
+                self.alloc,
+                self.kind,
+                self.budget,
+                &self.events,
+                &self.saved,
+                kept,
+                &mut replays,
+            )?
+        } else {
+            self.state.copy()?
+        };
         let status = state.status();
-        self.prepared = Some(Prepared {
+        let next = Prepared {
             kind: self.kind,
             budget: self.budget,
             kept,
             added: None,
             state,
-        });
+            saves: Saves::Kept,
+            replays,
+        };
+        prepare(&mut self.prepared, next);
         Ok(status)
     }
 
     /// Prepares to judge the same events by another kind of object and another budget, and gives the status that
-    /// [`commit`](Self::commit) will bring. It takes the time of all events, each given to a fresh frontier.
+    /// [`commit`](Self::commit) will bring. It takes the time of all events, each given to a fresh frontier, which is one
+    /// replay each; a copy of the ends is saved after each 64th. What was saved before goes.
     ///
     /// # Errors
     ///
     /// `AllocError` where memory was refused: then nothing is prepared, and the rest is as it was.
     pub fn prepare_rebuild(&mut self, kind: ModelKind, budget: u32) -> Result<KeyStatus, AllocError>
         ensures status { IfOk result (IsStatusOf (judged_by kind budget self.old.now)) }
-        ensures prepared { OnOk result
-            (self.new ≡ with_next (judged_by kind budget self.old.now) self.old) }
-        ensures err { OnErr result (self.new ≡ at_rest self.old.now) }
+        ensures prepared { OnOk result (self.new
+            ≡ with_next (judged_by kind budget self.old.now) (length self.old.now.events) self.old) }
+        ensures err { OnErr result (self.new ≡ at_rest self.old.now self.old.replayed) }
     {
-        self.prepared = None;
-        let state = KeyState::replayed(self.alloc, kind, budget, &self.events)?;
+        drop_prepared(&mut self.prepared);
+        let mut replays = 0;
+        let (state, saved) = judged_anew(self.alloc, kind, budget, &self.events, &mut replays)?;
         let status = state.status();
-        self.prepared = Some(Prepared {
+        let next = Prepared {
             kind,
             budget,
             kept: self.events.len(),
             added: None,
             state,
-        });
+            saves: Saves::Anew(saved),
+            replays,
+        };
+        prepare(&mut self.prepared, next);
         Ok(status)
     }
 
     /// Carries out what is prepared. Takes no memory.
     pub fn commit(&mut self)
         requires { IsSome self.old.next }
-        ensures { IfSome self.old.next (λ next. self.new ≡ at_rest next) }
+        ensures { IfSome self.old.next (λ next.
+            self.new ≡ at_rest next (count_on self.old.replayed self.old.due)) }
     {
         if let Some(next) = self.prepared.take() {
             let Prepared {
@@ -169,14 +215,22 @@ impl KeyLine {
                 kept,
                 added,
                 state,
+                saves,
+                replays,
             } = next;
             self.events.truncate(kept);
             if let Some(event) = added {
                 self.events.push_reserved(event);
             }
+            match saves {
+                Saves::Kept => self.saved.truncate(saved_of(kept)),
+                Saves::More(state) => self.saved.push_reserved(state),
+                Saves::Anew(saved) => self.saved = saved,
+            }
             self.kind = kind;
             self.budget = budget;
             self.state = state;
+            self.replayed = self.replayed.saturating_add(replays);
         }
     }
 
@@ -187,8 +241,9 @@ impl KeyLine {
     /// `AllocError` where memory was refused: then nothing is prepared, and the rest is as it was.
     pub fn push(&mut self, index: u32, event: Event) -> Result<(), AllocError>
         requires { IsHistory (self.old.now.events ++ (index, event) ∷ []) }
-        ensures ok { OnOk result (self.new ≡ at_rest (with_pushed index event self.old.now)) }
-        ensures err { OnErr result (self.new ≡ at_rest self.old.now) }
+        ensures ok { OnOk result (self.new
+            ≡ at_rest (with_pushed index event self.old.now) (count_on self.old.replayed 1)) }
+        ensures err { OnErr result (self.new ≡ at_rest self.old.now self.old.replayed) }
     {
         self.prepare_push(index, event)?;
         self.commit();
@@ -202,8 +257,9 @@ impl KeyLine {
     ///
     /// `AllocError` where memory was refused: then nothing is prepared, and the rest is as it was.
     pub fn cut(&mut self, n: u32) -> Result<(), AllocError>
-        ensures ok { OnOk result (self.new ≡ at_rest (cut_at n self.old.now)) }
-        ensures err { OnErr result (self.new ≡ at_rest self.old.now) }
+        ensures ok { OnOk result (self.new ≡ at_rest (cut_at n self.old.now)
+            (count_on self.old.replayed (replays_at n self.old.now))) }
+        ensures err { OnErr result (self.new ≡ at_rest self.old.now self.old.replayed) }
     {
         self.prepare_cut(n)?;
         self.commit();
@@ -217,8 +273,9 @@ impl KeyLine {
     ///
     /// `AllocError` where memory was refused: then nothing is prepared, and the rest is as it was.
     pub fn rebuild(&mut self, kind: ModelKind, budget: u32) -> Result<(), AllocError>
-        ensures ok { OnOk result (self.new ≡ at_rest (judged_by kind budget self.old.now)) }
-        ensures err { OnErr result (self.new ≡ at_rest self.old.now) }
+        ensures ok { OnOk result (self.new ≡ at_rest (judged_by kind budget self.old.now)
+            (count_on self.old.replayed (length self.old.now.events))) }
+        ensures err { OnErr result (self.new ≡ at_rest self.old.now self.old.replayed) }
     {
         self.prepare_rebuild(kind, budget)?;
         self.commit();
@@ -230,6 +287,25 @@ impl KeyLine {
         ensures { IsStatusOf self.now.now result }
     {
         self.state.status()
+    }
+
+    /// How many replays the committed changes took: one for each event that was pushed, and one for each that a cut or a
+    /// rebuild gave again to what judges the key. It stops at the greatest `u64`. Takes no memory.
+    pub fn replayed(&self) -> u64
+        ensures { result ≡ self.now.replayed }
+    {
+        let count = self.replayed;
+        count
+    }
+
+    /// How many replays the prepared change took, and 0 where none is prepared. Takes no memory.
+    pub fn due(&self) -> u64
+        ensures { result ≡ self.now.due }
+    {
+        match &self.prepared {
+            Some(prepared) => prepared.replays,
+            None => 0,
+        }
     }
 
     /// How many events the line has. Takes no memory.
@@ -253,6 +329,20 @@ impl KeyLine {
     {
         has_below(&self.events, n)
     }
+}
+
+// What was prepared before is dropped.
+fn drop_prepared(prepared: &mut Option<Prepared>)
+    ensures { prepared.new ≡ None }
+{
+    *prepared = None;
+}
+
+// This change is prepared.
+fn prepare(prepared: &mut Option<Prepared>, next: Prepared)
+    ensures { prepared.new ≡ Some next }
+{
+    *prepared = Some(next);
 }
 
 // How many of the events, whose indices rise, have an index below n.

@@ -1,8 +1,9 @@
 //! How a key stands after events, and what it needs to go on.
-ghost use Rattle.std.specs.Prelude.{◌≡◌, ℕ, List, [], ◌∷◌, ◌++◌, IfOk};
+ghost use Rattle.std.specs.Prelude.{◌≡◌, ℕ, List, [], ◌∷◌, ◌++◌, length, IfOk, OnOk};
 ghost use Rattle.models.specs.declared.model_kind.ModelKind.{ModelKind};
 ghost use Rattle.history.specs.declared.event.Event.{Event};
 ghost use Rattle.history.specs.ProcessRule.{IsHistory};
+ghost use Rattle.checkpoints.specs.KeyLineView.{count_on};
 ghost use Rattle.checkpoints.specs.KeyState.{IsKeyState, status_of};
 
 use crate::live_key::LiveKey;
@@ -52,19 +53,24 @@ impl KeyState {
         }
     }
 
-    /// How the key stands after these events, from a key without events on.
-    pub(crate) fn replayed(
-        alloc: Global,
-        kind: ModelKind,
-        budget: u32,
+    /// How the key stands with these events too. Each is counted.
+    pub(crate) fn after_all(
+        self,
         events: &[(u32, Event)],
+        replayed: &mut u64,
     ) -> Result<Self, AllocError>
-        ensures { IsHistory events.now → IfOk result (IsKeyState kind budget events.now) }
+        ensures stands { (kind : ModelKind) (budget : ℕ) (before : List (ℕ × Event))
+            → IsKeyState kind budget before self → IsHistory (before ++ events.now)
+            → IfOk result (IsKeyState kind budget (before ++ events.now)) }
+        ensures counted { OnOk result (replayed.new ≡ count_on replayed.old (length events.now)) }
     {
-        let mut state = KeyState::start(alloc, kind, budget)?;
+        let mut state = self;
+        let mut count = *replayed;
         for (index, event) in events {
+            count = count.saturating_add(1);
             state = state.after(*index, event)?;
         }
+        *replayed = count;
         Ok(state)
     }
 

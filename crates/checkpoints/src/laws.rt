@@ -1,9 +1,9 @@
 //! Laws of what is known of a key while its events come.
-ghost use Rattle.std.specs.Prelude.{◌≡◌, ◌⊎◌, ℕ, [], ◌∷◌, ◌++◌};
+ghost use Rattle.std.specs.Prelude.{◌≡◌, ◌⊎◌, ℕ, ◌<◌, false, [], ◌∷◌, ◌++◌};
 ghost use Rattle.history.specs.declared.event.Event.{Event};
 ghost use Rattle.history.specs.ProcessRule.{IsHistory};
 ghost use Rattle.linspec.specs.declared.verdict.KeyStatus.{KeyStatus};
-ghost use Rattle.checkpoints.specs.KeyLineView.{KeyHistory, IsStatusOf, with_pushed};
+ghost use Rattle.checkpoints.specs.KeyLineView.{KeyHistory, IsStatusOf, with_pushed, loses_at, replays_at};
 
 /// A key that is dead stays dead, and one that is over stays over, at the same index, whatever events follow: with one
 /// more event a key has the status that it had, unless it was alive.
@@ -17,4 +17,10 @@ pub fn settled_law()
     ensures no_other { (h : KeyHistory) (index : ℕ) (event : Event) (s t : KeyStatus) →
         IsHistory (h.events ++ (index, event) ∷ []) → IsStatusOf h s
         → IsStatusOf (with_pushed index event h) t → (s ≡ KeyStatus.Alive) ⊎ (t ≡ s) }
+{}
+
+/// A cut makes fewer than 64 replays, and none where it takes no event away.
+pub fn few_replays_law()
+    ensures few { (n : ℕ) (h : KeyHistory) → replays_at n h < 64 }
+    ensures none { (n : ℕ) (h : KeyHistory) → loses_at n h ≡ false → replays_at n h ≡ 0 }
 {}

@@ -5,5 +5,6 @@ mod key_line;
 mod key_state;
 pub mod laws;
 mod live_key;
+mod saving;
 
 pub use key_line::KeyLine;

@@ -7,7 +7,7 @@ use Rattle.models.specs.declared.model_kind.ModelKind.{ModelKind}
 use Rattle.history.specs.declared.event.Event.{Event}
 use Rattle.history.specs.WellFormed.{HistoryView, with_events}
 use Rattle.linspec.specs.declared.verdict.Verdict.{Verdict}
-use Rattle.checkpoints.specs.KeyLineView.{KeyHistory, KeyLineView, at_rest}
+use Rattle.checkpoints.specs.KeyLineView.{KeyHistory, KeyLineView, at_rest, count_on}
 use Rattle.monitor.specs.JudgedHistory.{JudgedHistory}
 use Rattle.monitor.specs.Settings.{SettingsView}
 use Rattle.monitor.specs.Rows.{LinesView, nows}
@@ -36,13 +36,13 @@ nows_set [] place line = refl
 nows_set (row ∷ rows) zero line = refl
 nows_set (row ∷ rows) (suc place) line = ap (λ l. (row.0, row.1.now) ∷ l) (nows_set rows place line)
 
-pub line_carried : (lines lines' : LinesView) (place : ℕ) → IfSome (slice_get lines.rows place) (λ row. IfSome row.1.next (λ next. lines'.rows ≡ set_value_at lines.rows place (at_rest next)))
+pub line_carried : (lines lines' : LinesView) (place : ℕ) → IfSome (slice_get lines.rows place) (λ row. IfSome row.1.next (λ next. lines'.rows ≡ set_value_at lines.rows place (at_rest next (count_on row.1.replayed row.1.due))))
     → (rows : List (ℕ × KeyHistory)) → AreRowsWith lines (Some place) rows → nows lines'.rows ≡ rows
 line_carried lines lines' place carried rows brings =
     ap nows
-    (subst (λ (o : Option KeyHistory). IfSome o (λ next. lines'.rows ≡ set_value_at lines.rows place (at_rest next))) brings.3
-    (subst (λ (o : Option (ℕ × KeyLineView)). IfSome o (λ row. IfSome row.1.next (λ next. lines'.rows ≡ set_value_at lines.rows place (at_rest next)))) brings.2 carried))
-    ∙ nows_set lines.rows place (at_rest brings.1)
+    (subst (λ (o : Option KeyHistory). IfSome o (λ next. lines'.rows ≡ set_value_at lines.rows place (at_rest next (count_on brings.0.1.replayed brings.0.1.due)))) brings.3
+    (subst (λ (o : Option (ℕ × KeyLineView)). IfSome o (λ row. IfSome row.1.next (λ next. lines'.rows ≡ set_value_at lines.rows place (at_rest next (count_on row.1.replayed row.1.due))))) brings.2 carried))
+    ∙ nows_set lines.rows place (at_rest brings.1 (count_on brings.0.1.replayed brings.0.1.due))
     ∙ sym brings.4
 
 -- so all is sound after a change that brought what it should

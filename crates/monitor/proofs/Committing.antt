@@ -5,7 +5,7 @@ use Rattle.std.proofs.lemmas.List.{take_all, drop_all, take-map, append-nil, len
 use Rattle.std.proofs.lemmas.List.Elements.{filter_passes}
 use Rattle.std.proofs.lemmas.Option.{none-some, same_Some, slice_get_within, get_or_from_slice_get}
 use Rattle.indexmap.specs.Layout.{set_value_at}
-use Rattle.checkpoints.specs.KeyLineView.{KeyHistory, KeyLineView, at_rest, cut_at, begins_below, loses_at}
+use Rattle.checkpoints.specs.KeyLineView.{KeyHistory, KeyLineView, at_rest, cut_at, begins_below, loses_at, count_on}
 use Rattle.monitor.specs.Rows.{nows, cut_rows, IsCutAt, AreCutAt}
 use Rattle.monitor.proofs.Places.{others_stay, same_written, map_written, row_within}
 use Rattle.monitor.proofs.Joins.{now_read}
@@ -78,7 +78,7 @@ module _ (n : ℕ) (left rows : List (ℕ × KeyLineView)) (place : ℕ) (so_far
       let may : IsCutAt n row.0.1 = subst (λ (o : Option (ℕ × KeyLineView)). IfSome o (λ r. IsCutAt n r.1)) in_old (prepared place) in
       subst (λ (o : Option (ℕ × KeyLineView)). IsSomeAnd o (λ r. loses_at n r.1.now ≡ true → r.1.next ≡ Some (cut_at n r.1.now)))
       (sym (so_far.others place (omega arith) ∙ row.1))
-      (may begins)
+      (λ loses. (may begins loses).0)
 
 -- one line, by the row that is read
 module _ (rows : List (ℕ × KeyLineView)) (place n key : ℕ) (line : KeyLineView) (at : slice_get rows place ≡ Some (key, line)) where
@@ -86,20 +86,23 @@ module _ (rows : List (ℕ × KeyLineView)) (place n key : ℕ) (line : KeyLineV
   line_may loses may = subst (λ (o : Option (ℕ × KeyLineView)). IsSomeAnd o (λ row. loses_at n row.1.now ≡ true → row.1.next ≡ Some (cut_at n row.1.now))) at may loses
 
   module _ (after : List (ℕ × KeyLineView)) (next : line.next ≡ Some (cut_at n line.now))
-      (committed : IfSome (slice_get rows place) (λ row. IfSome row.1.next (λ h. after ≡ set_value_at rows place (at_rest h)))) where
-    written : after ≡ set_value_at rows place (at_rest (cut_at n line.now))
+      (committed : IfSome (slice_get rows place) (λ row. IfSome row.1.next (λ h. after ≡ set_value_at rows place (at_rest h (count_on row.1.replayed row.1.due))))) where
+    abbrev cut_line : KeyHistory → KeyLineView
+    cut_line h = at_rest h (count_on line.replayed line.due)
+
+    written : after ≡ set_value_at rows place (cut_line (cut_at n line.now))
     written =
-        subst (λ (o : Option KeyHistory). IfSome o (λ h. after ≡ set_value_at rows place (at_rest h))) next
-        (subst (λ (o : Option (ℕ × KeyLineView)). IfSome o (λ row. IfSome row.1.next (λ h. after ≡ set_value_at rows place (at_rest h)))) at committed)
+        subst (λ (o : Option KeyHistory). IfSome o (λ h. after ≡ set_value_at rows place (cut_line h))) next
+        (subst (λ (o : Option (ℕ × KeyLineView)). IfSome o (λ row. IfSome row.1.next (λ h. after ≡ set_value_at rows place (at_rest h (count_on row.1.replayed row.1.due))))) at committed)
 
     pub committed_cut : IfSome (slice_get rows place) (λ row. nows after ≡ set_value_at (nows rows) place (cut_at n row.1.now))
     committed_cut =
         at_row rows place key line (λ row. nows after ≡ set_value_at (nows rows) place (cut_at n row.1.now)) at
-        (ap nows written ∙ map_written (λ (l : KeyLineView). l.now) rows place (at_rest (cut_at n line.now)))
+        (ap nows written ∙ map_written (λ (l : KeyLineView). l.now) rows place (cut_line (cut_at n line.now)))
 
     pub committed_others : (other : ℕ) → other ≢ place → slice_get after other ≡ slice_get rows other
     committed_others other ne =
-        ap (λ (l : List (ℕ × KeyLineView)). slice_get l other) written ∙ others_stay rows place other (at_rest (cut_at n line.now)) ne
+        ap (λ (l : List (ℕ × KeyLineView)). slice_get l other) written ∙ others_stay rows place other (cut_line (cut_at n line.now)) ne
 
   pub whole_cut : loses_at n line.now ≡ false → IfSome (slice_get rows place) (λ row. nows rows ≡ set_value_at (nows rows) place (cut_at n row.1.now))
   whole_cut whole =

@@ -9,6 +9,7 @@ pub mod KeyedEvents
 pub mod Places
 pub mod Prepared
 pub mod Preparing
+pub mod Replays
 pub mod RowsAfter
 pub mod Statuses
 pub mod Verdicts

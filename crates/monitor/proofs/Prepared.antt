@@ -1,7 +1,8 @@
 -- what holds of the parts once a change is prepared
-use Rattle.std.proofs.Common.{◌≡◌, ◌⊎◌, ℕ, ◌<◌, Option, Some, None, IfSome, IsSomeAnd, List, [], ◌∷◌, ◌++◌, length, nat_eq, option_map, take, slice_get, refl, sym, ap, ◌∙◌, subst}
+use Rattle.std.proofs.Common.{◌≡◌, ◌⊎◌, ℕ, ◌<◌, ◌≤◌, Option, Some, None, IfSome, IsSomeAnd, List, [], ◌∷◌, ◌++◌, length, nat_eq, option_map, take, slice_get, refl, sym, ap, ◌∙◌, subst, arith}
 use Rattle.std.specs.List.{filter, position}
 use Rattle.std.specs.Map.{keys_of}
+use Rattle.std.proofs.lemmas.List.{length_push}
 use Rattle.std.proofs.lemmas.Option.{slice_get-map}
 use Rattle.indexmap.specs.Layout.{set_value_at}
 use Rattle.models.specs.declared.model_kind.ModelKind.{ModelKind}
@@ -40,8 +41,12 @@ SettledLaw = (h : KeyHistory) (index : ℕ) (event : Event) (s t : KeyStatus) �
     → (s ≡ Alive) ⊎ (t ≡ s)
 
 -- what a clause says of the element at a place
-if_at : {X : Type 0} (o : Option X) (x : X) (P : X → Type 0) → o ≡ Some x → IfSome o P → P x
+pub if_at : {X : Type 0} (o : Option X) (x : X) (P : X → Type 0) → o ≡ Some x → IfSome o P → P x
 if_at o x P at p = subst (λ q. IfSome q P) at p
+
+-- a history grows by an event
+grows : {X : Type 0} (xs : List X) (x : X) → length xs ≤ length (xs ++ x ∷ [])
+grows xs x = omega (arith, length_push xs x)
 
 -- the parts at the opening
 pub opened : JudgingLaw → IsJoin [] Legal → (c : ℕ) (kind : ModelKind) (budget : ℕ) (history : HistoryView) (kinds : SettingsView ModelKind) (budgets : SettingsView ℕ) (lines : LinesView)
@@ -68,6 +73,7 @@ fault_ready law history history' kinds budgets lines v before e sound is well no
       ready = record {
         rows = nows lines.rows;
         taken = refl;
+        long = grows history.events e;
         brings = refl;
         judged = fault_judged law (judged_by_parts history kinds budgets) (nows lines.rows) v e sound.now well none;
       };
@@ -106,14 +112,14 @@ module _ (next_law : NextEventLaw) (h : JudgedHistory) (lines : List (ℕ × Key
       (λ s was. settled (history_of_key h k) (length h.events) e s status (next_law h e k judged.history well key) was now) with_it
 
   pub push_brings : (lines' : LinesView) (rows : List (ℕ × KeyHistory))
-      → IfSome (slice_get lines place) (λ row. slice_get lines'.rows place ≡ Some (row.0, line_with_next (with_pushed index event row.1.now) row.1))
+      → IfSome (slice_get lines place) (λ row. slice_get lines'.rows place ≡ Some (row.0, line_with_next (with_pushed index event row.1.now) 1 row.1))
       → nows lines'.rows ≡ rows
       → (row : ℕ × KeyLineView) × (next : KeyHistory) × (slice_get lines'.rows place ≡ Some row) × (row.1.next ≡ Some next)
       × (set_value_at rows place (with_pushed (length h.events) e (history_of_key h k)) ≡ set_value_at (nows lines'.rows) place next)
   push_brings lines' rows next are = (
-    (k, line_with_next (with_pushed index event its_line.line.now) its_line.line),
+    (k, line_with_next (with_pushed index event its_line.line.now) 1 its_line.line),
     with_pushed index event its_line.line.now,
-    if_at (slice_get lines place) (k, its_line.line) (λ row. slice_get lines'.rows place ≡ Some (row.0, line_with_next (with_pushed index event row.1.now) row.1)) its_line.at next,
+    if_at (slice_get lines place) (k, its_line.line) (λ row. slice_get lines'.rows place ≡ Some (row.0, line_with_next (with_pushed index event row.1.now) 1 row.1)) its_line.at next,
     refl,
     ap (λ x. set_value_at rows place x) (sym pushed_is) ∙ ap (λ l. set_value_at l place (with_pushed index event its_line.line.now)) (sym are),
   )
@@ -123,7 +129,7 @@ pub next_ready : JudgingLaw → BadKeysDecide → NextEventLaw → SettledLaw �
     → IsSoundMonitor history kinds budgets lines v before → history' ≡ with_next (history.events ++ e ∷ []) history → IsWellFormed history.concurrency history.events e → key_of e ≡ Some k
     → position (nat_eq k) (keys_in_order history.events) ≡ Some place → index ≡ length history.events → event ≡ e
     → IfSome (slice_get lines.rows place) (λ row. IsStatusOf (with_pushed index event row.1.now) status)
-    → IfSome (slice_get lines.rows place) (λ row. slice_get lines'.rows place ≡ Some (row.0, line_with_next (with_pushed index event row.1.now) row.1))
+    → IfSome (slice_get lines.rows place) (λ row. slice_get lines'.rows place ≡ Some (row.0, line_with_next (with_pushed index event row.1.now) 1 row.1))
     → nows lines'.rows ≡ nows lines.rows → JoinsWith v k status w
     → IsSoundMonitor history' kinds budgets lines' v (Some (record { change = Append place; verdict = w }))
 next_ready law decide next_law settled history history' kinds budgets lines lines' v before e k place index event status w sound is well key at index_is event_is is_status next kept with_it =
@@ -133,6 +139,7 @@ next_ready law decide next_law settled history history' kinds budgets lines line
       ready = record {
         rows = set_value_at (nows lines.rows) place (with_pushed (length history.events) e (history_of_key (judged_by_parts history kinds budgets) k));
         taken = refl;
+        long = grows history.events e;
         brings = push_brings next_law (judged_by_parts history kinds budgets) lines.rows v sound.now e k place index event well key at index_is event_is lines' (nows lines.rows) next kept;
         judged = push_judged next_law (judged_by_parts history kinds budgets) lines.rows v sound.now e k place index event well key at index_is event_is law decide settled status w is_status with_it;
       };
@@ -148,7 +155,7 @@ may_begin next_law h rows v e k index event judged well key at index_is event_is
     (next_law h e k judged.history well key)))
 
 begun_is : (h : JudgedHistory) (e event : Event) (k index : ℕ) (kind : ModelKind) (budget : ℕ) (line : KeyLineView) → index ≡ length h.events → event ≡ e → kind ≡ kind_of h k → budget ≡ budget_of h k
-    → line ≡ at_rest (with_pushed index event (without_events kind budget)) → line.now ≡ with_pushed (length h.events) e (without_events (kind_of h k) (budget_of h k))
+    → line ≡ at_rest (with_pushed index event (without_events kind budget)) 1 → line.now ≡ with_pushed (length h.events) e (without_events (kind_of h k) (budget_of h k))
 begun_is h e event k index kind budget line index_is event_is kind_is budget_is is =
     ap (λ (l : KeyLineView). l.now) is
     ∙ ap (λ (i : ℕ). with_pushed i event (without_events kind budget)) index_is
@@ -158,7 +165,7 @@ begun_is h e event k index kind budget line index_is event_is kind_is budget_is 
 
 pub begin_judged : JudgingLaw → (h : JudgedHistory) (rows : List (ℕ × KeyHistory)) (v : Verdict) (e event : Event) (k index : ℕ) (kind : ModelKind) (budget : ℕ) (line : KeyLineView)
     (status : KeyStatus) (w : Verdict) → IsJudged h rows v → IsWellFormed h.concurrency h.events e → key_of e ≡ Some k → position (nat_eq k) (keys_in_order h.events) ≡ None
-    → index ≡ length h.events → event ≡ e → kind ≡ kind_of h k → budget ≡ budget_of h k → line ≡ at_rest (with_pushed index event (without_events kind budget))
+    → index ≡ length h.events → event ≡ e → kind ≡ kind_of h k → budget ≡ budget_of h k → line ≡ at_rest (with_pushed index event (without_events kind budget)) 1
     → IsStatusOf line.now status → JoinsWith v k status w → IsJudged (with_event e h) (rows ++ (k, line.now) ∷ []) w
 begin_judged law h rows v e event k index kind budget line status w judged well key at index_is event_is kind_is budget_is is is_status with_it =
     let same : line.now ≡ with_pushed (length h.events) e (without_events (kind_of h k) (budget_of h k)) = begun_is h e event k index kind budget line index_is event_is kind_is budget_is is in
@@ -169,7 +176,7 @@ pub first_ready : JudgingLaw → (history history' : HistoryView) (kinds : Setti
     (v : Verdict) (before : Option Prepared) (e event : Event) (k index : ℕ) (kind : ModelKind) (budget : ℕ) (line : KeyLineView) (status : KeyStatus) (w : Verdict)
     → IsSoundMonitor history kinds budgets lines v before → history' ≡ with_next (history.events ++ e ∷ []) history → IsWellFormed history.concurrency history.events e → key_of e ≡ Some k
     → position (nat_eq k) (keys_in_order history.events) ≡ None → index ≡ length history.events → event ≡ e → kind ≡ setting_of kinds k → budget ≡ setting_of budgets k
-    → lines'.rows ≡ lines.rows → 0 < lines'.room → line ≡ at_rest (with_pushed index event (without_events kind budget)) → IsStatusOf line.now status → JoinsWith v k status w
+    → lines'.rows ≡ lines.rows → 0 < lines'.room → line ≡ at_rest (with_pushed index event (without_events kind budget)) 1 → IsStatusOf line.now status → JoinsWith v k status w
     → IsSoundMonitor history' kinds budgets lines' v (Some (record { change = Begin k line; verdict = w }))
 first_ready law history history' kinds budgets lines lines' v before e event k index kind budget line status w sound is well key at index_is event_is kind_is budget_is kept room line_is is_status with_it =
     subst (λ (x : HistoryView). IsSoundMonitor x kinds budgets lines' v (Some (record { change = Begin k line; verdict = w }))) (sym is)
@@ -178,6 +185,7 @@ first_ready law history history' kinds budgets lines lines' v before e event k i
       ready = record {
         rows = nows lines'.rows ++ (k, line.now) ∷ [];
         taken = refl;
+        long = grows history.events e;
         brings = (
           room,
           ap (λ (l : List ℕ). position (nat_eq k) l) (ap keys_of kept ∙ keys_of_lines (judged_by_parts history kinds budgets) lines.rows sound.now.rows_are) ∙ at,
@@ -190,16 +198,17 @@ first_ready law history history' kinds budgets lines lines' v before e event k i
 
 -- a cut
 pub rewind_ready : JudgingLaw → (history history' : HistoryView) (kinds : SettingsView ModelKind) (budgets : SettingsView ℕ) (lines lines' : LinesView) (v : Verdict) (before : Option Prepared)
-    (n kept : ℕ) (w : Verdict) → IsSoundMonitor history kinds budgets lines v before → history' ≡ with_next (take n history.events) history
+    (n kept : ℕ) (w : Verdict) → IsSoundMonitor history kinds budgets lines v before → n ≤ length history.events → history' ≡ with_next (take n history.events) history
     → kept ≡ length (filter (λ row. begins_below n row.1) (nows lines.rows)) → JoinsRows (cut_rows n (filter (λ row. begins_below n row.1) (nows lines.rows))) w
     → AreCutAt n lines'.rows → nows lines'.rows ≡ nows lines.rows → IsSoundMonitor history' kinds budgets lines' v (Some (record { change = Rewind n kept; verdict = w }))
-rewind_ready law history history' kinds budgets lines lines' v before n kept w sound is kept_is joined cut same =
+rewind_ready law history history' kinds budgets lines lines' v before n kept w sound within is kept_is joined cut same =
     subst (λ (x : HistoryView). IsSoundMonitor x kinds budgets lines' v (Some (record { change = Rewind n kept; verdict = w }))) (sym is)
     (record {
       now = now';
       ready = record {
         rows = cut_rows n (take kept (nows lines'.rows));
         taken = refl;
+        long = (within, refl);
         brings = (cut, kept_first (judged_by_parts history kinds budgets) (nows lines'.rows) n kept now'.rows_are count, refl);
         judged = cut_judged law (judged_by_parts history kinds budgets) (nows lines'.rows) v n kept w now' count
             (subst (λ (l : List (ℕ × KeyHistory)). JoinsRows (cut_rows n (filter (λ row. begins_below n row.1) l)) w) (sym same) joined);
@@ -240,6 +249,7 @@ model_ready law history kinds kinds' budgets lines lines' v before k kind budget
   ready = record {
     rows = rebuilt.rows;
     taken = room;
+    long = tt;
     brings = rebuilt.brings;
     judged = model_judged law (judged_by_parts history kinds' budgets) lines lines' v k kind budget place w now' at budget_is rebuilt;
   };
@@ -259,6 +269,7 @@ budget_ready law history kinds budgets budgets' lines lines' v before k n kind p
   ready = record {
     rows = rebuilt.rows;
     taken = room;
+    long = tt;
     brings = rebuilt.brings;
     judged = limit_judged law (judged_by_parts history kinds budgets') lines lines' v k n kind place w now' at kind_is rebuilt;
   };
@@ -272,7 +283,7 @@ budget_ready law history kinds budgets budgets' lines lines' v before k n kind p
 -- the line at a place has another kind and budget prepared, and how it then stands joins to the verdict
 pub rebuilt_at : (kind : ModelKind) (budget place : ℕ) (lines lines' : LinesView) (status : KeyStatus) (v : Verdict) → place < length lines.rows
     → IfSome (slice_get lines.rows place) (λ row. IsStatusOf (judged_by kind budget row.1.now) status)
-    → IfSome (slice_get lines.rows place) (λ row. slice_get lines'.rows place ≡ Some (row.0, line_with_next (judged_by kind budget row.1.now) row.1))
+    → IfSome (slice_get lines.rows place) (λ row. slice_get lines'.rows place ≡ Some (row.0, line_with_next (judged_by kind budget row.1.now) (length row.1.now.events) row.1))
     → nows lines'.rows ≡ nows lines.rows → ((next : KeyHistory) → IsStatusOf next status → JoinsRows (set_value_at (nows lines'.rows) place next) v)
     → IsRebuilt kind budget (Some place) lines lines' v
 rebuilt_at kind budget place lines lines' status v within is next same joins =
@@ -285,9 +296,9 @@ rebuilt_at kind budget place lines lines' status v within is next same joins =
         refl,
       );
       brings = (
-        (row.0.0, line_with_next (judged_by kind budget row.0.1.now) row.0.1),
+        (row.0.0, line_with_next (judged_by kind budget row.0.1.now) (length row.0.1.now.events) row.0.1),
         judged_by kind budget row.0.1.now,
-        if_at (slice_get lines.rows place) row.0 (λ r. slice_get lines'.rows place ≡ Some (r.0, line_with_next (judged_by kind budget r.1.now) r.1)) row.1 next,
+        if_at (slice_get lines.rows place) row.0 (λ r. slice_get lines'.rows place ≡ Some (r.0, line_with_next (judged_by kind budget r.1.now) (length r.1.now.events) r.1)) row.1 next,
         refl,
         ap (λ l. set_value_at l place (judged_by kind budget row.0.1.now)) (sym same),
       );

@@ -21,31 +21,31 @@ pub at_row : (rows : List (ℕ × KeyLineView)) (place key : ℕ) (line : KeyLin
 at_row rows place key line P at p = subst (λ (o : Option (ℕ × KeyLineView)). IfSome o P) (sym at) p
 
 -- preparing leaves what a line has now
-now_kept : {T E : Type 0} (r : Result T E) (line after : KeyLineView) (next : KeyHistory) → OnOk r (after ≡ with_next next line) → OnErr r (after ≡ at_rest line.now) → after.now ≡ line.now
-now_kept (Ok x) line after next ok err = ap (λ (l : KeyLineView). l.now) ok
-now_kept (Err y) line after next ok err = ap (λ (l : KeyLineView). l.now) err
+now_kept : {T E : Type 0} (r : Result T E) (line after : KeyLineView) (next : KeyHistory) (due : ℕ) → OnOk r (after ≡ with_next next due line) → OnErr r (after ≡ at_rest line.now line.replayed) → after.now ≡ line.now
+now_kept (Ok x) line after next due ok err = ap (λ (l : KeyLineView). l.now) ok
+now_kept (Err y) line after next due ok err = ap (λ (l : KeyLineView). l.now) err
 
 -- es are the entries of the map, which rows show, and the line at the place becomes another, or what it was
 module _ (es rows : List (ℕ × KeyLineView)) (seen : es ≡ rows) (place : ℕ) (line after : KeyLineView) (at : Some line ≡ slice_get (values_of es) place) where
   row_at : (key : ℕ) × (slice_get rows place ≡ Some (key, line))
   row_at = subst (λ (l : List (ℕ × KeyLineView)). (key : ℕ) × (slice_get l place ≡ Some (key, line))) seen (has_key es place line at)
 
-  module _ {E : Type 0} (r : Result KeyStatus E) (change : KeyHistory → KeyHistory) where
+  module _ {E : Type 0} (r : Result KeyStatus E) (change : KeyHistory → KeyHistory) (due : KeyHistory → ℕ) where
     pub prepared_status : IfOk r (IsStatusOf (change line.now)) → IfOk r (λ status. IfSome (slice_get rows place) (λ row. IsStatusOf (change row.1.now) status))
     prepared_status = IfOk-weaker r (IsStatusOf (change line.now)) (λ status. IfSome (slice_get rows place) (λ row. IsStatusOf (change row.1.now) status))
         (λ status is. at_row rows place row_at.0 line (λ row. IsStatusOf (change row.1.now) status) row_at.1 is)
 
-    pub prepared_next : OnOk r (after ≡ with_next (change line.now) line) → OnOk r (IfSome (slice_get rows place) (λ row. slice_get (set_value_at es place after) place ≡ Some (row.0, with_next (change row.1.now) row.1)))
+    pub prepared_next : OnOk r (after ≡ with_next (change line.now) (due line.now) line) → OnOk r (IfSome (slice_get rows place) (λ row. slice_get (set_value_at es place after) place ≡ Some (row.0, with_next (change row.1.now) (due row.1.now) row.1)))
     prepared_next = on_ok_weaker r
-        (λ (e : after ≡ with_next (change line.now) line). at_row rows place row_at.0 line (λ row. slice_get (set_value_at es place after) place ≡ Some (row.0, with_next (change row.1.now) row.1)) row_at.1
-        (subst (λ (l : List (ℕ × KeyLineView)). slice_get (set_value_at l place after) place ≡ Some (row_at.0, with_next (change line.now) line)) (sym seen)
+        (λ (e : after ≡ with_next (change line.now) (due line.now) line). at_row rows place row_at.0 line (λ row. slice_get (set_value_at es place after) place ≡ Some (row.0, with_next (change row.1.now) (due row.1.now) row.1)) row_at.1
+        (subst (λ (l : List (ℕ × KeyLineView)). slice_get (set_value_at l place after) place ≡ Some (row_at.0, with_next (change line.now) (due line.now) line)) (sym seen)
         (read_written rows place row_at.0 line after row_at.1 ∙ ap (λ (l : KeyLineView). Some (row_at.0, l)) e)))
 
-    pub prepared_kept : OnOk r (after ≡ with_next (change line.now) line) → OnErr r (after ≡ at_rest line.now) → nows (set_value_at es place after) ≡ nows rows
+    pub prepared_kept : OnOk r (after ≡ with_next (change line.now) (due line.now) line) → OnErr r (after ≡ at_rest line.now line.replayed) → nows (set_value_at es place after) ≡ nows rows
     prepared_kept ok err =
         ap (λ (l : List (ℕ × KeyLineView)). nows (set_value_at l place after)) seen
         ∙ map_written (λ (l : KeyLineView). l.now) rows place after
-        ∙ ap (λ (h : KeyHistory). set_value_at (nows rows) place h) (now_kept r line after (change line.now) ok err)
+        ∙ ap (λ (h : KeyHistory). set_value_at (nows rows) place h) (now_kept r line after (change line.now) (due line.now) ok err)
         ∙ same_written (nows rows) place row_at.0 line.now (now_read rows place row_at.0 line row_at.1)
 
   pub prepared_others : (other : ℕ) → other ≢ place → slice_get (set_value_at es place after) other ≡ slice_get rows other

@@ -1,10 +1,11 @@
 -- Promise: a monitor, as a caller sees it, and why a call of it is refused
-use Rattle.std.specs.Prelude.{ℕ, ◌<◌, Option, Some, None, length}
+use Rattle.std.specs.Prelude.{ℕ, ◌<◌, Bool, Option, Some, None, length}
 use Rattle.edn.specs.declared.refusal.Refusal.{Refusal}
 use Rattle.edn.specs.declared.refusal.Refusal.TheVariants.{BadBudget, BadConcurrency, NoSuchIndex, NoMemory}
 use Rattle.history.specs.declared.event.Event.{Event}
 use Rattle.history.specs.WellFormed.{IsConcurrency, IsWellFormed, MayRefuse}
-use Rattle.monitor.specs.JudgedHistory.{JudgedHistory, IsBudget}
+use Rattle.checkpoints.specs.KeyLineView.{loses_at, replays_at}
+use Rattle.monitor.specs.JudgedHistory.{JudgedHistory, history_of_key, IsBudget}
 
 -- what it judges, and what commit will bring, where a change is prepared
 pub record MonitorView : Type 0 where
@@ -16,6 +17,14 @@ at_rest h = record { now = h; next = None }
 
 abbrev pub with_next : JudgedHistory → MonitorView → MonitorView
 with_next next monitor = record { now = monitor.now; next = Some next }
+
+-- the key loses events where the first history is cut to the second
+abbrev pub loses_by : JudgedHistory → JudgedHistory → ℕ → Bool
+loses_by now next key = loses_at (length next.events) (history_of_key now key)
+
+-- how many of its events are then judged again
+abbrev pub replays_by : JudgedHistory → JudgedHistory → ℕ → ℕ
+replays_by now next key = replays_at (length next.events) (history_of_key now key)
 
 -- the event may come next; it may be refused for this
 abbrev pub Admits : JudgedHistory → Event → Type 0

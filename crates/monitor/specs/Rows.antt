@@ -3,7 +3,7 @@ use Rattle.std.specs.Prelude.{◌≡◌, ℕ, true, false, Option, Some, None, I
 use Rattle.linspec.specs.declared.verdict.KeyStatus.{KeyStatus}
 use Rattle.linspec.specs.declared.verdict.Verdict.{Verdict}
 use Rattle.linspec.specs.Verdicts.{IsJoin}
-use Rattle.checkpoints.specs.KeyLineView.{KeyHistory, KeyLineView, IsStatusOf, cut_at, loses_at, begins_below}
+use Rattle.checkpoints.specs.KeyLineView.{KeyHistory, KeyLineView, IsStatusOf, cut_at, loses_at, begins_below, replays_at}
 
 -- a row for each key: the key and its line; and the room for more
 pub record LinesView : Type 0 where
@@ -28,10 +28,10 @@ AreStatusesOf _ _ = ⊥
 abbrev pub JoinsRows : List (ℕ × KeyHistory) → Verdict → Type 0
 JoinsRows rows v = (statuses : List (ℕ × KeyStatus)) × AreStatusesOf rows statuses × IsJoin statuses v
 
--- the cut at n is prepared where it takes events from the line and does not empty it
+-- the cut at n is prepared where it takes events from the line and does not empty it, and its replays are counted
 abbrev pub IsCutAt : ℕ → KeyLineView → Type 0
-IsCutAt n line =
-    begins_below n line.now ≡ true → loses_at n line.now ≡ true → line.next ≡ Some (cut_at n line.now)
+IsCutAt n line = begins_below n line.now ≡ true → loses_at n line.now ≡ true
+    → (line.next ≡ Some (cut_at n line.now)) × (line.due ≡ replays_at n line.now)
 
 -- so it is at each line
 abbrev pub AreCutAt : ℕ → List (ℕ × KeyLineView) → Type 0

@@ -1,5 +1,5 @@
 -- Invariant: what a monitor keeps true of its parts
-use Rattle.std.specs.Prelude.{◌≡◌, ℕ, ◌<◌, Option, Some, None, IfSome, IsSome, List, [], ◌∷◌, ◌++◌, take, position, nat_eq}
+use Rattle.std.specs.Prelude.{◌≡◌, ℕ, ◌<◌, ◌≤◌, Option, Some, None, IfSome, IsSome, List, [], ◌∷◌, ◌++◌, length, take, position, nat_eq}
 use Rattle.std.specs.List.{filter}
 use Rattle.std.specs.Map.{keys_of}
 use Rattle.models.specs.declared.model_kind.ModelKind.{ModelKind}
@@ -58,10 +58,19 @@ BringsRows lines (Rewind n kept) rows =
 BringsRows lines (Kind key kind place) rows = AreRowsWith lines place rows
 BringsRows lines (Budget key n place) rows = AreRowsWith lines place rows
 
+-- the length that the history will have: no less than it has, but for a rewind
+abbrev pub HasLength : HistoryView → Change → Type 0
+HasLength history (Rewind n kept) =
+    (n ≤ length history.events) × (history.next ≡ Some (take n history.events))
+HasLength history (Kind key kind place) = Unit {0}
+HasLength history (Budget key n place) = Unit {0}
+HasLength history _ = IfSome history.next (λ events. length history.events ≤ length events)
+
 -- what is prepared can be carried out, and this is then the verdict
 pub record IsReady (history : HistoryView) (kinds : SettingsView ModelKind) (budgets : SettingsView ℕ) (lines : LinesView) (change : Change) (verdict : Verdict) : Type 0 where
   pub rows : List (ℕ × KeyHistory)
   pub taken : MayBeTaken history kinds budgets change
+  pub long : HasLength history change
   pub brings : BringsRows lines change rows
   pub judged : IsJudged (brought_by (judged_by_parts history kinds budgets) history.next change) rows verdict
 

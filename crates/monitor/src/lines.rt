@@ -5,7 +5,7 @@ ghost use Rattle.std.specs.Map.{keys_of};
 ghost use Rattle.indexmap.specs.Layout.{set_value_at};
 ghost use Rattle.models.specs.declared.model_kind.ModelKind.{ModelKind};
 ghost use Rattle.history.specs.ProcessRule.{IsHistory};
-ghost use Rattle.checkpoints.specs.KeyLineView.{KeyHistory, IsStatusOf, at_rest, with_next, with_pushed, judged_by, cut_at, begins_below, loses_at};
+ghost use Rattle.checkpoints.specs.KeyLineView.{KeyHistory, IsStatusOf, at_rest, with_next, with_pushed, judged_by, cut_at, begins_below, loses_at, replays_at, count_on};
 ghost use Rattle.monitor.specs.Rows.{nows, cut_rows, JoinsRows, IsCutAt, AreCutAt, StandsAfter};
 
 use checkpoints::KeyLine;
@@ -81,7 +81,7 @@ impl Lines {
             (λ row. IsStatusOf (with_pushed index event row.1.now) status)) }
         ensures next { OnOk result (IfSome (slice_get self.old.rows place) (λ row.
             slice_get self.new.rows place
-            ≡ Some (row.0, with_next (with_pushed index event row.1.now) row.1))) }
+            ≡ Some (row.0, with_next (with_pushed index event row.1.now) 1 row.1))) }
         ensures kept { nows self.new.rows ≡ nows self.old.rows }
         ensures room { self.old.room ≤ self.new.room }
     {
@@ -103,7 +103,10 @@ impl Lines {
             (λ row. IsStatusOf (judged_by kind budget row.1.now) status)) }
         ensures next { OnOk result (IfSome (slice_get self.old.rows place) (λ row.
             slice_get self.new.rows place
-            ≡ Some (row.0, with_next (judged_by kind budget row.1.now) row.1))) }
+            ≡ Some (
+              row.0,
+              with_next (judged_by kind budget row.1.now) (length row.1.now.events) row.1,
+            ))) }
         ensures kept { nows self.new.rows ≡ nows self.old.rows }
         ensures room { self.old.room ≤ self.new.room }
     {
@@ -114,7 +117,7 @@ impl Lines {
     }
 
     /// Prepares a cut at `n` of each line that it takes events from and does not empty. Gives the number of lines that have
-    /// an event before `n`, and the verdict that joins how they then stand. It takes the time of all lines, and of a replay
+    /// an event before `n`, and the verdict that joins how they then stand. It takes the time of all lines, and of a cut
     /// of those that lose events.
     pub(crate) fn prepare_cut(&mut self, n: u32) -> Result<(usize, Verdict), AllocError>
         ensures kept_lines { IfOk result (λ cut.
@@ -161,7 +164,8 @@ impl Lines {
     pub(crate) fn commit(&mut self, place: usize)
         requires { IsSomeAnd (slice_get self.old.rows place) (λ row. IsSome row.1.next) }
         ensures { IfSome (slice_get self.old.rows place) (λ row. IfSome row.1.next (λ next.
-            self.new.rows ≡ set_value_at self.old.rows place (at_rest next))) }
+            self.new.rows ≡ set_value_at self.old.rows place
+            (at_rest next (count_on row.1.replayed row.1.due)))) }
     {
         match self.map.get_index_mut(place) {
             Some(line) => line.commit(),
@@ -180,6 +184,23 @@ impl Lines {
         for place in 0..self.map.len() {
             self.commit_cut_at(place, n);
         }
+    }
+
+    /// How many events of the line at a place were judged again for a prepared cut at `n`.
+    pub(crate) fn replays_at(&self, place: usize, n: u32) -> u64
+        requires within { place < length self.now.rows }
+        requires next { AreCutAt n self.now.rows }
+        ensures { IfSome (slice_get self.now.rows place)
+            (λ row. result ≡ replays_at n row.1.now) }
+    {
+        let (_, cut) = self.at(place);
+        if !cut.begins_below(n) {
+            return 0;
+        }
+        if !cut.loses(n) {
+            return 0;
+        }
+        cut.due()
     }
 
     /// Makes room for one more line.
@@ -236,7 +257,8 @@ impl Lines {
         ensures status { IfOk result (λ status. IfSome (slice_get self.old.rows place)
             (λ row. IsStatusOf (cut_at n row.1.now) status)) }
         ensures next { OnOk result (IfSome (slice_get self.old.rows place) (λ row.
-            slice_get self.new.rows place ≡ Some (row.0, with_next (cut_at n row.1.now) row.1))) }
+            slice_get self.new.rows place
+            ≡ Some (row.0, with_next (cut_at n row.1.now) (replays_at n row.1.now) row.1))) }
         ensures others { (other : ℕ) → other ≢ place
             → slice_get self.new.rows other ≡ slice_get self.old.rows other }
         ensures kept { nows self.new.rows ≡ nows self.old.rows }

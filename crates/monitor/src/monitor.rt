@@ -1,10 +1,10 @@
 //! The monitor.
-ghost use Rattle.std.specs.Prelude.{◌≡◌, ◌<◌, ◌≤◌, Some, None, length, nat_eq, position, slice_get, IfOk, IfErr, IfSome, IsSome, OnOk, OnErr, IsErrOf};
+ghost use Rattle.std.specs.Prelude.{◌≡◌, ◌<◌, ◌≤◌, false, Some, None, length, nat_eq, position, slice_get, IfOk, IfErr, IfSome, IsSome, OnOk, OnErr, IsErrOf};
 ghost use Rattle.history.specs.Events.{key_of};
 ghost use Rattle.history.specs.WellFormed.{IsConcurrency};
 ghost use Rattle.checkpoints.specs.KeyLineView.{IsStatusOf};
 ghost use Rattle.monitor.specs.JudgedHistory.{IsVerdictOn, with_event, rewound, with_kind, with_budget, IsBudget, opening_of, keys_in_order, history_of_key, kind_of, budget_of};
-ghost use Rattle.monitor.specs.Monitors.{at_rest, with_next, Admits, MayDecline, MayNotBegin, MayNotRewind, MayNotSetBudget};
+ghost use Rattle.monitor.specs.Monitors.{at_rest, with_next, Admits, MayDecline, MayNotBegin, MayNotRewind, MayNotSetBudget, replays_by, loses_by};
 
 use crate::laws::{judging_law, next_event_law};
 use crate::lines::Lines;
@@ -381,6 +381,28 @@ impl Monitor {
             budget: self.budgets.of(key),
             events: line.len(),
             status: line.status(),
+        }
+    }
+
+    /// How many events of the key were judged again for the rewind that is prepared: fewer than 64 where the key loses events,
+    /// and none where it does not. Each was given to what judges the key, from the last state on that was saved before the
+    /// cut. 0 where another change is prepared, or none. [`commit`](Self::commit) judges nothing again. Takes no memory.
+    pub fn replays(&self, key: Key) -> u64
+        ensures counted { IfSome self.now.next (λ next.
+            result ≡ replays_by self.now.now next key) }
+        ensures few { result < 64 }
+        ensures none { IfSome self.now.next (λ next.
+            loses_by self.now.now next key ≡ false → result ≡ 0) }
+    {
+        let Some(prepared) = &self.prepared else {
+            return 0;
+        };
+        let Change::Rewind(n, _) = &prepared.change else {
+            return 0;
+        };
+        match self.lines.find(key) {
+            Some(place) => self.lines.replays_at(place, *n),
+            None => 0,
         }
     }
 

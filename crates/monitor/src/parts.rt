@@ -45,7 +45,7 @@ pub(crate) fn first_line(
 ) -> Result<KeyLine, AllocError>
     requires { IsHistory ((index, event) ∷ []) }
     ensures { IfOk result (λ line.
-        line ≡ at_rest (with_pushed index event (without_events kind budget))) }
+        line ≡ at_rest (with_pushed index event (without_events kind budget)) 1) }
 {
     let mut line = KeyLine::new(alloc, kind, budget)?;
     line.push(index, event)?;

@@ -12,7 +12,7 @@ pub invariant_of-self-2 : goal.invariant_of-self-2
 invariant_of-self-2 c =
     renamed c.put.ensures
     (rewind_ready c.judging_law.ensures c.self.inside.history c.prepare_cut.new.self c.self.inside.kinds c.self.inside.budgets c.self.inside.lines c.prepare_cut-2.new.self c.self.inside.verdict
-    c.self.inside.prepared c.args.n c.in_ok-kept.kept c.in_ok-kept.verdict c.self.invariant c.in_ok-prepare_cut.ensures.prepared c.in_ok-kept.ensures.kept_lines c.in_ok-kept.ensures.verdict
+    c.self.inside.prepared c.args.n c.in_ok-kept.kept c.in_ok-kept.verdict c.self.invariant c.in_ok-prepare_cut.ensures.within c.in_ok-prepare_cut.ensures.prepared c.in_ok-kept.ensures.kept_lines c.in_ok-kept.ensures.verdict
     c.in_ok-kept.ensures.next c.in_ok-kept.ensures.kept)
 
 pub returns-clause-verdict : goal.returns-clause-verdict

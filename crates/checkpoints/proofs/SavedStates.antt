@@ -1,0 +1,88 @@
+-- a key's state is saved after each 64th event
+use Rattle.std.proofs.Common.{◌≡◌, ℕ, ◌+◌, ◌-◌, ◌*◌, ◌/◌, ◌%◌, ◌<◌, ◌≤◌, ⊎_elim, List, [], ◌∷◌, ◌++◌, length, take, drop, slice_index_or, refl, sym, ap, ◌∙◌, subst, arith, length-append}
+use Rattle.std.proofs.lemmas.Bool.{cases_lt}
+use Rattle.std.proofs.lemmas.List.{take_all, take-take, take-append-le, length-take-le, get_or-take, get_or_append_left, take-append-drop}
+use Rattle.std.proofs.Math.Seq.{get_or-append_seam}
+use Rattle.std.proofs.lemmas.Slice.{between_is}
+use Rattle.std.specs.List.{between}
+use Rattle.models.specs.declared.model_kind.ModelKind.{ModelKind}
+use Rattle.history.specs.declared.event.Event.{Event}
+use Rattle.checkpoints.specs.declared.key_state.KeyState.{KeyState}
+use Rattle.checkpoints.specs.declared.saving.Saves.{Saves}
+use Rattle.checkpoints.specs.declared.saving.Saves.TheVariants.{Kept, More, Anew}
+use Rattle.checkpoints.specs.KeyState.{IsKeyState}
+use Rattle.checkpoints.specs.Saved.{AreSaved}
+use Rattle.checkpoints.specs.Saves.{saved_by, IsSaveOf}
+
+module _ (kind : ModelKind) (budget : ℕ) where
+  pub AreSaved-none : AreSaved kind budget [] []
+  AreSaved-none = record { many = refl; each = λ i d lt. absurd (omega arith) }
+
+  module _ (events : List (ℕ × Event)) (saved : List KeyState) (are : AreSaved kind budget events saved) where
+    -- what was saved stands for the same events, where more follow
+    still : (x : ℕ × Event) (i : ℕ) (d : KeyState) → i < length saved → IsKeyState kind budget (take (64 * (i + 1)) (events ++ x ∷ [])) (slice_index_or saved i d)
+    still x i d lt =
+        let many : length saved ≡ length events / 64 = are.many in
+        subst (λ l. IsKeyState kind budget l (slice_index_or saved i d)) (sym (take-append-le (64 * (i + 1)) events (x ∷ []) (omega arith))) (are.each i d lt)
+
+    -- the event is no 64th one
+    pub AreSaved-same : (x : ℕ × Event) → ¬ (length events % 64 ≡ 63) → AreSaved kind budget (events ++ x ∷ []) saved
+    AreSaved-same x other =
+        let many : length saved ≡ length events / 64 = are.many in
+        let more : length (events ++ x ∷ []) ≡ length events + 1 = length-append events (x ∷ []) in
+        record { many = omega (arith, other); each = still x }
+
+    -- it is one, and the state with it is saved
+    pub AreSaved-more : (x : ℕ × Event) (state : KeyState) → length events % 64 ≡ 63 → IsKeyState kind budget (events ++ x ∷ []) state → AreSaved kind budget (events ++ x ∷ []) (saved ++ state ∷ [])
+    AreSaved-more x state is stands =
+        let many : length saved ≡ length events / 64 = are.many in
+        let more : length (events ++ x ∷ []) ≡ length events + 1 = length-append events (x ∷ []) in
+        let more_saved : length (saved ++ state ∷ []) ≡ length saved + 1 = length-append saved (state ∷ []) in
+        record { many = omega arith; each = at_each }
+      where
+        at_each : (i : ℕ) (d : KeyState) → i < length (saved ++ state ∷ []) → IsKeyState kind budget (take (64 * (i + 1)) (events ++ x ∷ [])) (slice_index_or (saved ++ state ∷ []) i d)
+        at_each i d lt =
+            let many : length saved ≡ length events / 64 = are.many in
+            let more : length (events ++ x ∷ []) ≡ length events + 1 = length-append events (x ∷ []) in
+            let more_saved : length (saved ++ state ∷ []) ≡ length saved + 1 = length-append saved (state ∷ []) in
+            ⊎_elim
+            (λ (before : i < length saved).
+            subst (IsKeyState kind budget (take (64 * (i + 1)) (events ++ x ∷ []))) (sym (get_or_append_left saved (state ∷ []) d i before)) (still x i d before))
+            (λ (le : length saved ≤ i).
+            (let last : length saved ≡ i = omega arith in
+            subst (IsKeyState kind budget (take (64 * (i + 1)) (events ++ x ∷ []))) (sym (ap (λ j. slice_index_or (saved ++ state ∷ []) j d) (sym last) ∙ get_or-append_seam saved state [] d))
+            (subst (λ l. IsKeyState kind budget l state) (sym (take_all (64 * (i + 1)) (events ++ x ∷ []) (omega arith))) stands)))
+            (cases_lt i (length saved))
+
+    -- the state that was saved as this one
+    pub saved_state : (count : ℕ) → 0 < count → count ≤ length saved → (d : KeyState) → d ≡ slice_index_or saved (count - 1) d → IsKeyState kind budget (take (64 * count) events) d
+    saved_state count some le d is =
+        let more : 64 * (count - 1 + 1) ≡ 64 * count = omega arith in
+        subst (IsKeyState kind budget (take (64 * count) events)) (sym is)
+        (subst (λ n. IsKeyState kind budget (take n events) (slice_index_or saved (count - 1) d)) more (are.each (count - 1) d (omega arith)))
+
+    -- the saved states of the first so many events
+    pub AreSaved-take : (k : ℕ) → k ≤ length events → AreSaved kind budget (take k events) (take (k / 64) saved)
+    AreSaved-take k le =
+        let many : length saved ≡ length events / 64 = are.many in
+        let taken : length (take k events) ≡ k = length-take-le k events le in
+        let few : length (take (k / 64) saved) ≡ k / 64 = length-take-le (k / 64) saved (omega arith) in
+        record {
+          many = omega arith;
+          each = λ i d lt. subst (IsKeyState kind budget (take (64 * (i + 1)) (take k events))) (sym (get_or-take (k / 64) saved i d (omega arith)))
+              (subst (λ l. IsKeyState kind budget l (slice_index_or saved i d)) (sym (take-take (64 * (i + 1)) k events (omega arith))) (are.each i d (omega arith)));
+        }
+
+    pub AreSaved-after : (x : ℕ × Event) (k : ℕ) → k ≡ length events → (saves : Saves) → IsSaveOf kind budget events x saves → AreSaved kind budget (events ++ x ∷ []) (saved_by k saves saved)
+    AreSaved-after x k all Kept other =
+        let many : length saved ≡ length events / 64 = are.many in
+        subst (AreSaved kind budget (events ++ x ∷ [])) (sym (take_all (k / 64) saved (omega arith))) (AreSaved-same x other)
+    AreSaved-after x k all (More state) is = AreSaved-more x state is.0 is.1
+    AreSaved-after x k all (Anew new) is = absurd is
+
+-- the first events of a part, and the rest of it
+pub parts : {X : Type 0} (xs : List X) (from to : ℕ) → from ≤ to → take from xs ++ between from to xs ≡ take to xs
+parts xs from to le =
+    ap (λ l. take from xs ++ l) (between_is xs from to)
+    ∙ ap (λ l. l ++ drop from (take to xs)) (sym (take-take from to xs le))
+    ∙ take-append-drop from (take to xs)

@@ -1,0 +1,14 @@
+use Rattle.std.proofs.Common.{◌≡◌, take}
+use Rattle.history.specs.ProcessRule.{IsHistory}
+use Rattle.checkpoints.specs.KeyLineView.{count_on}
+use Rattle.checkpoints.specs.KeyState.{IsKeyState}
+use Rattle.checkpoints.specs.Saved.{AreSaved}
+use Rattle.checkpoints.proofs.saving.judged_anew.Given as goal
+
+abbrev pub invariant-loop-index : goal.invariant-loop-index
+invariant-loop-index l = record {
+  at : l.before ≡ l.index-index;
+  stands : IsHistory l.events → IsKeyState l.fn.kind l.budget (take l.index-index l.events) l.state;
+  saved : IsHistory l.events → AreSaved l.fn.kind l.budget (take l.index-index l.events) l.saved.items;
+  counted : l.count ≡ count_on l.fn.replayed l.index-index;
+}
