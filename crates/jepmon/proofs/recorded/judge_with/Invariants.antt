@@ -3,7 +3,7 @@ use Rattle.std.proofs.Common.{◌≡◌, ◌+◌, ◌≤◌, length}
 use Rattle.edn.specs.Value.{Values}
 use Rattle.edn.specs.Elements.{IsLeftBehind, count_of}
 use Rattle.jepmon.specs.Recorded.{TakesAll}
-use Rattle.jepmon.proofs.recorded.judge_elements.Given as goal
+use Rattle.jepmon.proofs.recorded.judge_with.Given as goal
 
 abbrev pub invariant-elements : goal.invariant-elements
 invariant-elements g l =
