@@ -54,7 +54,7 @@ widens_rows t u a b = record {
 }
 
 -- a table without rows
-no_get : {X : Type 0} (xs : List X) (i : ℕ) (x : X) → xs ≡ [] → slice_get xs i ≡ Some x → ⊥
+pub no_get : {X : Type 0} (xs : List X) (i : ℕ) (x : X) → xs ≡ [] → slice_get xs i ≡ Some x → ⊥
 no_get xs i x none h = clash x _ (ap (λ l. slice_get l i) none) h
 
 pub shown_none : {S : Type 0} (calls : List PendingOp) (t : Table S) → t.states ≡ [] → t.founds.items ≡ [] → rows_of t ≡ [] → AreShown t calls []

@@ -1,5 +1,5 @@
 -- Invariant: what calls do in states, by numbers
-use Rattle.std.specs.Prelude.{◌≡◌, ℕ, ◌+◌, ◌*◌, ◌⊎◌, Bool, Option, Some, List, [], ◌∷◌, length, slice_get, get_or}
+use Rattle.std.specs.Prelude.{◌≡◌, ℕ, ◌+◌, ◌*◌, ◌⊎◌, Bool, Some, List, [], ◌∷◌, length, slice_get, get_or}
 use Rattle.models.specs.declared.operation.Op.{Op}
 use Rattle.models.specs.declared.finding.Found.{Found}
 use Rattle.frontier.specs.declared.pending_op.PendingOp.{PendingOp}

@@ -1,5 +1,5 @@
 -- Invariant: states, each found at its place
-use Rattle.std.specs.Prelude.{◌≡◌, ℕ, true, Option, Some, List, slice_get}
+use Rattle.std.specs.Prelude.{◌≡◌, ℕ, true, Some, List, slice_get}
 use Rattle.std.specs.declared.cmp.Ordering.{Ordering}
 use Rattle.std.specs.Ordering.{is_eq}
 use Rattle.std.specs.BTreeMap.{BTreeMap, get}

@@ -100,6 +100,11 @@ LeadsTo o t calls e c None = (f : End o.State) → ¬ TakesLast o e c f
 LeadsTo o t calls e c (Some row) =
     (f : End o.State) × Shows t calls row f × ((g : End o.State) → TakesLast o e c g ↔ (f ≡ g))
 
+-- the row, if so it is told
+abbrev pub row_if : Bool → List ℕ → Option (List ℕ)
+row_if true row = Some row
+row_if false row = None
+
 -- an end alone
 abbrev pub IsThat : {S : Type 0} → End S → End S → Type 0
 IsThat e f = e ≡ f

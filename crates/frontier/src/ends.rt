@@ -1,16 +1,16 @@
 //! The ends after an event, by those before it.
-ghost use Rattle.std.specs.Prelude.{◌≡◌, ◌↔◌, ◌<◌, ℕ, List, [], IsTrue, false, None, map, length};
+ghost use Rattle.std.specs.Prelude.{◌≡◌, ◌↔◌, ◌<◌, ◌+◌, ℕ, List, [], IsTrue, false, None, map, set, length};
 ghost use Rattle.std.specs.Prelude.{IfOk, OnOk, IfSome};
 ghost use Rattle.linspec.specs.Ends.{End};
 ghost use Rattle.frontier.specs.KeptEnds.{end_kept};
-ghost use Rattle.frontier.specs.EndSteps.{FitsAt, Settles, settled, Crashes, Along, Adds};
-ghost use Rattle.frontier.specs.Places.{IsIndexed};
-ghost use Rattle.frontier.specs.Tables.{AreShown, HasEachOnce, IsOpenAt, Shows};
+ghost use Rattle.frontier.specs.EndSteps.{FitsAt, Settles, Crashes, Along, Adds};
+ghost use Rattle.frontier.specs.Tables.{AreShown, HasEachOnce, IsOpenAt, Shows, ShownWith};
 
 use crate::kept_end::{KeptEnd, copy_of, keep};
 use crate::pending_op::PendingOp;
 use crate::places::Places;
 use crate::table::{self, Table};
+use indexmap::IndexSet;
 use models::{Answer, SeqObject, finding};
 use std::alloc::{AllocError, Global};
 
@@ -44,8 +44,9 @@ fn fits_in_row<S: Ord + Drop>(
     answer: &Answer,
 ) -> bool
     requires { at < length calls.now }
-    ensures { (id : ℕ) (e : End S) → IsOpenAt calls.now at id → Shows table.now calls.now row.now e
+    ensures fits { (id : ℕ) (e : End S) → IsOpenAt calls.now at id → Shows table.now calls.now row.now e
         → IsTrue result ↔ FitsAt e id answer.now }
+    ensures within { IsTrue result → at + 1 < length row.now }
 {
     match table::found_in_row(table, row, calls, at) {
         Some(found) => finding::fits(found, answer),
@@ -53,57 +54,60 @@ fn fits_in_row<S: Ord + Drop>(
     }
 }
 
-// Puts the end that the row says with the others, without the operation.
-fn keep_settled<M: SeqObject>(
-    alloc: Global,
-    after: &mut Vec<KeptEnd<M::State>>,
-    places: &mut Places,
-    table: &Table<M::State>,
-    row: &[usize],
-    calls: &[PendingOp],
-    id: u32,
-) -> Result<(), AllocError>
-    requires { IsIndexed places.old after.old.items }
-    ensures adds { HasEachOnce calls.now → (e : End M.State) → Shows table.now calls.now row.now e
-        → OnOk result (Adds (λ f. settled e id ≡ f) (map end_kept after.old.items) (map end_kept after.new.items)) }
-    ensures indexed { IsIndexed places.new after.new.items }
+// The row without the call at this place.
+fn row_without(alloc: Global, row: &[usize], at: usize) -> Result<Vec<usize>, AllocError>
+    requires { at + 1 < length row.now }
+    ensures { IfOk result (λ next. next.items ≡ set row.now (at + 1) 0) }
 {
-    let end = table::kept_of::<M>(alloc, table, row, calls)?;
-    match end {
-        Some(kept) => {
-            let mut left = kept;
-            left.settle(id);
-            keep::<M>(after, places, left)
+    let mut next = table::copied(alloc, row)?;
+    next[at + 1] = 0;
+    Ok(next)
+}
+
+// Leaves the rows of those ends where what the open operation at this place found fits the answer, each without it.
+fn settle_rows<S: Ord + Drop>(
+    alloc: Global,
+    table: &mut Table<S>,
+    calls: &[PendingOp],
+    call: usize,
+    answer: &Answer,
+) -> Result<(), AllocError>
+    requires { call < length calls.now }
+    ensures { HasEachOnce calls.now → (id : ℕ) → IsOpenAt calls.now call id
+        → (ends : List (End S)) → AreShown table.old calls.now ends
+        → OnOk result (ShownWith table.new calls.now [] (Along (Settles id answer.now) ends)) }
+{
+    let mut rows = IndexSet::new(alloc);
+    for at in 0..table.rows.len() {
+        let Some(row) = table.rows.get_index(at) else {
+            unreachable!()
+        };
+        if fits_in_row(table, row, calls, call, answer) {
+            let settled = row_without(alloc, row, call)?;
+            table::put(alloc, &mut rows, &settled)?;
         }
-        None => Ok(()),
     }
+    table.rows = rows;
+    Ok(())
 }
 
 /// The ends after the operation has returned with this answer, by the rows before it: of those where it is in and what it
 /// found fits, each without it.
 pub fn settled_ends<M: SeqObject>(
     alloc: Global,
-    table: &Table<M::State>,
+    table: &mut Table<M::State>,
     calls: &[PendingOp],
     id: u32,
     answer: &Answer,
 ) -> Result<Vec<KeptEnd<M::State>>, AllocError>
-    ensures { HasEachOnce calls.now → (ends : List (End M.State)) → AreShown table.now calls.now ends
+    ensures { HasEachOnce calls.now → (ends : List (End M.State)) → AreShown table.old calls.now ends
         → IfOk result (λ after. Adds (Along (Settles id answer.now) ends) [] (map end_kept after.items)) }
 {
-    let mut after = Vec::new(alloc);
-    let mut places = Places::new(alloc)?;
     let Some(call) = place_of_open(calls, id) else {
-        return Ok(after);
+        return Ok(Vec::new(alloc));
     };
-    for at in 0..table.rows.len() {
-        let Some(row) = table.rows.get_index(at) else {
-            unreachable!()
-        };
-        if fits_in_row(table, row, calls, call, answer) {
-            keep_settled::<M>(alloc, &mut after, &mut places, table, row, calls, id)?;
-        }
-    }
+    settle_rows(alloc, table, calls, call, answer)?;
+    let after = table::ends_of::<M>(alloc, table, calls)?;
     Ok(after)
 }
 

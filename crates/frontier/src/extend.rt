@@ -25,6 +25,7 @@ fn grow_at<M: SeqObject>(
     calls: &[PendingOp],
     at: usize,
     applied: &mut u64,
+    next: &mut Vec<usize>,
 ) -> Result<(), AllocError>
     requires { at < length calls.now }
     ensures moves { AreMoves M.apply_to table.old calls.now moves.old.items
@@ -37,13 +38,12 @@ fn grow_at<M: SeqObject>(
     ensures widens { Widens table.old table.new }
     ensures cost { applied.new ≤ applied.old + 1 }
 {
-    match table::extended::<M>(alloc, table, moves, row, calls, at, applied)? {
-        Some(next) => {
-            table::put(&mut table.rows, next)?;
-            Ok(())
-        }
-        None => Ok(()),
+    let can = table::extended::<M>(alloc, table, moves, row, calls, at, applied, next)?;
+    if !can {
+        return Ok(());
     }
+    table::put(alloc, &mut table.rows, next)?;
+    Ok(())
 }
 
 // Adds what each call leads to from the end of this row.
@@ -54,6 +54,7 @@ fn grow_from<M: SeqObject>(
     row: &[usize],
     calls: &[PendingOp],
     applied: &mut u64,
+    next: &mut Vec<usize>,
 ) -> Result<(), AllocError>
     ensures moves { AreMoves M.apply_to table.old calls.now moves.old.items
         → OnOk result (AreMoves M.apply_to table.new calls.now moves.new.items) }
@@ -64,7 +65,7 @@ fn grow_from<M: SeqObject>(
     ensures cost { applied.new ≤ applied.old + length calls.now }
 {
     for at in 0..calls.len() {
-        grow_at::<M>(alloc, table, moves, row, calls, at, applied)?;
+        grow_at::<M>(alloc, table, moves, row, calls, at, applied, next)?;
     }
     Ok(())
 }
@@ -86,6 +87,8 @@ fn grow<M: SeqObject>(
     ensures cost { applied.new ≤ applied.old + (budget + 1) * length calls.now }
 {
     let mut moves = Vec::new(alloc);
+    let mut row = Vec::new(alloc);
+    let mut next = Vec::new(alloc);
     for at in 0..budget as usize {
         if table.rows.len() > budget as usize {
             return Ok(false);
@@ -93,11 +96,11 @@ fn grow<M: SeqObject>(
         if at >= table.rows.len() {
             return Ok(true);
         }
-        let Some(row) = table.rows.get_index(at) else {
+        let Some(here) = table.rows.get_index(at) else {
             unreachable!()
         };
-        let row = table::copied(alloc, row)?;
-        grow_from::<M>(alloc, table, &mut moves, &row, calls, applied)?;
+        table::rewrite(&mut row, here)?;
+        grow_from::<M>(alloc, table, &mut moves, &row, calls, applied, &mut next)?;
     }
     Ok(table.rows.len() <= budget as usize)
 }

@@ -124,8 +124,8 @@ impl<M: SeqObject> Frontier<M> {
 
     /// An open operation has returned with this answer. Over where more ends than the budget stand just before it: then,
     /// and on `AllocError`, the frontier stands for what it stood for. Tries each operation that may still take place
-    /// once on each end, and compares what comes of it with the ends of its bucket; goes on with no end once these are
-    /// more than the budget.
+    /// at most once on each end, and as a rule once in each state of an end; looks what comes of it up in a hash set; goes
+    /// on with no end once these are more than the budget.
     pub fn ok(&mut self, id: u32, answer: &Answer) -> Result<Step, AllocError>
         ensures step { let object = of_table M.State M.start_state M.apply_to in
             let old = StandsFor object self.old in
@@ -147,10 +147,10 @@ impl<M: SeqObject> Frontier<M> {
             self.budget,
             &mut self.applied,
         )?;
-        let Some(table) = found else {
+        let Some(mut table) = found else {
             return Ok(Step::Over);
         };
-        self.ends = ends::settled_ends::<M>(self.alloc, &table, &self.calls, id, answer)?;
+        self.ends = ends::settled_ends::<M>(self.alloc, &mut table, &self.calls, id, answer)?;
         pending_op::drop_call(&mut self.calls, id);
         Ok(step_of(self.ends.len()))
     }

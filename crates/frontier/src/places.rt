@@ -1,7 +1,7 @@
 //! Where ends stand, by the operations that they include.
 ghost use Rattle.std.specs.Prelude.{◌≡◌, ◌<◌, ℕ, IfOk, OnOk};
 ghost use Rattle.std.specs.List.{Contains};
-ghost use Rattle.frontier.specs.Places.{IsIndexed, HasBuckets, bit_of, bucket_at, bucket_of};
+ghost use Rattle.frontier.specs.Places.{HasBuckets, bit_of, bucket_at, bucket_of};
 ghost use Rattle.frontier.specs.Places.{mask_of_entries, mask_of_ids};
 
 use crate::kept_end::KeptEnd;
@@ -74,17 +74,6 @@ impl Places {
             buckets.push(Vec::new(alloc))?;
         }
         Ok(Places { buckets })
-    }
-
-    /// The places of the ends.
-    pub fn of<S>(alloc: Global, ends: &[KeptEnd<S>]) -> Result<Places, AllocError>
-        ensures { IfOk result (λ places. IsIndexed places ends.now) }
-    {
-        let mut places = Places::new(alloc)?;
-        for at in 0..ends.len() {
-            places.add(bucket_of(&ends[at]), at)?;
-        }
-        Ok(places)
     }
 
     /// Where ends of the bucket stand.

@@ -1,6 +1,6 @@
 //! Ends as rows of numbers.
-ghost use Rattle.std.specs.Prelude.{◌≡◌, ◌+◌, ◌-◌, ◌^◌, ◌<◌, ◌≤◌, min, set, Some, slice_get, map, length, option_map};
-ghost use Rattle.std.specs.Prelude.{◌↔◌, IsTrue, IfOk, OnOk, IsSomeAnd, option_copied, List, [], ◌∷◌, ◌++◌};
+ghost use Rattle.std.specs.Prelude.{◌≡◌, ◌+◌, ◌-◌, ◌^◌, ◌<◌, ◌≤◌, min, set, Some, slice_get, map, length};
+ghost use Rattle.std.specs.Prelude.{◌↔◌, IsTrue, IfOk, OnOk, IsSome, IsSomeAnd, option_copied, List, [], ◌∷◌, ◌++◌};
 ghost use Rattle.std.specs.Option.{option_to_list};
 ghost use Rattle.models.specs.Objects.{of_table};
 ghost use Rattle.history.specs.Events.{IsFront};
@@ -10,7 +10,7 @@ ghost use Rattle.frontier.specs.EndSteps.{Along};
 ghost use Rattle.frontier.specs.Moves.{AreMoves};
 ghost use Rattle.frontier.specs.Tables.{HasEachOnce, IsOnceIn, IsPut, IsSlot};
 ghost use Rattle.frontier.specs.Tables.{AreShown, IsThat, IsToldBefore, ShownWith, told_by};
-ghost use Rattle.frontier.specs.Tables.{LeadsTo, Shows, Widens, found_by, items_of, rows_of};
+ghost use Rattle.frontier.specs.Tables.{LeadsTo, Shows, Widens, found_by, items_of, row_if, rows_of};
 
 use crate::kept_end::{KeptEnd, found_in, has};
 use crate::moves::{self, Move};
@@ -84,12 +84,16 @@ pub fn copied(alloc: Global, row: &[usize]) -> Result<Vec<usize>, AllocError>
     Ok(copy)
 }
 
-/// Puts the row with the others, if it is not there.
-pub fn put(rows: &mut IndexSet<Vec<usize>>, row: Vec<usize>) -> Result<(), AllocError>
+/// Puts the row with the others, if it is not there. Only then it takes memory.
+pub fn put(alloc: Global, rows: &mut IndexSet<Vec<usize>>, row: &[usize]) -> Result<(), AllocError>
     ensures { let old = map items_of rows.old.keys in let new = map items_of rows.new.keys in
-        OnOk result (IsPut row.items old new) }
+        OnOk result (IsPut row.now old new) }
 {
-    rows.insert(row)?;
+    if rows.contains(row) {
+        return Ok(());
+    }
+    let new = copied(alloc, row)?;
+    rows.insert(new)?;
     Ok(())
 }
 
@@ -159,24 +163,33 @@ pub fn told_by(crashed: bool, found: Found) -> Found
     if crashed { Found::Unit } else { found }
 }
 
-// The row with this number of a state, and with this number at the place of a call.
+/// Writes the numbers of the row in place of those that were there.
+pub fn rewrite(next: &mut Vec<usize>, row: &[usize]) -> Result<(), AllocError>
+    ensures { OnOk result (next.new.items ≡ row.now) }
+{
+    next.clear();
+    next.extend_from_slice(row)?;
+    Ok(())
+}
+
+// Writes the row with this number of a state, and with this number at the place of a call.
 fn row_with(
-    alloc: Global,
     row: &[usize],
     at: usize,
     to: usize,
     slot: usize,
-) -> Result<Vec<usize>, AllocError>
+    next: &mut Vec<usize>,
+) -> Result<(), AllocError>
     requires { at + 1 < length row.now }
-    ensures { IfOk result (λ next. next.items ≡ set (set row.now 0 to) (at + 1) slot) }
+    ensures { OnOk result (next.new.items ≡ set (set row.now 0 to) (at + 1) slot) }
 {
-    let mut next = copied(alloc, row)?;
+    rewrite(next, row)?;
     next[0] = to;
     next[at + 1] = slot;
-    Ok(next)
+    Ok(())
 }
 
-/// The row with the call at this place, if the call can take place last.
+/// Writes the row with the call at this place, if the call can take place last, and says whether it can.
 pub fn extended<M: SeqObject>(
     alloc: Global,
     table: &mut Table<M::State>,
@@ -185,7 +198,8 @@ pub fn extended<M: SeqObject>(
     calls: &[PendingOp],
     at: usize,
     applied: &mut u64,
-) -> Result<Option<Vec<usize>>, AllocError>
+    next: &mut Vec<usize>,
+) -> Result<bool, AllocError>
     requires within { at < length calls.now }
     ensures moves { AreMoves M.apply_to table.old calls.now moves.old.items
         → OnOk result (AreMoves M.apply_to table.new calls.now moves.new.items) }
@@ -193,19 +207,22 @@ pub fn extended<M: SeqObject>(
         AreMoves M.apply_to table.old calls.now moves.old.items → HasEachOnce calls.now
         → (c : PendingOp) (e : End M.State) → slice_get calls.now at ≡ Some c
         → Shows table.old calls.now row.now e
-        → IfOk result (λ next. LeadsTo object table.new calls.now e c (option_map items_of next)) }
+        → IfOk result (λ can. LeadsTo object table.new calls.now e c (row_if can next.new.items)) }
     ensures widens { Widens table.old table.new }
     ensures rows { rows_of table.new ≡ rows_of table.old }
     ensures cost { applied.new ≤ applied.old + 1 }
 {
     if !is_zero(row, at + 1) {
-        return Ok(None);
+        return Ok(false);
     }
     let number = row[0];
     match moves::tried::<M>(alloc, table, moves, number, calls, at, applied)? {
-        Move::To(to, slot) => Ok(Some(row_with(alloc, row, at, to, slot)?)),
-        Move::Nowhere => Ok(None),
-        Move::Untried => Ok(None),
+        Move::To(to, slot) => {
+            row_with(row, at, to, slot, next)?;
+            Ok(true)
+        }
+        Move::Nowhere => Ok(false),
+        Move::Untried => Ok(false),
     }
 }
 
@@ -226,7 +243,7 @@ pub fn of_ends<M: SeqObject>(
     };
     for kept in ends {
         let row = row_of::<M>(alloc, &mut table, kept, calls)?;
-        put(&mut table.rows, row)?;
+        put(alloc, &mut table.rows, &row)?;
     }
     Ok(table)
 }
@@ -239,8 +256,9 @@ pub fn found_in_row<'a, S: Ord + Drop>(
     at: usize,
 ) -> Option<&'a Found>
     requires { at < length calls.now }
-    ensures { (c : PendingOp) (e : End S) → slice_get calls.now at ≡ Some c
+    ensures found { (c : PendingOp) (e : End S) → slice_get calls.now at ≡ Some c
         → Shows table.now calls.now row.now e → option_copied result ≡ found_by e c }
+    ensures within { IsSome result → at + 1 < length row.now }
 {
     match row.get(at + 1) {
         Some(slot) if *slot > 0 => table.founds.get(*slot - 1),
@@ -270,8 +288,8 @@ fn include_at<S: Ord + Drop>(
     }
 }
 
-/// The end that the row says.
-pub fn kept_of<M: SeqObject>(
+// The end that the row says.
+fn kept_of<M: SeqObject>(
     alloc: Global,
     table: &Table<M::State>,
     row: &[usize],
@@ -292,4 +310,43 @@ pub fn kept_of<M: SeqObject>(
         include_at(&mut kept, table, row, calls, at)?;
     }
     Ok(Some(kept))
+}
+
+// Puts the end that the row says after the others.
+fn push_end<M: SeqObject>(
+    alloc: Global,
+    ends: &mut Vec<KeptEnd<M::State>>,
+    table: &Table<M::State>,
+    row: &[usize],
+    calls: &[PendingOp],
+) -> Result<(), AllocError>
+    ensures { HasEachOnce calls.now → (e : End M.State) → Shows table.now calls.now row.now e
+        → OnOk result (map end_kept ends.new.items ≡ map end_kept ends.old.items ++ e ∷ []) }
+{
+    match kept_of::<M>(alloc, table, row, calls)? {
+        Some(kept) => {
+            ends.push(kept)?;
+            Ok(())
+        }
+        None => Ok(()),
+    }
+}
+
+/// The ends that the rows say, in order.
+pub fn ends_of<M: SeqObject>(
+    alloc: Global,
+    table: &Table<M::State>,
+    calls: &[PendingOp],
+) -> Result<Vec<KeptEnd<M::State>>, AllocError>
+    ensures { HasEachOnce calls.now → (ends : List (End M.State))
+        → AreShown table.now calls.now ends → IfOk result (λ kept. map end_kept kept.items ≡ ends) }
+{
+    let mut ends = Vec::with_capacity(alloc, table.rows.len())?;
+    for at in 0..table.rows.len() {
+        let Some(row) = table.rows.get_index(at) else {
+            unreachable!()
+        };
+        push_end::<M>(alloc, &mut ends, table, row, calls)?;
+    }
+    Ok(ends)
 }

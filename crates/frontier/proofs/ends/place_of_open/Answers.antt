@@ -1,8 +1,7 @@
-use Rattle.std.proofs.Common.{◌≡◌, Some, length, slice_get, ⊎_elim, refl, sym, ap, ◌∙◌, subst, arith}
+use Rattle.std.proofs.Common.{◌≡◌, Some, length, slice_get, ⊎_elim, refl, sym, ap, ◌∙◌, arith}
 use Rattle.std.proofs.lemmas.Bool.{cases_eq, true≢false}
 use Rattle.std.proofs.lemmas.Option.{slice_get_read, slice_get_within}
 use Rattle.frontier.specs.declared.pending_op.PendingOp.{PendingOp}
-use Rattle.frontier.specs.Tables.{IsOpenAt}
 use Rattle.frontier.proofs.Rows.{one_of}
 use Rattle.frontier.proofs.ends.place_of_open.Goals as goal
 

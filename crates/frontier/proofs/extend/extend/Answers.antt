@@ -1,8 +1,7 @@
-use Rattle.std.proofs.Common.{◌≡◌, length, map, [], sym, ap, subst, arith}
+use Rattle.std.proofs.Common.{map, subst, arith}
 use Rattle.models.specs.Objects.{of_table}
-use Rattle.frontier.specs.KeptEnds.{AreIncluded, end_kept}
-use Rattle.frontier.specs.EndSteps.{Adds, Along}
-use Rattle.frontier.specs.Tables.{IsThat, ShowsAll}
+use Rattle.frontier.specs.KeptEnds.{end_kept}
+use Rattle.frontier.specs.Tables.{ShowsAll}
 use Rattle.frontier.proofs.Growing.{grown_all}
 use Rattle.frontier.proofs.Rows.{one_of}
 use Rattle.frontier.proofs.Starting.{adds_from, grows_from}

@@ -24,8 +24,8 @@ loop-at-preserved g c =
       moves = c.in_ok-grow_from.ensures.moves c.loop-at.invariant.moves;
       grown = λ once ends shown.
           let s = c.loop-at.invariant.grown once ends shown in
-          let p = end_at c.args.calls.now c.loop-at.table s.0 s.1 c.loop-at.at c.in-Some.row.now (sym c.in-Some.ensures.key) in
-          let same : c.in-Some.row.now.items ≡ c.deref-in-loop-at.result.now = search rules in
+          let p = end_at c.args.calls.now c.loop-at.table s.0 s.1 c.loop-at.at c.in-Some.here.now (sym c.in-Some.ensures.key) in
+          let same : c.in-Some.here.now.items ≡ c.deref-in-loop-at.result.now = search rules in
           let w = c.in_ok-grow_from.ensures.adds c.loop-at.invariant.moves once p.0 s.0 (subst (λ r. Shows c.loop-at.table c.args.calls.now r p.0) same p.2) s.1 in
           (w.more, w.shown, grows_on o c.args.calls.now ends s.0 c.loop-at.at p.0 p.1 c.grow_from.new.table w s.2, done_on o c.args.calls.now ends s.0 c.loop-at.at p.0 p.1 c.grow_from.new.table w s.3);
       cost = cost_more c.args.applied.now c.loop-at.applied c.grow_from.new.applied c.loop-at.at (length c.args.calls.now) c.loop-at.invariant.cost c.in_ok-grow_from.ensures.cost;

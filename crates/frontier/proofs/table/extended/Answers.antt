@@ -1,4 +1,4 @@
-use Rattle.std.proofs.Common.{rules, ◌≡◌, ◌+◌, Some, None, ◌∷◌, [], length, set, slice_get, get_or, refl, sym, ap, ◌∙◌, subst, arith}
+use Rattle.std.proofs.Common.{◌+◌, None, get_or, refl, sym, ◌∙◌, subst, arith}
 use Rattle.std.proofs.lemmas.Bool.{true≢false}
 use Rattle.std.proofs.lemmas.Option.{get_or_from_slice_get, slice_get_within}
 use Rattle.frontier.specs.EndSteps.{with_call}
@@ -24,7 +24,7 @@ returns-in_ok-row_with-in-To-clause-next g c known once call e here shows =
       with_call e call.id call.crashed does.1 does.0,
       says_with c.tried.new.table.states c.tried.new.table.founds.items c.args.calls.now once c.args.at call here e c.args.row.now
           (shows_more c.args.calls.now c.args.table.now c.tried.new.table c.args.row.now e c.in_ok-to.ensures.widens shows)
-          c.in-To.to c.in-To.slot does.0 does.1 c.in_ok-row_with-in-To.field-0.items does.3 does.4 c.in_ok-row_with-in-To.ensures,
+          c.in-To.to c.in-To.slot does.0 does.1 c.row_with.new.next.items does.3 does.4 c.in_ok-row_with-in-To.ensures,
       leads_there g.row.M-State.Denot g.M.SeqObject.start_state g.M.SeqObject.apply_to e call out does.0 does.1 does.2,
     )
 

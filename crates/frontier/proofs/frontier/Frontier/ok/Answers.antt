@@ -1,7 +1,6 @@
-use Rattle.std.proofs.Common.{◌∷◌, ◌++◌, [], ◌≤◌, ◌+◌, ◌*◌, length, map, refl, sym, subst, arith}
+use Rattle.std.proofs.Common.{◌≤◌, ◌+◌, ◌*◌, length, refl, subst, arith}
 use Rattle.models.specs.Objects.{of_table}
 use Rattle.history.specs.Events.Mark.{Returned}
-use Rattle.frontier.specs.KeptEnds.{end_kept}
 use Rattle.frontier.proofs.Standing.{step_by}
 use Rattle.frontier.proofs.Growing.{cost_within}
 use Rattle.frontier.proofs.Judging.{generates_left, stands_after, too_many, within}
