@@ -238,10 +238,40 @@ fn set_members(rt: HostRuntime) -> Result<(), Fail> {
     Ok(())
 }
 
-// An invocation tries nothing. The ok finds five ends: it tries both enqueues on the empty queue, the other one on each end
-// with one, and none on the two ends with both.
+// Two writes of different values are open, and a read returns. An invocation tries nothing, and the ok no more than each of
+// the open operations on one more end than the budget.
 #[test]
 fn ok_applies_few(rt: HostRuntime) -> Result<(), Fail> {
+    let mut frontier = AnyFrontier::start(rt.alloc(), ModelKind::Register, 5)?;
+    for (id, value) in [(0, 1), (1, 2)] {
+        let write = Op {
+            name: Name::Write,
+            key: 7,
+            part: Part::Int(value),
+        };
+        assert_eq!(rt; frontier.observe(id, Invoke, &write)?, Step::Alive);
+    }
+    let read = Op {
+        name: Name::Read,
+        key: 7,
+        part: Part::Nil,
+    };
+    assert_eq!(rt; frontier.observe(2, Invoke, &read)?, Step::Alive);
+    assert_eq!(rt; frontier.applied(), 0);
+    let answer = Op {
+        name: Name::Read,
+        key: 7,
+        part: Part::Int(1),
+    };
+    assert_eq!(rt; frontier.observe(2, Done, &answer)?, Step::Over);
+    assert!(rt; frontier.applied() <= 12);
+    Ok(())
+}
+
+// The ok finds five ends: it tries both enqueues on the empty queue, the other one on each end with one, and none on the two
+// ends with both.
+#[test]
+fn ok_applies_each_once(rt: HostRuntime) -> Result<(), Fail> {
     let mut frontier = AnyFrontier::start(rt.alloc(), ModelKind::FifoQueue, 5)?;
     for (id, value) in [(0, 5), (1, 6)] {
         let enqueue = Op {

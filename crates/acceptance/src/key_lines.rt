@@ -108,7 +108,7 @@ fn rewind_revives(rt: HostRuntime) -> Result<(), Fail> {
 
 // 65 times a write of 1 that returns: 130 events, of indices 0 to 129.
 fn written(alloc: Global) -> Result<KeyLine, AllocError>
-    ensures { IfOk result (λ made. made.line.now.events ≡ writes_from 0 65) }
+    ensures { IfOk result (λ made. made.now.events ≡ writes_from 0 65) }
 {
     let mut line = KeyLine::new(alloc, ModelKind::Register, 4096)?;
     for round in 0..65 {
@@ -124,31 +124,36 @@ fn written(alloc: Global) -> Result<KeyLine, AllocError>
     Ok(line)
 }
 
+// How many events a cut of such a line judges again, and how many it leaves.
+fn after_cut(alloc: Global, n: u32) -> Result<(u64, usize), AllocError> {
+    let mut line = written(alloc)?;
+    let before = line.replayed();
+    line.cut(n)?;
+    Ok((line.replayed().wrapping_sub(before), line.len()))
+}
+
 // A cut judges again only what stays behind the last 64th event.
 #[test]
 fn rewind_replays_few(rt: HostRuntime) -> Result<(), Fail> {
+    for (n, again) in [(130, 0), (129, 1), (127, 63), (64, 0)] {
+        let (replayed, left) = after_cut(rt.alloc(), n)?;
+        assert_eq!(rt; replayed, again, "cut at {n}");
+        assert_eq!(rt; left, n as usize);
+    }
+    Ok(())
+}
+
+// Each event that is pushed is one replay, another kind judges each once more, and a cut counts once it is committed.
+#[test]
+fn replays_are_counted(rt: HostRuntime) -> Result<(), Fail> {
     let mut line = written(rt.alloc())?;
-    assert_eq!(rt; line.len(), 130);
     assert!(rt; matches!(line.status(), KeyStatus::Alive));
     assert_eq!(rt; line.replayed(), 130);
-    line.cut(130)?;
-    assert_eq!(rt; line.replayed(), 130);
-    line.cut(129)?;
-    assert_eq!(rt; line.replayed(), 131);
-    assert_eq!(rt; line.len(), 129);
-    assert!(rt; matches!(line.status(), KeyStatus::Alive));
-    let mut second = written(rt.alloc())?;
-    second.cut(127)?;
-    assert_eq!(rt; second.replayed(), 193);
-    assert!(rt; matches!(second.status(), KeyStatus::Alive));
-    let mut third = written(rt.alloc())?;
-    third.cut(64)?;
-    assert_eq!(rt; third.replayed(), 130);
-    assert_eq!(rt; third.len(), 64);
-    assert!(rt; matches!(third.status(), KeyStatus::Alive));
-    third.rebuild(ModelKind::CasRegister, 4096)?;
-    assert_eq!(rt; third.replayed(), 194);
-    assert!(rt; matches!(third.status(), KeyStatus::Alive));
+    line.rebuild(ModelKind::CasRegister, 4096)?;
+    assert_eq!(rt; line.replayed(), 260);
+    line.prepare_cut(127)?;
+    assert_eq!(rt; line.due(), 63);
+    assert_eq!(rt; line.replayed(), 260);
     Ok(())
 }
 

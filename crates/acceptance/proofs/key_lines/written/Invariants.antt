@@ -3,4 +3,4 @@ use Rattle.acceptance.specs.LongLine.{writes_from}
 use Rattle.acceptance.proofs.key_lines.written.Given as goal
 
 abbrev pub invariant-loop-round : goal.invariant-loop-round
-invariant-loop-round l = l.line.line.now.events ≡ writes_from 0 l.round
+invariant-loop-round l = l.line.now.events ≡ writes_from 0 l.round
