@@ -90,7 +90,7 @@ fn same_end<M: SeqObject>(a: &KeptEnd<M::State>, b: &KeptEnd<M::State>) -> bool
 fn copied(alloc: Global, pending: &[(u32, Found)]) -> Result<Vec<(u32, Found)>, AllocError>
     ensures { IfOk result (λ entries. entries.items ≡ pending.now) }
 {
-    let mut entries = Vec::with_capacity(alloc, pending.len())?;
+    let mut entries = Vec::new(alloc);
     for entry in pending {
         let found = entry.1.copy()?;
         entries.push((entry.0, found))?;
