@@ -27,15 +27,20 @@ impl<B: Tag> Monitor for Board<B> {
 }
 
 /// The same core under a lock, with no published copy: a glance takes the lock.
-impl Monitor for Mutex<Core> {
+#[derive(Drop)]
+pub struct Locked {
+    pub core: Mutex<Core>,
+}
+
+impl Monitor for Locked {
     type Seat = ();
 
     fn glance<R: Wait>(&self, rt: &R, _seat: &mut ()) -> bool {
-        let _verdict = self.lock(rt).verdict();
+        let _verdict = self.core.lock(rt).verdict();
         true
     }
 
     fn call<R: Wait>(&self, rt: &R, _seat: &mut (), command: Command) -> bool {
-        self.lock(rt).step(command).is_ok()
+        self.core.lock(rt).step(command).is_ok()
     }
 }

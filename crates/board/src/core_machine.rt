@@ -1,9 +1,8 @@
-//! The one-thread object as an object that a board keeps.
+//! The monitor's core as an object that a board keeps.
 ghost use Rattle.std.specs.Prelude.{◌≡◌, ◌≢◌, Some, Err, IfOk, OnOk, OnErr};
 ghost use Rattle.edn.specs.declared.refusal.Refusal.TheVariants.{NoMemory};
-ghost use Rattle.machine.specs.Machine.{MayStep};
-ghost use Rattle.harness.specs.CoreView.{MayWantMemory};
-ghost use Rattle.board.specs.CoreTape.{IsVerdictOf};
+ghost use Rattle.monitor.specs.JudgedHistory.{IsVerdictOn};
+ghost use Rattle.harness.specs.Machine.{MayStep, MayWantMemory};
 
 use crate::one_thread::OneThread;
 use edn::Refusal;
@@ -18,16 +17,11 @@ pub struct CoreState {
 }
 
 impl Model for CoreState {
-    ghost use Rattle.std.specs.Coded.{codes};
-    ghost use Rattle.generators.specs.Codes.{generator_code};
-    ghost use Rattle.machine.specs.Machine.{Machine, opening};
-    ghost use Rattle.harness.specs.Setups.{setup_of};
+    ghost use Rattle.harness.specs.Machine.{Machine, opening};
 
     ghost Value = { Machine };
 
-    ghost coded = { Prim.hlevel (codes, generator_code) };
-
-    ghost view = { λ s. opening (setup_of s.config) };
+    ghost view = { λ s. opening s.config };
 }
 
 impl OneThread for Core {
@@ -43,7 +37,7 @@ impl OneThread for Core {
 
     ghost replies = { MayStep };
 
-    ghost summarizes = { IsVerdictOf };
+    ghost summarizes = { IsVerdictOn };
 
     ghost may_want = { MayWantMemory };
 
@@ -75,7 +69,7 @@ fn refuse(core: &mut Core, why: Refusal) -> Result<(Result<Reply, Refusal>, Verd
     ensures entry { OnOk result (why ≢ NoMemory) }
     ensures memory { OnErr result (why ≡ NoMemory) }
     ensures ready { IfOk result (λ r. (r.0 ≡ Err why) × (core.new.next ≡ Some core.old.machine)
-        × IsVerdictOf core.old.machine r.1) }
+        × IsVerdictOn core.old.machine r.1) }
 {
     match why {
         Refusal::NoMemory => Err(AllocError),
@@ -90,7 +84,7 @@ fn refuse(core: &mut Core, why: Refusal) -> Result<(Result<Reply, Refusal>, Verd
 fn stay(core: &mut Core) -> Verdict
     ensures same { core.new.machine ≡ core.old.machine }
     ensures ready { core.new.next ≡ Some core.old.machine }
-    ensures verdict { IsVerdictOf core.old.machine result }
+    ensures verdict { IsVerdictOn core.old.machine result }
 {
     match core.prepare(Command::Verdict) {
         Ok((_reply, verdict)) => verdict,

@@ -5,8 +5,6 @@
 #[cfg(test)]
 mod boards;
 #[cfg(test)]
-mod drawn;
-#[cfg(test)]
 mod full_board;
 #[cfg(test)]
 mod gate;

@@ -1,6 +1,3 @@
-pub mod Asking
+pub mod Limits
+pub mod Machine
 pub mod CoreView
-pub mod Fitness
-pub mod Setups
-pub mod SoundCore
-pub mod Tickets

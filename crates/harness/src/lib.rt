@@ -1,16 +1,9 @@
-//! The one-thread object: commands in, verdicts out. A history under a monitor, a generator of operations and faults, a
-//! schedule of faults, a replicated store in the process, and tickets.
+//! The one-thread object: commands in, verdicts out.
 #![tactic(auto)]
 
-mod asking;
-pub mod config;
+pub mod command;
 pub mod core_object;
-mod fitness;
-pub mod judging;
-mod parts;
-mod tickets;
+pub mod laws;
 
-pub use config::Config;
+pub use command::{Command, Config, Reply};
 pub use core_object::Core;
-pub use judging::Judging;
-pub use machine::{Command, Reply};

@@ -1,2 +1,3 @@
+pub mod JudgedHistory
 pub mod Machine
 pub mod Tickets

@@ -1,0 +1,59 @@
+-- Promise: what is judged: a history as it stands, and the kind and the budget of every key (this project's own)
+use Rattle.std.specs.Prelude.{ℕ, ◌≤◌, nat_eq, unwrap_or, List, [], ◌∷◌, ◌++◌, take}
+use Rattle.std.specs.Map.{lookup}
+use Rattle.indexmap.specs.IndexMap.{insert_entry}
+use Rattle.models.specs.declared.model_kind.ModelKind.{ModelKind}
+use Rattle.history.specs.declared.event.Event.{Event}
+use Rattle.history.specs.Events.{Entry, entries_of, indexed_from}
+use Rattle.linspec.specs.declared.verdict.Verdict.{Verdict}
+use Rattle.linspec.specs.Verdicts.{IsVerdict}
+
+-- events in order, of so many threads; the kind and the budget of a key for which none was set, and those that were set
+pub record JudgedHistory : Type 0 where
+  pub concurrency : ℕ
+  pub kind : ModelKind
+  pub budget : ℕ
+  pub kinds : List (ℕ × ModelKind)
+  pub budgets : List (ℕ × ℕ)
+  pub events : List Event
+
+abbrev pub kind_of : JudgedHistory → ℕ → ModelKind
+kind_of h key = unwrap_or (lookup (nat_eq key) h.kinds) h.kind
+
+abbrev pub budget_of : JudgedHistory → ℕ → ℕ
+budget_of h key = unwrap_or (lookup (nat_eq key) h.budgets) h.budget
+
+abbrev pub entries_in : JudgedHistory → List Entry
+entries_in h = entries_of (indexed_from 0 h.events)
+
+-- the verdict, from scratch, on the history as it stands
+abbrev pub IsVerdictOn : JudgedHistory → Verdict → Type 0
+IsVerdictOn h v = IsVerdict (kind_of h) (budget_of h) (entries_in h) v
+
+-- the changes: one more event; the first n events alone; another kind, or another budget, of a key
+abbrev pub with_event : Event → JudgedHistory → JudgedHistory
+with_event event h = record h { events = h.events ++ event ∷ [] }
+
+abbrev pub rewound : ℕ → JudgedHistory → JudgedHistory
+rewound n h = record h { events = take n h.events }
+
+abbrev pub with_kind : ℕ → ModelKind → JudgedHistory → JudgedHistory
+with_kind key kind h = record h { kinds = insert_entry nat_eq h.kinds key kind }
+
+abbrev pub with_budget : ℕ → ℕ → JudgedHistory → JudgedHistory
+with_budget key n h = record h { budgets = insert_entry nat_eq h.budgets key n }
+
+-- 1 to 65,536
+abbrev pub IsBudget : ℕ → Type 0
+IsBudget n = (1 ≤ n) × (n ≤ 65536)
+
+-- no events, and nothing set
+abbrev pub opening_of : ℕ → ModelKind → ℕ → JudgedHistory
+opening_of concurrency kind budget = record {
+  concurrency = concurrency;
+  kind = kind;
+  budget = budget;
+  kinds = [];
+  budgets = [];
+  events = [];
+}
