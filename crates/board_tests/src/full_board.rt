@@ -19,7 +19,8 @@ fn seats_in_turn(rt: HostRuntime) {
 }
 
 fn take_turns<B: Tag, R: Wait + Abort>(rt: &R, blank: Blank)
-    requires names { (blank.word ≡ B.word) × (blank.ledger.name ≡ B.name) × (blank.ledger.parts ≡ B.parts) }
+    requires names { (blank.word ≡ B.word) × (blank.ledger.name ≡ B.name)
+        × (blank.ledger.parts ≡ B.parts) }
 {
     let Ok((board, mut seats)) = blank.open::<B>() else {
         panic!(rt; "not opened")
@@ -89,7 +90,8 @@ fn calls_from_four_threads(rt: HostRuntime) {
 }
 
 fn call_at_once<B: Tag + Send + Sync, R: Threads + Wait + Abort + Sync>(rt: &R, blank: Blank)
-    requires names { (blank.word ≡ B.word) × (blank.ledger.name ≡ B.name) × (blank.ledger.parts ≡ B.parts) }
+    requires names { (blank.word ≡ B.word) × (blank.ledger.name ≡ B.name)
+        × (blank.ledger.parts ≡ B.parts) }
     requires seats { blank.seats ≡ 64 }
 {
     let Ok((board, mut seats)) = blank.open::<B>() else {

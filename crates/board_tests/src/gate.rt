@@ -64,7 +64,8 @@ fn gate_begins_under_the_lock(rt: HostRuntime) {
 }
 
 fn hold_one<B: Tag + Send + Sync, R: Threads + Wait + Abort + Sync>(rt: &R, blank: Blank)
-    requires names { (blank.word ≡ B.word) × (blank.ledger.name ≡ B.name) × (blank.ledger.parts ≡ B.parts) }
+    requires names { (blank.word ≡ B.word) × (blank.ledger.name ≡ B.name)
+        × (blank.ledger.parts ≡ B.parts) }
     requires seats { blank.seats ≡ 2 }
 {
     let hold = Hold {

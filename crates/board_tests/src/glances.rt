@@ -20,7 +20,8 @@ fn glance_follows_each_call(rt: HostRuntime) {
 }
 
 fn follow<B: Tag, R: Wait + Abort>(rt: &R, blank: Blank)
-    requires names { (blank.word ≡ B.word) × (blank.ledger.name ≡ B.name) × (blank.ledger.parts ≡ B.parts) }
+    requires names { (blank.word ≡ B.word) × (blank.ledger.name ≡ B.name)
+        × (blank.ledger.parts ≡ B.parts) }
     requires seats { blank.seats ≡ 2 }
 {
     let Ok((board, mut seats)) = blank.open::<B>() else {
@@ -135,7 +136,8 @@ fn glance_answers_while_a_call_holds_the_lock(rt: HostRuntime) {
 }
 
 fn meet<B: Tag + Send + Sync, R: Threads + Wait + Abort + Sync>(rt: &R, blank: Blank)
-    requires names { (blank.word ≡ B.word) × (blank.ledger.name ≡ B.name) × (blank.ledger.parts ≡ B.parts) }
+    requires names { (blank.word ≡ B.word) × (blank.ledger.name ≡ B.name)
+        × (blank.ledger.parts ≡ B.parts) }
     requires seats { blank.seats ≡ 2 }
 {
     let meeting = Meeting {

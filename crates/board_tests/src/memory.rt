@@ -40,7 +40,8 @@ fn call_twice<B: Tag, R: Wait>(
 }
 
 fn call_again<B: Tag, R: Wait + Abort>(rt: &R, blank: Blank)
-    requires names { (blank.word ≡ B.word) × (blank.ledger.name ≡ B.name) × (blank.ledger.parts ≡ B.parts) }
+    requires names { (blank.word ≡ B.word) × (blank.ledger.name ≡ B.name)
+        × (blank.ledger.parts ≡ B.parts) }
     requires seats { blank.seats ≡ 1 }
 {
     let Ok((board, mut seats)) = blank.open::<B>() else {

@@ -31,7 +31,8 @@ pub fn tell_of_call<B: Tag, R: Wait>(
 }
 
 fn tell<B: Tag, R: Wait + Abort>(rt: &R, blank: Blank)
-    requires names { (blank.word ≡ B.word) × (blank.ledger.name ≡ B.name) × (blank.ledger.parts ≡ B.parts) }
+    requires names { (blank.word ≡ B.word) × (blank.ledger.name ≡ B.name)
+        × (blank.ledger.parts ≡ B.parts) }
     requires seats { blank.seats ≡ 2 }
 {
     let Ok((board, mut seats)) = blank.open::<B>() else {

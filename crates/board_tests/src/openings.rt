@@ -47,7 +47,8 @@ fn verdict_of_nothing(rt: HostRuntime) {
 }
 
 fn ask_nothing<B: Tag, R: Wait + Abort>(rt: &R, blank: Blank)
-    requires names { (blank.word ≡ B.word) × (blank.ledger.name ≡ B.name) × (blank.ledger.parts ≡ B.parts) }
+    requires names { (blank.word ≡ B.word) × (blank.ledger.name ≡ B.name)
+        × (blank.ledger.parts ≡ B.parts) }
     requires seats { blank.seats ≡ 2 }
 {
     let Ok((board, mut seats)) = blank.open::<B>() else {

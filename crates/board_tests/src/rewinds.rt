@@ -44,7 +44,8 @@ fn rewinds_between_calls_of_two_seats(rt: HostRuntime) {
 }
 
 fn take_back<B: Tag, R: Wait + Abort>(rt: &R, blank: Blank)
-    requires names { (blank.word ≡ B.word) × (blank.ledger.name ≡ B.name) × (blank.ledger.parts ≡ B.parts) }
+    requires names { (blank.word ≡ B.word) × (blank.ledger.name ≡ B.name)
+        × (blank.ledger.parts ≡ B.parts) }
     requires seats { blank.seats ≡ 2 }
 {
     let Ok((board, mut seats)) = blank.open::<B>() else {
@@ -97,7 +98,8 @@ fn least_index_not_least_key(rt: HostRuntime) {
 }
 
 fn read_keys<B: Tag, R: Wait + Abort>(rt: &R, blank: Blank)
-    requires names { (blank.word ≡ B.word) × (blank.ledger.name ≡ B.name) × (blank.ledger.parts ≡ B.parts) }
+    requires names { (blank.word ≡ B.word) × (blank.ledger.name ≡ B.name)
+        × (blank.ledger.parts ≡ B.parts) }
     requires seats { blank.seats ≡ 2 }
 {
     let Ok((board, mut seats)) = blank.open::<B>() else {

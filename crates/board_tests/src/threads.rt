@@ -37,7 +37,8 @@ fn send_and_end<B: Tag + Send + Sync, R: Threads + Wait + Abort + Sync>(
     alloc: Global,
     blank: Blank,
 )
-    requires names { (blank.word ≡ B.word) × (blank.ledger.name ≡ B.name) × (blank.ledger.parts ≡ B.parts) }
+    requires names { (blank.word ≡ B.word) × (blank.ledger.name ≡ B.name)
+        × (blank.ledger.parts ≡ B.parts) }
 {
     let Ok((board, seats)) = blank.open::<B>() else {
         panic!(rt; "not opened")

@@ -182,7 +182,8 @@ impl KeyLine {
     pub fn prepare_rebuild(&mut self, kind: ModelKind, budget: u32) -> Result<KeyStatus, AllocError>
         ensures status { IfOk result (IsStatusOf (judged_by kind budget self.old.now)) }
         ensures prepared { OnOk result (self.new
-            ≡ with_next (judged_by kind budget self.old.now) (length self.old.now.events) self.old) }
+            ≡ with_next (judged_by kind budget self.old.now) (length self.old.now.events)
+            self.old) }
         ensures err { OnErr result (self.new ≡ at_rest self.old.now self.old.replayed) }
     {
         drop_prepared(&mut self.prepared);

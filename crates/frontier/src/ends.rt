@@ -44,8 +44,8 @@ fn fits_in_row<S: Ord + Drop>(
     answer: &Answer,
 ) -> bool
     requires { at < length calls.now }
-    ensures fits { (id : ℕ) (e : End S) → IsOpenAt calls.now at id → Shows table.now calls.now row.now e
-        → IsTrue result ↔ FitsAt e id answer.now }
+    ensures fits { (id : ℕ) (e : End S) → IsOpenAt calls.now at id
+        → Shows table.now calls.now row.now e → IsTrue result ↔ FitsAt e id answer.now }
     ensures within { IsTrue result → at + 1 < length row.now }
 {
     match table::found_in_row(table, row, calls, at) {
@@ -100,8 +100,9 @@ pub fn settled_ends<M: SeqObject>(
     id: u32,
     answer: &Answer,
 ) -> Result<Vec<KeptEnd<M::State>>, AllocError>
-    ensures { HasEachOnce calls.now → (ends : List (End M.State)) → AreShown table.old calls.now ends
-        → IfOk result (λ after. Adds (Along (Settles id answer.now) ends) [] (map end_kept after.items)) }
+    ensures { HasEachOnce calls.now → (ends : List (End M.State))
+        → AreShown table.old calls.now ends → IfOk result (λ after.
+        Adds (Along (Settles id answer.now) ends) [] (map end_kept after.items)) }
 {
     let Some(call) = place_of_open(calls, id) else {
         return Ok(Vec::new(alloc));

@@ -31,7 +31,8 @@ fn grow_at<M: SeqObject>(
     ensures moves { AreMoves M.apply_to table.old calls.now moves.old.items
         → OnOk result (AreMoves M.apply_to table.new calls.now moves.new.items) }
     ensures adds { let object = of_table M.State M.start_state M.apply_to in
-        AreMoves M.apply_to table.old calls.now moves.old.items → HasEachOnce calls.now → (c : PendingOp) (e : End M.State) (ends : List (End M.State))
+        AreMoves M.apply_to table.old calls.now moves.old.items → HasEachOnce calls.now
+        → (c : PendingOp) (e : End M.State) (ends : List (End M.State))
         → slice_get calls.now at ≡ Some c → Shows table.old calls.now row.now e
         → AreShown table.old calls.now ends
         → OnOk result (ShownWith table.new calls.now ends (TakesLast object e c)) }
@@ -59,7 +60,8 @@ fn grow_from<M: SeqObject>(
     ensures moves { AreMoves M.apply_to table.old calls.now moves.old.items
         → OnOk result (AreMoves M.apply_to table.new calls.now moves.new.items) }
     ensures adds { let object = of_table M.State M.start_state M.apply_to in
-        AreMoves M.apply_to table.old calls.now moves.old.items → HasEachOnce calls.now → (e : End M.State) (ends : List (End M.State))
+        AreMoves M.apply_to table.old calls.now moves.old.items → HasEachOnce calls.now
+        → (e : End M.State) (ends : List (End M.State))
         → Shows table.old calls.now row.now e → AreShown table.old calls.now ends
         → OnOk result (ShownWith table.new calls.now ends (Next object calls.now e)) }
     ensures cost { applied.new ≤ applied.old + length calls.now }

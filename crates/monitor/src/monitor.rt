@@ -87,10 +87,12 @@ impl Model for Monitor {
 
     ghost view = { λ a. record {
       now = judged_by_parts a.history a.kinds a.budgets;
-      next = option_map (brought (judged_by_parts a.history a.kinds a.budgets) a.history.next) a.prepared;
+      next = option_map
+          (brought (judged_by_parts a.history a.kinds a.budgets) a.history.next) a.prepared;
     } };
 
-    ghost invariant = { λ a. IsSoundMonitor a.history a.kinds a.budgets a.lines a.verdict a.prepared };
+    ghost invariant = { λ a.
+        IsSoundMonitor a.history a.kinds a.budgets a.lines a.verdict a.prepared };
 }
 
 impl Monitor {
