@@ -32,6 +32,8 @@ def fifo_queue(state, name, part):
 
 
 def members(state, name, part):
+    if name == "read":
+        return state, "#{" + " ".join(sorted(state)) + "}"
     return state | {part}, part
 
 
@@ -64,6 +66,11 @@ def of_set(draw, state, waiting, last):
     return "add", str(draw.randrange(5))
 
 
+def of_large_set(draw, state, waiting, last):
+    # Few values come twice, and one operation of twenty reads all of them.
+    return ("read", "nil") if draw.random() < 0.05 else ("add", str(draw.randrange(1_000_000)))
+
+
 MODELS = {
     "register": ("nil", register, of_register),
     "cas-register": ("nil", cas_register, of_cas_register),
@@ -72,11 +79,14 @@ MODELS = {
     "set": (frozenset(), members, of_set),
 }
 
+# Histories whose kind of object has another name.
+LOADS = {**MODELS, "large-set": (frozenset(), members, of_large_set)}
+
 
 def lines(events, clients, seed, model="register", keys=1):
     """Events of a store whose keys are such objects, one a line, with operations open at once."""
     draw = random.Random(seed)
-    start, apply, choose = MODELS[model]
+    start, apply, choose = LOADS[model]
     states = {}
     doing = [None] * clients
     last = [(None, None)] * clients

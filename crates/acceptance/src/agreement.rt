@@ -11,11 +11,11 @@ use std::test::Fail;
 
 const KEY: Key = 7;
 
-/// The threads of each history.
-const THREADS: u32 = 3;
-
 /// The most operations of a history, few enough for their orders to be tried.
 const MOST_OPERATIONS: u32 = 8;
+
+/// How many of them are open at once, in a history of operations that are all open.
+const OPEN: u32 = 8;
 
 /// More ends than histories of so few operations have.
 const BUDGET: u32 = 1_000_000;
@@ -143,6 +143,7 @@ struct Thread {
 struct Run {
     alloc: Global,
     kind: ModelKind,
+    threads: u32,
     history: History,
     frontier: AnyFrontier,
     invoked: u32,
@@ -152,11 +153,12 @@ struct Run {
 }
 
 impl Run {
-    fn new(alloc: Global, kind: ModelKind) -> Result<Run, Fail> {
+    fn new(alloc: Global, kind: ModelKind, threads: u32) -> Result<Run, Fail> {
         Ok(Run {
             alloc,
             kind,
-            history: History::new(alloc, THREADS)?,
+            threads,
+            history: History::new(alloc, threads)?,
             frontier: AnyFrontier::start(alloc, kind, BUDGET)?,
             invoked: 0,
             alive: true,
@@ -241,7 +243,7 @@ impl Run {
         let op = call.request.with(call.request.part());
         let _ = self.append(call.id, EventKind::Info, thread.process, op)?;
         self.crashed = true;
-        Ok(idle(thread.process.wrapping_add(THREADS)))
+        Ok(idle(thread.process.wrapping_add(self.threads)))
     }
 
     fn settle(&mut self, step: Step) -> Result<(), Fail> {
@@ -312,7 +314,7 @@ fn compare(
     kind: ModelKind,
     tally: Tally,
 ) -> Result<Tally, Fail> {
-    let mut run = Run::new(alloc, kind)?;
+    let mut run = Run::new(alloc, kind, 3)?;
     let (mut a, mut b, mut c) = (idle(0), idle(1), idle(2));
     for _ in 0..6 + numbers.below(9) {
         match numbers.below(3) {
@@ -350,5 +352,53 @@ fn orders_and_ends_agree(rt: HostRuntime) -> Result<(), Fail> {
     }
     assert_eq!(rt; (all.legal, all.illegal), (116, 184));
     assert_eq!(rt; (all.open, all.failed, all.crashed), (259, 155, 158));
+    Ok(())
+}
+
+/// Counts one more history, in which eight operations are open at once and then end in turn, after both answers about it
+/// were compared.
+fn compare_open(
+    alloc: Global,
+    numbers: &mut Numbers,
+    kind: ModelKind,
+    tally: Tally,
+) -> Result<Tally, Fail> {
+    let mut run = Run::new(alloc, kind, OPEN)?;
+    let mut threads = Vec::new(alloc);
+    for process in 0..OPEN {
+        threads.push(run.invoke(numbers, idle(process))?)?;
+    }
+    let stay_open = numbers.below(3);
+    for thread in threads.iter().skip(stay_open as usize) {
+        let _ = run.go_on(numbers, *thread)?;
+    }
+    if brute(alloc, &run.history, &[(KEY, kind)])? != run.alive {
+        return Err("the answers differ".into());
+    }
+    Ok(tally.with(&run, stay_open > 0))
+}
+
+/// Of 100 more histories, 20 of each kind, each has eight operations that are open at once. So many are legal and the others
+/// are not. In 66 an operation has failed, in 74 one has crashed.
+#[test]
+fn orders_and_ends_agree_on_eight_open(rt: HostRuntime) -> Result<(), Fail> {
+    let mut numbers = Numbers { state: 2 };
+    let mut all = NONE;
+    for (kind, legal) in [
+        (ModelKind::Register, 14),
+        (ModelKind::CasRegister, 13),
+        (ModelKind::Mutex, 14),
+        (ModelKind::FifoQueue, 8),
+        (ModelKind::Set, 12),
+    ] {
+        let mut of_kind = NONE;
+        for _ in 0..20 {
+            of_kind = compare_open(rt.alloc(), &mut numbers, kind, of_kind)?;
+        }
+        assert_eq!(rt; (of_kind.legal, of_kind.illegal), (legal, 20 - legal));
+        all = all.and(of_kind);
+    }
+    assert_eq!(rt; (all.legal, all.illegal), (61, 39));
+    assert_eq!(rt; (all.failed, all.crashed), (66, 74));
     Ok(())
 }

@@ -9,13 +9,13 @@ use Rattle.linspec.specs.Operations.{IsOpen}
 use Rattle.linspec.specs.Ends.{End, HasMoreThan}
 use Rattle.linspec.proofs.Counts.{more_ends}
 use Rattle.frontier.specs.declared.pending_op.PendingOp.{PendingOp}
-use Rattle.frontier.specs.declared.kept_end.KeptEnd.{KeptEnd}
 use Rattle.frontier.specs.declared.frontier.Frontier.{Frontier}
 use Rattle.frontier.specs.declared.table.Table.{Table}
-use Rattle.frontier.specs.KeptEnds.{AreIncluded, ArePending, end_kept, ends_of}
-use Rattle.frontier.specs.EndSteps.{Adds, Along, Grows, Settles, is_other}
+use Rattle.frontier.specs.declared.kept_end.KeptEnd.{KeptEnd}
+use Rattle.frontier.specs.KeptEnds.{AreIncluded, ArePending, end_kept}
+use Rattle.frontier.specs.EndSteps.{Along, Grows, is_other}
 use Rattle.frontier.specs.Meaning.{StandsFor}
-use Rattle.frontier.specs.Tables.{AreShown, HasEachOnce, ShowsAll}
+use Rattle.frontier.specs.Tables.{AreShown, HasEachOnce, IsAdvanced, IsThat, ShownWith}
 use Rattle.frontier.proofs.AfterEvents.{ends_after_ok}
 use Rattle.frontier.proofs.Generating.{Generates, all_found, generates_all, more_found}
 use Rattle.frontier.proofs.Including.{included_after_ok, included_all}
@@ -23,27 +23,15 @@ use Rattle.frontier.proofs.Pending.{AreOnce, calls_after_ok, once_without}
 use Rattle.frontier.proofs.Standing.{stands_by}
 use Rattle.frontier.proofs.TheEnds.{AreTheEnds}
 
-module _ {M : Type 0} (o : Object) (f : Frontier M o.State) (marks : List Mark) (stands : StandsFor o f marks) (kept : List (KeptEnd o.State)) (calls : List PendingOp) (same_ends : kept ≡ f.ends.items) (same_calls : calls ≡ f.calls.items) where
-  once : HasEachOnce calls
-  once = subst HasEachOnce (sym same_calls) stands.well_kept.calls_once
-
-  included : AreIncluded calls (map end_kept kept)
-  included = subst (λ l. AreIncluded l (map end_kept kept)) (sym same_calls) (subst (λ l. AreIncluded f.calls.items (map end_kept l)) (sym same_ends) stands.well_kept.included)
-
+module _ {M : Type 0} (o : Object) (f : Frontier M o.State) (marks : List Mark) (stands : StandsFor o f marks) (budget : ℕ) where
   -- there are more than the budget
-  pub too_many : (budget : ℕ) → (HasEachOnce calls → AreIncluded calls (map end_kept kept) → (more : List (End o.State)) × Grows o calls (map end_kept kept) more × (budget < length more)) → HasMoreThan o marks budget
-  too_many budget over =
-      let m = over once included in
-      more_found o (ends_of f) f.calls.items marks stands.ends m.0 budget stands.well_kept.once
-      (subst (λ l. Grows o l (ends_of f) m.0) same_calls (subst (λ l. Grows o calls (map end_kept l) m.0) same_ends m.1)) m.2
+  pub too_many : (more : List (End o.State)) → Grows o f.calls.items stands.kept more → budget < length more → HasMoreThan o marks budget
+  too_many more grows lt = more_found o stands.kept f.calls.items marks stands.ends more budget stands.well_kept.once grows lt
 
   -- all are found
-  module _ (budget : ℕ) (table : Table o.State) (shows : HasEachOnce calls → AreIncluded calls (map end_kept kept) → ShowsAll o table calls (map end_kept kept) budget) where
-    pub found : ShowsAll o table f.calls.items (ends_of f) budget
-    found = subst (λ l. ShowsAll o table l (ends_of f) budget) same_calls (subst (λ l. ShowsAll o table calls (map end_kept l) budget) same_ends (shows once included))
-
+  module _ (t : Table o.State) (id : ℕ) (is_open : IsOpen marks id) (answer : Answer) (found : IsAdvanced o t f.calls.items stands.kept budget id answer) where
     are : AreTheEnds o found.all marks
-    are = all_found o (ends_of f) f.calls.items marks stands.ends found.all stands.well_kept.once found.adds
+    are = all_found o stands.kept f.calls.items marks stands.ends found.all stands.well_kept.once found.adds
 
     pub within : ¬ HasMoreThan o marks budget
     within h =
@@ -51,26 +39,41 @@ module _ {M : Type 0} (o : Object) (f : Frontier M o.State) (marks : List Mark) 
         let le = found.within in
         omega (arith, lt, le)
 
-    module _ (id : ℕ) (is_open : IsOpen marks id) (answer : Answer) (again : List PendingOp) (same_again : again ≡ f.calls.items) (left : List (KeptEnd o.State))
-        (settles : HasEachOnce again → (ends : List (End o.State)) → AreShown table again ends → Adds (Along (Settles id answer) ends) [] (map end_kept left)) where
-      adds : Adds (Along (Settles id answer) found.all) [] (map end_kept left)
-      adds = settles (subst HasEachOnce (sym same_again) stands.well_kept.calls_once) found.all (subst (λ l. AreShown table l found.all) (sym same_again) found.shown)
+    after : AreTheEnds o found.left.more (marks ++ Returned id answer ∷ [])
+    after = ends_after_ok o found.all marks are id is_open answer found.left.more found.left.adds
 
-      after : AreTheEnds o (map end_kept left) (marks ++ Returned id answer ∷ [])
-      after = ends_after_ok o found.all marks are id is_open answer (map end_kept left) adds
+    pub generates_left : Generates o found.left.more (marks ++ Returned id answer ∷ [])
+    generates_left = generates_all o found.left.more (marks ++ Returned id answer ∷ []) after
 
-      pub generates_left : Generates o (map end_kept left) (marks ++ Returned id answer ∷ [])
-      generates_left = generates_all o (map end_kept left) (marks ++ Returned id answer ∷ []) after
+    pub stands_after : (g : Frontier M o.State) → g.table ≡ t → g.calls.items ≡ filter (is_other id) f.calls.items → StandsFor o g (marks ++ Returned id answer ∷ [])
+    stands_after g table calls_are =
+        stands_by o g (marks ++ Returned id answer ∷ []) found.left.more
+        (subst (λ l. AreShown g.table l found.left.more) (sym calls_are) (subst (λ u. AreShown u (filter (is_other id) f.calls.items) found.left.more) (sym table) found.left.shown))
+        generates_left after.once
+        (subst (λ l. ArePending l (marks ++ Returned id answer ∷ [])) (sym calls_are) (calls_after_ok f.calls.items marks stands.well_kept.pending id answer))
+        (subst AreOnce (sym calls_are) (once_without f.calls.items id stands.well_kept.calls_once))
+        (subst (λ l. AreIncluded l found.left.more) (sym calls_are)
+        (included_after_ok f.calls.items marks stands.well_kept.pending id is_open answer found.all found.left.more
+        (included_all o f.calls.items stands.kept found.all stands.well_kept.included found.adds) found.left.adds))
 
-      pub stands_after : (g : Frontier M o.State) → g.ends.items ≡ left → g.calls.items ≡ filter (is_other id) f.calls.items → StandsFor o g (marks ++ Returned id answer ∷ [])
-      stands_after g ends_are calls_are =
-          let ends_too = sym ends_are in
-          stands_by o g (marks ++ Returned id answer ∷ [])
-          (subst (λ l. Generates o (map end_kept l) (marks ++ Returned id answer ∷ [])) ends_too generates_left)
-          (subst (λ l. AreTheEnds o (map end_kept l) (marks ++ Returned id answer ∷ [])) ends_too after).once
-          (subst (λ l. ArePending l (marks ++ Returned id answer ∷ [])) (sym calls_are) (calls_after_ok f.calls.items marks stands.well_kept.pending id answer))
-          (subst AreOnce (sym calls_are) (once_without f.calls.items id stands.well_kept.calls_once))
-          (subst (λ l. AreIncluded l (ends_of g)) (sym calls_are)
-          (subst (λ l. AreIncluded (filter (is_other id) f.calls.items) (map end_kept l)) ends_too
-          (included_after_ok f.calls.items marks stands.well_kept.pending id is_open answer found.all (map end_kept left)
-          (included_all o f.calls.items (ends_of f) found.all stands.well_kept.included found.adds) adds)))
+-- in the words of the code, which reads the calls as a slice
+module _ {M : Type 0} (o : Object) (f : Frontier M o.State) (marks : List Mark) (stands : StandsFor o f marks) (calls : List PendingOp) (same : calls ≡ f.calls.items) where
+  calls_once : HasEachOnce calls
+  calls_once = subst HasEachOnce (sym same) stands.well_kept.calls_once
+
+  its_rows : AreShown f.table calls stands.kept
+  its_rows = subst (λ l. AreShown f.table l stands.kept) (sym same) stands.shown
+
+  pub advanced : (t : Table o.State) (budget id : ℕ) (answer : Answer) → (HasEachOnce calls → (ends : List (End o.State)) → AreShown f.table calls ends → IsAdvanced o t calls ends budget id answer) → IsAdvanced o t f.calls.items stands.kept budget id answer
+  advanced t budget id answer h = subst (λ l. IsAdvanced o t l stands.kept budget id answer) same (h calls_once stands.kept its_rows)
+
+  pub too_many_by : (budget : ℕ) → (HasEachOnce calls → (ends : List (End o.State)) → AreShown f.table calls ends → (more : List (End o.State)) × Grows o calls ends more × (budget < length more)) → HasMoreThan o marks budget
+  too_many_by budget h =
+      let m = h calls_once stands.kept its_rows in
+      too_many o f marks stands budget m.0 (subst (λ l. Grows o l stands.kept m.0) same m.1) m.2
+
+  pub shown_again : (t : Table o.State) → (HasEachOnce calls → (ends : List (End o.State)) → AreShown f.table calls ends → ShownWith t calls [] (Along IsThat ends)) → ShownWith t f.calls.items [] (Along IsThat stands.kept)
+  shown_again t h = subst (λ l. ShownWith t l [] (Along IsThat stands.kept)) same (h calls_once stands.kept its_rows)
+
+  pub kept_ends : (items : List (KeptEnd o.State)) → (HasEachOnce calls → (ends : List (End o.State)) → AreShown f.table calls ends → map end_kept items ≡ ends) → map end_kept items ≡ stands.kept
+  kept_ends items h = h calls_once stands.kept its_rows

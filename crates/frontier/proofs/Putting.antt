@@ -6,18 +6,11 @@ use Rattle.std.proofs.lemmas.Bool.{true≢false}
 use Rattle.std.proofs.lemmas.List.{map_push}
 use Rattle.indexmap.specs.IndexSet.{insert_key}
 use Rattle.linspec.proofs.Lists.{Contains-nil, Contains-head, Contains-tail, Contains-cons_cases}
-use Rattle.frontier.specs.Tables.{IsPut, items_of}
+use Rattle.frontier.specs.Tables.{IsPut}
+use Rattle.frontier.specs.Words.{items_of}
 
 abbrev pub same_items : Vec ℕ Global → Vec ℕ Global → Bool
 same_items v w = pointwise nat_eq v.items w.items
-
-pub is_there : (row : List ℕ) (ks : List (Vec ℕ Global)) → list_any (λ x. pointwise nat_eq row x.items) ks ≡ true → Contains (map items_of ks) row
-is_there row [] e = absurd (true≢false (sym e))
-is_there row (x ∷ ks) e = by (pointwise nat_eq row x.items) refl (is_there row ks)
-  where
-    by : (b : Bool) → pointwise nat_eq row x.items ≡ b → (list_any (λ y. pointwise nat_eq row y.items) ks ≡ true → Contains (map items_of ks) row) → Contains (map items_of (x ∷ ks)) row
-    by true is rest = subst (Contains (map items_of (x ∷ ks))) (sym (same_text row x.items (sym is))) (Contains-head x.items (map items_of ks))
-    by false is rest = Contains-tail x.items (map items_of ks) row (rest (sym (ap (λ b. b || list_any (λ y. pointwise nat_eq row y.items) ks) is) ∙ e))
 
 module _ (k : Vec ℕ Global) where
   there : (ks : List (Vec ℕ Global)) → list_any (same_items k) ks ≡ true → Contains (map items_of ks) k.items

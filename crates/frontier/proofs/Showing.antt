@@ -1,9 +1,9 @@
 -- lists of ends that rows say
-use Rattle.std.proofs.Common.{◌≡◌, ℕ, ◌+◌, ◌<◌, ◌≤◌, inl, inr, ⊎_elim, Some, option_map, List, [], ◌∷◌, ◌++◌, length, take, slice_get, get_or, Vec, Global, sym, ap, ◌∙◌, subst, arith, length-append}
+use Rattle.std.proofs.Common.{◌≡◌, ℕ, ◌+◌, ◌<◌, ◌≤◌, inl, inr, ⊎_elim, Some, List, [], ◌∷◌, ◌++◌, length, take, slice_get, get_or, Vec, Global, sym, ap, ◌∙◌, subst, arith, length-append}
 use Rattle.std.specs.List.{Contains}
 use Rattle.std.proofs.lemmas.List.{take-append-le, take_all}
 use Rattle.std.proofs.lemmas.List.Elements.{Contains-push_cases}
-use Rattle.std.proofs.lemmas.Option.{slice_get-map, slice_get_within, get_or_from_slice_get}
+use Rattle.std.proofs.lemmas.Option.{slice_get_within, get_or_from_slice_get}
 use Rattle.models.specs.Objects.{Object}
 use Rattle.history.specs.Events.{IsFront}
 use Rattle.linspec.specs.Ends.{End}
@@ -11,7 +11,8 @@ use Rattle.frontier.specs.declared.pending_op.PendingOp.{PendingOp}
 use Rattle.frontier.specs.declared.table.Table.{Table}
 use Rattle.frontier.specs.EndSteps.{TakesLast, Next, Along, Grows}
 use Rattle.models.specs.declared.finding.Found.{Found}
-use Rattle.frontier.specs.Tables.{AreShown, IsOnceIn, IsPut, LeadsTo, Says, Shows, ShownWith, Widens, items_of, rows_of}
+use Rattle.frontier.specs.KeptEnds.{AreIncluded}
+use Rattle.frontier.specs.Tables.{AreShown, IsOnceIn, IsPut, LeadsTo, Says, Shows, ShownWith, Widens, rows_of, with_rows}
 use Rattle.frontier.proofs.Adding.{IsFront-itself, IsFront-push, IsFront-trans, Adds-old, Adds-new, Adds-change, Adds-more, Adds-none, Adds-start, one_more}
 use Rattle.frontier.proofs.Reaching.{reached_next}
 use Rattle.frontier.proofs.Rows.{clash, one_end, one_row, says_more, place_of, has_place, some_at, get_push}
@@ -63,6 +64,15 @@ shown_none calls t a b c = record {
   founds_once = λ i j x h k. absurd (no_get t.founds.items i x b h);
   long = ap length c;
   each = λ i row e h k. absurd (no_get (rows_of t) i row c h);
+}
+
+-- the table alone, with no rows
+pub shown_no_rows : {S : Type 0} (calls left : List PendingOp) (t : Table S) (ends : List (End S)) → AreShown t calls ends → (rows : List (List ℕ)) → rows ≡ [] → AreShown (with_rows t rows) left []
+shown_no_rows calls left t ends shown rows none = record {
+  states_once = shown.states_once;
+  founds_once = shown.founds_once;
+  long = ap length none;
+  each = λ i row e h k. absurd (no_get rows i row none h);
 }
 
 pub shown_first : {S : Type 0} (calls : List PendingOp) (t : Table S) (R : End S → End S → Type 0) → AreShown t calls [] → ShownWith t calls [] (Along R [])
@@ -128,13 +138,21 @@ module _ {S : Type 0} (calls : List PendingOp) (t u : Table S) where
         put
 
 -- what the row at a place says
-pub end_at : {S : Type 0} (calls : List PendingOp) (t : Table S) (ends : List (End S)) → AreShown t calls ends → (i : ℕ) (row : Vec ℕ Global) → slice_get t.rows.keys i ≡ Some row → (e : End S) × (slice_get ends i ≡ Some e) × Shows t calls row.items e
+pub end_at : {S : Type 0} (calls : List PendingOp) (t : Table S) (ends : List (End S)) → AreShown t calls ends → (i : ℕ) (row : List ℕ) → slice_get (rows_of t) i ≡ Some row → (e : End S) × (slice_get ends i ≡ Some e) × Shows t calls row e
 end_at calls t ends a i row h =
-    let at : slice_get (rows_of t) i ≡ Some row.items = slice_get-map items_of t.rows.keys i ∙ ap (option_map items_of) h in
-    let b = slice_get_within (rows_of t) i row.items at in
+    let b = slice_get_within (rows_of t) i row h in
     let l = a.long in
     let e = some_at ends i (omega (arith, b, l)) in
-    (e.0, e.1, a.each i row.items e.0 at e.1)
+    (e.0, e.1, a.each i row e.0 h e.1)
+
+-- the row at a place, and rows that stay where one more is put
+pub row_still : (old new : List (List ℕ)) (i : ℕ) (row : List ℕ) → new ≡ old → slice_get old i ≡ Some row → get_or new i [] ≡ row
+row_still old new i row same h = ap (λ l. get_or l i []) same ∙ get_or_from_slice_get old i row [] h
+
+pub front_by : (old same new : List (List ℕ)) (row : List ℕ) → same ≡ old → IsPut row same new → IsFront old new
+front_by old same new row is put =
+    subst (λ l. IsFront l new) is
+    (⊎_elim (λ h. subst (IsFront same) (sym h.1) (IsFront-itself same)) (λ h. subst (IsFront same) (sym h.1) (IsFront-push same row)) put)
 
 -- the row of the end at a place
 pub end_here : {S : Type 0} (calls : List PendingOp) (t : Table S) (ends : List (End S)) → AreShown t calls ends → (i : ℕ) (e : End S) → slice_get ends i ≡ Some e → Says t.states t.founds.items calls (get_or (rows_of t) i []) e
@@ -143,6 +161,10 @@ end_here calls t ends a i e h =
     let l = a.long in
     let r = some_at (rows_of t) i (omega (arith, b, l)) in
     subst (λ row. Says t.states t.founds.items calls row e) (sym (get_or_from_slice_get (rows_of t) i r.0 [] r.1)) (a.each i r.0 e r.1 h)
+
+-- the calls include what the ends do
+pub included_shown : {S : Type 0} (calls : List PendingOp) (t : Table S) (ends : List (End S)) → AreShown t calls ends → AreIncluded calls ends
+included_shown calls t ends a e h = let p = place_of ends e h in (end_here calls t ends a p.0 e p.1).included
 
 pub taken_more : {X : Type 0} (xs : List X) (i : ℕ) (x : X) → slice_get xs i ≡ Some x → take (i + 1) xs ≡ take i xs ++ x ∷ []
 taken_more xs i x h = one_more xs i x (slice_get_within xs i x h) (sym (get_or_from_slice_get xs i x x h))

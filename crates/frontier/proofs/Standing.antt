@@ -1,52 +1,102 @@
 -- frontiers, by the ends that they keep, and the answers by how many are left
-use Rattle.std.proofs.Common.{◌≡◌, ◌≢◌, ◌↔◌, ℕ, ◌≤◌, ◌<◌, ⊎_elim, Bool, false, not, List, [], ◌∷◌, ◌++◌, map, length, refl, sym, ap, ◌∙◌, subst, arith}
+use Rattle.std.proofs.Common.{◌≡◌, ◌≢◌, ◌↔◌, ℕ, ◌+◌, ⊎_elim, Bool, false, not, Option, Some, None, Result, Ok, Err, MatchResult, option_map, List, [], ◌∷◌, ◌++◌, map, length, slice_get, get_or, refl, sym, ap, ◌∙◌, subst, arith, length-append}
 use Rattle.std.specs.List.{filter}
 use Rattle.std.proofs.lemmas.Bool.{cases_Bool}
-use Rattle.std.proofs.lemmas.List.{length-map}
 use Rattle.models.specs.Objects.{Object}
 use Rattle.history.specs.Events.{Mark}
 use Rattle.history.specs.Events.Mark.{Failed}
 use Rattle.linspec.specs.Operations.{IsOpen}
 use Rattle.linspec.specs.Orders.{Pairwise}
-use Rattle.linspec.specs.Ends.{HasMoreThan}
-use Rattle.linspec.proofs.Filters.{filter-yes, filter-no, Pairwise-filter}
-use Rattle.linspec.proofs.Counts.{more_ends}
+use Rattle.linspec.proofs.Filters.{filter-yes, filter-no}
 use Rattle.frontier.specs.declared.pending_op.PendingOp.{PendingOp}
 use Rattle.frontier.specs.declared.kept_end.KeptEnd.{KeptEnd}
 use Rattle.frontier.specs.declared.frontier.Frontier.{Frontier}
 use Rattle.frontier.specs.declared.frontier.Step.{Step}
 use Rattle.frontier.specs.declared.frontier.Step.TheVariants.{Alive, Dead, Over}
-use Rattle.frontier.specs.KeptEnds.{AreIncluded, ArePending, end_kept, ends_of}
-use Rattle.frontier.specs.Meaning.{StandsFor, Blows, IsStep}
-use Rattle.frontier.specs.EndSteps.{is_in, is_other}
-use Rattle.frontier.proofs.Including.{included_after_fail}
-use Rattle.frontier.proofs.TheEnds.{AreTheEnds}
+use Rattle.frontier.specs.KeptEnds.{AreIncluded, ArePending, IsIncluded, IsWellKept, end_kept}
+use Rattle.frontier.specs.Tables.{AreShown, IsSameTable, IsSlot, IsThat, Says, Shows, ShownWith, found_by, rows_of, with_rows}
+use Rattle.frontier.specs.declared.table.Table.{Table}
+use Rattle.frontier.proofs.Showing.{included_shown, shown_more, widens_rows}
+use Rattle.frontier.proofs.Rows.{get_last, get_push, has_place, one_of, some_at}
+use Rattle.std.specs.FinMap as finmap
+use Rattle.std.specs.declared.alloc.AllocError.{AllocError}
+use Rattle.std.specs.List.{Contains}
+use Rattle.std.proofs.lemmas.List.{get_or_append_left, length-map}
+use Rattle.std.proofs.lemmas.Option.{get_or_from_slice_get, slice_get-map, slice_get_within}
+use Rattle.models.specs.declared.operation.Op.{Op}
+use Rattle.models.specs.declared.finding.Found.{Found}
+use Rattle.linspec.specs.MarkRule.{IsNew}
+use Rattle.linspec.specs.Ends.{End, IsEnd}
+use Rattle.frontier.proofs.Starting.{back, reached_back, reached_to, to}
+use Rattle.frontier.specs.Meaning.{StandsFor, Blows, IsStep, Keeps, Takes}
+use Rattle.frontier.specs.EndSteps.{Adds, Along, IsReached, is_in, is_other}
+use Rattle.frontier.proofs.Including.{included_after_fail, included_more}
 use Rattle.frontier.proofs.Generating.{Generates, generates_by, reached_by, generates_after_fail, none_left, some_left}
 
 module _ {M : Type 0} (o : Object) (f : Frontier M o.State) (marks : List Mark) where
-  pub generates_of : StandsFor o f marks → Generates o (ends_of f) marks
-  generates_of stands = generates_by o (ends_of f) f.calls.items marks stands.well_kept.pending stands.ends
+  pub generates_of : (stands : StandsFor o f marks) → Generates o stands.kept marks
+  generates_of stands = generates_by o stands.kept f.calls.items marks stands.well_kept.pending stands.ends
 
-  pub stands_by : Generates o (ends_of f) marks → Pairwise (λ d e. d ≢ e) (ends_of f) → ArePending f.calls.items marks → Pairwise (λ (c d : PendingOp). c.id ≢ d.id) f.calls.items → AreIncluded f.calls.items (ends_of f)
-      → StandsFor o f marks
-  stands_by gen once pending calls_once included = record {
-    ends = reached_by o (ends_of f) f.calls.items marks pending gen;
+  pub stands_by : (kept : List (End o.State)) → AreShown f.table f.calls.items kept → Generates o kept marks → Pairwise (λ d e. d ≢ e) kept → ArePending f.calls.items marks → Pairwise (λ (c d : PendingOp). c.id ≢ d.id) f.calls.items
+      → AreIncluded f.calls.items kept → StandsFor o f marks
+  stands_by kept shown gen once pending calls_once included = record {
+    kept = kept;
+    shown = shown;
+    ends = reached_by o kept f.calls.items marks pending gen;
     well_kept = record { once = once; included = included; pending = pending; calls_once = calls_once };
   }
 
-  -- one that keeps the same stands for the same
-  pub stands_too : (g : Frontier M o.State) → ends_of g ≡ ends_of f → g.calls.items ≡ f.calls.items → StandsFor o f marks → StandsFor o g marks
-  stands_too g same_ends same_calls stands =
-      let pending = subst (λ l. ArePending l marks) (sym same_calls) stands.well_kept.pending in
-      record {
-        ends = reached_by o (ends_of g) g.calls.items marks pending (subst (λ l. Generates o l marks) (sym same_ends) (generates_of stands));
-        well_kept = record {
-          once = subst (Pairwise (λ d e. d ≢ e)) (sym same_ends) stands.well_kept.once;
-          included = subst (λ l. AreIncluded l (ends_of g)) (sym same_calls) (subst (AreIncluded f.calls.items) (sym same_ends) stands.well_kept.included);
-          pending = pending;
-          calls_once = subst (Pairwise (λ (c d : PendingOp). c.id ≢ d.id)) (sym same_calls) stands.well_kept.calls_once;
-        };
-      }
+  -- one that shows the same ends, of the same calls, stands for the same
+  pub stands_too : (g : Frontier M o.State) → g.calls.items ≡ f.calls.items → (stands : StandsFor o f marks) → AreShown g.table f.calls.items stands.kept → StandsFor o g marks
+  stands_too g same stands shown = record {
+    kept = stands.kept;
+    shown = subst (λ l. AreShown g.table l stands.kept) (sym same) shown;
+    ends = λ e. subst (λ l. IsReached o l stands.kept e ↔ IsEnd o marks e) (sym same) (stands.ends e);
+    well_kept = subst (λ l. IsWellKept l stands.kept marks) (sym same) stands.well_kept;
+  }
+
+  -- and one that shows them in another order
+  pub stands_again : (g : Frontier M o.State) → g.calls.items ≡ f.calls.items → (stands : StandsFor o f marks) → ShownWith g.table f.calls.items [] (Along IsThat stands.kept) → StandsFor o g marks
+  stands_again g same stands s = record {
+    kept = s.more;
+    shown = subst (λ l. AreShown g.table l s.more) (sym same) s.shown;
+    ends = λ e. subst (λ l. IsReached o l s.more e ↔ IsEnd o marks e) (sym same)
+        ((λ r. (stands.ends e).0 (reached_back o f.calls.items stands.kept s.more s.adds e r)), (λ h. reached_to o f.calls.items stands.kept s.more s.adds e ((stands.ends e).1 h)));
+    well_kept = subst (λ l. IsWellKept l s.more marks) (sym same) (record {
+      once = s.adds.once tt;
+      included = λ e h. stands.well_kept.included e (back o f.calls.items stands.kept s.more s.adds e h);
+      pending = stands.well_kept.pending;
+      calls_once = stands.well_kept.calls_once;
+    });
+  }
+
+-- ends in another order
+module _ (o : Object) (ends first : List (End o.State)) (adds : Adds (Along IsThat ends) [] first) where
+  pub generates_again : (marks : List Mark) → Generates o ends marks → Generates o first marks
+  generates_again marks gen = record {
+    sound = λ e h. gen.sound e (back o [] ends first adds e h);
+    enough = λ f end. let b = gen.enough f end in (b.0, to o [] ends first adds b.0 b.1, b.2);
+  }
+
+  pub included_again : (calls : List PendingOp) → AreIncluded calls ends → AreIncluded calls first
+  included_again calls included e h = included e (back o [] ends first adds e h)
+
+pub same_back : {S : Type 0} (t u : Table S) → IsSameTable t u → IsSameTable u t
+same_back t u s = record { states = sym s.states; founds = sym s.founds; rows = sym s.rows }
+
+module _ {M : Type 0} (o : Object) where
+  -- one with the same table, of the same calls
+  pub stands_same : (f : Frontier M o.State) (marks : List Mark) (g : Frontier M o.State) → g.calls.items ≡ f.calls.items → IsSameTable f.table g.table → StandsFor o f marks → StandsFor o g marks
+  stands_same f marks g calls same stands =
+      stands_too o f marks g calls stands (shown_more f.calls.items f.table g.table stands.kept (widens_rows f.table g.table same.states same.founds) same.rows stands.shown)
+
+  -- one whose rows say ends in some order
+  pub stands_shown : (g : Frontier M o.State) (marks : List Mark) (ends : List (End o.State)) (calls : List PendingOp) → g.calls.items ≡ calls → ShownWith g.table calls [] (Along IsThat ends) → Generates o ends marks → ArePending calls marks
+      → Pairwise (λ (c d : PendingOp). c.id ≢ d.id) calls → AreIncluded calls ends → StandsFor o g marks
+  stands_shown g marks ends calls is s gen pending once included =
+      stands_by o g marks s.more (subst (λ l. AreShown g.table l s.more) (sym is) s.shown) (generates_again o ends s.more s.adds marks gen) (s.adds.once tt)
+      (subst (λ l. ArePending l marks) (sym is) pending) (subst (Pairwise (λ (c d : PendingOp). c.id ≢ d.id)) (sym is) once)
+      (subst (λ l. AreIncluded l s.more) (sym is) (included_again o ends s.more s.adds calls included))
 
 -- in the words of the code: the ends as they are kept, and their number
 map-filter : {X Y : Type 0} (f : X → Y) (p : Y → Bool) (xs : List X) → map f (filter (λ x. p (f x)) xs) ≡ filter p (map f xs)
@@ -63,30 +113,83 @@ kept_after_fail o items left marks id is_open gen is =
     subst (λ l. Generates o l (marks ++ Failed id ∷ [])) (sym (ap (map end_kept) is ∙ map-filter end_kept (λ e. not (is_in e id false)) items))
     (generates_after_fail o (map end_kept items) marks id is_open gen)
 
-pub once_after_fail : {S : Type 0} (items left : List (KeptEnd S)) (id : ℕ) → left ≡ filter (λ k. not (is_in (end_kept k) id false)) items
-    → Pairwise (λ d e. d ≢ e) (map end_kept items) → Pairwise (λ d e. d ≢ e) (map end_kept left)
-once_after_fail items left id is once =
-    subst (Pairwise (λ d e. d ≢ e)) (sym (ap (map end_kept) is ∙ map-filter end_kept (λ e. not (is_in e id false)) items))
-    (Pairwise-filter (λ e. not (is_in e id false)) (λ d e. d ≢ e) (map end_kept items) once)
-
 pub kept_included_after_fail : {S : Type 0} (calls : List PendingOp) (marks : List Mark) → ArePending calls marks → (items left : List (KeptEnd S)) (id : ℕ) → IsOpen marks id → AreIncluded calls (map end_kept items)
     → left ≡ filter (λ k. not (is_in (end_kept k) id false)) items → AreIncluded (filter (is_other id) calls) (map end_kept left)
 kept_included_after_fail calls marks are items left id is_open included is =
     subst (AreIncluded (filter (is_other id) calls)) (sym (ap (map end_kept) is ∙ map-filter end_kept (λ e. not (is_in e id false)) items))
     (included_after_fail calls marks are id is_open (map end_kept items) included)
 
-pub not_over_by : (o : Object) (items : List (KeptEnd o.State)) (marks : List Mark) → AreTheEnds o (map end_kept items) marks → (budget : ℕ) → length items ≤ budget → ¬ HasMoreThan o marks budget
-not_over_by o items marks are budget le h =
-    let lt : budget < length (map (end_kept {S = o.State}) items) = (more_ends o marks (map end_kept items) budget are.once are.each).0 h in
-    let m : length (map (end_kept {S = o.State}) items) ≡ length items = length-map items (end_kept {S = o.State}) in
-    omega arith
+-- an invocation: each row gets a zero
+module _ {S : Type 0} (t : Table S) (calls : List PendingOp) (marks : List Mark) (are : ArePending calls marks) (id : ℕ) (op : Op) (new : IsNew marks id) (ends : List (End S)) (shown : AreShown t calls ends) where
+  abbrev the_call : PendingOp
+  the_call = record { id = id; op = op; crashed = false }
+
+  pub longer_included : AreIncluded (calls ++ the_call ∷ []) ends
+  longer_included = included_more calls (the_call ∷ []) ends (included_shown calls t ends shown)
+
+  not_told : (e : End S) → IsIncluded calls e → found_by e the_call ≡ None
+  not_told e a = by (finmap.get e.pending id) refl
+    where
+      by : (r : Option Found) → finmap.get e.pending id ≡ r → finmap.get e.pending id ≡ None
+      by None q = q
+      by (Some x) q = let c = a.pending id x q in absurd (new _ ((are c.0).0 c.1).0.invoked c.2)
+
+  says_longer : (row : List ℕ) (e : End S) → Contains ends e → Shows t calls row e → Says t.states t.founds.items (calls ++ the_call ∷ []) (row ++ 0 ∷ []) e
+  says_longer row e h a =
+      let long = a.long in record {
+        long = length-append row (0 ∷ []) ∙ ap (λ n. n + 1) long ∙ ap (λ n. n + 1) (sym (length-append calls (the_call ∷ [])));
+        state = ap (slice_get t.states) (get_or_append_left row (0 ∷ []) 0 0 (omega (arith, long))) ∙ a.state;
+        slots = λ i d k.
+            ⊎_elim
+            (λ p.
+            let lt = slice_get_within calls i d p in
+            subst (λ m. IsSlot t.founds.items m (found_by e d)) (sym (get_or_append_left row (0 ∷ []) 0 (i + 1) (omega (arith, lt, long)))) (a.slots i d p))
+            (λ p.
+            let at : i + 1 ≡ length row = omega (arith, p.0, long) in
+            let last : get_or (row ++ 0 ∷ []) (i + 1) 0 ≡ 0 = ap (λ n. get_or (row ++ 0 ∷ []) n 0) at ∙ get_or_from_slice_get (row ++ 0 ∷ []) (length row) 0 0 (get_last row 0) in
+            subst (λ x. IsSlot t.founds.items (get_or (row ++ 0 ∷ []) (i + 1) 0) (found_by e x)) p.1
+            (subst (IsSlot t.founds.items (get_or (row ++ 0 ∷ []) (i + 1) 0)) (sym (not_told e a.included)) last))
+            (get_push calls the_call i d k);
+        included = longer_included e h;
+      }
+
+  pub longer_shown : (rows : List (List ℕ)) → rows ≡ map (λ row. row ++ 0 ∷ []) (rows_of t) → AreShown (with_rows t rows) (calls ++ the_call ∷ []) ends
+  longer_shown rows is = record {
+    states_once = shown.states_once;
+    founds_once = shown.founds_once;
+    long = ap length is ∙ length-map (rows_of t) (λ row. row ++ 0 ∷ []) ∙ shown.long;
+    each = λ i row e h k.
+        let lt = slice_get_within ends i e k in
+        let long = shown.long in
+        let r = some_at (rows_of t) i (omega (arith, lt, long)) in
+        let same : r.0 ++ 0 ∷ [] ≡ row = one_of _ _ (sym (ap (λ l. slice_get l i) is ∙ slice_get-map (λ (x : List ℕ). x ++ 0 ∷ []) (rows_of t) i ∙ ap (option_map (λ (x : List ℕ). x ++ 0 ∷ [])) r.1) ∙ h) in
+        subst (λ x. Says t.states t.founds.items (calls ++ the_call ∷ []) x e) same (says_longer r.0 e (has_place ends i e k) (shown.each i r.0 e r.1 k));
+  }
+
+-- what an event makes of the histories, by way of a frontier that stands for the same
+pub takes_from : (old mid new : List Mark → Type 0) (mark : Mark) (r : Result (Unit {0}) AllocError) → Keeps old mid → MatchResult r (λ _. Takes mid new mark) (λ _. Keeps mid new) → MatchResult r (λ _. Takes old new mark) (λ _. Keeps old new)
+takes_from old mid new mark (Ok x) keeps h = λ marks stands may. h marks (keeps marks stands) may
+takes_from old mid new mark (Err e) keeps h = λ marks stands. h marks (keeps marks stands)
+
+-- rows of ends, in the words of the code, which reads calls and ends as slices
+pub shown_of : {S : Type 0} (t : Table S) (calls now : List PendingOp) (ends kept : List (KeptEnd S)) → calls ≡ now → ends ≡ kept → (AreIncluded calls (map end_kept ends) → ShownWith t calls [] (Along IsThat (map end_kept ends)))
+    → AreIncluded now (map end_kept kept) → ShownWith t now [] (Along IsThat (map end_kept kept))
+shown_of t calls now ends kept a b h =
+    subst (λ k. AreIncluded now (map end_kept k) → ShownWith t now [] (Along IsThat (map end_kept k))) b
+    (subst (λ l. AreIncluded l (map end_kept ends) → ShownWith t l [] (Along IsThat (map end_kept ends))) a h)
+
+-- a fail
+module _ {M : Type 0} (o : Object) (f : Frontier M o.State) (marks : List Mark) (stands : StandsFor o f marks) (id : ℕ) (is_open : IsOpen marks id) (items left : List (KeptEnd o.State)) (are : map end_kept items ≡ stands.kept)
+    (is : left ≡ filter (λ k. not (is_in (end_kept k) id false)) items) where
+  pub failed_generates : Generates o (map end_kept left) (marks ++ Failed id ∷ [])
+  failed_generates = kept_after_fail o items left marks id is_open (subst (λ l. Generates o l marks) (sym are) (generates_of o f marks stands)) is
+
+  pub failed_included : AreIncluded (filter (is_other id) f.calls.items) (map end_kept left)
+  failed_included = kept_included_after_fail f.calls.items marks stands.well_kept.pending items left id is_open (subst (AreIncluded f.calls.items) (sym are) stands.well_kept.included) is
 
 -- the answer by the number of ends that are left
-module _ (o : Object) (items : List (KeptEnd o.State)) (n : ℕ) (long : n ≡ length items) (marks : List Mark) (mark : Mark) (gen : Generates o (map end_kept items) (marks ++ mark ∷ [])) where
-  left : length (map (end_kept {S = o.State}) items) ≡ n
-  left = length-map items (end_kept {S = o.State}) ∙ sym long
-
+module _ (o : Object) (ends : List (End o.State)) (n : ℕ) (long : n ≡ length ends) (marks : List Mark) (mark : Mark) (gen : Generates o ends (marks ++ mark ∷ [])) where
   pub step_by : (budget : ℕ) → ¬ Blows o budget marks mark → (step : Step) → ((step ≡ Alive) ↔ (n ≢ 0)) → ((step ≡ Dead) ↔ (n ≡ 0)) → step ≢ Over → IsStep o budget marks mark step
-  step_by budget none Alive alive dead not_over = (none, some_left o (map end_kept items) (marks ++ mark ∷ []) gen (λ e. alive.0 refl (sym left ∙ e)))
-  step_by budget none Dead alive dead not_over = (none, none_left o (map end_kept items) (marks ++ mark ∷ []) gen (left ∙ dead.0 refl))
+  step_by budget none Alive alive dead not_over = (none, some_left o ends (marks ++ mark ∷ []) gen (λ e. alive.0 refl (long ∙ e)))
+  step_by budget none Dead alive dead not_over = (none, none_left o ends (marks ++ mark ∷ []) gen (sym long ∙ dead.0 refl))
   step_by budget none Over alive dead not_over = absurd (not_over refl)

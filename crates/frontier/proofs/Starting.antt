@@ -9,16 +9,16 @@ use Rattle.frontier.specs.EndSteps.{Adds, Along, Grows, IsReached}
 use Rattle.frontier.specs.Tables.{IsThat}
 
 module _ (o : Object) (calls : List PendingOp) (ends first : List (End o.State)) (adds : Adds (Along IsThat ends) [] first) where
-  to : (e : End o.State) → Contains ends e → Contains first e
+  pub to : (e : End o.State) → Contains ends e → Contains first e
   to e h = (adds.each e).1 (inr (e, h, refl))
 
-  back : (e : End o.State) → Contains first e → Contains ends e
+  pub back : (e : End o.State) → Contains first e → Contains ends e
   back e h = ⊎_elim (λ k. absurd (Contains-nil e k)) (λ s. subst (Contains ends) s.2 s.1) ((adds.each e).0 h)
 
-  reached_back : (f : End o.State) → IsReached o calls first f → IsReached o calls ends f
+  pub reached_back : (f : End o.State) → IsReached o calls first f → IsReached o calls ends f
   reached_back f r = (r.0, r.1, back r.1 r.2, r.3)
 
-  reached_to : (f : End o.State) → IsReached o calls ends f → IsReached o calls first f
+  pub reached_to : (f : End o.State) → IsReached o calls ends f → IsReached o calls first f
   reached_to f r = (r.0, r.1, to r.1 r.2, r.3)
 
   pub grows_from : (more : List (End o.State)) → Grows o calls first more → Grows o calls ends more

@@ -17,24 +17,24 @@ kind_of_frontier (Set f) = kinds.Set
 
 -- the frontier stands for the history
 abbrev pub AnyStandsFor : AnyFrontier → List Mark → Type 0
-AnyStandsFor (Register f) marks = StandsFor register f marks
-AnyStandsFor (CasRegister f) marks = StandsFor cas_register f marks
-AnyStandsFor (Mutex f) marks = StandsFor mutex f marks
-AnyStandsFor (FifoQueue f) marks = StandsFor fifo_queue f marks
-AnyStandsFor (Set f) marks = StandsFor set_of_numbers f marks
+AnyStandsFor (Register f) marks = StandsFor register f.value marks
+AnyStandsFor (CasRegister f) marks = StandsFor cas_register f.value marks
+AnyStandsFor (Mutex f) marks = StandsFor mutex f.value marks
+AnyStandsFor (FifoQueue f) marks = StandsFor fifo_queue f.value marks
+AnyStandsFor (Set f) marks = StandsFor set_of_numbers f.value marks
 
 -- the greatest number of ends that an ok may meet
 abbrev pub any_budget_of : AnyFrontier → ℕ
-any_budget_of (Register f) = budget_of f
-any_budget_of (CasRegister f) = budget_of f
-any_budget_of (Mutex f) = budget_of f
-any_budget_of (FifoQueue f) = budget_of f
-any_budget_of (Set f) = budget_of f
+any_budget_of (Register f) = budget_of f.value
+any_budget_of (CasRegister f) = budget_of f.value
+any_budget_of (Mutex f) = budget_of f.value
+any_budget_of (FifoQueue f) = budget_of f.value
+any_budget_of (Set f) = budget_of f.value
 
 -- how many steps were made so far
 abbrev pub any_applied_of : AnyFrontier → ℕ
-any_applied_of (Register f) = applied_of f
-any_applied_of (CasRegister f) = applied_of f
-any_applied_of (Mutex f) = applied_of f
-any_applied_of (FifoQueue f) = applied_of f
-any_applied_of (Set f) = applied_of f
+any_applied_of (Register f) = applied_of f.value
+any_applied_of (CasRegister f) = applied_of f.value
+any_applied_of (Mutex f) = applied_of f.value
+any_applied_of (FifoQueue f) = applied_of f.value
+any_applied_of (Set f) = applied_of f.value

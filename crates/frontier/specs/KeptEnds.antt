@@ -1,5 +1,5 @@
 -- Invariant: how a frontier keeps ends, and the operations that may still take place
-use Rattle.std.specs.Prelude.{◌≡◌, ◌≢◌, ◌↔◌, ℕ, Option, Some, List, map, Bool, true, false, IsTrue}
+use Rattle.std.specs.Prelude.{◌≡◌, ◌≢◌, ◌↔◌, ℕ, Option, Some, List, Bool, true, false, IsTrue}
 use Rattle.std.specs.List.{Contains}
 use Rattle.std.specs.Ordering.{nat_cmp}
 use Rattle.std.specs.FinMap as finmap
@@ -13,7 +13,6 @@ use Rattle.linspec.specs.Orders.{Pairwise}
 use Rattle.linspec.specs.Ends.{End}
 use Rattle.frontier.specs.declared.pending_op.PendingOp.{PendingOp}
 use Rattle.frontier.specs.declared.kept_end.KeptEnd.{KeptEnd}
-use Rattle.frontier.specs.declared.frontier.Frontier.{Frontier}
 
 -- what each open operation found, by the entries
 abbrev pub pending_in : List (ℕ × Found) → finmap.FinMap nat_cmp Found
@@ -36,10 +35,6 @@ end_kept kept = record {
   pending = pending_in kept.pending.items;
   crashed = crashed_in kept.crashed.items;
 }
-
--- the ends that a frontier keeps
-abbrev pub ends_of : {M S : Type 0} → Frontier M S → List (End S)
-ends_of f = map end_kept f.ends.items
 
 -- the operation may still take place: it is invoked, and has neither returned nor failed
 pub record IsPending (marks : List Mark) (id : ℕ) (op : Op) : Type 0 where
@@ -65,8 +60,9 @@ AreIncluded {S} calls ends = (e : End S) → Contains ends e → IsIncluded call
 
 -- each end that is kept is kept once, and the operations that may still take place are those of the
 -- history, each once; each operation that an end includes is one of them
-pub record IsWellKept {M S : Type 0} (f : Frontier M S) (marks : List Mark) : Type 0 where
-  pub once : Pairwise (λ d e. d ≢ e) (ends_of f)
-  pub included : AreIncluded f.calls.items (ends_of f)
-  pub pending : ArePending f.calls.items marks
-  pub calls_once : Pairwise (λ c d. c.id ≢ d.id) f.calls.items
+pub record IsWellKept {S : Type 0} (calls : List PendingOp) (kept : List (End S))
+    (marks : List Mark) : Type 0 where
+  pub once : Pairwise (λ d e. d ≢ e) kept
+  pub included : AreIncluded calls kept
+  pub pending : ArePending calls marks
+  pub calls_once : Pairwise (λ c d. c.id ≢ d.id) calls

@@ -14,20 +14,24 @@ use Rattle.linspec.specs.Ends.{End, IsEnd, HasMoreThan}
 use Rattle.frontier.specs.declared.frontier.Frontier.{Frontier}
 use Rattle.frontier.specs.declared.frontier.Step.{Step}
 use Rattle.frontier.specs.declared.frontier.Step.TheVariants.{Alive, Dead, Over}
-use Rattle.frontier.specs.KeptEnds.{ends_of, IsWellKept}
+use Rattle.frontier.specs.KeptEnds.{IsWellKept}
+use Rattle.frontier.specs.Tables.{AreShown}
 use Rattle.frontier.specs.EndSteps.{IsReached}
 
--- the frontier represents the end: operations that may still take place lead to it, one after
--- another, from an end that is kept (Lowe 2017)
-abbrev pub Represents : {M : Type 0} (o : Object) → Frontier M o.State → End o.State → Type 0
-Represents o f e = IsReached o f.calls.items (ends_of f) e
+-- a frontier that keeps these ends represents the end: operations that may still take place lead to
+-- it, one after another, from an end that is kept (Lowe 2017)
+abbrev pub Represents : {M : Type 0} (o : Object) → Frontier M o.State → List (End o.State)
+    → End o.State → Type 0
+Represents o f kept e = IsReached o f.calls.items kept e
 
--- the frontier stands for the history: it represents exactly the ends of the history. How it keeps
--- them is its own, and no layer above cites it
+-- the frontier stands for the history: its rows say some ends, and by these it represents exactly
+-- the ends of the history. How it keeps them is its own, and no layer above cites it
 pub record StandsFor {M : Type 0} (o : Object) (f : Frontier M o.State) (marks : List Mark)
     : Type 0 where
-  pub ends : (e : End o.State) → Represents o f e ↔ IsEnd o marks e
-  pub well_kept : IsWellKept f marks
+  pub kept : List (End o.State)
+  pub shown : AreShown f.table f.calls.items kept
+  pub ends : (e : End o.State) → Represents o f kept e ↔ IsEnd o marks e
+  pub well_kept : IsWellKept f.calls.items kept marks
 
 -- the greatest number of ends that an ok may meet
 abbrev pub budget_of : {M S : Type 0} → Frontier M S → ℕ

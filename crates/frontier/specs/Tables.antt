@@ -1,9 +1,9 @@
 -- Invariant: ends as rows of numbers
-use Rattle.std.specs.Prelude.{◌<◌, ◌≤◌, ◌≡◌, ◌≢◌, ◌↔◌, ℕ, ◌+◌, ◌⊎◌, Bool, true, false, Option, Some, None, List, [], ◌∷◌, ◌++◌, map, length, slice_get, get_or, Vec}
-use Rattle.std.specs.Global.{Global}
-use Rattle.std.specs.List.{Contains}
+use Rattle.std.specs.Prelude.{◌<◌, ◌≤◌, ◌≡◌, ◌≢◌, ◌↔◌, ℕ, ◌+◌, ◌⊎◌, Bool, true, false, Option, Some, None, List, [], ◌∷◌, ◌++◌, length, set, slice_get, get_or}
+use Rattle.std.specs.List.{Contains, filter}
 use Rattle.std.specs.FinMap as finmap
 use Rattle.std.specs.FinSet as finset
+use Rattle.models.specs.declared.finding.Answer.{Answer}
 use Rattle.models.specs.declared.finding.Found.{Found}
 use Rattle.models.specs.declared.finding.Found.TheVariants.{Unit as Nothing}
 use Rattle.models.specs.Objects.{Object}
@@ -13,7 +13,7 @@ use Rattle.linspec.specs.Ends.{End}
 use Rattle.frontier.specs.declared.pending_op.PendingOp.{PendingOp}
 use Rattle.frontier.specs.declared.table.Table.{Table}
 use Rattle.frontier.specs.KeptEnds.{IsIncluded}
-use Rattle.frontier.specs.EndSteps.{TakesLast, Next, IsReached, Adds, Grows}
+use Rattle.frontier.specs.EndSteps.{TakesLast, Next, IsReached, Adds, Along, Grows, Settles, is_other}
 
 -- what the call found in the end, if it is in it; a crashed one tells nothing
 abbrev pub nothing_if : Bool → Option Found
@@ -66,11 +66,8 @@ pub record Says {S : Type 0} (states : List S) (founds : List Found) (calls : Li
 abbrev pub Shows : {S : Type 0} → Table S → List PendingOp → List ℕ → End S → Type 0
 Shows t calls row e = Says t.states t.founds.items calls row e
 
-abbrev pub items_of : Vec ℕ Global → List ℕ
-items_of row = row.items
-
 abbrev pub rows_of : {S : Type 0} → Table S → List (List ℕ)
-rows_of t = map items_of t.rows.keys
+rows_of t = t.rows
 
 -- the rows say these ends, in order, and no number stands for two things
 pub record AreShown {S : Type 0} (t : Table S) (calls : List PendingOp) (ends : List (End S))
@@ -100,10 +97,10 @@ LeadsTo o t calls e c None = (f : End o.State) → ¬ TakesLast o e c f
 LeadsTo o t calls e c (Some row) =
     (f : End o.State) × Shows t calls row f × ((g : End o.State) → TakesLast o e c g ↔ (f ≡ g))
 
--- the row, if so it is told
-abbrev pub row_if : Bool → List ℕ → Option (List ℕ)
-row_if true row = Some row
-row_if false row = None
+-- the row with these numbers of a state and at the place of a call, if there are such
+abbrev pub row_led : List ℕ → ℕ → Option (ℕ × ℕ) → Option (List ℕ)
+row_led row at None = None
+row_led row at (Some to) = Some (set (set row 0 to.0) (at + 1) to.1)
 
 -- an end alone
 abbrev pub IsThat : {S : Type 0} → End S → End S → Type 0
@@ -134,10 +131,20 @@ pub record IsToldBefore {S : Type 0} (calls : List PendingOp) (e k : End S) (n :
       → found_by k c ≡ found_by e c
   pub after : (i : ℕ) (c : PendingOp) → slice_get calls i ≡ Some c → n ≤ i → found_by k c ≡ None
 
--- the rows say all ends that the calls lead to from these, one after another: no more than the budget
-pub record ShowsAll (o : Object) (t : Table o.State) (calls : List PendingOp)
-    (ends : List (End o.State)) (budget : ℕ) : Type 0 where
+-- the table with these rows
+abbrev pub with_rows : {S : Type 0} → Table S → List (List ℕ) → Table S
+with_rows t rows = record { states = t.states; founds = t.founds; rows = rows }
+
+-- both have the same states, found things and rows
+pub record IsSameTable {S : Type 0} (t u : Table S) : Type 0 where
+  pub states : u.states ≡ t.states
+  pub founds : u.founds.items ≡ t.founds.items
+  pub rows : rows_of u ≡ rows_of t
+
+-- the rows say what an ok leaves of all ends that the calls lead to from these
+pub record IsAdvanced (o : Object) (t : Table o.State) (calls : List PendingOp)
+    (ends : List (End o.State)) (budget id : ℕ) (answer : Answer) : Type 0 where
   pub all : List (End o.State)
-  pub shown : AreShown t calls all
   pub adds : Adds (IsReached o calls ends) ends all
   pub within : length all ≤ budget
+  pub left : ShownWith t (filter (is_other id) calls) [] (Along (Settles id answer) all)

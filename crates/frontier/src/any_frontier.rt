@@ -16,22 +16,22 @@ use std::alloc::{AllocError, Global};
 #[derive(Drop)]
 pub enum AnyFrontier {
     /// Of a register.
-    Register(Frontier<Register>),
+    Register(Box<Frontier<Register>>),
     /// Of a register that also has compare and set.
-    CasRegister(Frontier<CasRegister>),
+    CasRegister(Box<Frontier<CasRegister>>),
     /// Of a mutex.
-    Mutex(Frontier<Mutex>),
+    Mutex(Box<Frontier<Mutex>>),
     /// Of a queue.
-    FifoQueue(Frontier<FifoQueue>),
+    FifoQueue(Box<Frontier<FifoQueue>>),
     /// Of a set.
-    Set(Frontier<Set>),
+    Set(Box<Frontier<Set>>),
 }
 
 // The bodies below, for each kind of the list.
 macro_rules! start_of {
     ($kind:expr, $alloc:expr, $budget:expr; $($K:ident $name:literal),*) => {
         match $kind {
-            $(ModelKind::$K => Ok(AnyFrontier::$K(Frontier::<$K>::start($alloc, $budget)?)),)*
+            $(ModelKind::$K => Ok(AnyFrontier::$K(Box::new($alloc, Frontier::<$K>::start($alloc, $budget)?)?)),)*
         }
     };
 }
@@ -39,7 +39,7 @@ macro_rules! start_of {
 macro_rules! copy_of {
     ($any:expr; $($K:ident $name:literal),*) => {
         match $any {
-            $(AnyFrontier::$K(frontier) => Ok(AnyFrontier::$K(frontier.copy()?)),)*
+            $(AnyFrontier::$K(frontier) => Ok(AnyFrontier::$K(Box::new(frontier.allocator(), frontier.copy()?)?)),)*
         }
     };
 }

@@ -1,16 +1,17 @@
 //! The ends after an event, by those before it.
-ghost use Rattle.std.specs.Prelude.{◌≡◌, ◌↔◌, ◌<◌, ◌+◌, ℕ, List, [], IsTrue, false, None, map, set, length};
+ghost use Rattle.std.specs.Prelude.{◌≡◌, ◌↔◌, ◌<◌, ◌+◌, ℕ, List, [], IsTrue, false, None, map, length};
 ghost use Rattle.std.specs.Prelude.{IfOk, OnOk, IfSome};
 ghost use Rattle.linspec.specs.Ends.{End};
 ghost use Rattle.frontier.specs.KeptEnds.{end_kept};
-ghost use Rattle.frontier.specs.EndSteps.{FitsAt, Settles, Crashes, Along, Adds};
-ghost use Rattle.frontier.specs.Tables.{AreShown, HasEachOnce, IsOpenAt, Shows, ShownWith};
+ghost use Rattle.std.specs.List.{filter};
+ghost use Rattle.frontier.specs.EndSteps.{FitsAt, Settles, Crashes, Along, Adds, is_other};
+ghost use Rattle.frontier.specs.Tables.{AreShown, HasEachOnce, IsOpenAt, Shows, ShownWith, with_rows};
 
 use crate::kept_end::{KeptEnd, copy_of, keep};
 use crate::pending_op::PendingOp;
 use crate::places::Places;
+use crate::row_set::RowSet;
 use crate::table::{self, Table};
-use indexmap::IndexSet;
 use models::{Answer, SeqObject, finding};
 use std::alloc::{AllocError, Global};
 
@@ -54,62 +55,50 @@ fn fits_in_row<S: Ord + Drop>(
     }
 }
 
-// The row without the call at this place.
-fn row_without(alloc: Global, row: &[usize], at: usize) -> Result<Vec<usize>, AllocError>
-    requires { at + 1 < length row.now }
-    ensures { IfOk result (λ next. next.items ≡ set row.now (at + 1) 0) }
-{
-    let mut next = table::copied(alloc, row)?;
-    next[at + 1] = 0;
-    Ok(next)
-}
-
-// Leaves the rows of those ends where what the open operation at this place found fits the answer, each without it.
-fn settle_rows<S: Ord + Drop>(
+// The rows of those ends where what the open operation at this place found fits the answer, each without it.
+fn settled_rows<S: Ord + Drop>(
     alloc: Global,
-    table: &mut Table<S>,
+    table: &Table<S>,
     calls: &[PendingOp],
     call: usize,
     answer: &Answer,
-) -> Result<(), AllocError>
+) -> Result<RowSet, AllocError>
     requires { call < length calls.now }
     ensures { HasEachOnce calls.now → (id : ℕ) → IsOpenAt calls.now call id
-        → (ends : List (End S)) → AreShown table.old calls.now ends
-        → OnOk result (ShownWith table.new calls.now [] (Along (Settles id answer.now) ends)) }
+        → (ends : List (End S)) → AreShown table.now calls.now ends → IfOk result (λ rows.
+        ShownWith (with_rows table.now rows) (filter (is_other id) calls.now) []
+        (Along (Settles id answer.now) ends)) }
 {
-    let mut rows = IndexSet::new(alloc);
+    let mut rows = RowSet::new(alloc, calls.len());
+    let mut row = Vec::new(alloc);
     for at in 0..table.rows.len() {
-        let Some(row) = table.rows.get_index(at) else {
-            unreachable!()
-        };
-        if fits_in_row(table, row, calls, call, answer) {
-            let settled = row_without(alloc, row, call)?;
-            table::put(alloc, &mut rows, &settled)?;
+        table.rows.read(at, &mut row)?;
+        if fits_in_row(table, &row, calls, call, answer) {
+            let _slot = row.remove(call + 1);
+            rows.put(&row)?;
         }
     }
-    table.rows = rows;
-    Ok(())
+    Ok(rows)
 }
 
-/// The ends after the operation has returned with this answer, by the rows before it: of those where it is in and what it
-/// found fits, each without it.
-pub fn settled_ends<M: SeqObject>(
+/// The rows after the operation has returned with this answer: of those where it is in and what it found fits, each without
+/// it.
+pub fn settled<S: Ord + Drop>(
     alloc: Global,
-    table: &mut Table<M::State>,
+    table: &Table<S>,
     calls: &[PendingOp],
     id: u32,
     answer: &Answer,
-) -> Result<Vec<KeptEnd<M::State>>, AllocError>
-    ensures { HasEachOnce calls.now → (ends : List (End M.State))
-        → AreShown table.old calls.now ends → IfOk result (λ after.
-        Adds (Along (Settles id answer.now) ends) [] (map end_kept after.items)) }
+) -> Result<RowSet, AllocError>
+    ensures { HasEachOnce calls.now → (ends : List (End S))
+        → AreShown table.now calls.now ends → IfOk result (λ rows.
+        ShownWith (with_rows table.now rows) (filter (is_other id) calls.now) []
+        (Along (Settles id answer.now) ends)) }
 {
-    let Some(call) = place_of_open(calls, id) else {
-        return Ok(Vec::new(alloc));
-    };
-    settle_rows(alloc, table, calls, call, answer)?;
-    let after = table::ends_of::<M>(alloc, table, calls)?;
-    Ok(after)
+    match place_of_open(calls, id) {
+        Some(call) => settled_rows(alloc, table, calls, call, answer),
+        None => Ok(RowSet::new(alloc, calls.len())),
+    }
 }
 
 /// The ends after the operation has crashed.
@@ -129,19 +118,4 @@ pub fn crashed_ends<M: SeqObject>(
         keep::<M>(&mut after, &mut places, crashed)?;
     }
     Ok(after)
-}
-
-/// The same ends.
-pub fn copied_ends<M: SeqObject>(
-    alloc: Global,
-    ends: &[KeptEnd<M::State>],
-) -> Result<Vec<KeptEnd<M::State>>, AllocError>
-    ensures { IfOk result (λ copies. map end_kept copies.items ≡ map end_kept ends.now) }
-{
-    let mut copies = Vec::new(alloc);
-    for kept in ends {
-        let copy = copy_of::<M>(alloc, kept)?;
-        copies.push(copy)?;
-    }
-    Ok(copies)
 }

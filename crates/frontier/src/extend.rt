@@ -1,33 +1,35 @@
 //! The ends that calls lead to from others.
 ghost use Rattle.std.specs.Prelude.{◌≡◌, ◌↔◌, ◌+◌, ◌*◌, ◌<◌, ◌≤◌, true, false};
-ghost use Rattle.std.specs.Prelude.{List, map, length, slice_get, Some, None, IfOk, OnOk};
+ghost use Rattle.std.specs.Prelude.{ℕ, List, length, slice_get, Some, None, IfOk, OnOk};
 ghost use Rattle.models.specs.Objects.{of_table};
+ghost use Rattle.history.specs.Events.{IsFront};
 ghost use Rattle.linspec.specs.Ends.{End};
-ghost use Rattle.frontier.specs.KeptEnds.{AreIncluded, end_kept};
 ghost use Rattle.frontier.specs.Moves.{AreMoves};
 ghost use Rattle.frontier.specs.EndSteps.{TakesLast, Next, Grows};
 ghost use Rattle.frontier.specs.Tables.{AreShown, HasEachOnce, Shows, Widens, rows_of};
-ghost use Rattle.frontier.specs.Tables.{ShowsAll, ShownWith, ShownGrown};
+ghost use Rattle.frontier.specs.Tables.{IsAdvanced, ShownWith, ShownGrown, with_rows};
 
-use crate::kept_end::KeptEnd;
+use crate::ends;
 use crate::moves::Move;
 use crate::pending_op::PendingOp;
+use crate::row_set::RowSet;
 use crate::table::{self, Table};
-use models::SeqObject;
+use models::{Answer, SeqObject};
 use std::alloc::{AllocError, Global};
 
-// Adds what the call at this place leads to from the end of this row.
+// Adds what the call at this place leads to from the end of the row that stands here.
 fn grow_at<M: SeqObject>(
     alloc: Global,
     table: &mut Table<M::State>,
     moves: &mut Vec<Move>,
+    from: usize,
     row: &[usize],
     calls: &[PendingOp],
     at: usize,
     applied: &mut u64,
-    next: &mut Vec<usize>,
 ) -> Result<(), AllocError>
-    requires { at < length calls.now }
+    requires within { at < length calls.now }
+    requires here { slice_get (rows_of table.old) from ≡ Some row.now }
     ensures moves { AreMoves M.apply_to table.old calls.now moves.old.items
         → OnOk result (AreMoves M.apply_to table.new calls.now moves.new.items) }
     ensures adds { let object = of_table M.State M.start_state M.apply_to in
@@ -37,26 +39,26 @@ fn grow_at<M: SeqObject>(
         → AreShown table.old calls.now ends
         → OnOk result (ShownWith table.new calls.now ends (TakesLast object e c)) }
     ensures widens { Widens table.old table.new }
+    ensures front { IsFront (rows_of table.old) (rows_of table.new) }
     ensures cost { applied.new ≤ applied.old + 1 }
 {
-    let can = table::extended::<M>(alloc, table, moves, row, calls, at, applied, next)?;
-    if !can {
-        return Ok(());
+    if let Some((to, slot)) = table::led_to::<M>(alloc, table, moves, row, calls, at, applied)? {
+        table.rows.put_next(from, to, at + 1, slot)?;
     }
-    table::put(alloc, &mut table.rows, next)?;
     Ok(())
 }
 
-// Adds what each call leads to from the end of this row.
+// Adds what each call leads to from the end of the row that stands here.
 fn grow_from<M: SeqObject>(
     alloc: Global,
     table: &mut Table<M::State>,
     moves: &mut Vec<Move>,
+    from: usize,
     row: &[usize],
     calls: &[PendingOp],
     applied: &mut u64,
-    next: &mut Vec<usize>,
 ) -> Result<(), AllocError>
+    requires { slice_get (rows_of table.old) from ≡ Some row.now }
     ensures moves { AreMoves M.apply_to table.old calls.now moves.old.items
         → OnOk result (AreMoves M.apply_to table.new calls.now moves.new.items) }
     ensures adds { let object = of_table M.State M.start_state M.apply_to in
@@ -64,10 +66,12 @@ fn grow_from<M: SeqObject>(
         → (e : End M.State) (ends : List (End M.State))
         → Shows table.old calls.now row.now e → AreShown table.old calls.now ends
         → OnOk result (ShownWith table.new calls.now ends (Next object calls.now e)) }
+    ensures widens { Widens table.old table.new }
+    ensures front { IsFront (rows_of table.old) (rows_of table.new) }
     ensures cost { applied.new ≤ applied.old + length calls.now }
 {
     for at in 0..calls.len() {
-        grow_at::<M>(alloc, table, moves, row, calls, at, applied, next)?;
+        grow_at::<M>(alloc, table, moves, from, row, calls, at, applied)?;
     }
     Ok(())
 }
@@ -86,11 +90,12 @@ fn grow<M: SeqObject>(
         → IfOk result (ShownGrown object table.new calls.now ends) }
     ensures within { IfOk result (λ all. all ≡ true → length (rows_of table.new) ≤ budget) }
     ensures beyond { IfOk result (λ all. all ≡ false → budget < length (rows_of table.new)) }
+    ensures widens { Widens table.old table.new }
+    ensures front { IsFront (rows_of table.old) (rows_of table.new) }
     ensures cost { applied.new ≤ applied.old + (budget + 1) * length calls.now }
 {
     let mut moves = Vec::new(alloc);
     let mut row = Vec::new(alloc);
-    let mut next = Vec::new(alloc);
     for at in 0..budget as usize {
         if table.rows.len() > budget as usize {
             return Ok(false);
@@ -98,38 +103,69 @@ fn grow<M: SeqObject>(
         if at >= table.rows.len() {
             return Ok(true);
         }
-        let Some(here) = table.rows.get_index(at) else {
-            unreachable!()
-        };
-        table::rewrite(&mut row, here)?;
-        grow_from::<M>(alloc, table, &mut moves, &row, calls, applied, &mut next)?;
+        table.rows.read(at, &mut row)?;
+        grow_from::<M>(alloc, table, &mut moves, at, &row, calls, applied)?;
     }
     Ok(table.rows.len() <= budget as usize)
 }
 
-/// All ends as rows: these ends and what the calls lead to from them, one after another. `None` where they are more than
-/// the budget. This is so where each call is of another operation, and each end includes calls alone. No more ends than
-/// the budget are extended.
-pub fn extend<M: SeqObject>(
+// Extends the rows to all ends, and finds those that are left after the operation has returned with this answer. `None`
+// where all are more than the budget.
+fn found_rows<M: SeqObject>(
     alloc: Global,
-    ends: &[KeptEnd<M::State>],
+    table: &mut Table<M::State>,
     calls: &[PendingOp],
     budget: u32,
     applied: &mut u64,
-) -> Result<Option<Table<M::State>>, AllocError>
+    id: u32,
+    answer: &Answer,
+) -> Result<Option<RowSet>, AllocError>
     ensures all { let object = of_table M.State M.start_state M.apply_to in
-        let old = map end_kept ends.now in
-        HasEachOnce calls.now → AreIncluded calls.now old → IfOk result (λ found.
-        (table : Table M.State) → found ≡ Some table → ShowsAll object table calls.now old budget) }
+        HasEachOnce calls.now → (ends : List (End M.State)) → AreShown table.old calls.now ends
+        → IfOk result (λ found. (rows : List (List ℕ)) → found ≡ Some rows
+        → IsAdvanced object (with_rows table.new rows) calls.now ends budget id answer.now) }
     ensures over { let object = of_table M.State M.start_state M.apply_to in
-        let old = map end_kept ends.now in
-        HasEachOnce calls.now → AreIncluded calls.now old → IfOk result (λ found. found ≡ None
-        → (more : List (End M.State)) × Grows object calls.now old more × (budget < length more)) }
+        HasEachOnce calls.now → (ends : List (End M.State)) → AreShown table.old calls.now ends
+        → IfOk result (λ found. found ≡ None
+        → (more : List (End M.State)) × Grows object calls.now ends more × (budget < length more)) }
+    ensures widens { Widens table.old table.new }
+    ensures front { IsFront (rows_of table.old) (rows_of table.new) }
     ensures cost { applied.new ≤ applied.old + (budget + 1) * length calls.now }
 {
-    let mut table = table::of_ends::<M>(alloc, ends, calls)?;
-    if !grow::<M>(alloc, &mut table, calls, budget, applied)? {
+    if !grow::<M>(alloc, table, calls, budget, applied)? {
         return Ok(None);
     }
-    Ok(Some(table))
+    let rows = ends::settled(alloc, table, calls, id, answer)?;
+    Ok(Some(rows))
+}
+
+/// The rows of the ends that are left after the operation has returned with this answer: of those where it is in and what it
+/// found fits, each without it. `None` where all ends, these and what the calls lead to from them one after another, are more
+/// than the budget. This is so where each call is of another operation. No more ends than the budget are extended. The
+/// rows of the table stay.
+pub fn advance<M: SeqObject>(
+    alloc: Global,
+    table: &mut Table<M::State>,
+    calls: &[PendingOp],
+    budget: u32,
+    applied: &mut u64,
+    id: u32,
+    answer: &Answer,
+) -> Result<Option<RowSet>, AllocError>
+    ensures all { let object = of_table M.State M.start_state M.apply_to in
+        HasEachOnce calls.now → (ends : List (End M.State)) → AreShown table.old calls.now ends
+        → IfOk result (λ found. (rows : List (List ℕ)) → found ≡ Some rows
+        → IsAdvanced object (with_rows table.new rows) calls.now ends budget id answer.now) }
+    ensures over { let object = of_table M.State M.start_state M.apply_to in
+        HasEachOnce calls.now → (ends : List (End M.State)) → AreShown table.old calls.now ends
+        → IfOk result (λ found. found ≡ None
+        → (more : List (End M.State)) × Grows object calls.now ends more × (budget < length more)) }
+    ensures widens { Widens table.old table.new }
+    ensures rows { rows_of table.new ≡ rows_of table.old }
+    ensures cost { applied.new ≤ applied.old + (budget + 1) * length calls.now }
+{
+    let kept = table.rows.len();
+    let found = found_rows::<M>(alloc, table, calls, budget, applied, id, answer);
+    table.rows.truncate(kept);
+    found
 }

@@ -8,6 +8,7 @@ ghost use Rattle.frontier.specs.Meaning.{CostsAtMost, applied_of, budget_of, mar
 
 use crate::kept_end::KeptEnd;
 use crate::pending_op::{self, PendingOp};
+use crate::table::{self, Table};
 use crate::{ends, extend};
 use history::EventKind;
 use models::{Answer, Op, SeqObject};
@@ -34,7 +35,7 @@ pub struct Frontier<M: SeqObject> {
     budget: u32,
     applied: u64,
     calls: Vec<PendingOp>,
-    ends: Vec<KeptEnd<M::State>>,
+    table: Table<M::State>,
 }
 
 // Alive where some end is left, else Dead.
@@ -61,12 +62,14 @@ impl<M: SeqObject> Frontier<M> {
             pending: Vec::new(alloc),
             crashed: Vec::new(alloc),
         })?;
+        let calls = Vec::new(alloc);
+        let table = table::of_ends::<M>(alloc, &ends, &calls)?;
         Ok(Frontier {
             alloc,
             budget,
             applied: 0,
-            calls: Vec::new(alloc),
-            ends,
+            calls,
+            table,
         })
     }
 
@@ -106,7 +109,7 @@ impl<M: SeqObject> Frontier<M> {
     }
 
     /// An operation is invoked, whose id (the index of its invocation) no event before it has. On `AllocError` the
-    /// frontier is unchanged. Tries nothing.
+    /// frontier is unchanged. Tries nothing, and goes through the rows once.
     pub fn invoke(&mut self, id: u32, op: Op) -> Result<(), AllocError>
         ensures kept { let object = of_table M.State M.start_state M.apply_to in
             let old = StandsFor object self.old in let new = StandsFor object self.new in
@@ -114,11 +117,46 @@ impl<M: SeqObject> Frontier<M> {
         ensures budget { budget_of self.new ≡ budget_of self.old }
         ensures cost { applied_of self.new ≡ applied_of self.old }
     {
-        self.calls.push(PendingOp {
+        if self.is_crowded() {
+            return self.invoke_anew(id, op);
+        }
+        self.calls.reserve(1)?;
+        if !self.table.rows.lengthen() {
+            return self.invoke_anew(id, op);
+        }
+        let call = PendingOp {
+            id,
+            op,
+            crashed: false,
+        };
+        match self.calls.push(call) {
+            Ok(_) => Ok(()),
+            Err(_full) => unreachable!(),
+        }
+    }
+
+    // Whether most states of the table are no longer those of a row.
+    fn is_crowded(&self) -> bool {
+        self.table.states.len() / 4 > self.table.rows.len().saturating_add(8)
+    }
+
+    // The same as `invoke`, with a new table.
+    fn invoke_anew(&mut self, id: u32, op: Op) -> Result<(), AllocError>
+        ensures kept { let object = of_table M.State M.start_state M.apply_to in
+            let old = StandsFor object self.old in let new = StandsFor object self.new in
+            MatchResult result (λ _. Takes old new (Invoked id op)) (λ _. Keeps old new) }
+        ensures budget { budget_of self.new ≡ budget_of self.old }
+        ensures cost { applied_of self.new ≡ applied_of self.old }
+    {
+        let ends = table::ends_of::<M>(self.alloc, &self.table, &self.calls)?;
+        let mut calls = pending_op::copy_calls(self.alloc, &self.calls)?;
+        calls.push(PendingOp {
             id,
             op,
             crashed: false,
         })?;
+        self.table = table::of_ends::<M>(self.alloc, &ends, &calls)?;
+        self.calls = calls;
         Ok(())
     }
 
@@ -140,19 +178,21 @@ impl<M: SeqObject> Frontier<M> {
             CostsAtMost (budget_of self.old) old (Returned id answer.now)
             (applied_of self.old) (applied_of self.new) }
     {
-        let found = extend::extend::<M>(
+        let found = extend::advance::<M>(
             self.alloc,
-            &self.ends,
+            &mut self.table,
             &self.calls,
             self.budget,
             &mut self.applied,
+            id,
+            answer,
         )?;
-        let Some(mut table) = found else {
+        let Some(rows) = found else {
             return Ok(Step::Over);
         };
-        self.ends = ends::settled_ends::<M>(self.alloc, &mut table, &self.calls, id, answer)?;
+        self.table.rows = rows;
         pending_op::drop_call(&mut self.calls, id);
-        Ok(step_of(self.ends.len()))
+        Ok(step_of(self.table.rows.len()))
     }
 
     /// How many steps were made so far: how often an operation was tried in a state, also in an ok that was answered Over
@@ -163,8 +203,8 @@ impl<M: SeqObject> Frontier<M> {
         self.applied
     }
 
-    /// An open operation did not take place. Never Over. On `AllocError` the frontier is unchanged. Goes through the
-    /// ends once.
+    /// An open operation did not take place. Never Over. On `AllocError` the frontier is unchanged. Makes its rows anew,
+    /// of the ends that do not include the operation.
     pub fn fail(&mut self, id: u32) -> Result<Step, AllocError>
         ensures step { let object = of_table M.State M.start_state M.apply_to in
             let old = StandsFor object self.old in
@@ -175,9 +215,13 @@ impl<M: SeqObject> Frontier<M> {
         ensures budget { budget_of self.new ≡ budget_of self.old }
         ensures cost { applied_of self.new ≡ applied_of self.old }
     {
-        self.ends.retain(|kept| !kept.includes(id));
-        pending_op::drop_call(&mut self.calls, id);
-        Ok(step_of(self.ends.len()))
+        let mut ends = table::ends_of::<M>(self.alloc, &self.table, &self.calls)?;
+        ends.retain(|kept| !kept.includes(id));
+        let mut calls = pending_op::copy_calls(self.alloc, &self.calls)?;
+        pending_op::drop_call(&mut calls, id);
+        self.table = table::of_ends::<M>(self.alloc, &ends, &calls)?;
+        self.calls = calls;
+        Ok(step_of(self.table.rows.len()))
     }
 
     /// An open operation has crashed: it may take place at any later moment, or never. On `AllocError` the frontier is
@@ -189,9 +233,18 @@ impl<M: SeqObject> Frontier<M> {
         ensures budget { budget_of self.new ≡ budget_of self.old }
         ensures cost { applied_of self.new ≡ applied_of self.old }
     {
-        self.ends = ends::crashed_ends::<M>(self.alloc, &self.ends, id)?;
-        pending_op::mark_crashed(&mut self.calls, id);
+        let ends = table::ends_of::<M>(self.alloc, &self.table, &self.calls)?;
+        let after = ends::crashed_ends::<M>(self.alloc, &ends, id)?;
+        let mut calls = pending_op::copy_calls(self.alloc, &self.calls)?;
+        pending_op::mark_crashed(&mut calls, id);
+        self.table = table::of_ends::<M>(self.alloc, &after, &calls)?;
+        self.calls = calls;
         Ok(())
+    }
+
+    /// Where its memory comes from.
+    pub fn allocator(&self) -> Global {
+        self.alloc
     }
 
     /// An equal frontier, with memory of its own; `AllocError` where there is none.
@@ -207,7 +260,7 @@ impl<M: SeqObject> Frontier<M> {
             budget: self.budget,
             applied: self.applied,
             calls: pending_op::copy_calls(self.alloc, &self.calls)?,
-            ends: ends::copied_ends::<M>(self.alloc, &self.ends)?,
+            table: table::copied::<M>(self.alloc, &self.table)?,
         })
     }
 }

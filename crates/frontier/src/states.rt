@@ -1,5 +1,5 @@
 //! States by number.
-ghost use Rattle.std.specs.Prelude.{◌≡◌, [], true, Some, slice_get, option_copied, IfOk};
+ghost use Rattle.std.specs.Prelude.{◌≡◌, [], true, length, Some, slice_get, option_copied, IfOk};
 ghost use Rattle.std.specs.Ordering.{is_eq};
 ghost use Rattle.history.specs.Events.{IsFront};
 ghost use Rattle.frontier.specs.States.{ArePlaces};
@@ -39,6 +39,13 @@ impl<S: Ord + Drop> States<S> {
         }
     }
 
+    /// How many there are.
+    pub fn len(&self) -> usize
+        ensures { result ≡ length self.now }
+    {
+        self.items.len()
+    }
+
     /// The state with this number.
     pub fn get(&self, at: usize) -> Option<&S>
         ensures { option_copied result ≡ slice_get self.now at }
@@ -68,4 +75,22 @@ pub fn number_of<M: SeqObject>(
         Ok(_) => Ok(at),
         Err(_full) => unreachable!(),
     }
+}
+
+/// The same states, with the same numbers.
+pub fn copied<M: SeqObject>(
+    alloc: Global,
+    states: &States<M::State>,
+) -> Result<States<M::State>, AllocError>
+    ensures { IfOk result (λ copy. copy ≡ states.now) }
+{
+    let mut items = Vec::with_capacity(alloc, states.items.len())?;
+    let mut places = BTreeMap::new(alloc);
+    for at in 0..states.items.len() {
+        let state = M::copy(alloc, &states.items[at])?;
+        let key = M::copy(alloc, &state)?;
+        places.insert(key, at)?;
+        items.push(state)?;
+    }
+    Ok(States { items, places })
 }

@@ -1,5 +1,5 @@
 //! Ends as rows of numbers.
-ghost use Rattle.std.specs.Prelude.{◌≡◌, ◌+◌, ◌-◌, ◌^◌, ◌<◌, ◌≤◌, min, set, Some, slice_get, map, length};
+ghost use Rattle.std.specs.Prelude.{◌≡◌, ◌+◌, ◌-◌, ◌^◌, ◌<◌, ◌≤◌, min, Some, slice_get, map, length};
 ghost use Rattle.std.specs.Prelude.{◌↔◌, IsTrue, IfOk, OnOk, IsSome, IsSomeAnd, option_copied, List, [], ◌∷◌, ◌++◌};
 ghost use Rattle.std.specs.Option.{option_to_list};
 ghost use Rattle.models.specs.Objects.{of_table};
@@ -8,15 +8,15 @@ ghost use Rattle.linspec.specs.Ends.{End};
 ghost use Rattle.frontier.specs.KeptEnds.{AreIncluded, IsIncluded, end_kept};
 ghost use Rattle.frontier.specs.EndSteps.{Along};
 ghost use Rattle.frontier.specs.Moves.{AreMoves};
-ghost use Rattle.frontier.specs.Tables.{HasEachOnce, IsOnceIn, IsPut, IsSlot};
-ghost use Rattle.frontier.specs.Tables.{AreShown, IsThat, IsToldBefore, ShownWith, told_by};
-ghost use Rattle.frontier.specs.Tables.{LeadsTo, Shows, Widens, found_by, items_of, row_if, rows_of};
+ghost use Rattle.frontier.specs.Tables.{HasEachOnce, IsOnceIn, IsSlot};
+ghost use Rattle.frontier.specs.Tables.{AreShown, IsThat, IsToldBefore, IsSameTable, ShownWith, told_by};
+ghost use Rattle.frontier.specs.Tables.{LeadsTo, Shows, Widens, found_by, row_led, rows_of};
 
 use crate::kept_end::{KeptEnd, found_in, has};
 use crate::moves::{self, Move};
 use crate::pending_op::PendingOp;
+use crate::row_set::RowSet;
 use crate::states::{self, States};
-use indexmap::IndexSet;
 use models::{Found, Op, SeqObject};
 use std::alloc::{AllocError, Global};
 
@@ -27,7 +27,7 @@ use std::alloc::{AllocError, Global};
 pub struct Table<S: Ord + Drop> {
     pub states: States<S>,
     pub founds: Vec<Found>,
-    pub rows: IndexSet<Vec<usize>>,
+    pub rows: RowSet,
 }
 
 /// The number of what was found: one more than where it stands. It is put there if it is new.
@@ -73,28 +73,6 @@ fn found_by<S>(kept: &KeptEnd<S>, call: &PendingOp) -> Result<Option<Found>, All
             None => Ok(None),
         }
     }
-}
-
-/// The same numbers.
-pub fn copied(alloc: Global, row: &[usize]) -> Result<Vec<usize>, AllocError>
-    ensures { IfOk result (λ copy. copy.items ≡ row.now) }
-{
-    let mut copy = Vec::with_capacity(alloc, row.len())?;
-    copy.extend_from_slice(row)?;
-    Ok(copy)
-}
-
-/// Puts the row with the others, if it is not there. Only then it takes memory.
-pub fn put(alloc: Global, rows: &mut IndexSet<Vec<usize>>, row: &[usize]) -> Result<(), AllocError>
-    ensures { let old = map items_of rows.old.keys in let new = map items_of rows.new.keys in
-        OnOk result (IsPut row.now old new) }
-{
-    if rows.contains(row) {
-        return Ok(());
-    }
-    let new = copied(alloc, row)?;
-    rows.insert(new)?;
-    Ok(())
 }
 
 // The row of the end.
@@ -163,34 +141,9 @@ pub fn told_by(crashed: bool, found: Found) -> Found
     if crashed { Found::Unit } else { found }
 }
 
-/// Writes the numbers of the row in place of those that were there.
-pub fn rewrite(next: &mut Vec<usize>, row: &[usize]) -> Result<(), AllocError>
-    ensures { OnOk result (next.new.items ≡ row.now) }
-{
-    next.clear();
-    next.extend_from_slice(row)?;
-    Ok(())
-}
-
-// Writes the row with this number of a state, and with this number at the place of a call.
-fn row_with(
-    row: &[usize],
-    at: usize,
-    to: usize,
-    slot: usize,
-    next: &mut Vec<usize>,
-) -> Result<(), AllocError>
-    requires { at + 1 < length row.now }
-    ensures { OnOk result (next.new.items ≡ set (set row.now 0 to) (at + 1) slot) }
-{
-    rewrite(next, row)?;
-    next[0] = to;
-    next[at + 1] = slot;
-    Ok(())
-}
-
-/// Writes the row with the call at this place, if the call can take place last, and says whether it can.
-pub fn extended<M: SeqObject>(
+/// Where the call at this place leads from the row's end, if it can take place last: the number of the state after it, and
+/// of what is told of what it found.
+pub fn led_to<M: SeqObject>(
     alloc: Global,
     table: &mut Table<M::State>,
     moves: &mut Vec<Move>,
@@ -198,8 +151,7 @@ pub fn extended<M: SeqObject>(
     calls: &[PendingOp],
     at: usize,
     applied: &mut u64,
-    next: &mut Vec<usize>,
-) -> Result<bool, AllocError>
+) -> Result<Option<(usize, usize)>, AllocError>
     requires within { at < length calls.now }
     ensures moves { AreMoves M.apply_to table.old calls.now moves.old.items
         → OnOk result (AreMoves M.apply_to table.new calls.now moves.new.items) }
@@ -207,22 +159,20 @@ pub fn extended<M: SeqObject>(
         AreMoves M.apply_to table.old calls.now moves.old.items → HasEachOnce calls.now
         → (c : PendingOp) (e : End M.State) → slice_get calls.now at ≡ Some c
         → Shows table.old calls.now row.now e
-        → IfOk result (λ can. LeadsTo object table.new calls.now e c (row_if can next.new.items)) }
+        → IfOk result (λ to. LeadsTo object table.new calls.now e c (row_led row.now at to)) }
+    ensures zero_there { IfOk result (λ to. IsSome to → slice_get row.now (at + 1) ≡ Some 0) }
     ensures widens { Widens table.old table.new }
     ensures rows { rows_of table.new ≡ rows_of table.old }
     ensures cost { applied.new ≤ applied.old + 1 }
 {
     if !is_zero(row, at + 1) {
-        return Ok(false);
+        return Ok(None);
     }
     let number = row[0];
     match moves::tried::<M>(alloc, table, moves, number, calls, at, applied)? {
-        Move::To(to, slot) => {
-            row_with(row, at, to, slot, next)?;
-            Ok(true)
-        }
-        Move::Nowhere => Ok(false),
-        Move::Untried => Ok(false),
+        Move::To(to, slot) => Ok(Some((to, slot))),
+        Move::Nowhere => Ok(None),
+        Move::Untried => Ok(None),
     }
 }
 
@@ -239,11 +189,11 @@ pub fn of_ends<M: SeqObject>(
     let mut table = Table {
         states: States::new(alloc),
         founds: Vec::new(alloc),
-        rows: IndexSet::new(alloc),
+        rows: RowSet::new(alloc, calls.len().saturating_add(1)),
     };
     for kept in ends {
         let row = row_of::<M>(alloc, &mut table, kept, calls)?;
-        put(alloc, &mut table.rows, &row)?;
+        table.rows.put(&row)?;
     }
     Ok(table)
 }
@@ -342,11 +292,38 @@ pub fn ends_of<M: SeqObject>(
         → AreShown table.now calls.now ends → IfOk result (λ kept. map end_kept kept.items ≡ ends) }
 {
     let mut ends = Vec::with_capacity(alloc, table.rows.len())?;
+    let mut row = Vec::new(alloc);
     for at in 0..table.rows.len() {
-        let Some(row) = table.rows.get_index(at) else {
-            unreachable!()
-        };
-        push_end::<M>(alloc, &mut ends, table, row, calls)?;
+        table.rows.read(at, &mut row)?;
+        push_end::<M>(alloc, &mut ends, table, &row, calls)?;
     }
     Ok(ends)
+}
+
+// The same things, with memory of their own.
+fn copied_founds(alloc: Global, founds: &[Found]) -> Result<Vec<Found>, AllocError>
+    ensures { IfOk result (λ copies. copies.items ≡ founds.now) }
+{
+    let mut copies = Vec::with_capacity(alloc, founds.len())?;
+    for found in founds {
+        copies.push(found.copy()?)?;
+    }
+    Ok(copies)
+}
+
+/// The same table, with memory of its own.
+pub fn copied<M: SeqObject>(
+    alloc: Global,
+    table: &Table<M::State>,
+) -> Result<Table<M::State>, AllocError>
+    ensures { IfOk result (λ other. IsSameTable table.now other) }
+{
+    let states = states::copied::<M>(alloc, &table.states)?;
+    let founds = copied_founds(alloc, &table.founds)?;
+    let rows = table.rows.copied()?;
+    Ok(Table {
+        states,
+        founds,
+        rows,
+    })
 }

@@ -2,7 +2,8 @@
 use Rattle.std.proofs.Common.{◌≡◌, ℕ, ℤ, ◌^◌, pos, Option, Some, None, List, codes, refl, sym, ap, ◌∙◌, subst}
 use Rattle.std.specs.Prelude.{IsSomeAnd, if◌then◌else◌}
 use Rattle.std.specs.Str.{bytes_eq}
-use Rattle.edn.specs.Value.{Value, int, keyword, nil, vector, pairs, none, more, Pairs}
+use Rattle.edn.specs.Value.{Value, int, keyword, nil, vector, none, more}
+use Rattle.edn.specs.Parts.{value_in}
 use Rattle.models.specs.declared.operation.Name.{Name}
 use Rattle.models.specs.declared.operation.Name.TheVariants.{Read, Write, Cas, Acquire, Release, Enqueue, Dequeue, Add}
 use Rattle.models.specs.declared.operation.Part.{Part}
@@ -18,7 +19,7 @@ use Rattle.history.specs.declared.event.Body.TheVariants.{Op as AnOp, Fault as A
 use Rattle.history.specs.declared.event.Event.{Event}
 use Rattle.history.specs.declared.event.Fault.{Fault}
 use Rattle.history.specs.declared.fault_kind.FaultKind.{FaultKind}
-use Rattle.history.specs.Spelling.{IsNumber, SpellsIndex, text_of_kind, SpellsKind, SpellsProcess, SpellsName, set_in, SpellsPart, SpellsOp, text_of_fault, fault_by, SpellsFault, SpellsBody, SpellsHead, SpellsAbout, PairsSpell, Spells, value_at}
+use Rattle.history.specs.Spelling.{IsNumber, SpellsIndex, text_of_kind, SpellsKind, SpellsProcess, SpellsName, set_in, SpellsPart, SpellsOp, text_of_fault, fault_by, SpellsFault, SpellsBody, SpellsHead, SpellsAbout, Spells}
 use Rattle.history.specs.WellFormed.{IsInTables}
 
 one_number : (m : ℕ) (v : Value) (n k : ℕ) → IsNumber m v n → IsNumber m v k → n ≡ k
@@ -172,31 +173,27 @@ at_two p (Some g) (Some w) x y a b = one_body p g w x y a b
 at_two p (Some g) None x y a b = absurd a
 at_two p None v x y a b = absurd a
 
--- what the pairs spell is about what they spell with the process of their head, and in the tables with its kind
-pub process_of_head : (ps : Pairs) (e : Event) (index : Option ℕ) (kind : EventKind) (process : Process) → SpellsHead ps index kind process → PairsSpell ps e → e.process ≡ process
-process_of_head ps e index kind process head h = at_one SpellsProcess one_process (value_at (codes "process") ps) e.process process h.head.2 head.2
+-- what an element spells is about what it spells with the process of its head, and in the tables with the kind
+pub process_of_head : (v : Value) (e : Event) (index : Option ℕ) (kind : EventKind) (process : Process) → SpellsHead v index kind process → Spells v e → e.process ≡ process
+process_of_head v e index kind process head h = at_one SpellsProcess one_process (value_in (codes "process") v) e.process process h.head.2 head.2
 
-pub about_by_head : (ps : Pairs) (e : Event) (index : Option ℕ) (kind : EventKind) (process : Process) → SpellsHead ps index kind process → PairsSpell ps e → SpellsAbout ps process e.body
-about_by_head ps e index kind process head h = subst (λ p. SpellsAbout ps p e.body) (process_of_head ps e index kind process head h) h.body
+pub about_by_head : (v : Value) (e : Event) (index : Option ℕ) (kind : EventKind) (process : Process) → SpellsHead v index kind process → Spells v e → SpellsAbout v process e.body
+about_by_head v e index kind process head h = subst (λ p. SpellsAbout v p e.body) (process_of_head v e index kind process head h) h.body
 
-pub tables_by_head : (ps : Pairs) (e : Event) (index : Option ℕ) (kind : EventKind) (process : Process) (body : Body) → SpellsHead ps index kind process → SpellsAbout ps process body → PairsSpell ps e
+pub tables_by_head : (v : Value) (e : Event) (index : Option ℕ) (kind : EventKind) (process : Process) (body : Body) → SpellsHead v index kind process → SpellsAbout v process body → Spells v e
     → IsInTables kind process body
-tables_by_head ps e index kind process body head about h =
-    subst (λ b. IsInTables kind process b) (at_two process (value_at (codes "f") ps) (value_at (codes "value") ps) e.body body (about_by_head ps e index kind process head h) about)
-    (subst (λ p. IsInTables kind p e.body) (process_of_head ps e index kind process head h)
-    (subst (λ k. IsInTables k e.process e.body) (at_one SpellsKind one_kind (value_at (codes "type") ps) e.kind kind h.head.1 head.1) h.in_tables))
-
-pairs_spell_one : (ps : Pairs) (e f : Event) → PairsSpell ps e → PairsSpell ps f → e ≡ f
-pairs_spell_one ps e f a b =
-    ap (λ (w : Option ℕ). let g : Event = record { index = w; kind = e.kind; process = e.process; body = e.body } in g) (one_index (value_at (codes "index") ps) e.index f.index a.head.0 b.head.0)
-    ∙ ap (λ (w : EventKind). let g : Event = record { index = f.index; kind = w; process = e.process; body = e.body } in g) (at_one SpellsKind one_kind (value_at (codes "type") ps) e.kind f.kind a.head.1 b.head.1)
-    ∙ ap (λ (w : Process). let g : Event = record { index = f.index; kind = f.kind; process = w; body = e.body } in g) same
-    ∙ ap (λ (w : Body). let g : Event = record { index = f.index; kind = f.kind; process = f.process; body = w } in g)
-    (at_two f.process (value_at (codes "f") ps) (value_at (codes "value") ps) e.body f.body (subst (λ p. SpellsAbout ps p e.body) same a.body) b.body)
-  where
-    same : e.process ≡ f.process
-    same = at_one SpellsProcess one_process (value_at (codes "process") ps) e.process f.process a.head.2 b.head.2
+tables_by_head v e index kind process body head about h =
+    subst (λ b. IsInTables kind process b) (at_two process (value_in (codes "f") v) (value_in (codes "value") v) e.body body (about_by_head v e index kind process head h) about)
+    (subst (λ p. IsInTables kind p e.body) (process_of_head v e index kind process head h)
+    (subst (λ k. IsInTables k e.process e.body) (at_one SpellsKind one_kind (value_in (codes "type") v) e.kind kind h.head.1 head.1) h.in_tables))
 
 pub spell_one : (v : Value) (e f : Event) → Spells v e → Spells v f → e ≡ f
 spell_one v e f a b =
-    (let both : pairs a.0 ≡ pairs b.0 = sym a.1 ∙ b.1 in let same : a.0 ≡ b.0 = cc in pairs_spell_one a.0 e f a.2 (subst (λ ps. PairsSpell ps f) (sym same) b.2))
+    ap (λ (w : Option ℕ). let g : Event = record { index = w; kind = e.kind; process = e.process; body = e.body } in g) (one_index (value_in (codes "index") v) e.index f.index a.head.0 b.head.0)
+    ∙ ap (λ (w : EventKind). let g : Event = record { index = f.index; kind = w; process = e.process; body = e.body } in g) (at_one SpellsKind one_kind (value_in (codes "type") v) e.kind f.kind a.head.1 b.head.1)
+    ∙ ap (λ (w : Process). let g : Event = record { index = f.index; kind = f.kind; process = w; body = e.body } in g) same
+    ∙ ap (λ (w : Body). let g : Event = record { index = f.index; kind = f.kind; process = f.process; body = w } in g)
+    (at_two f.process (value_in (codes "f") v) (value_in (codes "value") v) e.body f.body (subst (λ p. SpellsAbout v p e.body) same a.body) b.body)
+  where
+    same : e.process ≡ f.process
+    same = at_one SpellsProcess one_process (value_in (codes "process") v) e.process f.process a.head.2 b.head.2

@@ -1,5 +1,5 @@
 -- What an event is written as spells the event
-use Rattle.std.proofs.Common.{◌≡◌, ℕ, suc, ℤ, ◌+◌, ◌<◌, ◌≤◌, ◌^◌, true, false, cond, Bool, Option, Some, None, IfSome, Result, Ok, Err, IfOk, Vec, ◌<ℤ◌, ⊎_elim, Global, List, [], ◌∷◌, ◌++◌, length, map, take, get_or, option_map, codes, refl, sym, ap, ◌∙◌, subst, rules, arith}
+use Rattle.std.proofs.Common.{◌≡◌, ℕ, suc, ℤ, ◌+◌, ◌<◌, ◌≤◌, ◌^◌, true, false, cond, Bool, Option, Some, None, IfSome, Result, Ok, Err, IfOk, Vec, ◌<ℤ◌, ⊎_elim, Global, List, [], ◌∷◌, ◌++◌, length, map, take, get_or, option_map, refl, sym, ap, ◌∙◌, subst, rules, arith}
 use Rattle.std.specs.Prelude.{int_lt}
 use Rattle.std.specs.declared.cmp.Ordering.TheVariants.{Less, Equal, Greater}
 use Rattle.std.proofs.lemmas.Bool.{lt-ltb, cases_Bool}
@@ -7,7 +7,8 @@ use Rattle.std.proofs.lemmas.Int.{ints}
 use Rattle.std.proofs.lemmas.Cmp.{int_ranked}
 use Rattle.std.proofs.lemmas.List.{take_more, take_all, map-append, append-nil, length-take-le}
 use Rattle.std.proofs.lemmas.List.Elements.{Contains-append_left, Contains-push, filter-append}
-use Rattle.edn.specs.Value.{Value, int, keyword, vector, members, no_pairs, pair}
+use Rattle.edn.specs.Value.{Value, int, keyword, vector, members}
+use Rattle.edn.specs.Parts.{int_in}
 use Rattle.edn.specs.View.{list_of, value_of, values_of}
 use Rattle.edn.specs.declared.value.Edn.{Edn, Vector, the_lemmas}
 use Rattle.edn.specs.declared.value.Edn.{Set as ASet}
@@ -20,7 +21,7 @@ use Rattle.history.specs.declared.event.Body.{Body}
 use Rattle.history.specs.declared.event.Body.TheVariants.{Op as AnOp, Fault as AFault}
 use Rattle.history.specs.declared.event.Event.{Event}
 use Rattle.history.specs.Events.{indexed_from, is_event_of, events_of_key}
-use Rattle.history.specs.Spelling.{text_of_kind, int_in, number_in, numbers_in, groups_in, with_first, each_in, ascending, set_in, SpellsProcess, SpellsBody, Spells}
+use Rattle.history.specs.Spelling.{number_in, numbers_in, groups_in, with_first, each_in, ascending, set_in, SpellsProcess, SpellsBody, Spells}
 use Rattle.history.specs.WellFormed.{IsInTables, IsHistoryOf}
 use Rattle.history.specs.EventMap.{number, numbers, kind_of_fault, name_of_body, event_value, with_index, IsToldBy}
 use Rattle.history.proofs.Fronts.{well_formed_at}
@@ -130,12 +131,9 @@ about _ _ _ value tables told = absurd tables
 
 pub map_spells : (v : Value) (i : ℕ) (e : Event) (process value : Value) (name : List ℕ) → v ≡ event_value i e.kind process name value → name ≡ name_of_body e.body → i < 2 ^ 32
     → SpellsProcess process e.process → IsToldBy value e.body → IsInTables e.kind e.process e.body → Spells v (with_index i e)
-map_spells v i e process value name is named small spelled told tables = (
-  pair (keyword (codes "index")) (number i) (pair (keyword (codes "type")) (keyword (text_of_kind e.kind))
-      (pair (keyword (codes "process")) process (pair (keyword (codes "f")) (keyword (name_of_body e.body)) (pair (keyword (codes "value")) value no_pairs)))),
-  is ∙ ap (λ n. event_value i e.kind process n value) named,
-  record { head = ((refl, small), refl, spelled); body = about e.kind e.process e.body value tables told; in_tables = tables },
-)
+map_spells v i e process value name is named small spelled told tables =
+    subst (λ w. Spells w (with_index i e)) (sym (is ∙ ap (λ n. event_value i e.kind process n value) named))
+    (record { head = ((refl, small), refl, spelled); body = about e.kind e.process e.body value tables told; in_tables = tables })
 
 -- an event of a history is in the tables
 pub event_in_tables : (c : ℕ) (events : List Event) (i : ℕ) (e : Event) → IsHistoryOf c events → i < length events → e ≡ get_or events i e → IsInTables e.kind e.process e.body

@@ -1,7 +1,7 @@
 -- Promise: the events that elements of a text spell (the Jepsen documentation; the table of parts is this project's own)
-use Rattle.std.specs.Prelude.{◌≡◌, ℕ, ◌<◌, ◌^◌, ℤ, pos, Bool, false, nat_lt, Option, Some, None, IsSomeAnd, option_map, List, [], ◌∷◌, codes, if◌then◌else◌}
-use Rattle.std.specs.Str.{bytes_eq}
-use Rattle.edn.specs.Value.{Value, int, keyword, nil, vector, members, pairs, Values, none, more, Pairs, no_pairs, pair}
+use Rattle.std.specs.Prelude.{◌≡◌, ℕ, ◌<◌, ◌^◌, ℤ, pos, nat_lt, Option, Some, None, IsSomeAnd, option_map, List, [], ◌∷◌, codes, if◌then◌else◌}
+use Rattle.edn.specs.Value.{Value, int, keyword, nil, vector, members, Values, none, more}
+use Rattle.edn.specs.Parts.{int_in, value_in}
 use Rattle.edn.specs.declared.refusal.Refusal.{Refusal}
 use Rattle.edn.specs.declared.refusal.Refusal.TheVariants.{BadValue, NoMemory}
 use Rattle.models.specs.declared.operation.Name.{Name}
@@ -22,25 +22,7 @@ use Rattle.history.specs.declared.fault_kind.FaultKind.{FaultKind}
 use Rattle.history.specs.declared.event.Event.{Event}
 use Rattle.history.specs.WellFormed.{IsInTables}
 
--- the element is the keyword of this name
-abbrev pub is_keyword : List ℕ → Value → Bool
-is_keyword name (keyword s) = bytes_eq s name
-is_keyword name _ = false
-
--- the value of the first pair whose key is the keyword of this name
-abbrev pub value_at : List ℕ → Pairs → Option Value
-value_at name no_pairs = None
-value_at name (pair key value ps) = if is_keyword name key then Some value else value_at name ps
-
--- what a value is, if it is that
-abbrev pub int_in : Value → Option ℤ
-int_in (int z) = Some z
-int_in _ = None
-
-abbrev pub name_in : Value → Option (List ℕ)
-name_in (keyword s) = Some s
-name_in _ = None
-
+-- the two elements of a vector of two
 abbrev pub two_in : Value → Option (Value × Value)
 two_in (vector (more v (more w none))) = Some (v, w)
 two_in _ = None
@@ -150,27 +132,23 @@ SpellsBody (Client p) f v (AnOp op) = SpellsOp f v op
 SpellsBody Nemesis f v (AFault fault) = SpellsFault f v fault
 SpellsBody _ f v body = ⊥
 
--- the pairs of a map spell index, kind and process
-abbrev pub SpellsHead : Pairs → Option ℕ → EventKind → Process → Type 0
-SpellsHead ps index kind process =
-    SpellsIndex (value_at (codes "index") ps) index
-    × IsSomeAnd (value_at (codes "type") ps) (λ v. SpellsKind v kind)
-    × IsSomeAnd (value_at (codes "process") ps) (λ v. SpellsProcess v process)
+-- a map spells index, kind and process. What is no map has no value at a keyword
+abbrev pub SpellsHead : Value → Option ℕ → EventKind → Process → Type 0
+SpellsHead element index kind process =
+    SpellsIndex (value_in (codes "index") element) index
+    × IsSomeAnd (value_in (codes "type") element) (λ v. SpellsKind v kind)
+    × IsSomeAnd (value_in (codes "process") element) (λ v. SpellsProcess v process)
 
 -- and what the event is about
-abbrev pub SpellsAbout : Pairs → Process → Body → Type 0
-SpellsAbout ps process body =
-    IsSomeAnd (value_at (codes "f") ps) (λ f. IsSomeAnd (value_at (codes "value") ps) (λ v. SpellsBody process f v body))
+abbrev pub SpellsAbout : Value → Process → Body → Type 0
+SpellsAbout element process body =
+    IsSomeAnd (value_in (codes "f") element) (λ f. IsSomeAnd (value_in (codes "value") element) (λ v. SpellsBody process f v body))
 
--- the pairs of a map spell the event, whose kind, process and body go together as the tables say. Other keys say nothing
-pub record PairsSpell (ps : Pairs) (e : Event) : Type 0 where
-  pub head : SpellsHead ps e.index e.kind e.process
-  pub body : SpellsAbout ps e.process e.body
+-- a map spells the event, whose kind, process and body go together as the tables say. Other keys say nothing
+pub record Spells (element : Value) (e : Event) : Type 0 where
+  pub head : SpellsHead element e.index e.kind e.process
+  pub body : SpellsAbout element e.process e.body
   pub in_tables : IsInTables e.kind e.process e.body
-
--- the element spells the event
-abbrev pub Spells : Value → Event → Type 0
-Spells v e = (ps : Pairs) × (v ≡ pairs ps) × PairsSpell ps e
 
 -- why no event was read: the element spells none, or memory ran out
 abbrev pub WhyUnspelled : Value → Refusal → Type 0

@@ -1,9 +1,9 @@
 //! What vectors and sets of a text are.
 ghost use Rattle.std.specs.Prelude.{◌≡◌, ◌^◌, ℕ, IfOk, option_map, map, List};
 ghost use Rattle.edn.specs.View.{value_of, values_of};
-ghost use Rattle.history.specs.Spelling.{int_in, number_in, numbers_in, groups_in, each_in, ascending, set_in};
+ghost use Rattle.edn.specs.Parts.{int_in};
+ghost use Rattle.history.specs.Spelling.{number_in, numbers_in, groups_in, each_in, ascending, set_in};
 
-use crate::elements::integer;
 use crate::groups::Groups;
 use edn::Edn;
 use models::Members;
@@ -13,14 +13,14 @@ use std::alloc::{AllocError, Global};
 pub fn byte_of(element: &Edn) -> Option<u8>
     ensures { result ≡ number_in (2 ^ 8) (value_of element.now) }
 {
-    u8::try_from(integer(element)?).ok()
+    u8::try_from(element.as_int()?).ok()
 }
 
 /// The integer of 0 to 65,535 that an element is.
 pub fn count_of(element: &Edn) -> Option<u16>
     ensures { result ≡ number_in (2 ^ 16) (value_of element.now) }
 {
-    u16::try_from(integer(element)?).ok()
+    u16::try_from(element.as_int()?).ok()
 }
 
 /// The set of integers that an element is, ascending, in whatever order it was spelled. The time is that of sorting them.
@@ -43,7 +43,7 @@ fn integers_of(alloc: Global, elements: &[Edn]) -> Result<Option<Vec<i64>>, Allo
 {
     let mut integers = Vec::new(alloc);
     for element in elements {
-        let Some(value) = integer(element) else {
+        let Some(value) = element.as_int() else {
             return Ok(None);
         };
         integers.push(value)?;

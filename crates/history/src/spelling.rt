@@ -1,14 +1,14 @@
 //! Events as they are spelled in texts.
 ghost use Rattle.std.specs.Prelude.{◌≡◌, codes, option_map, IfOk, IfErr};
 ghost use Rattle.std.specs.Option.{option_copied};
-ghost use Rattle.edn.specs.View.{value_of, entries_of};
+ghost use Rattle.edn.specs.View.{value_of};
 ghost use Rattle.edn.specs.Value.{keyword};
-ghost use Rattle.history.specs.Spelling.{SpellsIndex, SpellsKind, SpellsProcess, SpellsName, SpellsPart, SpellsOp, text_of_fault, fault_by, SpellsFault, SpellsBody, SpellsHead, SpellsAbout, PairsSpell, Spells, WhyUnspelled};
+ghost use Rattle.history.specs.Spelling.{SpellsIndex, SpellsKind, SpellsProcess, SpellsName, SpellsPart, SpellsOp, text_of_fault, fault_by, SpellsFault, SpellsBody, SpellsHead, SpellsAbout, Spells, WhyUnspelled};
 ghost use Rattle.models.specs.Names.{Finds};
 
 use crate::allowed::is_in_tables;
 use crate::collections::{byte_of, count_of, groups_of, set_of};
-use crate::elements::{integer, integers_of, is_nil, key_of, name_of, number_of, two_of, value_at};
+use crate::elements::{integers_of, key_of, number_of, two_of};
 use crate::event::{Body, Event, EventKind, Fault, Process};
 use crate::fault_kind::FaultKind;
 use edn::{Edn, Refusal};
@@ -27,7 +27,7 @@ fn index_of(found: Option<&Edn>) -> Option<Option<u32>>
 fn event_kind_of(element: &Edn) -> Option<EventKind>
     ensures { Finds result (SpellsKind (value_of element.now)) }
 {
-    let name = name_of(element)?;
+    let name = element.as_keyword()?;
     if name == "invoke" {
         return Some(EventKind::Invoke);
     }
@@ -46,7 +46,7 @@ fn event_kind_of(element: &Edn) -> Option<EventKind>
 fn process_of(element: &Edn) -> Option<Process>
     ensures { Finds result (SpellsProcess (value_of element.now)) }
 {
-    if let Some(name) = name_of(element) {
+    if let Some(name) = element.as_keyword() {
         return (name == "nemesis").then_some(Process::Nemesis);
     }
     Some(Process::Client(number_of(element)?))
@@ -55,17 +55,17 @@ fn process_of(element: &Edn) -> Option<Process>
 fn operation_name_of(element: &Edn) -> Option<Name>
     ensures { Finds result (SpellsName (value_of element.now)) }
 {
-    Name::of_text(name_of(element)?)
+    Name::of_text(element.as_keyword()?)
 }
 
 #[tactic(auto, using(crate::proofs::Values::no_part))]
 fn part_of(alloc: Global, element: &Edn) -> Result<Option<Part>, AllocError>
     ensures { IfOk result (λ found. Finds found (SpellsPart (value_of element.now))) }
 {
-    if is_nil(element) {
+    if element.is_nil() {
         return Ok(Some(Part::Nil));
     }
-    if let Some(a) = integer(element) {
+    if let Some(a) = element.as_int() {
         return Ok(Some(Part::Int(a)));
     }
     if let Some((a, b)) = integers_of(element) {
@@ -99,7 +99,7 @@ fn operation_of(alloc: Global, name: &Edn, value: &Edn) -> Result<Option<Op>, Al
 fn fault_kind_of(name: &Edn) -> Option<FaultKind>
     ensures { Finds result (λ kind. value_of name.now ≡ keyword (text_of_fault kind)) }
 {
-    FaultKind::of_text(name_of(name)?)
+    FaultKind::of_text(name.as_keyword()?)
 }
 
 // The fault of this kind that the value tells.
@@ -108,7 +108,7 @@ fn fault_by(alloc: Global, kind: FaultKind, value: &Edn) -> Result<Option<Fault>
 {
     match kind {
         FaultKind::Partition => Ok(groups_of(alloc, value)?.map(Fault::Partition)),
-        FaultKind::Heal => Ok(is_nil(value).then_some(Fault::Heal)),
+        FaultKind::Heal => Ok(value.is_nil().then_some(Fault::Heal)),
         FaultKind::Pause => Ok(byte_of(value).map(Fault::Pause)),
         FaultKind::Resume => Ok(byte_of(value).map(Fault::Resume)),
         FaultKind::Crash => Ok(byte_of(value).map(Fault::Crash)),
@@ -147,7 +147,7 @@ fn body_of(
     }
 }
 
-// What the pairs of a map say of an event, but for what it is about.
+// What a map says of an event, but for what it is about.
 #[derive(Clone, Copy)]
 struct Head {
     index: Option<u32>,
@@ -155,13 +155,13 @@ struct Head {
     process: Process,
 }
 
-fn head_of(pairs: &[(Edn, Edn)]) -> Option<Head>
+fn head_of(element: &Edn) -> Option<Head>
     ensures { Finds result
-        (λ head. SpellsHead (entries_of pairs.now) head.index head.kind head.process) }
+        (λ head. SpellsHead (value_of element.now) head.index head.kind head.process) }
 {
-    let index = index_of(value_at(pairs, "index"))?;
-    let kind = event_kind_of(value_at(pairs, "type")?)?;
-    let process = process_of(value_at(pairs, "process")?)?;
+    let index = index_of(element.get("index"))?;
+    let kind = event_kind_of(element.get("type")?)?;
+    let process = process_of(element.get("process")?)?;
     Some(Head {
         index,
         kind,
@@ -169,29 +169,25 @@ fn head_of(pairs: &[(Edn, Edn)]) -> Option<Head>
     })
 }
 
-fn about_of(
-    alloc: Global,
-    pairs: &[(Edn, Edn)],
-    process: Process,
-) -> Result<Option<Body>, AllocError>
-    ensures { IfOk result (λ found. Finds found (SpellsAbout (entries_of pairs.now) process)) }
+fn about_of(alloc: Global, element: &Edn, process: Process) -> Result<Option<Body>, AllocError>
+    ensures { IfOk result (λ found. Finds found (SpellsAbout (value_of element.now) process)) }
 {
-    let Some(name) = value_at(pairs, "f") else {
+    let Some(name) = element.get("f") else {
         return Ok(None);
     };
-    let Some(value) = value_at(pairs, "value") else {
+    let Some(value) = element.get("value") else {
         return Ok(None);
     };
     body_of(alloc, process, name, value)
 }
 
-fn event_of(alloc: Global, pairs: &[(Edn, Edn)]) -> Result<Option<Event>, AllocError>
-    ensures { IfOk result (λ found. Finds found (PairsSpell (entries_of pairs.now))) }
+fn event_of(alloc: Global, element: &Edn) -> Result<Option<Event>, AllocError>
+    ensures { IfOk result (λ found. Finds found (Spells (value_of element.now))) }
 {
-    let Some(head) = head_of(pairs) else {
+    let Some(head) = head_of(element) else {
         return Ok(None);
     };
-    let Some(body) = about_of(alloc, pairs, head.process)? else {
+    let Some(body) = about_of(alloc, element, head.process)? else {
         return Ok(None);
     };
     if !is_in_tables(head.kind, head.process, &body) {
@@ -220,10 +216,7 @@ pub fn from_edn(alloc: Global, element: &Edn) -> Result<Event, Refusal>
     ensures ok { IfOk result (Spells (value_of element.now)) }
     ensures refused { IfErr result (WhyUnspelled (value_of element.now)) }
 {
-    let Edn::Map(pairs) = element else {
-        return Err(Refusal::BadValue);
-    };
-    match event_of(alloc, pairs.as_slice())? {
+    match event_of(alloc, element)? {
         Some(event) => Ok(event),
         None => Err(Refusal::BadValue),
     }

@@ -1,11 +1,11 @@
-use Rattle.std.proofs.Common.{rules, ◌≡◌, ◌≤◌, length, sym, subst, arith}
-use Rattle.std.proofs.lemmas.List.{length-map}
+use Rattle.std.proofs.Common.{rules, ◌≤◌, length, sym, subst, arith}
 use Rattle.models.specs.Objects.{of_table}
 use Rattle.linspec.proofs.Lists.{Contains-nil}
-use Rattle.frontier.specs.Tables.{Shows, items_of, rows_of}
+use Rattle.frontier.specs.Tables.{Shows, rows_of}
 use Rattle.frontier.proofs.Growing.{Grows-itself, cost_more}
 use Rattle.frontier.proofs.Moving.{moves_none}
-use Rattle.frontier.proofs.Showing.{all_done, done_on, end_at, grows_on}
+use Rattle.frontier.proofs.Showing.{all_done, done_on, end_at, grows_on, widens_itself, widens_on}
+use Rattle.frontier.proofs.Adding.{IsFront-itself, IsFront-trans}
 use Rattle.frontier.proofs.extend.grow.Goals as goal
 
 pub loop-at-init : goal.loop-at-init
@@ -13,6 +13,8 @@ loop-at-init g c =
     let o = of_table g.row.M-State.Denot g.M.SeqObject.start_state g.M.SeqObject.apply_to in
     record {
       moves = moves_none g.M.SeqObject.apply_to c.args.calls.now c.args.table.now c.new-moves.result.items c.new-moves.ensures.items;
+      widens = widens_itself c.args.table.now;
+      front = IsFront-itself (rows_of c.args.table.now);
       grown = λ once ends shown. (ends, shown, Grows-itself o c.args.calls.now ends, (λ e f h n. absurd (Contains-nil e h)));
       cost = omega arith;
     }
@@ -22,11 +24,12 @@ loop-at-preserved g c =
     let o = of_table g.row.M-State.Denot g.M.SeqObject.start_state g.M.SeqObject.apply_to in
     record {
       moves = c.in_ok-grow_from.ensures.moves c.loop-at.invariant.moves;
+      widens = widens_on c.args.table.now c.loop-at.table c.grow_from.new.table c.loop-at.invariant.widens c.in_ok-grow_from.ensures.widens;
+      front = IsFront-trans (rows_of c.args.table.now) (rows_of c.loop-at.table) (rows_of c.grow_from.new.table) c.loop-at.invariant.front c.in_ok-grow_from.ensures.front;
       grown = λ once ends shown.
           let s = c.loop-at.invariant.grown once ends shown in
-          let p = end_at c.args.calls.now c.loop-at.table s.0 s.1 c.loop-at.at c.in-Some.here.now (sym c.in-Some.ensures.key) in
-          let same : c.in-Some.here.now.items ≡ c.deref-in-loop-at.result.now = search rules in
-          let w = c.in_ok-grow_from.ensures.adds c.loop-at.invariant.moves once p.0 s.0 (subst (λ r. Shows c.loop-at.table c.args.calls.now r p.0) same p.2) s.1 in
+          let p = end_at c.args.calls.now c.loop-at.table s.0 s.1 c.loop-at.at c.read.new.row.items c.in_ok-read.ensures in
+          let w = c.in_ok-grow_from.ensures.adds c.loop-at.invariant.moves once p.0 s.0 (subst (λ r. Shows c.loop-at.table c.args.calls.now r p.0) (sym c.deref.ensures.value) p.2) s.1 in
           (w.more, w.shown, grows_on o c.args.calls.now ends s.0 c.loop-at.at p.0 p.1 c.grow_from.new.table w s.2, done_on o c.args.calls.now ends s.0 c.loop-at.at p.0 p.1 c.grow_from.new.table w s.3);
       cost = cost_more c.args.applied.now c.loop-at.applied c.grow_from.new.applied c.loop-at.at (length c.args.calls.now) c.loop-at.invariant.cost c.in_ok-grow_from.ensures.cost;
     }
@@ -35,19 +38,20 @@ pub returns-then-at-len-clause-grows : goal.returns-then-at-len-clause-grows
 returns-then-at-len-clause-grows g c once ends shown =
     let o = of_table g.row.M-State.Denot g.M.SeqObject.start_state g.M.SeqObject.apply_to in
     let s = c.loop-at.invariant.grown once ends shown in
-    let m : length (rows_of c.loop-at.table) ≡ length c.loop-at.table.rows.keys = length-map c.loop-at.table.rows.keys items_of in
     let long = s.1.long in
-    record { more = s.0; shown = s.1; grows = s.2; closed = λ is. all_done o c.args.calls.now s.0 c.loop-at.at (omega (arith, m, long)) s.3 }
+    record { more = s.0; shown = s.1; grows = s.2; closed = λ is. all_done o c.args.calls.now s.0 c.loop-at.at (omega (arith, long)) s.3 }
 
 pub returns-clause-grows : goal.returns-clause-grows
 returns-clause-grows g c once ends shown =
     let o = of_table g.row.M-State.Denot g.M.SeqObject.start_state g.M.SeqObject.apply_to in
     let s = c.loop-at.invariant.grown once ends shown in
-    let m : length (rows_of c.loop-at.table) ≡ length c.loop-at.table.rows.keys = length-map c.loop-at.table.rows.keys items_of in
     let long = s.1.long in
     record {
       more = s.0;
       shown = s.1;
       grows = s.2;
-      closed = λ is. all_done o c.args.calls.now s.0 c.loop-at.at (let all : length c.loop-at.table.rows.keys ≤ c.args.budget = search rules in omega (arith, m, long, all)) s.3;
+      closed = λ is. all_done o c.args.calls.now s.0 c.loop-at.at (let all : length (rows_of c.loop-at.table) ≤ c.args.budget = search rules in omega (arith, long, all)) s.3;
     }
+
+pub returns-in_err-grow_from-clause-widens : goal.returns-in_err-grow_from-clause-widens
+returns-in_err-grow_from-clause-widens g c = widens_on c.args.table.now c.loop-at.table c.grow_from.new.table c.loop-at.invariant.widens c.in_err-grow_from.ensures.widens

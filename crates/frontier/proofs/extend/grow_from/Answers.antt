@@ -2,15 +2,17 @@ use Rattle.std.proofs.Common.{subst, arith}
 use Rattle.std.proofs.lemmas.List.{take_all}
 use Rattle.models.specs.Objects.{of_table}
 use Rattle.frontier.specs.EndSteps.{TakesLast, Next}
-use Rattle.frontier.specs.Tables.{ShownWith}
-use Rattle.frontier.proofs.Rows.{some_at}
+use Rattle.frontier.specs.Tables.{ShownWith, rows_of}
+use Rattle.frontier.proofs.Rows.{get_front, some_at}
 use Rattle.frontier.proofs.Showing.{next_there, shows_more, widens_itself, widens_on}
-use Rattle.frontier.proofs.Adding.{IsFront-itself, Adds-start}
+use Rattle.frontier.proofs.Adding.{IsFront-itself, IsFront-trans, Adds-start}
 use Rattle.frontier.proofs.extend.grow_from.Goals as goal
 
 pub loop-at-init : goal.loop-at-init
 loop-at-init g c = record {
   widens = widens_itself c.args.table.now;
+  front = IsFront-itself (rows_of c.args.table.now);
+  here = c.requires;
   moves = λ known. known;
   grown = λ known once e ends shows shown. record { more = ends; shown = shown; front = IsFront-itself ends; adds = Adds-start (TakesLast (of_table g.row.M-State.Denot g.M.SeqObject.start_state g.M.SeqObject.apply_to) e) ends };
   cost = omega arith;
@@ -21,6 +23,8 @@ loop-at-preserved g c =
     let o = of_table g.row.M-State.Denot g.M.SeqObject.start_state g.M.SeqObject.apply_to in
     record {
       widens = widens_on c.args.table.now c.loop-at.table c.grow_at.new.table c.loop-at.invariant.widens c.in_ok-grow_at.ensures.widens;
+      front = IsFront-trans (rows_of c.args.table.now) (rows_of c.loop-at.table) (rows_of c.grow_at.new.table) c.loop-at.invariant.front c.in_ok-grow_at.ensures.front;
+      here = get_front (rows_of c.loop-at.table) (rows_of c.grow_at.new.table) c.args.from c.args.row.now c.in_ok-grow_at.ensures.front c.loop-at.invariant.here;
       moves = λ known. c.in_ok-grow_at.ensures.moves (c.loop-at.invariant.moves known);
       grown = λ known once e ends shows shown.
           let call = some_at c.args.calls.now c.loop-at.at (omega arith) in
@@ -37,3 +41,6 @@ returns-clause-adds g c known once e ends shows shown =
 
 pub returns-clause-moves : goal.returns-clause-moves
 returns-clause-moves g c known = c.loop-at.invariant.moves known
+
+pub returns-in_err-grow_at-clause-widens : goal.returns-in_err-grow_at-clause-widens
+returns-in_err-grow_at-clause-widens g c = widens_on c.args.table.now c.loop-at.table c.grow_at.new.table c.loop-at.invariant.widens c.in_err-grow_at.ensures.widens

@@ -1,15 +1,18 @@
-use Rattle.std.proofs.Common.{◌≤◌, ◌+◌, List, take}
+use Rattle.std.proofs.Common.{◌≡◌, Some, slice_get, ◌≤◌, ◌+◌, List, take}
 use Rattle.models.specs.Objects.{of_table}
+use Rattle.history.specs.Events.{IsFront}
 use Rattle.linspec.specs.Ends.{End}
 use Rattle.frontier.specs.EndSteps.{Next}
 use Rattle.frontier.specs.Moves.{AreMoves}
-use Rattle.frontier.specs.Tables.{AreShown, HasEachOnce, Shows, ShownWith, Widens}
+use Rattle.frontier.specs.Tables.{AreShown, HasEachOnce, Shows, ShownWith, Widens, rows_of}
 use Rattle.frontier.proofs.extend.grow_from.Given as goal
 
 abbrev pub invariant-loop-at : goal.invariant-loop-at
 invariant-loop-at g l =
     record {
       widens : Widens l.initial.table l.table;
+      front : IsFront (rows_of l.initial.table) (rows_of l.table);
+      here : slice_get (rows_of l.table) l.from ≡ Some l.row;
       moves : AreMoves g.M.SeqObject.apply_to l.initial.table l.calls l.initial.moves.items → AreMoves g.M.SeqObject.apply_to l.table l.calls l.moves.items;
       grown : AreMoves g.M.SeqObject.apply_to l.initial.table l.calls l.initial.moves.items → HasEachOnce l.calls → (e : End g.row.M-State.Denot) (ends : List (End g.row.M-State.Denot)) → Shows l.initial.table l.calls l.row e → AreShown l.initial.table l.calls ends
           → ShownWith l.table l.calls ends (Next (of_table g.row.M-State.Denot g.M.SeqObject.start_state g.M.SeqObject.apply_to) (take l.at l.calls) e);

@@ -1,6 +1,7 @@
 use Rattle.std.proofs.Common.{◌≡◌, drop}
 use Rattle.edn.specs.View.{values_of}
-use Rattle.history.specs.Spelling.{int_in, each_in}
+use Rattle.edn.specs.Parts.{int_in}
+use Rattle.history.specs.Spelling.{each_in}
 use Rattle.history.proofs.ReadEach.{after}
 use Rattle.history.proofs.collections.integers_of.Given as goal
 

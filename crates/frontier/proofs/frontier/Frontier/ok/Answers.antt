@@ -1,16 +1,26 @@
-use Rattle.std.proofs.Common.{◌≤◌, ◌+◌, ◌*◌, length, refl, subst, arith}
+use Rattle.std.proofs.Common.{◌≤◌, ◌+◌, ◌*◌, length, refl, ◌∙◌, subst}
+use Rattle.std.proofs.lemmas.Result.{err_from_is_err_and}
 use Rattle.models.specs.Objects.{of_table}
 use Rattle.history.specs.Events.Mark.{Returned}
-use Rattle.frontier.proofs.Standing.{step_by}
+use Rattle.frontier.specs.Tables.{with_rows}
+use Rattle.frontier.proofs.Standing.{stands_too, step_by}
+use Rattle.frontier.proofs.Showing.{shown_more}
 use Rattle.frontier.proofs.Growing.{cost_within}
-use Rattle.frontier.proofs.Judging.{generates_left, stands_after, too_many, within}
+use Rattle.frontier.proofs.Judging.{advanced, generates_left, stands_after, too_many_by, within}
 use Rattle.frontier.proofs.Pending.{no_more_calls}
 use Rattle.frontier.proofs.frontier.Frontier.ok.Goals as goal
 
+pub returns-in_err-found-clause-kept : goal.returns-in_err-found-clause-kept
+returns-in_err-found-clause-kept g c =
+    let o = of_table g.row.M-State.Denot g.M.SeqObject.start_state g.M.SeqObject.apply_to in
+    let p = err_from_is_err_and c.from_residual.result c.from_residual.ensures.1 in
+    rw p.1 (λ marks stands.
+    stands_too o c.args.self.now marks _ refl stands (shown_more c.args.self.now.calls.items c.args.self.now.table c.advance.new.table stands.kept c.in_err-found.ensures.widens c.in_err-found.ensures.rows stands.shown))
+
 pub returns-in_err-found-clause-cost : goal.returns-in_err-found-clause-cost
 returns-in_err-found-clause-cost g c marks stands n most =
-    cost_within c.args.self.now.applied c.extend.new.applied c.args.self.now.budget (length c.args.self.now.calls.items) n
-    (subst (λ l. c.extend.new.applied ≤ c.args.self.now.applied + (c.args.self.now.budget + 1) * length l) c.deref-2.ensures.value c.extend.ensures.cost)
+    cost_within c.args.self.now.applied c.advance.new.applied c.args.self.now.budget (length c.args.self.now.calls.items) n
+    (subst (λ l. c.advance.new.applied ≤ c.args.self.now.applied + (c.args.self.now.budget + 1) * length l) c.deref.ensures.value c.advance.ensures.cost)
     (no_more_calls c.args.self.now.calls.items marks stands.well_kept.pending stands.well_kept.calls_once n most)
 
 pub returns-in_default-clause-step : goal.returns-in_default-clause-step
@@ -18,21 +28,24 @@ returns-in_default-clause-step g c =
     let o = of_table g.row.M-State.Denot g.M.SeqObject.start_state g.M.SeqObject.apply_to in
     record {
       right = λ marks stands is_open.
-          too_many o c.args.self.now marks stands c.deref.result.now c.deref-2.result.now c.deref.ensures.value c.deref-2.ensures.value c.args.self.now.budget
-          (λ once included. c.in_ok-found.ensures.over once included c.in_default.is);
+          too_many_by o c.args.self.now marks stands c.deref.result.now c.deref.ensures.value c.args.self.now.budget
+          (λ once ends shown. c.in_ok-found.ensures.over once ends shown c.in_default.is);
       over_at_ok = λ over. tt;
+    }
+
+pub returns-in_default-clause-kept : goal.returns-in_default-clause-kept
+returns-in_default-clause-kept g c =
+    let o = of_table g.row.M-State.Denot g.M.SeqObject.start_state g.M.SeqObject.apply_to in
+    record {
+      over = λ over marks stands.
+          stands_too o c.args.self.now marks _ refl stands (shown_more c.args.self.now.calls.items c.args.self.now.table c.advance.new.table stands.kept c.in_ok-found.ensures.widens c.in_ok-found.ensures.rows stands.shown);
+      taken = λ ne. absurd (ne refl);
     }
 
 pub returns-in_default-clause-cost : goal.returns-in_default-clause-cost
 returns-in_default-clause-cost g c marks stands n most =
-    cost_within c.args.self.now.applied c.extend.new.applied c.args.self.now.budget (length c.args.self.now.calls.items) n
-    (subst (λ l. c.extend.new.applied ≤ c.args.self.now.applied + (c.args.self.now.budget + 1) * length l) c.deref-2.ensures.value c.extend.ensures.cost)
-    (no_more_calls c.args.self.now.calls.items marks stands.well_kept.pending stands.well_kept.calls_once n most)
-
-pub returns-in_err-self-clause-cost : goal.returns-in_err-self-clause-cost
-returns-in_err-self-clause-cost g c marks stands n most =
-    cost_within c.args.self.now.applied c.extend.new.applied c.args.self.now.budget (length c.args.self.now.calls.items) n
-    (subst (λ l. c.extend.new.applied ≤ c.args.self.now.applied + (c.args.self.now.budget + 1) * length l) c.deref-2.ensures.value c.extend.ensures.cost)
+    cost_within c.args.self.now.applied c.advance.new.applied c.args.self.now.budget (length c.args.self.now.calls.items) n
+    (subst (λ l. c.advance.new.applied ≤ c.args.self.now.applied + (c.args.self.now.budget + 1) * length l) c.deref.ensures.value c.advance.ensures.cost)
     (no_more_calls c.args.self.now.calls.items marks stands.well_kept.pending stands.well_kept.calls_once n most)
 
 pub returns-clause-step : goal.returns-clause-step
@@ -40,13 +53,12 @@ returns-clause-step g c =
     let o = of_table g.row.M-State.Denot g.M.SeqObject.start_state g.M.SeqObject.apply_to in
     record {
       right = λ marks stands is_open.
-          step_by o c.in_ok-self.field-0.items c.len.result (omega arith) marks (Returned c.args.id c.args.answer.now)
-          (generates_left o c.args.self.now marks stands c.deref.result.now c.deref-2.result.now c.deref.ensures.value c.deref-2.ensures.value c.args.self.now.budget c.in-Some.table
-          (λ once included. c.in_ok-found.ensures.all once included c.in-Some.table c.in-Some.is)
-          c.args.id is_open c.args.answer.now c.deref-3.result.now c.deref-3.ensures.value c.in_ok-self.field-0.items c.in_ok-self.ensures)
-          c.args.self.now.budget
-          (within o c.args.self.now marks stands c.deref.result.now c.deref-2.result.now c.deref.ensures.value c.deref-2.ensures.value c.args.self.now.budget c.in-Some.table
-          (λ once included. c.in_ok-found.ensures.all once included c.in-Some.table c.in-Some.is))
+          let t = with_rows c.advance.new.table c.in-Some.rows in
+          let found = advanced o c.args.self.now marks stands c.deref.result.now c.deref.ensures.value t c.args.self.now.budget c.args.id c.args.answer.now
+          (λ once ends shown. c.in_ok-found.ensures.all once ends shown c.in-Some.rows c.in-Some.is) in
+          step_by o found.left.more c.len.result (c.len.ensures ∙ found.left.shown.long) marks (Returned c.args.id c.args.answer.now)
+          (generates_left o c.args.self.now marks stands c.args.self.now.budget t c.args.id is_open c.args.answer.now found)
+          c.args.self.now.budget (within o c.args.self.now marks stands c.args.self.now.budget t c.args.id is_open c.args.answer.now found)
           _ c.step_of.ensures.alive c.step_of.ensures.dead c.step_of.ensures.never_over;
       over_at_ok = λ over. tt;
     }
@@ -57,14 +69,14 @@ returns-clause-kept g c =
     record {
       over = λ over. absurd (c.step_of.ensures.never_over over);
       taken = λ _ marks stands is_open.
-          stands_after o c.args.self.now marks stands c.deref.result.now c.deref-2.result.now c.deref.ensures.value c.deref-2.ensures.value c.args.self.now.budget c.in-Some.table
-          (λ once included. c.in_ok-found.ensures.all once included c.in-Some.table c.in-Some.is)
-          c.args.id is_open c.args.answer.now c.deref-3.result.now c.deref-3.ensures.value c.in_ok-self.field-0.items c.in_ok-self.ensures
-          _ refl c.drop_call.ensures;
+          let t = with_rows c.advance.new.table c.in-Some.rows in
+          let found = advanced o c.args.self.now marks stands c.deref.result.now c.deref.ensures.value t c.args.self.now.budget c.args.id c.args.answer.now
+          (λ once ends shown. c.in_ok-found.ensures.all once ends shown c.in-Some.rows c.in-Some.is) in
+          stands_after o c.args.self.now marks stands c.args.self.now.budget t c.args.id is_open c.args.answer.now found _ refl c.drop_call.ensures;
     }
 
 pub returns-clause-cost : goal.returns-clause-cost
 returns-clause-cost g c marks stands n most =
-    cost_within c.args.self.now.applied c.extend.new.applied c.args.self.now.budget (length c.args.self.now.calls.items) n
-    (subst (λ l. c.extend.new.applied ≤ c.args.self.now.applied + (c.args.self.now.budget + 1) * length l) c.deref-2.ensures.value c.extend.ensures.cost)
+    cost_within c.args.self.now.applied c.advance.new.applied c.args.self.now.budget (length c.args.self.now.calls.items) n
+    (subst (λ l. c.advance.new.applied ≤ c.args.self.now.applied + (c.args.self.now.budget + 1) * length l) c.deref.ensures.value c.advance.ensures.cost)
     (no_more_calls c.args.self.now.calls.items marks stands.well_kept.pending stands.well_kept.calls_once n most)

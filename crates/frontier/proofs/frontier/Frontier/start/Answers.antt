@@ -1,24 +1,20 @@
-use Rattle.std.proofs.Common.{ap, ◌∙◌, sym, subst, ◌∷◌, ◌++◌, []}
+use Rattle.std.proofs.Common.{ap, map, ◌∙◌, ◌∷◌, ◌++◌, []}
 use Rattle.models.specs.Objects.{of_table}
-use Rattle.frontier.specs.KeptEnds.{ArePending}
-use Rattle.frontier.proofs.Standing.{stands_by}
+use Rattle.frontier.specs.declared.kept_end.KeptEnd.{KeptEnd}
+use Rattle.frontier.specs.KeptEnds.{end_kept}
+use Rattle.frontier.proofs.Standing.{shown_of, stands_shown}
 use Rattle.frontier.proofs.Generating.{generates_all}
 use Rattle.frontier.proofs.AfterEvents.{kept_at_start, calls_at_start}
 use Rattle.frontier.proofs.Including.{included_of_start}
-use Rattle.frontier.proofs.Pending.{AreOnce}
 use Rattle.frontier.proofs.frontier.Frontier.start.Goals as goal
 
 pub returns-clause-stands : goal.returns-clause-stands
 returns-clause-stands g c =
     let o = of_table g.row.M-State.Denot g.M.SeqObject.start_state g.M.SeqObject.apply_to in
-    let are = kept_at_start o c.push.new.self.items
-    (record { state = c.start.result; pending = c.new.result; crashed = c.new-2.result })
-    (c.in_ok-push.ensures.items ∙ ap (λ l. l ++ (record { state = c.start.result; pending = c.new.result; crashed = c.new-2.result } ∷ [])) c.new-ends.ensures.items)
-    c.start.ensures c.new.ensures.items c.new-2.ensures.items in
-    stands_by o _ [] (generates_all o _ [] are) are.once
-    (subst (λ l. ArePending l []) (sym c.new-3.ensures.items) calls_at_start)
-    (subst AreOnce (sym c.new-3.ensures.items) tt)
-    (included_of_start _ c.push.new.self.items
-    (record { state = c.start.result; pending = c.new.result; crashed = c.new-2.result })
-    (c.in_ok-push.ensures.items ∙ ap (λ l. l ++ (record { state = c.start.result; pending = c.new.result; crashed = c.new-2.result } ∷ [])) c.new-ends.ensures.items)
-    c.new.ensures.items c.new-2.ensures.items)
+    let k : KeptEnd g.row.M-State.Denot = record { state = c.start.result; pending = c.new.result; crashed = c.new-2.result } in
+    let items = c.in_ok-push.ensures.items ∙ ap (λ l. l ++ k ∷ []) c.new-ends.ensures.items in
+    let are = kept_at_start o c.push.new.self.items k items c.start.ensures c.new.ensures.items c.new-2.ensures.items in
+    let included = included_of_start [] c.push.new.self.items k items c.new.ensures.items c.new-2.ensures.items in
+    stands_shown o _ [] (map end_kept c.push.new.self.items) [] c.new-calls.ensures.items
+    (shown_of c.in_ok-table.table c.deref-2.result.now [] c.deref.result.now c.push.new.self.items (c.deref-2.ensures.value ∙ c.new-calls.ensures.items) c.deref.ensures.value c.in_ok-table.ensures included)
+    (generates_all o _ [] are) calls_at_start tt included

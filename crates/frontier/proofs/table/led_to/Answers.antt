@@ -7,7 +7,7 @@ use Rattle.frontier.specs.Tables.{found_by}
 use Rattle.frontier.proofs.Leading.{leads_there, leads_nowhere}
 use Rattle.frontier.proofs.Rows.{in_unless, not_in_by, says_with, zero_none}
 use Rattle.frontier.proofs.Showing.{shows_more}
-use Rattle.frontier.proofs.table.extended.Goals as goal
+use Rattle.frontier.proofs.table.led_to.Goals as goal
 
 pub returns-then-not-is_zero-clause-next : goal.returns-then-not-is_zero-clause-next
 returns-then-not-is_zero-clause-next g c known once call e here shows f last =
@@ -15,8 +15,8 @@ returns-then-not-is_zero-clause-next g c known once call e here shows f last =
     (sym (in_unless c.args.table.now.founds.items e call c.args.row.now (c.args.at + 1) (let long = shows.long in let within = slice_get_within c.args.calls.now c.args.at call here in omega (arith, long, within))
     (shows.slots c.args.at call here) (λ h. true≢false (sym (c.is_zero.ensures.zero.1 h) ∙ c.if-not-is_zero.true))) ∙ last.not_in)
 
-pub returns-in_ok-row_with-in-To-clause-next : goal.returns-in_ok-row_with-in-To-clause-next
-returns-in_ok-row_with-in-To-clause-next g c known once call e here shows =
+pub returns-in-To-clause-next : goal.returns-in-To-clause-next
+returns-in-To-clause-next g c known once call e here shows =
     let does = subst (IsTo c.tried.new.table call.crashed (g.M.SeqObject.apply_to call.op e.state)) c.in-To.is (c.in_ok-to.ensures.does known e.state call shows.state here) in
     let out = not_in_by e call.id call.crashed
     (zero_none c.args.table.now.founds.items (get_or c.args.row.now (c.args.at + 1) 0) (found_by e call)
@@ -24,7 +24,7 @@ returns-in_ok-row_with-in-To-clause-next g c known once call e here shows =
       with_call e call.id call.crashed does.1 does.0,
       says_with c.tried.new.table.states c.tried.new.table.founds.items c.args.calls.now once c.args.at call here e c.args.row.now
           (shows_more c.args.calls.now c.args.table.now c.tried.new.table c.args.row.now e c.in_ok-to.ensures.widens shows)
-          c.in-To.to c.in-To.slot does.0 does.1 c.row_with.new.next.items does.3 does.4 c.in_ok-row_with-in-To.ensures,
+          c.in-To.to c.in-To.slot does.0 does.1 _ does.3 does.4 refl,
       leads_there g.row.M-State.Denot g.M.SeqObject.start_state g.M.SeqObject.apply_to e call out does.0 does.1 does.2,
     )
 

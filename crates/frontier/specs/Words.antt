@@ -1,0 +1,32 @@
+-- Invariant: rows of numbers as words
+use Rattle.std.specs.Prelude.{◌≡◌, ℕ, zero, suc, ◌+◌, ◌*◌, ◌^◌, ◌/◌, ◌%◌, ◌≤◌, Bool, true, false, List, [], ◌∷◌, map, length, Vec}
+use Rattle.std.specs.Global.{Global}
+use Rattle.std.specs.List.{Contains}
+
+-- so many digits of the word, the lowest first
+abbrev pub digits : ℕ → ℕ → ℕ → List ℕ
+digits base zero word = []
+digits base (suc n) word = (word % base) ∷ digits base n (word / base)
+
+-- the number with these digits
+abbrev pub value : ℕ → List ℕ → ℕ
+value base [] = 0
+value base (d ∷ ds) = d + base * value base ds
+
+-- the word has just the numbers of the row
+abbrev pub IsWordOf : ℕ → List ℕ → ℕ → Type 0
+IsWordOf base row word = (value base row ≡ word) × (digits base (length row) word ≡ row)
+
+abbrev pub items_of : Vec ℕ Global → List ℕ
+items_of row = row.items
+
+-- the rows, which are lists if so it is told, and else words
+abbrev pub rows_in : Bool → ℕ → ℕ → List ℕ → List (Vec ℕ Global) → List (List ℕ)
+rows_in true bits long words lists = map items_of lists
+rows_in false bits long words lists = map (digits (2 ^ bits) long) words
+
+-- a row has room in a word, and no word has more than its row
+pub record ArePacked (bits long : ℕ) (words : List ℕ) : Type 0 where
+  pub few : bits ≤ 32
+  pub room : bits * long ≤ 128
+  pub exact : (w : ℕ) → Contains words w → value (2 ^ bits) (digits (2 ^ bits) long w) ≡ w
