@@ -243,7 +243,7 @@ impl<M: SeqObject> Frontier<M> {
     }
 
     /// Where its memory comes from.
-    pub fn allocator(&self) -> Global {
+    pub(crate) fn allocator(&self) -> Global {
         self.alloc
     }
 
