@@ -1,7 +1,7 @@
 //! Worked histories on a `Core`, each with the verdict after every event: what no text can spell yet, and the two halves of
 //! a command.
 use edn::Refusal;
-use harness::{Command, Config, Core, Reply};
+use harness::{Command, Core, Judging, Reply};
 use history::EventKind::{Fail as Failed, Info, Invoke, Ok as Done};
 use history::{Body, Event, EventKind, Process};
 use linspec::Verdict;
@@ -36,6 +36,8 @@ enum Said {
     Legal,
     Illegal(u16, u32),
     Unknown(u16, u32),
+    // What is no verdict: a ticket, an outcome or a fault.
+    Other,
     Refused(u8),
 }
 
@@ -50,6 +52,7 @@ fn plain_of(verdict: Verdict) -> Said {
 fn answer_of(answer: Result<Reply, Refusal>) -> Said {
     match answer {
         Ok(Reply::Verdict(verdict)) => plain_of(verdict),
+        Ok(_) => Said::Other,
         Err(why) => Said::Refused(why.number()),
     }
 }
@@ -59,12 +62,12 @@ type Rows = Vec<(Command, Said)>;
 
 // Whether a core of two threads, of this kind and budget, answers so.
 fn answers(alloc: Global, kind: ModelKind, budget: u32, rows: Rows) -> Result<bool, Refusal> {
-    let config = Config {
+    let settings = Judging {
         concurrency: 2,
         kind,
         budget,
     };
-    let mut core = Core::new(alloc, config)?;
+    let mut core = Core::to_judge(alloc, settings)?;
     for (command, want) in rows {
         if answer_of(core.step(command)) != want {
             return Ok(false);
@@ -169,12 +172,12 @@ fn prepares_and_commits(core: &mut Core) -> bool {
 
 #[test]
 fn prepared_commands(rt: HostRuntime) -> Result<(), Fail> {
-    let config = Config {
+    let settings = Judging {
         concurrency: 1,
         kind: ModelKind::Register,
         budget: 1,
     };
-    let mut core = Core::new(rt.alloc(), config)?;
+    let mut core = Core::to_judge(rt.alloc(), settings)?;
     assert!(rt; prepares_and_commits(&mut core));
     let blown = Said::Unknown(7, 1);
     let done = prepared(&mut core, write(0, Done, 4));
@@ -186,12 +189,12 @@ fn prepared_commands(rt: HostRuntime) -> Result<(), Fail> {
 #[test]
 fn openings(rt: HostRuntime) {
     for (concurrency, budget, why) in [(0, 0, 9), (65, 65_537, 9), (0, 1, 10), (65, 1, 10)] {
-        let config = Config {
+        let settings = Judging {
             concurrency,
             kind: ModelKind::Register,
             budget,
         };
-        let refused = match Core::new(rt.alloc(), config) {
+        let refused = match Core::to_judge(rt.alloc(), settings) {
             Ok(_) => 0,
             Err(refusal) => refusal.number(),
         };

@@ -27,20 +27,15 @@ impl<B: Tag> Monitor for Board<B> {
 }
 
 /// The same core under a lock, with no published copy: a glance takes the lock.
-#[derive(Drop)]
-pub struct Locked {
-    pub core: Mutex<Core>,
-}
-
-impl Monitor for Locked {
+impl Monitor for Mutex<Core> {
     type Seat = ();
 
     fn glance<R: Wait>(&self, rt: &R, _seat: &mut ()) -> bool {
-        let _verdict = self.core.lock(rt).verdict();
+        let _verdict = self.lock(rt).verdict();
         true
     }
 
     fn call<R: Wait>(&self, rt: &R, _seat: &mut (), command: Command) -> bool {
-        self.core.lock(rt).step(command).is_ok()
+        self.lock(rt).step(command).is_ok()
     }
 }

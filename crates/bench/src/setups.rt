@@ -1,11 +1,10 @@
 //! The two monitors that are compared.
 ghost use Rattle.std.specs.Prelude.{◌≡◌};
 
-use crate::monitors::{Locked, Monitor};
 use crate::plans::{Calls, Plan};
 use crate::runs::{Count, Done, count_calls, run_plan};
 use board::{Blank, Tag};
-use harness::{Config, Core};
+use harness::{Core, Judging};
 use models::ModelKind;
 use std::alloc::Global;
 use std::marker::Brand;
@@ -15,7 +14,7 @@ use std::thread::Threads;
 use std::time::Duration;
 
 /// How a core is opened here.
-pub const OPENED: Config = Config {
+pub const OPENED: Judging = Judging {
     concurrency: 8,
     kind: ModelKind::Register,
     budget: 4096,
@@ -27,7 +26,7 @@ pub fn on_board<R: Threads + Wait + Clock + Sync>(
     alloc: Global,
     plan: Plan,
 ) -> Option<Done> {
-    let blank = Blank::new(alloc, OPENED, plan.readers.saturating_add(1)).ok()?;
+    let blank = Blank::new(alloc, OPENED.config(alloc), plan.readers.saturating_add(1)).ok()?;
     run_on::<Brand, R>(rt, alloc, blank, plan)
 }
 
@@ -54,7 +53,7 @@ pub fn calls_on_board<R: Wait + Clock>(
     calls: Calls,
     length: Duration,
 ) -> Option<Count> {
-    let blank = Blank::new(alloc, OPENED, seats).ok()?;
+    let blank = Blank::new(alloc, OPENED.config(alloc), seats).ok()?;
     call_on::<Brand, R>(rt, alloc, blank, calls, length)
 }
 
@@ -77,10 +76,8 @@ fn call_on<B: Tag, R: Wait + Clock>(
     count
 }
 
-fn locked(alloc: Global) -> Option<Locked> {
-    Some(Locked {
-        core: Mutex::new(Core::new(alloc, OPENED).ok()?),
-    })
+fn locked(alloc: Global) -> Option<Mutex<Core>> {
+    Some(Mutex::new(Core::to_judge(alloc, OPENED).ok()?))
 }
 
 /// A run under a lock.

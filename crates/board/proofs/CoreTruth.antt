@@ -3,17 +3,17 @@ use Rattle.std.proofs.Common.{◌≡◌, ℕ, List, [], ◌∷◌, ◌++◌, ◌
 use Rattle.edn.specs.declared.refusal.Refusal.{Refusal}
 use Rattle.edn.specs.declared.refusal.Refusal.TheVariants.{TapeFull, NoMemory}
 use Rattle.linspec.specs.declared.verdict.Verdict.{Verdict}
-use Rattle.harness.specs.declared.command.Command.{Command}
-use Rattle.harness.specs.declared.command.Command.TheVariants.{Append, Rewind, SetModel, SetBudget, Verdict as Ask}
-use Rattle.harness.specs.declared.command.Reply.{Reply}
-use Rattle.harness.specs.declared.command.Reply.TheVariants.{Verdict as Says}
-use Rattle.monitor.specs.JudgedHistory.{IsVerdictOn}
-use Rattle.harness.specs.Machine.{Machine, CoreView, at_rest, MayStep, MayWantMemory}
+use Rattle.machine.specs.declared.command.Command.{Command}
+use Rattle.machine.specs.declared.command.Command.TheVariants.{Append, Rewind, SetModel, SetBudget, Verdict as Ask, Draw, Serve, Finish, Nemesis}
+use Rattle.machine.specs.declared.command.Reply.{Reply}
+use Rattle.machine.specs.declared.command.Reply.TheVariants.{Verdict as Says, Drawn as HasDrawn, Pending as IsPending, Done as IsDone, Served, Fault as Struck}
+use Rattle.machine.specs.Machine.{Machine, Replies, MayStep}
+use Rattle.harness.specs.CoreView.{CoreView, at_rest, MayWantMemory}
 use Rattle.board.specs.declared.tape.TapeEntry.{TapeEntry}
 use Rattle.board.specs.declared.tape.TapeEntry.TheVariants.{Opening, Call}
 use Rattle.board.specs.declared.seat.SeatView.{SeatView}
 use Rattle.board.specs.Tape.{Runs, Leads, IsAnswered, IsRefused}
-use Rattle.board.specs.CoreTape.{CoreReply, CoreTape, LeadsTo, IsTrueOn, IsTrueAfter}
+use Rattle.board.specs.CoreTape.{CoreReply, CoreTape, LeadsTo, IsVerdictOf, IsTrueOn, IsTrueAfter}
 
 module _ {S C R : Type 0} (replies : S → C → R → S → Type 0) where
   runs_last : (s end : S) (rest : List (TapeEntry S C R)) (seat : ℕ) (c : C) (r : R) → Runs replies s (rest ++ Call seat c r ∷ []) end → (mid : S) × replies mid c r end
@@ -28,12 +28,24 @@ module _ {S C R : Type 0} (replies : S → C → R → S → Type 0) where
   leads_last (Call a b d ∷ rest) end seat c r run = absurd run
 
 -- a verdict that the one-thread object gives is the one from scratch
+says_true : (mid end : Machine) (c : Command) (v : Verdict) → Replies mid c (Says v) end → IsVerdictOf end v
+says_true mid end (Append event) v step = step.2
+says_true mid end (Rewind n) v step = step.2
+says_true mid end (SetModel key kind) v step = step.1
+says_true mid end (SetBudget key n) v step = step.2
+says_true mid end Ask v step = step.1
+says_true mid end (Draw thread) v step = absurd step
+says_true mid end (Serve number) v step = absurd step
+says_true mid end (Finish number) v step = step.1
+says_true mid end Nemesis v step = absurd step
+
 step_true : (mid end : Machine) (c : Command) (r : CoreReply) → MayStep mid c r end → IsTrueOn end r
-step_true mid end (Append event) (Ok (Says v)) step = step.2
-step_true mid end (Rewind n) (Ok (Says v)) step = step.2
-step_true mid end (SetModel key kind) (Ok (Says v)) step = step.1
-step_true mid end (SetBudget key n) (Ok (Says v)) step = step.2
-step_true mid end Ask (Ok (Says v)) step = subst (λ m. IsVerdictOn m v) (sym step.0) step.1
+step_true mid end c (Ok (Says v)) step = says_true mid end c v step
+step_true mid end c (Ok (HasDrawn ticket index)) step = tt
+step_true mid end c (Ok IsPending) step = tt
+step_true mid end c (Ok IsDone) step = tt
+step_true mid end c (Ok (Served outcome)) step = tt
+step_true mid end c (Ok (Struck fault index)) step = tt
 step_true mid end c (Err why) step = tt
 
 pub last_true : (tape whole : CoreTape) (end : Machine) (seat : ℕ) (c : Command) (r : CoreReply) → whole ≡ tape ++ Call seat c r ∷ [] → LeadsTo whole end → IsTrueOn end r
@@ -44,6 +56,7 @@ last_true tape whole end seat c r is leads =
 -- asking changes nothing
 pub asks_same : (m : Machine) (r : Reply) (end : Machine) → MayStep m Ask (Ok r) end → end ≡ m
 asks_same m (Says v) end step = step.0
+asks_same m r end step = absurd step
 
 -- after a call that is an entry, what its reply says of the verdict is the one from scratch at the end of the tape
 pub truth : {A : Type 0} (result : Result A Refusal) (reply : A → CoreReply) (commit : A → ℕ) (news : A → CoreTape)
@@ -78,13 +91,13 @@ wants (Err e) why m command memory last = last memory
 -- a refusal that changes nothing is a step of the object
 pub refused_ready : {E : Type 0} (old m : Machine) (next : Option Machine) (command : Command) (why : Refusal) (result : Result (CoreReply × Verdict) E)
     → m ≡ old → (why ≢ NoMemory → MayStep old command (Err why) old) → OnOk result (why ≢ NoMemory)
-    → IfOk result (λ r. (r.0 ≡ Err why) × (next ≡ Some m) × IsVerdictOn m r.1)
-    → IfOk result (λ r. (s : Machine) × MayStep old command r.0 s × (next ≡ Some s) × IsVerdictOn s r.1)
+    → IfOk result (λ r. (r.0 ≡ Err why) × (next ≡ Some m) × IsVerdictOf m r.1)
+    → IfOk result (λ r. (s : Machine) × MayStep old command r.0 s × (next ≡ Some s) × IsVerdictOf s r.1)
 refused_ready old m next command why (Ok r) same may entry ready = (
   old,
   subst (λ x. MayStep old command x old) (sym ready.0) (may entry),
   subst (λ z. next ≡ Some z) same ready.1,
-  subst (λ z. IsVerdictOn z r.1) same ready.2,
+  subst (λ z. IsVerdictOf z r.1) same ready.2,
 )
 refused_ready old m next command why (Err e) same may entry ready = tt
 

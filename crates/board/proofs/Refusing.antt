@@ -2,11 +2,11 @@
 use Rattle.std.proofs.Common.{ℕ}
 use Rattle.edn.specs.declared.refusal.Refusal.{Refusal}
 use Rattle.edn.specs.declared.refusal.Refusal.TheVariants.{Busy, WrongProcess, NotOpen, Mismatch, BadValue, BadIndex, HistoryFull, NoSuchIndex, BadBudget, BadConcurrency, Unreadable, TapeFull, NoMemory, Idle, NotServed, AlreadyServed, Stale, NoSuchReplica, NoSeat, ReadFailed, WriteFailed, TooLong}
-use Rattle.harness.specs.declared.command.Config.{Config}
-use Rattle.harness.specs.Machine.{MayNotOpen}
+use Rattle.harness.specs.declared.config.Config.{Config}
+use Rattle.harness.specs.Setups.{setup_of, MayNotOpen}
 use Rattle.board.specs.CoreTape.{MayNotBegin}
 
-pub not_begin : (config : Config) (seats : ℕ) (why : Refusal) → MayNotOpen config why → MayNotBegin config seats why
+pub not_begin : (config : Config) (seats : ℕ) (why : Refusal) → MayNotOpen (setup_of config) why → MayNotBegin config seats why
 not_begin config seats Busy given = given
 not_begin config seats WrongProcess given = given
 not_begin config seats NotOpen given = given

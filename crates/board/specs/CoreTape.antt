@@ -1,17 +1,17 @@
 -- Promise: tapes of the one-thread object, and the verdicts that they lead to (this project's own)
-use Rattle.std.specs.Prelude.{ℕ, ◌≤◌, List, [], ◌∷◌, Result, Ok, Err}
+use Rattle.std.specs.Prelude.{ℕ, ◌≤◌, List, [], ◌∷◌, Result, Ok}
 use Rattle.edn.specs.declared.refusal.Refusal.{Refusal}
 use Rattle.edn.specs.declared.refusal.Refusal.TheVariants.{NoSeat}
 use Rattle.linspec.specs.declared.verdict.Verdict.{Verdict}
-use Rattle.monitor.specs.JudgedHistory.{IsVerdictOn, IsBudget}
-use Rattle.harness.specs.declared.command.Config.{Config}
-use Rattle.harness.specs.declared.command.Command.{Command}
-use Rattle.harness.specs.declared.command.Reply.{Reply}
-use Rattle.harness.specs.declared.command.Reply.TheVariants.{Verdict as Says}
-use Rattle.harness.specs.Machine.{Machine, MayStep, MayNotOpen}
-use Rattle.history.specs.WellFormed.{IsConcurrency}
+use Rattle.monitor.specs.JudgedHistory.{IsVerdictOn}
+use Rattle.machine.specs.declared.command.Command.{Command}
+use Rattle.machine.specs.declared.command.Reply.{Reply}
+use Rattle.machine.specs.declared.command.Reply.TheVariants.{Verdict as Says}
+use Rattle.machine.specs.Machine.{Machine, MayStep}
+use Rattle.harness.specs.declared.config.Config.{Config}
+use Rattle.harness.specs.Setups.{setup_of, IsSetup, MayNotOpen}
 use Rattle.board.specs.declared.tape.TapeEntry.{TapeEntry}
-use Rattle.board.specs.declared.tape.TapeEntry.TheVariants.{Opening}
+use Rattle.board.specs.declared.tape.TapeEntry.TheVariants.{Opening, Call}
 use Rattle.board.specs.Tape.{Leads, IsSummaryAfter}
 
 -- a refusal is a reply too
@@ -29,20 +29,30 @@ LeadsTo tape end = Leads MayStep tape end
 abbrev pub opening_tape : Machine → CoreTape
 opening_tape m = Opening m ∷ []
 
--- the verdict is the one from scratch, on the machine that the tape leads to
-abbrev pub IsVerdictAfter : CoreTape → Verdict → Type 0
-IsVerdictAfter tape verdict = IsSummaryAfter MayStep IsVerdictOn tape verdict
+-- the verdict is the one from scratch, on what this machine judges
+abbrev pub IsVerdictOf : Machine → Verdict → Type 0
+IsVerdictOf m verdict = IsVerdictOn m.judged verdict
 
--- what the reply says of the verdict is the one from scratch
+-- the same, on the machine that the tape leads to
+abbrev pub IsVerdictAfter : CoreTape → Verdict → Type 0
+IsVerdictAfter tape verdict = IsSummaryAfter MayStep IsVerdictOf tape verdict
+
+-- what the reply says of the verdict is the one from scratch. Some replies say nothing of it
 abbrev pub IsTrueOn : Machine → CoreReply → Type 0
-IsTrueOn m (Ok (Says verdict)) = IsVerdictOn m verdict
-IsTrueOn m (Err why) = Unit {0}
+IsTrueOn m (Ok (Says verdict)) = IsVerdictOf m verdict
+IsTrueOn m reply = Unit {0}
 
 -- the same, on the machine that the tape leads to
 abbrev pub IsTrueAfter : CoreTape → CoreReply → Type 0
 IsTrueAfter tape reply = IsSummaryAfter MayStep IsTrueOn tape reply
 
+-- the calls of the tape in order, each with its reply
+abbrev pub calls_on : CoreTape → List (Command × CoreReply)
+calls_on [] = []
+calls_on (Opening m ∷ rest) = calls_on rest
+calls_on (Call seat command reply ∷ rest) = (command, reply) ∷ calls_on rest
+
 -- why no board is made: the object's refusals come first
 abbrev pub MayNotBegin : Config → ℕ → Refusal → Type 0
-MayNotBegin config seats NoSeat = IsBudget config.budget × IsConcurrency config.concurrency × ¬ ((1 ≤ seats) × (seats ≤ 64))
-MayNotBegin config seats why = MayNotOpen config why
+MayNotBegin config seats NoSeat = IsSetup (setup_of config) × ¬ ((1 ≤ seats) × (seats ≤ 64))
+MayNotBegin config seats why = MayNotOpen (setup_of config) why

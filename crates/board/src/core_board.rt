@@ -1,9 +1,9 @@
 //! The board of the one-thread object: opening, calls and glances.
 ghost use Rattle.std.specs.Prelude.{◌≡◌, ◌⊎◌, ◌+◌, ◌≤◌, length, IfOk, IfErr, OnOk, IfSome, IsSome};
 ghost use Rattle.edn.specs.declared.refusal.Refusal.TheVariants.{NoMemory, NoSeat};
-ghost use Rattle.history.specs.WellFormed.{IsConcurrency};
-ghost use Rattle.monitor.specs.JudgedHistory.{IsBudget};
-ghost use Rattle.harness.specs.Machine.{MayStep, MayWantMemory, at_rest, opening};
+ghost use Rattle.machine.specs.Machine.{MayStep, opening};
+ghost use Rattle.harness.specs.CoreView.{MayWantMemory, at_rest};
+ghost use Rattle.harness.specs.Setups.{setup_of, IsSetup};
 ghost use Rattle.board.specs.Tape.{HasSeen, IsAnswered, IsRefused, IsTapeOf};
 ghost use Rattle.board.specs.Seat.{IsFresh};
 ghost use Rattle.board.specs.CoreTape.{CoreTape, LeadsTo, IsVerdictAfter, IsTrueAfter};
@@ -54,9 +54,9 @@ impl blank::Blank<Core> {
     /// Those of [`Core::new`], else [`Refusal::NoSeat`] where the seats are not 1 to 64.
     #[tactic(auto, using(crate::proofs::Refusing::not_begin))]
     pub fn new(alloc: Global, config: Config, seats: u32) -> Result<Blank, Refusal>
-        ensures limits { OnOk result (IsBudget config.budget × IsConcurrency config.concurrency) }
+        ensures limits { OnOk result (IsSetup (setup_of config)) }
         ensures seats { IfOk result (λ blank. (blank.seats ≡ seats) × (1 ≤ seats) × (seats ≤ 64)) }
-        ensures opened { IfOk result (λ blank. blank.object ≡ at_rest (opening config)) }
+        ensures opened { IfOk result (λ blank. blank.object ≡ at_rest (opening (setup_of config))) }
         ensures refused { IfErr result (MayNotBegin config seats) }
     {
         let core = Core::new(alloc, config)?;
@@ -87,14 +87,14 @@ impl blank::Blank<Core> {
 
 impl<B: Tag> board::Board<Core, B> {
     /// Carries out a command under the lock, as one entry of the tape, and publishes it. A refused command is still an
-    /// entry, with the refusal as its reply. The verdict in the reply is the one from scratch on the history that the
+    /// entry, with the refusal as its reply. A verdict in the reply is the one from scratch on the history that the
     /// tape's commands make. It waits for other calls, and for glances that are inside the copy which it writes. It costs
     /// what [`Core::prepare`] costs, and each publication visits the reader's place of every seat.
     ///
     /// # Errors
     /// [`Refusal::TapeFull`] where the tape has 2^32 - 1 calls, all of which the seat has then seen, else
-    /// [`Refusal::NoMemory`] where a growth was refused, which a command that is refused and the verdict never want. Then
-    /// the call is no entry, and nothing is published.
+    /// [`Refusal::NoMemory`] where a growth was refused, which the verdict and a command that is refused never want, but
+    /// for the nemesis where no fault is due. Then the call is no entry, and nothing is published.
     pub fn call<R: Wait>(
         &self,
         rt: &R,

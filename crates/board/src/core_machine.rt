@@ -1,8 +1,9 @@
-//! The monitor's core as an object that a board keeps.
+//! The one-thread object as an object that a board keeps.
 ghost use Rattle.std.specs.Prelude.{◌≡◌, ◌≢◌, Some, Err, IfOk, OnOk, OnErr};
 ghost use Rattle.edn.specs.declared.refusal.Refusal.TheVariants.{NoMemory};
-ghost use Rattle.monitor.specs.JudgedHistory.{IsVerdictOn};
-ghost use Rattle.harness.specs.Machine.{MayStep, MayWantMemory};
+ghost use Rattle.machine.specs.Machine.{MayStep};
+ghost use Rattle.harness.specs.CoreView.{MayWantMemory};
+ghost use Rattle.board.specs.CoreTape.{IsVerdictOf};
 
 use crate::one_thread::OneThread;
 use edn::Refusal;
@@ -17,11 +18,16 @@ pub struct CoreState {
 }
 
 impl Model for CoreState {
-    ghost use Rattle.harness.specs.Machine.{Machine, opening};
+    ghost use Rattle.std.specs.Coded.{codes};
+    ghost use Rattle.generators.specs.Codes.{generator_code};
+    ghost use Rattle.machine.specs.Machine.{Machine, opening};
+    ghost use Rattle.harness.specs.Setups.{setup_of};
 
     ghost Value = { Machine };
 
-    ghost view = { λ s. opening s.config };
+    ghost coded = { Prim.hlevel (codes, generator_code) };
+
+    ghost view = { λ s. opening (setup_of s.config) };
 }
 
 impl OneThread for Core {
@@ -37,7 +43,7 @@ impl OneThread for Core {
 
     ghost replies = { MayStep };
 
-    ghost summarizes = { IsVerdictOn };
+    ghost summarizes = { IsVerdictOf };
 
     ghost may_want = { MayWantMemory };
 
@@ -69,7 +75,7 @@ fn refuse(core: &mut Core, why: Refusal) -> Result<(Result<Reply, Refusal>, Verd
     ensures entry { OnOk result (why ≢ NoMemory) }
     ensures memory { OnErr result (why ≡ NoMemory) }
     ensures ready { IfOk result (λ r. (r.0 ≡ Err why) × (core.new.next ≡ Some core.old.machine)
-        × IsVerdictOn core.old.machine r.1) }
+        × IsVerdictOf core.old.machine r.1) }
 {
     match why {
         Refusal::NoMemory => Err(AllocError),
@@ -84,7 +90,7 @@ fn refuse(core: &mut Core, why: Refusal) -> Result<(Result<Reply, Refusal>, Verd
 fn stay(core: &mut Core) -> Verdict
     ensures same { core.new.machine ≡ core.old.machine }
     ensures ready { core.new.next ≡ Some core.old.machine }
-    ensures verdict { IsVerdictOn core.old.machine result }
+    ensures verdict { IsVerdictOf core.old.machine result }
 {
     match core.prepare(Command::Verdict) {
         Ok((_reply, verdict)) => verdict,

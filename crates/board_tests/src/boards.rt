@@ -2,7 +2,7 @@
 ghost use Rattle.std.specs.Prelude.{◌≡◌};
 
 use board::Blank;
-use harness::{Command, Config};
+use harness::{Command, Judging};
 use history::{Body, Event, EventKind, Process};
 use models::{Key, ModelKind, Name, Op, Part};
 use std::alloc::Global;
@@ -10,7 +10,7 @@ use std::process::Abort;
 use std::sync::atomic::{AtomicBool, Ordering};
 use std::thread;
 
-pub const TWO: Config = Config {
+pub const TWO: Judging = Judging {
     concurrency: 2,
     kind: ModelKind::Register,
     budget: 4096,
@@ -33,7 +33,7 @@ pub fn comes(flag: &AtomicBool, turns: u32) -> bool {
 pub fn blank<R: Abort>(rt: &R, alloc: Global, seats: u32) -> Blank
     ensures { result.seats ≡ seats }
 {
-    match Blank::new(alloc, TWO, seats) {
+    match Blank::new(alloc, TWO.config(alloc), seats) {
         Ok(blank) => blank,
         Err(_) => panic!(rt; "no board"),
     }

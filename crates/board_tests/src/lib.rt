@@ -5,6 +5,8 @@
 #[cfg(test)]
 mod boards;
 #[cfg(test)]
+mod drawn;
+#[cfg(test)]
 mod full_board;
 #[cfg(test)]
 mod gate;

@@ -4,7 +4,7 @@ ghost use Rattle.std.specs.Prelude.{◌≡◌};
 use crate::boards::{TWO, blank};
 use crate::said::{Said, answer_of, seen_of};
 use board::{Blank, Tag};
-use harness::{Command, Config};
+use harness::{Command, Config, Judging};
 use std::alloc::Global;
 use std::marker::Brand;
 use std::process::Abort;
@@ -21,12 +21,12 @@ fn refusal_of(alloc: Global, config: Config, seats: u32) -> u8 {
 /// Seats are 1 to 64, and what the object refuses comes first.
 #[test]
 fn refusals_in_order(rt: HostRuntime) {
-    let no_budget = Config { budget: 0, ..TWO };
-    let no_thread = Config {
+    let no_budget = Judging { budget: 0, ..TWO };
+    let no_thread = Judging {
         concurrency: 0,
         ..TWO
     };
-    for (config, seats, why) in [
+    for (settings, seats, why) in [
         (TWO, 0, 19),
         (TWO, 1, 0),
         (TWO, 64, 0),
@@ -36,8 +36,14 @@ fn refusals_in_order(rt: HostRuntime) {
         (no_thread, 65, 10),
         (no_thread, 2, 10),
     ] {
+        let config = settings.config(rt.alloc());
         assert_eq!(rt; refusal_of(rt.alloc(), config, seats), why);
     }
+    let no_replica = Config {
+        replicas: 0,
+        ..TWO.config(rt.alloc())
+    };
+    assert_eq!(rt; refusal_of(rt.alloc(), no_replica, 65), 18);
 }
 
 /// Before any call a glance shows none, and the verdict asked for first is commit 1.

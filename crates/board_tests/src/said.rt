@@ -3,14 +3,22 @@ use board::{Answered, Glance, Tag};
 use edn::Refusal;
 use harness::Reply;
 use linspec::Verdict;
+use models::Found;
+use test_store::Outcome;
 
-/// A verdict or a refusal.
+/// A verdict, a refusal, a ticket and the index of its invocation, or what a serve found.
 #[derive(Clone, Copy, Debug, PartialEq, Eq)]
 pub enum Said {
     Legal,
     Illegal(u16, u32),
     Unknown(u16, u32),
     Refused(u8),
+    Drawn(u32, u32),
+    /// The operation took place, and there is nothing to tell.
+    Served,
+    Found(Option<i64>),
+    /// Whatever else a board says.
+    Other,
 }
 
 pub fn plain_of(verdict: Verdict) -> Said {
@@ -26,11 +34,21 @@ pub fn seen_of(glance: Option<Glance>) -> Option<(u64, Said)> {
     Some((glance.commit, plain_of(glance.verdict)))
 }
 
+fn plain_reply(reply: &Reply) -> Said {
+    match reply {
+        Reply::Verdict(verdict) => plain_of(*verdict),
+        Reply::Drawn { ticket, index } => Said::Drawn(*ticket, *index),
+        Reply::Served(Outcome::Done(Found::Unit)) => Said::Served,
+        Reply::Served(Outcome::Done(Found::Reg(value))) => Said::Found(*value),
+        _ => Said::Other,
+    }
+}
+
 /// The commit and what was said. The commit is 0 where the call was no entry.
 pub fn answer_of<B: Tag>(answer: &Result<Answered<B>, Refusal>) -> (u64, Said) {
     match answer {
         Ok(answered) => match &answered.reply {
-            Ok(Reply::Verdict(verdict)) => (answered.commit, plain_of(*verdict)),
+            Ok(reply) => (answered.commit, plain_reply(reply)),
             Err(why) => (answered.commit, Said::Refused(why.number())),
         },
         Err(why) => (0, Said::Refused(why.number())),

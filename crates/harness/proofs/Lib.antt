@@ -1,2 +1,14 @@
-pub mod OneStep
+pub mod Asked
+pub mod Committing
+pub mod Driving
+pub mod Fitting
+pub mod Idle
+pub mod Opening
+pub mod OpenTickets
 pub mod Preparing
+pub mod Showing
+pub mod Sound
+pub mod Stepping
+pub mod Striking
+pub mod Takes
+pub mod Walking

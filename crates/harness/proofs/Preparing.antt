@@ -1,60 +1,92 @@
--- A prepared change of the monitor is the prepared step of the one-thread object
-use Rattle.std.proofs.Common.{◌≡◌, ℕ, ◌≤◌, length, Some, Ok, refl, sym, ap, subst}
-use Rattle.history.specs.declared.event.Event.{Event}
-use Rattle.linspec.specs.declared.verdict.Verdict.{Verdict}
+-- A command that is prepared in the parts is prepared in the whole
+use Rattle.std.proofs.Common.{◌≡◌, ℕ, ◌≤◌, Option, None, IfSome, IfErr, Result, Ok, Err, List, length, refl, sym, ap, subst}
+use Rattle.edn.specs.declared.refusal.Refusal.{Refusal}
+use Rattle.edn.specs.declared.refusal.Refusal.TheVariants.{NoMemory}
 use Rattle.models.specs.declared.model_kind.ModelKind.{ModelKind}
-use Rattle.monitor.specs.JudgedHistory.{IsVerdictOn, with_event, rewound, with_kind, with_budget, IsBudget}
+use Rattle.history.specs.declared.event.Event.{Event}
+use Rattle.history.specs.declared.event.Fault.{Fault}
+use Rattle.history.specs.WellFormed.{HistoryView}
+use Rattle.linspec.specs.declared.verdict.Verdict.{Verdict}
+use Rattle.generators.specs.Sources.{SourceView}
+use Rattle.test_store.specs.Store.{StoreView}
+use Rattle.trials.specs.declared.ticket.Ticket.{Ticket}
+use Rattle.monitor.specs.JudgedHistory.{JudgedHistory, IsVerdictOn, IsBudget, with_event, rewound, with_kind, with_budget}
 use Rattle.monitor.specs.Monitors.{MonitorView, Admits}
 use Rattle.monitor.specs.Monitors.{with_next as monitor_with_next}
-use Rattle.harness.specs.Machine.{Machine, CoreView, MayStep, with_next}
-use Rattle.harness.specs.declared.command.Command.{Command}
-use Rattle.harness.specs.declared.command.Command.TheVariants.{Append, Rewind, SetModel, SetBudget, Verdict as Ask}
-use Rattle.harness.specs.declared.command.Reply.TheVariants.{Verdict as Says}
+use Rattle.machine.specs.declared.command.Command.{Command}
+use Rattle.machine.specs.declared.command.Command.TheVariants.{Append, Rewind, SetModel, SetBudget, Verdict as Ask}
+use Rattle.machine.specs.declared.command.Reply.{Reply}
+use Rattle.machine.specs.declared.command.Reply.TheVariants.{Verdict as Says}
+use Rattle.machine.specs.Machine.{Machine, Refuses, MayStep, cut_to}
+use Rattle.harness.specs.declared.core_object.Change.{Change}
+use Rattle.harness.specs.declared.core_object.Change.TheVariants.{Nothing, Same, Judged, Rewind as Cut}
+use Rattle.harness.specs.CoreView.{CoreView, IsPrepared, MayDecline}
+use Rattle.harness.specs.SoundCore.{machine_of, judged_as, next_of, IsSoundMachine, IsReady, IsSoundCore}
+use Rattle.harness.specs.Tickets.{IsOf}
+use Rattle.harness.proofs.Showing.{Shows}
+use Rattle.harness.proofs.Sound.{sound_step}
 
--- the command is answered by this verdict, and what is then prepared is what it leads to
-abbrev pub IsAnsweredBy : Machine → Command → Verdict → CoreView → Type 0
-IsAnsweredBy old command v new = (next : Machine) × MayStep old command (Ok (Says v)) next × IsVerdictOn next v × (new ≡ with_next old next)
+-- what the parts show
+abbrev pub seen : MonitorView → SourceView → List (ℕ × Fault) → StoreView → List Ticket → Change → CoreView
+seen monitor source schedule store tickets change = record {
+  machine = machine_of monitor source schedule store tickets;
+  next = next_of monitor source store (machine_of monitor source schedule store tickets) change;
+}
 
--- what the object then is
-abbrev pub seen_with : MonitorView → CoreView
-seen_with m = record { machine = m.now; next = m.next }
+-- nothing is prepared, and the machine is as it was
+pub rests : (m m' : Machine) (next : Option Machine) (cap cap' : ℕ) (change : Change) → IsSoundCore m next cap change → m' ≡ m → IsSoundCore m' None cap' Nothing
+rests m m' next cap cap' change s is = record { now = subst IsSoundMachine (sym is) s.now; then = tt; ready = tt }
 
-abbrev pub seen_as : Machine → CoreView
-seen_as m = record { machine = m; next = Some m }
+-- a prepared command leads to a sound machine
+pub readied : (m : Machine) (new : CoreView) (command : Command) (answer : Reply × Verdict) (cap : ℕ) (change : Change) → IsSoundMachine m → IsPrepared m command answer new → IsReady cap new.machine.tickets change → IsSoundCore new.machine new.next cap change
+readied m new command answer cap change s p ready = record {
+  now = subst (λ (x : CoreView). IsSoundMachine x.machine) (sym p.3) s;
+  then = subst (λ (x : CoreView). IfSome x.next IsSoundMachine) (sym p.3) (sound_step m p.0 command (Ok answer.0) p.1 s);
+  ready = ready;
+}
 
-brings : (old new : MonitorView) (next : Machine) (command : Command) (v : Verdict) → new ≡ monitor_with_next next old
-    → MayStep old.now command (Ok (Says v)) next → IsVerdictOn next v → IsAnsweredBy old.now command v (seen_with new)
-brings old new next command v is step true = (next, step, true, ap seen_with is)
+-- why a command is refused
+pub declined : (m : Machine) (command : Command) (why : Refusal) → MayDecline m command why → (why ≡ NoMemory → ⊥) → Refuses m command why
+declined m command NoMemory h not = absurd (not refl)
+declined m command why h not = h
 
-pub appended : (old new : MonitorView) (command : Command) (event : Event) (v : Verdict) → command ≡ Append event
-    → Admits old.now event → new ≡ monitor_with_next (with_event event old.now) old → IsVerdictOn (with_event event old.now) v
-    → IsAnsweredBy old.now command v (seen_with new)
-appended old new command event v is may brought true =
-    subst (λ (c : Command). IsAnsweredBy old.now c v (seen_with new)) (sym is)
-    (brings old new (with_event event old.now) (Append event) v brought (may, refl, true) true)
+module _ (monitor monitor' : MonitorView) (source : SourceView) (schedule : List (ℕ × Fault)) (store : StoreView) (tickets : List Ticket) where
+  abbrev m : Machine
+  m = machine_of monitor source schedule store tickets
 
-pub was_rewound : (old new : MonitorView) (command : Command) (n : ℕ) (v : Verdict) → command ≡ Rewind n
-    → n ≤ length old.now.events → new ≡ monitor_with_next (rewound n old.now) old → IsVerdictOn (rewound n old.now) v
-    → IsAnsweredBy old.now command v (seen_with new)
-was_rewound old new command n v is may brought true =
-    subst (λ (c : Command). IsAnsweredBy old.now c v (seen_with new)) (sym is)
-    (brings old new (rewound n old.now) (Rewind n) v brought (may, refl, true) true)
+  -- a change of the monitor alone
+  pub judged : (h : JudgedHistory) (command : Command) (v : Verdict) → MayStep m command (Ok (Says v)) (judged_as m h) → IsVerdictOn h v → monitor' ≡ monitor_with_next h monitor
+      → IsPrepared m command (Says v, v) (seen monitor' source schedule store tickets Judged)
+  judged h command v step true is = (judged_as m h, step, true, ap (λ (x : MonitorView). seen x source schedule store tickets Judged) is)
 
-pub kind_set : (old new : MonitorView) (command : Command) (key : ℕ) (kind : ModelKind) (v : Verdict) → command ≡ SetModel key kind
-    → new ≡ monitor_with_next (with_kind key kind old.now) old → IsVerdictOn (with_kind key kind old.now) v
-    → IsAnsweredBy old.now command v (seen_with new)
-kind_set old new command key kind v is brought true =
-    subst (λ (c : Command). IsAnsweredBy old.now c v (seen_with new)) (sym is)
-    (brings old new (with_kind key kind old.now) (SetModel key kind) v brought (refl, true) true)
+  pub appended : (event : Event) (v : Verdict) → Admits monitor.now event → monitor' ≡ monitor_with_next (with_event event monitor.now) monitor → IsVerdictOn (with_event event monitor.now) v
+      → IsPrepared m (Append event) (Says v, v) (seen monitor' source schedule store tickets Judged)
+  appended event v may is true = judged (with_event event monitor.now) (Append event) v (may, refl, true) true is
 
-pub budget_set : (old new : MonitorView) (command : Command) (key n : ℕ) (v : Verdict) → command ≡ SetBudget key n
-    → IsBudget n → new ≡ monitor_with_next (with_budget key n old.now) old → IsVerdictOn (with_budget key n old.now) v
-    → IsAnsweredBy old.now command v (seen_with new)
-budget_set old new command key n v is may brought true =
-    subst (λ (c : Command). IsAnsweredBy old.now c v (seen_with new)) (sym is)
-    (brings old new (with_budget key n old.now) (SetBudget key n) v brought (may, refl, true) true)
+  pub kind_set : (key : ℕ) (kind : ModelKind) (v : Verdict) → monitor' ≡ monitor_with_next (with_kind key kind monitor.now) monitor → IsVerdictOn (with_kind key kind monitor.now) v
+      → IsPrepared m (SetModel key kind) (Says v, v) (seen monitor' source schedule store tickets Judged)
+  kind_set key kind v is true = judged (with_kind key kind monitor.now) (SetModel key kind) v (refl, true) true is
+
+  pub budget_set : (key n : ℕ) (v : Verdict) → IsBudget n → monitor' ≡ monitor_with_next (with_budget key n monitor.now) monitor → IsVerdictOn (with_budget key n monitor.now) v
+      → IsPrepared m (SetBudget key n) (Says v, v) (seen monitor' source schedule store tickets Judged)
+  budget_set key n v within is true = judged (with_budget key n monitor.now) (SetBudget key n) v (within, refl, true) true is
+
+  pub was_rewound : (n : ℕ) (v : Verdict) → n ≤ length monitor.now.events → monitor' ≡ monitor_with_next (rewound n monitor.now) monitor → IsVerdictOn (rewound n monitor.now) v
+      → IsPrepared m (Rewind n) (Says v, v) (seen monitor' source schedule store tickets (Cut n))
+  was_rewound n v within is true = (cut_to n m, (within, refl, true), true, ap (λ (x : MonitorView). seen x source schedule store tickets (Cut n)) is)
 
 -- asking leaves all as it is
-pub asked_for : (m : Machine) (command : Command) (v : Verdict) → command ≡ Ask → IsVerdictOn m v → IsAnsweredBy m command v (seen_as m)
-asked_for m command v is true =
-    subst (λ (c : Command). IsAnsweredBy m c v (seen_as m)) (sym is) (m, (refl, true), true, refl)
+pub asked_for : (monitor : MonitorView) (source : SourceView) (schedule : List (ℕ × Fault)) (store : StoreView) (tickets : List Ticket) (v : Verdict) → IsVerdictOn monitor.now v
+    → IsPrepared (machine_of monitor source schedule store tickets) Ask (Says v, v) (seen monitor source schedule store tickets Same)
+asked_for monitor source schedule store tickets v true = (machine_of monitor source schedule store tickets, (refl, true), true, refl)
+
+-- the machine has the history that its monitor shows
+pub is_of : (monitor : MonitorView) (source : SourceView) (schedule : List (ℕ × Fault)) (store : StoreView) (tickets shown : List Ticket) (history : HistoryView) → Shows monitor history → shown ≡ tickets
+    → IsOf (machine_of monitor source schedule store tickets) history shown
+is_of monitor source schedule store tickets shown history shows same = (sym shows.0, sym shows.1, sym same)
+
+-- a refusal that was found of the parts is one of the whole
+pub declines_at : {T : Type 0} (r : Result T Refusal) (e why : Refusal) (s t : CoreView) (command : Command) → r ≡ Err e → e ≡ why → s ≡ t → MayDecline s.machine command why → IfErr r (MayDecline t.machine command)
+declines_at {T} r e why s t command is from same h =
+    subst (λ (x : Result T Refusal). IfErr x (MayDecline t.machine command)) (sym is)
+    (subst (MayDecline t.machine command) (sym from) (subst (λ (x : CoreView). MayDecline x.machine command why) same h))

@@ -1,12 +1,50 @@
--- Invariant: what a prepared change of the one-thread object leads to
-use Rattle.std.specs.Prelude.{Option, Some, None}
-use Rattle.monitor.specs.Monitors.{MonitorView}
-use Rattle.harness.specs.Machine.{Machine}
-use Rattle.harness.specs.declared.core_object.Change.{Change}
-use Rattle.harness.specs.declared.core_object.Change.TheVariants.{Nothing, Same, OfMonitor}
+-- Promise: the one-thread object, as a caller sees it, and when a command of it may want memory (this project's own)
+use Rattle.std.specs.Prelude.{◌≡◌, ◌≤◌, Option, Some, None, IsSome, Ok, length}
+use Rattle.edn.specs.declared.refusal.Refusal.{Refusal}
+use Rattle.edn.specs.declared.refusal.Refusal.TheVariants.{NoMemory}
+use Rattle.history.specs.WellFormed.{HasRoom}
+use Rattle.linspec.specs.declared.verdict.Verdict.{Verdict}
+use Rattle.monitor.specs.JudgedHistory.{IsVerdictOn, IsBudget}
+use Rattle.trials.specs.Trials.{IsStillOpen}
+use Rattle.machine.specs.declared.command.Command.{Command}
+use Rattle.machine.specs.declared.command.Command.TheVariants.{Append, Rewind, SetModel, SetBudget, Verdict as Ask, Draw, Serve, Finish, Nemesis}
+use Rattle.machine.specs.declared.command.Reply.{Reply}
+use Rattle.machine.specs.Machine.{Machine, IsTicketAnd, Takes, ThreadMayDraw, first_due, Refuses, MayStep}
 
--- the machine that the change leads to
-abbrev pub next_of : MonitorView → Change → Option Machine
-next_of monitor Nothing = None
-next_of monitor Same = Some monitor.now
-next_of monitor OfMonitor = monitor.next
+-- the machine, and the machine that a prepared command leads to
+pub record CoreView : Type 0 where
+  pub machine : Machine
+  pub next : Option Machine
+
+abbrev pub at_rest : Machine → CoreView
+at_rest m = record { machine = m; next = None }
+
+abbrev pub with_next : Machine → Machine → CoreView
+with_next m next = record { machine = m; next = Some next }
+
+-- the command is answered so: by a reply, and the verdict of the machine that is then prepared
+abbrev pub IsPrepared : Machine → Command → Reply × Verdict → CoreView → Type 0
+IsPrepared old command answer new =
+    (next : Machine) × MayStep old command (Ok answer.0) next × IsVerdictOn next.judged answer.1
+    × (new ≡ with_next old next)
+
+-- the command passes every test, so that only memory can be wanted. Asking for the verdict wants none; asking a generator for
+-- a fault does, so where none is due memory may be wanted before it is known whether there is one
+abbrev pub MayWantMemory : Machine → Command → Type 0
+MayWantMemory m (Append event) = Takes m event
+MayWantMemory m (Rewind n) = n ≤ length m.judged.events
+MayWantMemory m (SetModel key kind) = Unit {0}
+MayWantMemory m (SetBudget key n) = IsBudget n
+MayWantMemory m Ask = ⊥
+MayWantMemory m (Draw thread) = ThreadMayDraw m thread
+MayWantMemory m (Serve number) =
+    IsTicketAnd m number (λ t. (t.outcome ≡ None) × IsStillOpen m.judged.events t)
+MayWantMemory m (Finish number) =
+    IsTicketAnd m number (λ t. IsSome t.outcome × IsStillOpen m.judged.events t)
+    × HasRoom m.judged.events
+MayWantMemory m Nemesis = IsSome (first_due m) → HasRoom m.judged.events
+
+-- the command may be refused for this
+abbrev pub MayDecline : Machine → Command → Refusal → Type 0
+MayDecline m command NoMemory = MayWantMemory m command
+MayDecline m command why = Refuses m command why

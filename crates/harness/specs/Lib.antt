@@ -1,3 +1,6 @@
-pub mod Limits
-pub mod Machine
+pub mod Asking
 pub mod CoreView
+pub mod Fitness
+pub mod Setups
+pub mod SoundCore
+pub mod Tickets

@@ -1,76 +1,142 @@
-//! The one-thread object.
-ghost use Rattle.std.specs.Prelude.{◌≡◌, ◌≢◌, IfOk, IfErr, IfSome, IsSome, IsOk, OnOk, OnErr, IsErrOf, Ok, Err};
-ghost use Rattle.history.specs.WellFormed.{IsConcurrency};
-ghost use Rattle.monitor.specs.JudgedHistory.{IsVerdictOn, IsBudget};
-ghost use Rattle.harness.specs.Machine.{Machine, MayStep, MayWantMemory, opening, MayNotOpen, at_rest, with_next};
+//! The one-thread object with all its commands.
+ghost use Rattle.std.specs.Prelude.{◌≡◌, ◌≢◌, ◌++◌, ◌∷◌, [], List, Result, Option, None, IfOk, IfErr, IfSome, IsSome, IsOk, OnOk, OnErr, IsErrOf, Ok, Err};
+ghost use Rattle.edn.specs.declared.refusal.Refusal.{Refusal};
+ghost use Rattle.history.specs.Events.{marks};
+ghost use Rattle.linspec.specs.Orders.{IsLinearizable, product};
+ghost use Rattle.test_store.specs.declared.outcome.Mode.TheVariants.{Strict};
+ghost use Rattle.test_store.specs.Store.{IsCount};
+ghost use Rattle.monitor.specs.JudgedHistory.{IsVerdictOn, kind_of, entries_in};
+ghost use Rattle.machine.specs.declared.command.Command.{Command};
+ghost use Rattle.machine.specs.declared.command.Reply.{Reply};
+ghost use Rattle.machine.specs.Machine.{Setup, opening, first_due, MayStep, Runs, AreOfTrial};
+ghost use Rattle.harness.specs.Setups.{setup_of, judging, IsSetup, MayNotOpen, HasLimits, MayNotJudge};
+ghost use Rattle.harness.specs.CoreView.{at_rest, with_next, IsPrepared, MayWantMemory, MayDecline};
 
-use crate::command::{Command, Config, Reply};
+use crate::asking::{Drew, draw_fault, draw_op};
+use crate::config::Config;
+use crate::judging::Judging;
+use crate::parts::{append, invoke, strike};
+use crate::tickets::{MOST_EVENTS, come_to, entry_of, finishing, make_stale, test_draw, unserved};
 use edn::Refusal;
+use generators::Source;
+use history::Event;
 use linspec::Verdict;
+use machine::{Command, Reply, no_false_alarm};
+use models::{Key, ModelKind};
 use monitor::Monitor;
+use nemesis::Schedule;
 use std::alloc::Global;
 use std::marker::Model;
+use test_store::{Outcome, Store};
+use trials::Ticket;
 
-/// What is prepared: nothing; that all stays as it is; or a change of the monitor.
-#[derive(Clone, Copy)]
+/// What is prepared.
+#[derive(Drop)]
 enum Change {
     Nothing,
+    /// All stays as it is.
     Same,
-    OfMonitor,
+    /// A change of the monitor alone.
+    Judged,
+    /// A cut of the history at this length.
+    Rewind(u32),
+    /// An invocation, and its ticket.
+    Draw(Ticket),
+    /// The serve of the ticket with this number, and what it comes to.
+    Serve(usize, Outcome),
+    /// The fault that is due.
+    StrikeDue,
+    /// A fault that the generator gave.
+    StrikeDrawn,
 }
 
-/// The one-thread object: a history, the kind and the budget of every key, and the verdict on the history as it stands.
-/// Linearizability is that of Herlihy and Wing (1990).
+/// The one-thread object with all its commands: a history under a live monitor, a generator of operations and faults, a
+/// schedule of faults, a replicated store in the process, and a ticket for each operation that was drawn. Linearizability is
+/// that of Herlihy and Wing (1990).
 ///
 /// Each command is prepared, which may be refused and changes nothing but what is prepared, and then committed.
 #[derive(Drop)]
 pub struct Core {
     monitor: Monitor,
+    source: Source,
+    schedule: Schedule,
+    store: Store,
+    tickets: Vec<Ticket>,
     change: Change,
 }
 
 impl Model for Core {
-    ghost use Rattle.harness.specs.Machine.{CoreView};
-    ghost use Rattle.harness.specs.CoreView.{next_of};
+    ghost use Rattle.std.specs.Prelude.{vec_capacity};
+    ghost use Rattle.harness.specs.CoreView.{CoreView};
+    ghost use Rattle.harness.specs.SoundCore.{machine_of, next_of, IsSoundCore};
+    ghost use Rattle.std.specs.Coded.{codes};
+    ghost use Rattle.generators.specs.Codes.{generator_code};
 
     ghost Value = { CoreView };
 
-    ghost view = { λ a. record {
-      machine = a.monitor.now;
-      next = next_of a.monitor a.change;
+    ghost coded = { Prim.hlevel (codes, generator_code) };
+
+    ghost view = { λ a. let m = machine_of a.monitor a.source a.schedule a.store a.tickets.items in record {
+      machine = m;
+      next = next_of a.monitor a.source a.store m a.change;
     } };
+
+    ghost invariant = { λ a. let m = machine_of a.monitor a.source a.schedule a.store a.tickets.items in
+        IsSoundCore m (next_of a.monitor a.source a.store m a.change) (vec_capacity a.tickets) a.change };
 }
 
 impl Core {
-    /// Opens it on the history without events.
+    /// Opens it on the history without events, with no tickets, the generator at the beginning of its random words, and a store
+    /// on which no key was changed.
     ///
     /// # Errors
-    /// [`Refusal::BadBudget`] where the budget is not 1 to 65,536, else [`Refusal::BadConcurrency`] where the
-    /// concurrency is not 1 to 64, else [`Refusal::NoMemory`] where a growth was refused.
+    /// [`Refusal::BadBudget`], [`Refusal::BadConcurrency`], [`Refusal::NoSuchReplica`] and [`Refusal::BadValue`], in this
+    /// order, as [`Config::check`] says, else [`Refusal::NoMemory`] where a growth was refused.
     pub fn new(alloc: Global, config: Config) -> Result<Core, Refusal>
-        ensures limits { OnOk result (IsBudget config.budget × IsConcurrency config.concurrency) }
-        ensures opened { IfOk result (λ core. core ≡ at_rest (opening config)) }
-        ensures refused { IfErr result (MayNotOpen config) }
+        ensures limits { OnOk result (IsSetup (setup_of config)) }
+        ensures opened { IfOk result (λ core. core ≡ at_rest (opening (setup_of config))) }
+        ensures refused { IfErr result (MayNotOpen (setup_of config)) }
     {
+        config.check()?;
         let monitor = Monitor::new(alloc, config.concurrency, config.kind, config.budget)?;
+        let store = Store::new(alloc, config.replicas, config.mode, config.kind)?;
         Ok(Core {
             monitor,
+            source: Source::new(alloc, config.generator, config.seed),
+            schedule: config.schedule,
+            store,
+            tickets: Vec::new(alloc),
             change: Change::Nothing,
         })
     }
 
-    /// Prepares a command, and gives its reply and the verdict that [`commit`](Core::commit) will bring. The machine
-    /// stays as it is. The next `prepare` or `step` drops what is prepared.
+    /// Opens it to judge alone, as [`Judging::config`] says: nothing is drawn, and nothing strikes.
     ///
     /// # Errors
-    /// The refusal of an event that is not well-formed; [`Refusal::NoSuchIndex`] for a rewind to more than the length;
-    /// [`Refusal::BadBudget`] for a budget out of its limits; else [`Refusal::NoMemory`] where a growth was refused. Then
-    /// nothing is prepared. [`Command::Verdict`] is never refused.
+    /// [`Refusal::BadBudget`] where the budget is not 1 to 65,536, else [`Refusal::BadConcurrency`] where the
+    /// concurrency is not 1 to 64, else [`Refusal::NoMemory`] where a growth was refused.
+    pub fn to_judge(alloc: Global, settings: Judging) -> Result<Core, Refusal>
+        ensures limits { OnOk result (HasLimits settings) }
+        ensures opened { IfOk result (λ core. core ≡ at_rest (opening (judging settings))) }
+        ensures refused { IfErr result (MayNotJudge settings) }
+    {
+        Core::new(alloc, settings.config(alloc))
+    }
+
+    /// Prepares a command, and gives its reply and the verdict that [`commit`](Core::commit) will bring. The machine stays as
+    /// it is. The next `prepare` or `step` drops what is prepared.
+    ///
+    /// # Errors
+    /// The first test that the command does not pass, in the order that stands with each: an event those of its history;
+    /// a rewind [`Refusal::NoSuchIndex`]; a budget [`Refusal::BadBudget`]; a draw [`Refusal::WrongProcess`],
+    /// [`Refusal::Busy`], [`Refusal::HistoryFull`], [`Refusal::TapeFull`]; a serve [`Refusal::Stale`],
+    /// [`Refusal::AlreadyServed`], [`Refusal::NotOpen`]; a finish [`Refusal::Stale`], [`Refusal::NotServed`],
+    /// [`Refusal::HistoryFull`], [`Refusal::NotOpen`]; the nemesis [`Refusal::Idle`], [`Refusal::HistoryFull`]. Else
+    /// [`Refusal::NoMemory`] where a growth was refused; where no fault is due, asking the generator takes memory, so then
+    /// `NoMemory` may also come before [`Refusal::Idle`]. Then nothing is prepared. [`Command::Verdict`] is never refused.
     pub fn prepare(&mut self, command: Command) -> Result<(Reply, Verdict), Refusal>
-        ensures answered { IfOk result (λ answer. (next : Machine)
-            × MayStep self.old.machine command (Ok answer.0) next
-            × IsVerdictOn next answer.1
-            × (self.new ≡ with_next self.old.machine next)) }
+        ensures answered { IfOk result (λ answer.
+            IsPrepared self.old.machine command answer self.new) }
         ensures refused { IfErr result (λ why. why ≢ Refusal.NoMemory →
             MayStep self.old.machine command (Err why) self.old.machine) }
         ensures err { OnErr result (self.new ≡ at_rest self.old.machine) }
@@ -80,20 +146,17 @@ impl Core {
         ensures memory_last { IsErrOf result Refusal.NoMemory →
             MayWantMemory self.old.machine command }
     {
-        self.change = Change::Nothing;
-        let verdict = match command {
-            Command::Append(event) => self.monitor.prepare_append(event)?,
-            Command::Rewind(n) => self.monitor.prepare_rewind(n)?,
-            Command::SetModel(key, kind) => self.monitor.prepare_model(key, kind)?,
-            Command::SetBudget(key, n) => self.monitor.prepare_budget(key, n)?,
-            Command::Verdict => {
-                self.change = Change::Same;
-                let verdict = self.monitor.verdict();
-                return Ok((Reply::Verdict(verdict), verdict));
-            }
-        };
-        self.change = Change::OfMonitor;
-        Ok((Reply::Verdict(verdict), verdict))
+        match command {
+            Command::Append(event) => self.prepare_append(event),
+            Command::Rewind(n) => self.prepare_rewind(n),
+            Command::SetModel(key, kind) => self.prepare_model(key, kind),
+            Command::SetBudget(key, n) => self.prepare_budget(key, n),
+            Command::Verdict => Ok(self.prepare_verdict()),
+            Command::Draw(thread) => self.prepare_draw(thread),
+            Command::Serve(number) => self.prepare_serve(number),
+            Command::Finish(number) => self.prepare_finish(number),
+            Command::Nemesis => self.prepare_nemesis(),
+        }
     }
 
     /// Carries out what is prepared. It takes no memory and cannot fail.
@@ -101,10 +164,34 @@ impl Core {
         requires { IsSome self.old.next }
         ensures { IfSome self.old.next (λ next. self.new ≡ at_rest next) }
     {
-        if let Change::OfMonitor = self.change {
-            self.monitor.commit();
+        match std::mem::replace(&mut self.change, Change::Nothing) {
+            Change::Nothing => (),
+            Change::Same => (),
+            Change::Judged => self.monitor.commit(),
+            Change::Rewind(n) => {
+                self.monitor.commit();
+                make_stale(&mut self.tickets, n);
+            }
+            Change::Draw(ticket) => {
+                self.monitor.commit();
+                self.source.commit();
+                self.tickets.push_reserved(ticket);
+            }
+            Change::Serve(number, outcome) => {
+                self.store.commit();
+                come_to(&mut self.tickets[number], outcome);
+            }
+            Change::StrikeDue => {
+                self.monitor.commit();
+                self.store.commit();
+                self.schedule.advance();
+            }
+            Change::StrikeDrawn => {
+                self.monitor.commit();
+                self.store.commit();
+                self.source.commit();
+            }
         }
-        self.change = Change::Nothing;
     }
 
     /// Carries out a command, and gives its reply: [`prepare`](Core::prepare) and [`commit`](Core::commit) in one.
@@ -121,23 +208,214 @@ impl Core {
         // Want of memory is answered last.
         ensures memory_last { IsErrOf result Refusal.NoMemory →
             MayWantMemory self.old.machine command }
+        // No trial of a strict store is a false alarm: with this step, the history is linearizable.
+        ensures no_alarm { (setup : Setup) (run : List (Command × Result Reply Refusal))
+            → setup.mode ≡ Strict → IsCount setup.replicas
+            → AreOfTrial (run ++ (command, result) ∷ [])
+            → Runs (opening setup) run self.old.machine
+            → IsLinearizable (product (kind_of self.new.machine.judged))
+            (marks (entries_in self.new.machine.judged)) }
     {
+        no_false_alarm();
         let (reply, _) = self.prepare(command)?;
         self.commit();
         Ok(reply)
     }
 
-    /// The verdict on the history as it stands.
+    /// The verdict on the history as it stands. Takes no memory.
     pub fn verdict(&self) -> Verdict
-        ensures { IsVerdictOn self.now.machine result }
+        ensures { IsVerdictOn self.now.machine.judged result }
     {
         self.monitor.verdict()
     }
 
-    /// The monitor as it stands: its history, and its keys by first event.
+    /// The monitor as it stands: its history, and its keys by first event. Takes no memory.
     pub fn monitor(&self) -> &Monitor
-        ensures { result.now.now ≡ self.now.machine }
+        ensures { result.now.now ≡ self.now.machine.judged }
     {
         &self.monitor
+    }
+
+    // Prepares that an event comes next.
+    fn prepare_append(&mut self, event: Event) -> Result<(Reply, Verdict), Refusal>
+        ensures answered { IfOk result (λ answer.
+            IsPrepared self.old.machine (Command.Append event) answer self.new) }
+        ensures refused { IfErr result (MayDecline self.old.machine (Command.Append event)) }
+        ensures err { OnErr result (self.new ≡ at_rest self.old.machine) }
+    {
+        self.change = Change::Nothing;
+        let verdict = self.monitor.prepare_append(event)?;
+        self.change = Change::Judged;
+        Ok((Reply::Verdict(verdict), verdict))
+    }
+
+    // Prepares a cut of the history, which makes tickets stale.
+    fn prepare_rewind(&mut self, n: u32) -> Result<(Reply, Verdict), Refusal>
+        ensures answered { IfOk result (λ answer.
+            IsPrepared self.old.machine (Command.Rewind n) answer self.new) }
+        ensures refused { IfErr result (MayDecline self.old.machine (Command.Rewind n)) }
+        ensures err { OnErr result (self.new ≡ at_rest self.old.machine) }
+    {
+        self.change = Change::Nothing;
+        let verdict = self.monitor.prepare_rewind(n)?;
+        self.change = Change::Rewind(n);
+        Ok((Reply::Verdict(verdict), verdict))
+    }
+
+    // Prepares that a key is of this kind.
+    fn prepare_model(&mut self, key: Key, kind: ModelKind) -> Result<(Reply, Verdict), Refusal>
+        ensures answered { IfOk result (λ answer.
+            IsPrepared self.old.machine (Command.SetModel key kind) answer self.new) }
+        ensures refused { IfErr result (MayDecline self.old.machine (Command.SetModel key kind)) }
+        ensures err { OnErr result (self.new ≡ at_rest self.old.machine) }
+    {
+        self.change = Change::Nothing;
+        let verdict = self.monitor.prepare_model(key, kind)?;
+        self.change = Change::Judged;
+        Ok((Reply::Verdict(verdict), verdict))
+    }
+
+    // Prepares that a key has this budget.
+    fn prepare_budget(&mut self, key: Key, n: u32) -> Result<(Reply, Verdict), Refusal>
+        ensures answered { IfOk result (λ answer.
+            IsPrepared self.old.machine (Command.SetBudget key n) answer self.new) }
+        ensures refused { IfErr result (MayDecline self.old.machine (Command.SetBudget key n)) }
+        ensures err { OnErr result (self.new ≡ at_rest self.old.machine) }
+    {
+        self.change = Change::Nothing;
+        let verdict = self.monitor.prepare_budget(key, n)?;
+        self.change = Change::Judged;
+        Ok((Reply::Verdict(verdict), verdict))
+    }
+
+    // Prepares that all stays as it is.
+    fn prepare_verdict(&mut self) -> (Reply, Verdict)
+        ensures { IsPrepared self.old.machine Command.Verdict result self.new }
+    {
+        self.change = Change::Same;
+        let verdict = self.monitor.verdict();
+        (Reply::Verdict(verdict), verdict)
+    }
+
+    // Prepares that a thread draws.
+    fn prepare_draw(&mut self, thread: u32) -> Result<(Reply, Verdict), Refusal>
+        ensures answered { IfOk result (λ answer.
+            IsPrepared self.old.machine (Command.Draw thread) answer self.new) }
+        ensures refused { IfErr result (MayDecline self.old.machine (Command.Draw thread)) }
+        ensures err { OnErr result (self.new ≡ at_rest self.old.machine) }
+    {
+        self.change = Change::Nothing;
+        test_draw(self.monitor.history(), self.tickets.as_slice(), thread)?;
+        match draw_op(&mut self.source, self.monitor.history(), thread)? {
+            Drew::Op(op) => {
+                let number = self.tickets.len() as u32;
+                let index = self.monitor.history().len();
+                let (ticket, verdict) = invoke(&mut self.monitor, &mut self.tickets, thread, op)?;
+                self.change = Change::Draw(ticket);
+                Ok((
+                    Reply::Drawn {
+                        ticket: number,
+                        index,
+                    },
+                    verdict,
+                ))
+            }
+            Drew::Pending => {
+                self.change = Change::Same;
+                Ok((Reply::Pending, self.monitor.verdict()))
+            }
+            Drew::Done => {
+                self.change = Change::Same;
+                Ok((Reply::Done, self.monitor.verdict()))
+            }
+        }
+    }
+
+    // Prepares that the operation of a ticket is carried out on the store.
+    fn prepare_serve(&mut self, number: u32) -> Result<(Reply, Verdict), Refusal>
+        ensures answered { IfOk result (λ answer.
+            IsPrepared self.old.machine (Command.Serve number) answer self.new) }
+        ensures refused { IfErr result (MayDecline self.old.machine (Command.Serve number)) }
+        ensures err { OnErr result (self.new ≡ at_rest self.old.machine) }
+    {
+        self.change = Change::Nothing;
+        let ticket = unserved(self.monitor.history(), self.tickets.as_slice(), number)?;
+        let entry = entry_of(ticket.thread, self.store.replicas());
+        let outcome = self.store.prepare_serve(entry, &ticket.op)?;
+        let copy = outcome.copy()?;
+        self.change = Change::Serve(number as usize, outcome);
+        Ok((Reply::Served(copy), self.monitor.verdict()))
+    }
+
+    // Prepares that the operation of a ticket is completed.
+    fn prepare_finish(&mut self, number: u32) -> Result<(Reply, Verdict), Refusal>
+        ensures answered { IfOk result (λ answer.
+            IsPrepared self.old.machine (Command.Finish number) answer self.new) }
+        ensures refused { IfErr result (MayDecline self.old.machine (Command.Finish number)) }
+        ensures err { OnErr result (self.new ≡ at_rest self.old.machine) }
+    {
+        self.change = Change::Nothing;
+        let event = finishing(self.monitor.history(), self.tickets.as_slice(), number)?;
+        let verdict = append(&mut self.monitor, event)?;
+        self.change = Change::Judged;
+        Ok((Reply::Verdict(verdict), verdict))
+    }
+
+    // Prepares that the nemesis strikes.
+    fn prepare_nemesis(&mut self) -> Result<(Reply, Verdict), Refusal>
+        ensures answered { IfOk result (λ answer.
+            IsPrepared self.old.machine Command.Nemesis answer self.new) }
+        ensures refused { IfErr result (MayDecline self.old.machine Command.Nemesis) }
+        ensures err { OnErr result (self.new ≡ at_rest self.old.machine) }
+    {
+        let length = self.monitor.history().len();
+        if self.schedule.due(length).is_some() {
+            self.prepare_due()
+        } else {
+            self.prepare_drawn()
+        }
+    }
+
+    // Prepares that the fault strikes that is due.
+    fn prepare_due(&mut self) -> Result<(Reply, Verdict), Refusal>
+        requires { IsSome (first_due self.old.machine) }
+        ensures answered { IfOk result (λ answer.
+            IsPrepared self.old.machine Command.Nemesis answer self.new) }
+        ensures refused { IfErr result (MayDecline self.old.machine Command.Nemesis) }
+        ensures err { OnErr result (self.new ≡ at_rest self.old.machine) }
+    {
+        self.change = Change::Nothing;
+        let index = self.monitor.history().len();
+        let Some(fault) = self.schedule.due(index) else {
+            unreachable!()
+        };
+        if index >= MOST_EVENTS {
+            return Err(Refusal::HistoryFull);
+        }
+        let copy = fault.copy()?;
+        let verdict = strike(&mut self.monitor, &mut self.store, &copy)?;
+        self.change = Change::StrikeDue;
+        Ok((Reply::Fault { fault: copy, index }, verdict))
+    }
+
+    // Prepares that a fault strikes that the generator gives, where none is due.
+    fn prepare_drawn(&mut self) -> Result<(Reply, Verdict), Refusal>
+        requires { first_due self.old.machine ≡ None }
+        ensures answered { IfOk result (λ answer.
+            IsPrepared self.old.machine Command.Nemesis answer self.new) }
+        ensures refused { IfErr result (MayDecline self.old.machine Command.Nemesis) }
+        ensures err { OnErr result (self.new ≡ at_rest self.old.machine) }
+    {
+        self.change = Change::Nothing;
+        let Some(fault) = draw_fault(&mut self.source, self.monitor.history())? else {
+            return Err(Refusal::Idle);
+        };
+        let index = self.monitor.history().len();
+        if index >= MOST_EVENTS {
+            return Err(Refusal::HistoryFull);
+        }
+        let verdict = strike(&mut self.monitor, &mut self.store, &fault)?;
+        self.change = Change::StrikeDrawn;
+        Ok((Reply::Fault { fault, index }, verdict))
     }
 }

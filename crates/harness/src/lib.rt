@@ -1,9 +1,16 @@
-//! The one-thread object: commands in, verdicts out.
+//! The one-thread object: commands in, verdicts out. A history under a monitor, a generator of operations and faults, a
+//! schedule of faults, a replicated store in the process, and tickets.
 #![tactic(auto)]
 
-pub mod command;
+mod asking;
+pub mod config;
 pub mod core_object;
-pub mod laws;
+mod fitness;
+pub mod judging;
+mod parts;
+mod tickets;
 
-pub use command::{Command, Config, Reply};
+pub use config::Config;
 pub use core_object::Core;
+pub use judging::Judging;
+pub use machine::{Command, Reply};

@@ -17,8 +17,8 @@ use Rattle.models.specs.declared.model_kind.ModelKind.TheVariants.{Register, Cas
 use Rattle.models.specs.Names.{name_of, Finds}
 use Rattle.history.specs.declared.event.Event.{Event}
 use Rattle.history.specs.Spelling.{Spells, WhyUnspelled}
-use Rattle.harness.specs.declared.command.Command.{Command}
-use Rattle.harness.specs.declared.command.Command.TheVariants.{Append, Rewind, SetBudget}
+use Rattle.machine.specs.declared.command.Command.{Command}
+use Rattle.machine.specs.declared.command.Command.TheVariants.{Append, Rewind, SetModel, SetBudget, Verdict, Draw, Serve, Finish, Nemesis}
 use Rattle.jepmon.specs.Command.{verdict_by, rewind_to, rewind_by, kind_named, kind_in, key_in, model_of, model_by, budget_for, budget_by, command_named, command_headed, vector_command, Appends, ElementAsks, AskFor, Asks}
 
 -- arguments that are too few or too many
@@ -103,81 +103,98 @@ spells_none v _ unspelled other = absurd unspelled
 pub refused_element : (v : Value) (why : Refusal) → elements_in v ≡ None → WhyUnspelled v why → why ≢ NoMemory → ElementAsks v (Err why)
 refused_element v why is unspelled other = appended v (Err why) is (spells_none v why unspelled other)
 
--- no command is refused as unreadable
-abbrev IsReadable : Result Command Refusal → Type 0
-IsReadable (Err (Unreadable place)) = ⊥
-IsReadable _ = Unit {0}
+-- what an element may ask for: no draw, no serve, no finish and no fault, and it is not refused as unreadable
+abbrev pub MayAsk : Result Command Refusal → Type 0
+MayAsk (Ok (Draw thread)) = ⊥
+MayAsk (Ok (Serve number)) = ⊥
+MayAsk (Ok (Finish number)) = ⊥
+MayAsk (Ok Nemesis) = ⊥
+MayAsk (Err (Unreadable place)) = ⊥
+MayAsk _ = Unit {0}
 
-either : (b : Bool) (x y : Result Command Refusal) → IsReadable x → IsReadable y → IsReadable (if b then x else y)
+either : (b : Bool) (x y : Result Command Refusal) → MayAsk x → MayAsk y → MayAsk (if b then x else y)
 either true x y p q = p
 either false x y p q = q
 
-readable_verdict : (vs : Values) → IsReadable (verdict_by vs)
-readable_verdict none = tt
-readable_verdict (more v vs) = tt
+may_ask_verdict : (vs : Values) → MayAsk (verdict_by vs)
+may_ask_verdict none = tt
+may_ask_verdict (more v vs) = tt
 
-readable_rewind_to : (v : Value) → IsReadable (rewind_to v)
-readable_rewind_to (int (pos n)) = either (nat_lt n (2 ^ 32)) (Ok (Rewind n)) (Err NoSuchIndex) tt tt
-readable_rewind_to (int _) = tt
-readable_rewind_to _ = tt
+may_ask_rewind_to : (v : Value) → MayAsk (rewind_to v)
+may_ask_rewind_to (int (pos n)) = either (nat_lt n (2 ^ 32)) (Ok (Rewind n)) (Err NoSuchIndex) tt tt
+may_ask_rewind_to (int _) = tt
+may_ask_rewind_to _ = tt
 
-readable_rewind : (vs : Values) → IsReadable (rewind_by vs)
-readable_rewind none = tt
-readable_rewind (more v none) = readable_rewind_to v
-readable_rewind (more v (more w vs)) = tt
+may_ask_rewind : (vs : Values) → MayAsk (rewind_by vs)
+may_ask_rewind none = tt
+may_ask_rewind (more v none) = may_ask_rewind_to v
+may_ask_rewind (more v (more w vs)) = tt
 
-readable_model_of : (key : Option ℕ) (kind : Option ModelKind) → IsReadable (model_of key kind)
-readable_model_of (Some key) (Some kind) = tt
-readable_model_of None kind = tt
-readable_model_of (Some key) None = tt
+may_ask_model_of : (key : Option ℕ) (kind : Option ModelKind) → MayAsk (model_of key kind)
+may_ask_model_of (Some key) (Some kind) = tt
+may_ask_model_of None kind = tt
+may_ask_model_of (Some key) None = tt
 
-readable_model : (vs : Values) → IsReadable (model_by vs)
-readable_model none = tt
-readable_model (more k none) = tt
-readable_model (more k (more m none)) = readable_model_of (key_in k) (kind_in m)
-readable_model (more k (more m (more v vs))) = tt
+may_ask_model : (vs : Values) → MayAsk (model_by vs)
+may_ask_model none = tt
+may_ask_model (more k none) = tt
+may_ask_model (more k (more m none)) = may_ask_model_of (key_in k) (kind_in m)
+may_ask_model (more k (more m (more v vs))) = tt
 
-readable_budget_for : (key : Option ℕ) (v : Value) → IsReadable (budget_for key v)
-readable_budget_for None v = tt
-readable_budget_for (Some key) (int (pos n)) = either (nat_lt n (2 ^ 32)) (Ok (SetBudget key n)) (Err BadBudget) tt tt
-readable_budget_for (Some key) (int _) = tt
-readable_budget_for (Some key) _ = tt
+may_ask_budget_for : (key : Option ℕ) (v : Value) → MayAsk (budget_for key v)
+may_ask_budget_for None v = tt
+may_ask_budget_for (Some key) (int (pos n)) = either (nat_lt n (2 ^ 32)) (Ok (SetBudget key n)) (Err BadBudget) tt tt
+may_ask_budget_for (Some key) (int _) = tt
+may_ask_budget_for (Some key) _ = tt
 
-readable_budget : (vs : Values) → IsReadable (budget_by vs)
-readable_budget none = tt
-readable_budget (more k none) = tt
-readable_budget (more k (more n none)) = readable_budget_for (key_in k) n
-readable_budget (more k (more n (more v vs))) = tt
+may_ask_budget : (vs : Values) → MayAsk (budget_by vs)
+may_ask_budget none = tt
+may_ask_budget (more k none) = tt
+may_ask_budget (more k (more n none)) = may_ask_budget_for (key_in k) n
+may_ask_budget (more k (more n (more v vs))) = tt
 
-readable_named : (name : List ℕ) (vs : Values) → IsReadable (command_named name vs)
-readable_named name vs =
-    either (bytes_eq name (codes "verdict")) (verdict_by vs) (if bytes_eq name (codes "rewind") then rewind_by vs else if bytes_eq name (codes "model") then model_by vs else if bytes_eq name (codes "budget") then budget_by vs else Err BadValue) (readable_verdict vs)
-    (either (bytes_eq name (codes "rewind")) (rewind_by vs) (if bytes_eq name (codes "model") then model_by vs else if bytes_eq name (codes "budget") then budget_by vs else Err BadValue) (readable_rewind vs)
-    (either (bytes_eq name (codes "model")) (model_by vs) (if bytes_eq name (codes "budget") then budget_by vs else Err BadValue) (readable_model vs)
-    (either (bytes_eq name (codes "budget")) (budget_by vs) (Err BadValue) (readable_budget vs) tt)))
+may_ask_named : (name : List ℕ) (vs : Values) → MayAsk (command_named name vs)
+may_ask_named name vs =
+    either (bytes_eq name (codes "verdict")) (verdict_by vs) (if bytes_eq name (codes "rewind") then rewind_by vs else if bytes_eq name (codes "model") then model_by vs else if bytes_eq name (codes "budget") then budget_by vs else Err BadValue) (may_ask_verdict vs)
+    (either (bytes_eq name (codes "rewind")) (rewind_by vs) (if bytes_eq name (codes "model") then model_by vs else if bytes_eq name (codes "budget") then budget_by vs else Err BadValue) (may_ask_rewind vs)
+    (either (bytes_eq name (codes "model")) (model_by vs) (if bytes_eq name (codes "budget") then budget_by vs else Err BadValue) (may_ask_model vs)
+    (either (bytes_eq name (codes "budget")) (budget_by vs) (Err BadValue) (may_ask_budget vs) tt)))
 
-readable_headed : (v : Value) (vs : Values) → IsReadable (command_headed v vs)
-readable_headed (keyword name) vs = readable_named name vs
-readable_headed _ vs = tt
+may_ask_headed : (v : Value) (vs : Values) → MayAsk (command_headed v vs)
+may_ask_headed (keyword name) vs = may_ask_named name vs
+may_ask_headed _ vs = tt
 
-readable : (vs : Values) → IsReadable (vector_command vs)
-readable none = tt
-readable (more v vs) = readable_headed v vs
+may_ask : (vs : Values) → MayAsk (vector_command vs)
+may_ask none = tt
+may_ask (more v vs) = may_ask_headed v vs
 
-not_unreadable : (v : Value) (place : ℕ) → ElementAsks v (Err (Unreadable place)) → ⊥
-not_unreadable (vector vs) place h = subst IsReadable (sym h) (readable vs)
-not_unreadable nil place h = h
-not_unreadable (bool b) place h = h
-not_unreadable (int z) place h = h
-not_unreadable (text s) place h = h
-not_unreadable (keyword s) place h = h
-not_unreadable (pairs ps) place h = h
-not_unreadable (members vs) place h = h
+append_may_ask : (v : Value) (asked : Result Command Refusal) → Appends v asked → MayAsk asked
+append_may_ask v (Ok (Append event)) h = tt
+append_may_ask v (Err BadValue) h = tt
+append_may_ask v _ h = absurd h
+
+element_may_ask : (v : Value) (asked : Result Command Refusal) → ElementAsks v asked → MayAsk asked
+element_may_ask (vector vs) asked h = subst MayAsk (sym h) (may_ask vs)
+element_may_ask nil asked h = append_may_ask nil asked h
+element_may_ask (bool b) asked h = append_may_ask (bool b) asked h
+element_may_ask (int z) asked h = append_may_ask (int z) asked h
+element_may_ask (text s) asked h = append_may_ask (text s) asked h
+element_may_ask (keyword s) asked h = append_may_ask (keyword s) asked h
+element_may_ask (pairs ps) asked h = append_may_ask (pairs ps) asked h
+element_may_ask (members vs) asked h = append_may_ask (members vs) asked h
 
 not_unreadable_for : (vs : Values) (place : ℕ) → AskFor vs (Err (Unreadable place)) → ⊥
 not_unreadable_for none place h = cc
-not_unreadable_for (more v none) place h = not_unreadable v place h
+not_unreadable_for (more v none) place h = element_may_ask v (Err (Unreadable place)) h
 not_unreadable_for (more v (more w vs)) place h = cc
+
+elements_may_ask : (vs : Values) (command : Command) → AskFor vs (Ok (Some command)) → MayAsk (Ok command)
+elements_may_ask none command h = cc
+elements_may_ask (more v none) command h = element_may_ask v (Ok command) h
+elements_may_ask (more v (more w vs)) command h = cc
+
+pub line_may_ask : (line : List ℕ) (command : Command) → Asks line (Ok (Some command)) → MayAsk (Ok command)
+line_may_ask line command (values, reads, h) = elements_may_ask values command h
 
 -- a line asks for what its elements do
 pub line_asks : (line : List ℕ) (vs : Values) (asked : Result (Option Command) Refusal) → IsText line vs → AskFor vs asked → Asks line asked

@@ -1,5 +1,5 @@
 -- The machine and a line determine the reply.
-use Rattle.std.proofs.Common.{◌≡◌, ⊎_elim, ℕ, List, refl, sym, ap, ◌∙◌, subst}
+use Rattle.std.proofs.Common.{◌≡◌, ⊎_elim, ℕ, List, [], refl, sym, ap, ◌∙◌, subst}
 use Rattle.std.specs.Prelude.{Option, Some, None, Result, Ok, Err}
 use Rattle.std.proofs.lemmas.Bool.{cases_order}
 use Rattle.edn.specs.Value.{Value, nil, bool, int, text, keyword, vector, members, pairs, Values, none, more}
@@ -9,14 +9,18 @@ use Rattle.edn.specs.declared.refusal.Refusal.TheVariants.{BadValue, Unreadable}
 use Rattle.edn.proofs.Unique.{one_text}
 use Rattle.history.specs.declared.event.Event.{Event}
 use Rattle.history.proofs.OneEvent.{spell_one}
-use Rattle.harness.specs.Machine.{Machine}
-use Rattle.harness.specs.declared.command.Command.{Command}
-use Rattle.harness.specs.declared.command.Command.TheVariants.{Append}
-use Rattle.harness.proofs.OneStep.{step_one}
+use Rattle.machine.specs.Machine.{Machine, MayStep}
+use Rattle.machine.specs.declared.command.Command.{Command}
+use Rattle.machine.specs.declared.command.Command.TheVariants.{Append}
+use Rattle.machine.specs.declared.command.Reply.{Reply}
+use Rattle.machine.specs.declared.command.Reply.TheVariants.{Verdict as Says}
+use Rattle.machine.proofs.OneStep.{step_one}
 use Rattle.line_loop.specs.ReplyText.{IsReplyText}
+use Rattle.line_loop.specs.RefusalLine.{refusal_line}
 use Rattle.line_loop.proofs.OneCut.{one_reply_text_law}
 use Rattle.jepmon.specs.Command.{Appends, ElementAsks, AskFor, Asks}
-use Rattle.jepmon.specs.Reply.{outcome_line, CarriesOut, AnswersTo, MayReply}
+use Rattle.jepmon.specs.Reply.{CarriesOut, AnswersTo, MayReply}
+use Rattle.jepmon.specs.VerdictLine.{verdict_line}
 
 -- what a line may be read into
 abbrev Outcome : Type 0
@@ -82,10 +86,24 @@ same_line_asks line asked other (elements vs t f) (elements ws u g) =
 one_asked : (line : List ℕ) (asked other : Outcome) → Asks line asked → Asks line other → asked ≡ other
 one_asked line asked other a b = same_line_asks line asked other (line_asks line asked a) (line_asks line other b)
 
+-- a command is answered by one line, and leads to one machine
+abbrev line_of_outcome : Result Reply Refusal → List ℕ
+line_of_outcome (Ok (Says verdict)) = verdict_line verdict
+line_of_outcome (Ok _) = []
+line_of_outcome (Err refusal) = refusal_line refusal
+
+abbrev HasLine : Machine → Command → List ℕ → Machine → Type 0
+HasLine old command said new = (outcome : Result Reply Refusal) × MayStep old command outcome new × (said ≡ line_of_outcome outcome)
+
+has_line : (old : Machine) (command : Command) (said : List ℕ) (new : Machine) → CarriesOut old command said new → HasLine old command said new
+has_line old command said new = ⊎_elim (λ a. (Ok (Says a.0), a.1, a.2)) (λ r. (Err r.0, r.1, r.3))
+
 one_carried_out : (old : Machine) (command : Command) (said other : List ℕ) (new next : Machine) → CarriesOut old command said new → CarriesOut old command other next → (said ≡ other) × (new ≡ next)
 one_carried_out old command said other new next a b =
-    let (outcome, machine) = step_one old new next command a.0 b.0 a.1 b.1 in
-    (a.3 ∙ ap outcome_line outcome ∙ sym b.3, machine)
+    let (c, steps, line) = has_line old command said new a in
+    let (d, steps_too, line_too) = has_line old command other next b in
+    let (outcome, machine) = step_one old new next command c d steps steps_too in
+    (line ∙ ap line_of_outcome outcome ∙ sym line_too, machine)
 
 one_answer : (old : Machine) (asked : Outcome) (said other : List ℕ) (new next : Machine) → AnswersTo old asked said new → AnswersTo old asked other next → (said ≡ other) × (new ≡ next)
 one_answer old (Ok None) said other new next a b = (a.0 ∙ sym b.0, a.1 ∙ sym b.1)

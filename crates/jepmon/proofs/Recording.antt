@@ -9,8 +9,10 @@ use Rattle.edn.specs.Text.{IsText}
 use Rattle.edn.specs.Elements.{IsLeftBehind, count_of}
 use Rattle.edn.specs.declared.refusal.Refusal.{Refusal}
 use Rattle.edn.specs.declared.refusal.Refusal.TheVariants.{NoMemory}
-use Rattle.harness.specs.Machine.{Machine, CoreView, opening, at_rest}
-use Rattle.harness.specs.declared.command.Config.{Config}
+use Rattle.machine.specs.Machine.{Machine, opening}
+use Rattle.harness.specs.CoreView.{CoreView, at_rest}
+use Rattle.harness.specs.Setups.{judging}
+use Rattle.harness.specs.declared.judging.Judging.{Judging}
 use Rattle.line_loop.specs.RefusalLine.{line_of}
 use Rattle.jepmon.specs.declared.recorded.Findings.{Findings}
 use Rattle.jepmon.specs.declared.recorded.Findings.TheVariants.{Refused}
@@ -31,14 +33,14 @@ pub no_memory_line : (bytes : List ℕ) → bytes ≡ codes "refused 13 NoMemory
 no_memory_line bytes is = is ∙ ap (λ d. line_of (codes "refused " ∷ d ∷ codes " " ∷ codes "NoMemory" ∷ [] ∷ [])) (sym thirteen)
 
 -- what was told is what was found, or want of memory
-pub checks : (config : Config) (left left' : Option (List ℕ)) (read_failed : Bool) (before after : Option (List ℕ)) (write_failed : Bool) (status : ℕ) (input : List ℕ) → Consumes left left' input
-    → (findings : Findings) → IsFound config input left' read_failed findings → (told : Findings) → (told ≡ findings) ⊎ (told ≡ Refused NoMemory) → IsTold told before after write_failed status
-    → Checks config left left' read_failed before after write_failed status
-checks config left left' read_failed before after write_failed status input read findings found told which tells = record {
+pub checks : (settings : Judging) (left left' : Option (List ℕ)) (read_failed : Bool) (before after : Option (List ℕ)) (write_failed : Bool) (status : ℕ) (input : List ℕ) → Consumes left left' input
+    → (findings : Findings) → IsFound settings input left' read_failed findings → (told : Findings) → (told ≡ findings) ⊎ (told ≡ Refused NoMemory) → IsTold told before after write_failed status
+    → Checks settings left left' read_failed before after write_failed status
+checks settings left left' read_failed before after write_failed status input read findings found told which tells = record {
   input = input;
   read = read;
   findings = told;
-  found = ⊎_elim (λ same. subst (IsFound config input left' read_failed) (sym same) found) (λ memory. inr (inr memory)) which;
+  found = ⊎_elim (λ same. subst (IsFound settings input left' read_failed) (sym same) found) (λ memory. inr (inr memory)) which;
   told = tells;
 }
 
@@ -54,17 +56,17 @@ joined-assoc : (us vs ws : Values) → joined (joined us vs) ws ≡ joined us (j
 joined-assoc none vs ws = refl
 joined-assoc (more u us) vs ws = ap (more u) (joined-assoc us vs ws)
 
-module _ (config : Config) (core : CoreView) (opened : core ≡ at_rest (opening config)) (bytes : List ℕ) where
-  from_opening : (vs : Values) (m : Machine) → TakesAll core.machine vs m → TakesAll (opening config) vs m
+module _ (settings : Judging) (core : CoreView) (opened : core ≡ at_rest (opening (judging settings))) (bytes : List ℕ) where
+  from_opening : (vs : Values) (m : Machine) → TakesAll core.machine vs m → TakesAll (opening (judging settings)) vs m
   from_opening vs m takes = subst (λ (s : CoreView). TakesAll s.machine vs m) opened takes
 
   -- all are taken
-  pub taken : (given : Values) (m : Machine) → TakesAll core.machine given m → IsText bytes given → IsTaken config bytes m
+  pub taken : (given : Values) (m : Machine) → TakesAll core.machine given m → IsText bytes given → IsTaken settings bytes m
   taken given m takes text = record { values = given; text = text; takes = from_opening given m takes }
 
   -- the next one is refused
   pub refused : (values : Values) → IsText bytes values → (given : Values) (v : Value) (left : List ℕ) → IsLeftBehind bytes (joined given (more v none)) left → (m : Machine) → TakesAll core.machine given m
-      → (i : ℕ) → count_of given ≡ i → (why : Refusal) → RefusesElement m v why → IsRefusedAt config bytes i why
+      → (i : ℕ) → count_of given ≡ i → (why : Refusal) → RefusesElement m v why → IsRefusedAt settings bytes i why
   refused values text given v left behind m takes i counted why refuses =
       let rest = behind.complete values text in
       record {

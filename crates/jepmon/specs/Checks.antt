@@ -2,16 +2,16 @@
 use Rattle.std.specs.Prelude.{◌≡◌, ℕ, Bool, true, List, ◌++◌, Option, ◌⊎◌}
 use Rattle.std.specs.Io.KnownBytes.{Appends, Consumes, IsAtEnd}
 use Rattle.edn.specs.declared.refusal.Refusal.TheVariants.{NoMemory, ReadFailed}
-use Rattle.harness.specs.declared.command.Config.{Config}
+use Rattle.harness.specs.declared.judging.Judging.{Judging}
 use Rattle.jepmon.specs.declared.recorded.Findings.{Findings}
 use Rattle.jepmon.specs.declared.recorded.Findings.TheVariants.{Refused}
 use Rattle.jepmon.specs.Recorded.{ComesTo, findings_line, findings_status}
 
 -- what was found of a reader that gave these bytes: what they come to, where it was read to its end; or it has failed, or
 -- memory ran out
-abbrev pub IsFound : Config → List ℕ → Option (List ℕ) → Bool → Findings → Type 0
-IsFound config input left has_failed findings =
-    (IsAtEnd left × ComesTo config input findings)
+abbrev pub IsFound : Judging → List ℕ → Option (List ℕ) → Bool → Findings → Type 0
+IsFound settings input left has_failed findings =
+    (IsAtEnd left × ComesTo settings input findings)
     ⊎ ((findings ≡ Refused ReadFailed) × (has_failed ≡ true))
     ⊎ (findings ≡ Refused NoMemory)
 
@@ -27,10 +27,10 @@ abbrev pub IsTold : Findings → Option (List ℕ) → Option (List ℕ) → Boo
 IsTold findings = IsPut (findings_line findings) (findings_status findings)
 
 -- a check of a reader that had left, and has left' after it, which a writer was told of
-pub record Checks (config : Config) (left left' : Option (List ℕ)) (read_failed : Bool)
+pub record Checks (settings : Judging) (left left' : Option (List ℕ)) (read_failed : Bool)
     (before after : Option (List ℕ)) (write_failed : Bool) (status : ℕ) : Type 0 where
   pub input : List ℕ
   pub read : Consumes left left' input
   pub findings : Findings
-  pub found : IsFound config input left' read_failed findings
+  pub found : IsFound settings input left' read_failed findings
   pub told : IsTold findings before after write_failed status

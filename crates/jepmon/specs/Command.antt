@@ -10,8 +10,8 @@ use Rattle.models.specs.declared.model_kind.ModelKind.TheVariants.{Register, Cas
 use Rattle.models.specs.Names.{name_of}
 use Rattle.history.specs.Spelling.{Spells, number_in}
 use Rattle.history.specs.declared.event.Event.{Event}
-use Rattle.harness.specs.declared.command.Command.{Command}
-use Rattle.harness.specs.declared.command.Command.TheVariants.{Append, Rewind, SetModel, SetBudget, Verdict}
+use Rattle.machine.specs.declared.command.Command.{Command}
+use Rattle.machine.specs.declared.command.Command.TheVariants.{Append, Rewind, SetModel, SetBudget, Verdict}
 
 -- [:verdict]
 abbrev pub verdict_by : Values → Result Command Refusal

@@ -9,11 +9,12 @@ use Rattle.edn.specs.declared.refusal.Refusal.{Refusal}
 use Rattle.edn.specs.declared.refusal.Refusal.TheVariants.{BadValue}
 use Rattle.history.specs.declared.event.Event.{Event}
 use Rattle.history.specs.Spelling.{Spells}
-use Rattle.harness.specs.Machine.{Machine, MayStep, opening, MayNotOpen}
+use Rattle.machine.specs.Machine.{Machine, MayStep, opening}
+use Rattle.harness.specs.Setups.{judging, MayNotJudge}
 use Rattle.monitor.specs.JudgedHistory.{IsVerdictOn}
-use Rattle.harness.specs.declared.command.Config.{Config}
-use Rattle.harness.specs.declared.command.Command.TheVariants.{Append}
-use Rattle.harness.specs.declared.command.Reply.{Reply}
+use Rattle.harness.specs.declared.judging.Judging.{Judging}
+use Rattle.machine.specs.declared.command.Command.TheVariants.{Append}
+use Rattle.machine.specs.declared.command.Reply.{Reply}
 use Rattle.line_loop.specs.RefusalLine.{line_of, refusal_line}
 use Rattle.jepmon.specs.VerdictLine.{verdict_line}
 use Rattle.jepmon.specs.ExitStatus.{status_of}
@@ -36,27 +37,27 @@ TakesAll old none new = new ≡ old
 TakesAll old (more v vs) new = (mid : Machine) × TakesElement old v mid × TakesAll mid vs new
 
 -- the bytes are a text; its first i elements are taken, and the next one is refused for this
-pub record IsRefusedAt (config : Config) (bytes : List ℕ) (i : ℕ) (why : Refusal) : Type 0 where
+pub record IsRefusedAt (settings : Judging) (bytes : List ℕ) (i : ℕ) (why : Refusal) : Type 0 where
   pub taken : Values
   pub next : Value
   pub later : Values
   pub text : IsText bytes (joined taken (more next later))
   pub counted : count_of taken ≡ i
   pub machine : Machine
-  pub takes : TakesAll (opening config) taken machine
+  pub takes : TakesAll (opening (judging settings)) taken machine
   pub refuses : RefusesElement machine next why
 
 -- the bytes are a text; all its elements are taken
-pub record IsTaken (config : Config) (bytes : List ℕ) (end : Machine) : Type 0 where
+pub record IsTaken (settings : Judging) (bytes : List ℕ) (end : Machine) : Type 0 where
   pub values : Values
   pub text : IsText bytes values
-  pub takes : TakesAll (opening config) values end
+  pub takes : TakesAll (opening (judging settings)) values end
 
 -- what the bytes come to. Memory may run out; else bytes that are no text are refused, whatever their elements are
-abbrev pub ComesTo : Config → List ℕ → Findings → Type 0
-ComesTo config bytes (Judged verdict) = (end : Machine) × IsTaken config bytes end × IsVerdictOn end verdict
-ComesTo config bytes (RefusedEvent i why) = IsRefusedAt config bytes i why
-ComesTo config bytes (Refused why) = IsWhy bytes why ⊎ MayNotOpen config why
+abbrev pub ComesTo : Judging → List ℕ → Findings → Type 0
+ComesTo settings bytes (Judged verdict) = (end : Machine) × IsTaken settings bytes end × IsVerdictOn end.judged verdict
+ComesTo settings bytes (RefusedEvent i why) = IsRefusedAt settings bytes i why
+ComesTo settings bytes (Refused why) = IsWhy bytes why ⊎ MayNotJudge settings why
 
 -- the line that says it
 abbrev pub findings_line : Findings → List ℕ

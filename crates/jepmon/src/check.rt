@@ -7,7 +7,7 @@ use crate::exit_status::REFUSED;
 use crate::progress::Progress;
 use crate::recorded::{Findings, findings_text, judge_text, status_of_findings};
 use edn::Refusal;
-use harness::Config;
+use harness::Judging;
 use line_loop::{Failed, Watched, flush_all, read_whole, write_text};
 use std::alloc::Global;
 use std::fs;
@@ -28,7 +28,7 @@ const NO_MEMORY: &[u8] = b"refused 13 NoMemory\n";
 pub fn check_text<X: Wait, R: Read + Failed, W: Write + Failed, P: Progress>(
     rt: &X,
     alloc: Global,
-    config: Config,
+    settings: Judging,
     _workers: u32,
     reader: &mut R,
     writer: &mut W,
@@ -36,12 +36,12 @@ pub fn check_text<X: Wait, R: Read + Failed, W: Write + Failed, P: Progress>(
 ) -> u8
     requires reads { R.has_failed reader.old ≡ false }
     requires writes { W.has_failed writer.old ≡ false }
-    ensures { Checks config
+    ensures { Checks settings
         (R.remaining reader.old) (R.remaining reader.new) (R.has_failed reader.new)
         (W.contents writer.old) (W.contents writer.new) (W.has_failed writer.new) result }
 {
     let findings = match read_whole(rt, alloc, reader) {
-        Ok(bytes) => judge_text(alloc, config, bytes.as_slice(), progress),
+        Ok(bytes) => judge_text(alloc, settings, bytes.as_slice(), progress),
         Err(refusal) => Findings::Refused(refusal),
     };
     tell(rt, alloc, &findings, writer)
@@ -53,7 +53,7 @@ pub fn check_file<X: Wait + Files, W: Write + Failed, P: Progress>(
     rt: &X,
     alloc: Global,
     path: &str,
-    config: Config,
+    settings: Judging,
     workers: u32,
     writer: &mut W,
     progress: &mut P,
@@ -63,7 +63,7 @@ pub fn check_file<X: Wait + Files, W: Write + Failed, P: Progress>(
     match fs::open(rt, path) {
         Ok(file) => {
             let mut reader = Watched::new(file);
-            check_text(rt, alloc, config, workers, &mut reader, writer, progress)
+            check_text(rt, alloc, settings, workers, &mut reader, writer, progress)
         }
         Err(_) => tell(rt, alloc, &Findings::Refused(Refusal::ReadFailed), writer),
     }

@@ -1,12 +1,12 @@
 //! The words of the command line.
 ghost use Rattle.std.specs.Prelude.{◌≡◌, length, IfOk, Ok};
-ghost use Rattle.harness.specs.Limits.{HasLimits};
-ghost use Rattle.jepmon.specs.CommandLine.{default_config, IsWithinLimits};
+ghost use Rattle.harness.specs.Setups.{HasLimits};
+ghost use Rattle.jepmon.specs.CommandLine.{default_settings, IsWithinLimits};
 
 use clap::error::ErrorKind;
 use clap::{Arg, ArgMatches, Command};
 use edn::Refusal;
-use harness::Config;
+use harness::Judging;
 use models::{ModelKind, each_kind};
 use std::alloc::{AllocError, Global};
 
@@ -17,7 +17,7 @@ const MOST_WORKERS: u32 = 64;
 #[derive(Drop)]
 pub enum Order {
     /// Answers the lines of standard input.
-    Script(Config),
+    Script(Judging),
     /// Judges a recorded history.
     Check {
         /// The file that it stands in.
@@ -25,7 +25,7 @@ pub enum Order {
         /// Threads that judge its keys.
         workers: u32,
         /// How the one-thread object is opened.
-        config: Config,
+        settings: Judging,
     },
 }
 
@@ -100,11 +100,11 @@ const BUDGET: &str = "Ends of one key that are kept apart, 1 to 65536; a key wit
 /// for a model of another name. `Refused` for a number out of its limits: `BadBudget` first, then `BadConcurrency`; and
 /// where memory is refused.
 pub fn order_of(alloc: Global, words: &[String]) -> Result<Order, Stop>
-    ensures defaults { length words.now ≡ 0 → result ≡ Ok (Order.Script default_config) }
+    ensures defaults { length words.now ≡ 0 → result ≡ Ok (Order.Script default_settings) }
     ensures within { IfOk result IsWithinLimits }
 {
     if words.is_empty() {
-        return Ok(Order::Script(Config {
+        return Ok(Order::Script(Judging {
             concurrency: 2,
             kind: ModelKind::Register,
             budget: 4096,
@@ -118,12 +118,12 @@ pub fn order_of(alloc: Global, words: &[String]) -> Result<Order, Stop>
     let Some((name, options)) = matches.subcommand() else {
         return Err(usage(&mut command, "no command was given"));
     };
-    let config = config_of(&mut command, options)?;
-    config.check()?;
+    let settings = settings_of(&mut command, options)?;
+    settings.check()?;
     if name == "check" {
-        check_of(alloc, &mut command, options, config)
+        check_of(alloc, &mut command, options, settings)
     } else {
-        Ok(Order::Script(config))
+        Ok(Order::Script(settings))
     }
 }
 
@@ -132,9 +132,9 @@ fn check_of(
     alloc: Global,
     command: &mut Command,
     options: &ArgMatches,
-    config: Config,
+    settings: Judging,
 ) -> Result<Order, Stop>
-    requires { HasLimits config }
+    requires { HasLimits settings }
     ensures { IfOk result IsWithinLimits }
 {
     let Some(path) = options.get_str("FILE") else {
@@ -144,14 +144,14 @@ fn check_of(
         Some(workers) if (1..=MOST_WORKERS).contains(&workers) => Ok(Order::Check {
             path: String::from_str(alloc, path)?,
             workers,
-            config,
+            settings,
         }),
         _ => Err(usage(command, "--workers takes a number, 1 to 64")),
     }
 }
 
 // How the options of a command open the one-thread object. Their limits are not tested yet.
-fn config_of(command: &mut Command, options: &ArgMatches) -> Result<Config, Stop> {
+fn settings_of(command: &mut Command, options: &ArgMatches) -> Result<Judging, Stop> {
     let Some(budget) = number(options, "budget") else {
         return Err(usage(command, "--budget takes a number, 1 to 65536"));
     };
@@ -161,7 +161,7 @@ fn config_of(command: &mut Command, options: &ArgMatches) -> Result<Config, Stop
     let Some(kind) = options.get_str("model").and_then(ModelKind::of_name) else {
         return Err(usage(command, NO_MODEL));
     };
-    Ok(Config {
+    Ok(Judging {
         concurrency,
         kind,
         budget,
@@ -177,7 +177,7 @@ pub fn no_text(alloc: Global) -> Stop {
 }
 
 // A command with the options by which the one-thread object is opened.
-fn with_config<'a>(alloc: Global, command: Command<'a>) -> Result<Command<'a>, AllocError> {
+fn with_settings<'a>(alloc: Global, command: Command<'a>) -> Result<Command<'a>, AllocError> {
     let concurrency = Arg::new(alloc, "concurrency")
         .long("concurrency")
         .value_name("N")
@@ -224,8 +224,8 @@ fn program<'a>(alloc: Global) -> Result<Command<'a>, AllocError> {
         .after_help(
             "Without a command it is script, with its defaults. Its options: jepmon script --help",
         )
-        .subcommand(with_config(alloc, script)?)?
-        .subcommand(with_config(alloc, check)?)
+        .subcommand(with_settings(alloc, script)?)?
+        .subcommand(with_settings(alloc, check)?)
 }
 
 // The value of an option that is a number, however long. One past the ends of 0 to 2^32 - 1 counts as that end, which

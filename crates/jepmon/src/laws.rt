@@ -1,6 +1,6 @@
 //! Laws of the definitions.
 ghost use Rattle.std.specs.Prelude.{◌≡◌, ℕ, List};
-ghost use Rattle.harness.specs.Machine.{Machine};
+ghost use Rattle.machine.specs.Machine.{Machine};
 ghost use Rattle.line_loop.specs.ReplyText.{IsReplyText};
 ghost use Rattle.jepmon.specs.Reply.{MayReply};
 

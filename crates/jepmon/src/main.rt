@@ -47,17 +47,17 @@ fn rest_of(alloc: Global, words: Args) -> Result<Vec<String>, AllocError> {
 fn main(rt: HostRuntime) -> ExitCode {
     let alloc: Global = rt.alloc();
     let status = match order_given(&rt) {
-        Ok(Order::Script(config)) => {
+        Ok(Order::Script(settings)) => {
             let mut reader = Watched::new(rt.stdin());
             let mut writer = Watched::new(rt.stdout());
-            let outcome = run_script(&rt, alloc, config, &mut reader, &mut writer);
+            let outcome = run_script(&rt, alloc, settings, &mut reader, &mut writer);
             status_after(&rt, alloc, outcome)
         }
         Ok(
             Order::Check {
                 path,
                 workers,
-                config,
+                settings,
             },
         ) => {
             let mut writer = Watched::new(rt.stdout());
@@ -66,7 +66,7 @@ fn main(rt: HostRuntime) -> ExitCode {
                 &rt,
                 alloc,
                 path.as_str(),
-                config,
+                settings,
                 workers,
                 &mut writer,
                 &mut progress,

@@ -3,6 +3,9 @@ ghost use Rattle.std.specs.Prelude.{◌≡◌, ◌≢◌, ◌⊎◌, IfOk, IfErr
 ghost use Rattle.edn.specs.Value.{Values};
 ghost use Rattle.edn.specs.Text.{IsText};
 ghost use Rattle.edn.specs.View.{value_of};
+ghost use Rattle.machine.specs.Machine.{opening};
+ghost use Rattle.harness.specs.Setups.{judging};
+ghost use Rattle.harness.specs.CoreView.{at_rest};
 ghost use Rattle.jepmon.specs.declared.recorded.Findings.{Findings};
 ghost use Rattle.jepmon.specs.Recorded.{TakesElement, RefusesElement, ComesTo, findings_line, findings_status};
 
@@ -10,7 +13,7 @@ use crate::exit_status::{REFUSED, status_of_verdict};
 use crate::progress::Progress;
 use crate::verdict_line::verdict_text;
 use edn::{Edn, Elements, Refusal, check_text};
-use harness::{Command, Config, Core};
+use harness::{Command, Core, Judging};
 use history::from_edn;
 use line_loop::refusal_text;
 use linspec::Verdict;
@@ -34,15 +37,15 @@ pub enum Findings {
 /// told on the way.
 pub fn judge_text<P: Progress>(
     alloc: Global,
-    config: Config,
+    settings: Judging,
     bytes: &[u8],
     progress: &mut P,
 ) -> Findings
-    ensures { ComesTo config bytes.now result }
+    ensures { ComesTo settings bytes.now result }
 {
     match check_text(alloc, bytes) {
         Ok(events) => {
-            let findings = judge_elements(alloc, config, bytes, events, progress);
+            let findings = judge_elements(alloc, settings, bytes, events, progress);
             progress.end();
             findings
         }
@@ -53,18 +56,32 @@ pub fn judge_text<P: Progress>(
 // The same of bytes that are a text of so many events.
 fn judge_elements<P: Progress>(
     alloc: Global,
-    config: Config,
+    settings: Judging,
     bytes: &[u8],
     events: usize,
     progress: &mut P,
 ) -> Findings
     requires { (values : Values) × IsText bytes.now values }
-    ensures { ComesTo config bytes.now result }
+    ensures { ComesTo settings bytes.now result }
 {
-    let mut core = match Core::new(alloc, config) {
-        Ok(core) => core,
-        Err(refusal) => return Findings::Refused(refusal),
-    };
+    match Core::to_judge(alloc, settings) {
+        Ok(mut core) => judge_with(alloc, &mut core, bytes, events, progress),
+        Err(refusal) => Findings::Refused(refusal),
+    }
+}
+
+// The same by an object that was opened and has taken nothing yet.
+fn judge_with<P: Progress>(
+    alloc: Global,
+    core: &mut Core,
+    bytes: &[u8],
+    events: usize,
+    progress: &mut P,
+) -> Findings
+    requires { (values : Values) × IsText bytes.now values }
+    ensures { (settings : Judging) → core.old ≡ at_rest (opening (judging settings))
+        → ComesTo settings bytes.now result }
+{
     let mut elements = Elements::new(bytes);
     let mut taken: usize = 0;
     'elements: loop {
@@ -73,7 +90,7 @@ fn judge_elements<P: Progress>(
             Ok(None) => return Findings::Judged(core.verdict()),
             Err(refusal) => return Findings::Refused(refusal),
         };
-        match take_element(alloc, &mut core, element) {
+        match take_element(alloc, core, element) {
             Ok(()) => {
                 taken += 1;
                 progress.taken(taken, events);

@@ -1,17 +1,18 @@
 //! The monitor, driven by lines.
-ghost use Rattle.std.specs.Prelude.{◌≡◌, ◌≢◌, ◌⊎◌, ℕ, List, [], IfOk, OnOk, IfErr, IsErrAnd, Err, false, true};
-ghost use Rattle.harness.specs.Limits.{HasLimits};
-ghost use Rattle.harness.specs.Machine.{Machine, opening, MayNotOpen};
+ghost use Rattle.std.specs.Prelude.{◌≡◌, ◌≢◌, ◌⊎◌, ℕ, List, [], IfOk, OnOk, IfErr, IsErrAnd, Ok, Err, Some, false, true};
+ghost use Rattle.machine.specs.Machine.{Machine, opening};
+ghost use Rattle.harness.specs.Setups.{judging, HasLimits, MayNotJudge};
 ghost use Rattle.monitor.specs.JudgedHistory.{IsVerdictOn};
 ghost use Rattle.line_loop.specs.RefusalLine.{refusal_line};
 ghost use Rattle.line_loop.specs.Stopping.{MayStop, Finishes, Stops, KeepsUp};
+ghost use Rattle.jepmon.specs.Command.{Asks};
 ghost use Rattle.jepmon.specs.Reply.{CarriesOut, MayReply};
 ghost use Rattle.jepmon.specs.Unopened.{IsUnopened};
 
 use crate::command::read_command;
 use crate::verdict_line::append_verdict;
 use edn::Refusal;
-use harness::{Command, Config, Core, Reply};
+use harness::{Command, Core, Judging, Reply};
 use line_loop::{Failed, LineMachine, answer_lines, append_refusal};
 use linspec::Verdict;
 use std::alloc::{AllocError, Global};
@@ -27,7 +28,13 @@ struct ScriptMachine {
 }
 
 impl Model for ScriptMachine {
+    ghost use Rattle.std.specs.Coded.{codes};
+    ghost use Rattle.generators.specs.Codes.{generator_code};
+    ghost use Rattle.machine.specs.Machine.{Machine};
+
     ghost Value = { Machine };
+
+    ghost coded = { Prim.hlevel (codes, generator_code) };
 
     ghost view = { λ machine. machine.core.machine };
 }
@@ -41,7 +48,7 @@ impl LineMachine for ScriptMachine {
 
     ghost may_reply = { MayReply };
 
-    ghost shows = { IsVerdictOn };
+    ghost shows = { λ machine verdict. IsVerdictOn machine.judged verdict };
 
     fn answer(&mut self, line: &[u8], reply: &mut Vec<u8>) -> Result<(), AllocError> {
         match read_command(self.alloc, line) {
@@ -56,19 +63,35 @@ impl LineMachine for ScriptMachine {
     }
 }
 
-// Carries a command out, and puts the line of what came of it into an empty vector.
+// Carries out a command that a line asks for, and puts the line of what came of it into an empty vector.
 fn carry_out(
     alloc: Global,
     core: &mut Core,
     command: Command,
     reply: &mut Vec<u8>,
 ) -> Result<(), AllocError>
-    requires { reply.old.items ≡ [] }
+    requires empty { reply.old.items ≡ [] }
+    requires asked { (line : List ℕ) × Asks line (Ok (Some command)) }
     ensures { OnOk result (CarriesOut core.old.machine command reply.new.items core.new.machine) }
 {
     match core.step(command) {
-        Ok(Reply::Verdict(verdict)) => append_verdict(alloc, reply, &verdict),
+        Ok(said) => append_verdict(alloc, reply, &verdict_of(said)),
         Err(refusal) => reply_refusal(alloc, refusal, reply),
+    }
+}
+
+// The verdict that the object says.
+fn verdict_of(said: Reply) -> Verdict
+    requires { (verdict : Verdict) × (said ≡ Reply.Verdict verdict) }
+    ensures { said ≡ Reply.Verdict result }
+{
+    match said {
+        Reply::Verdict(verdict) => verdict,
+        Reply::Drawn { .. } => unreachable!(),
+        Reply::Pending => unreachable!(),
+        Reply::Done => unreachable!(),
+        Reply::Served(_) => unreachable!(),
+        Reply::Fault { .. } => unreachable!(),
     }
 }
 
@@ -93,39 +116,39 @@ fn reply_refusal(alloc: Global, refusal: Refusal, reply: &mut Vec<u8>) -> Result
 ///
 /// # Errors
 ///
-/// What [`Core::new`] refuses, before anything is read. Else `ReadFailed` where the reader failed, `WriteFailed` where
+/// What [`Core::to_judge`] refuses, before anything is read. Else `ReadFailed` where the reader failed, `WriteFailed` where
 /// the writer failed or took none of some bytes, and `NoMemory`: the writer has then taken a beginning of the replies.
 pub fn run_script<X: Wait, R: Read + Failed, W: Write + Failed>(
     rt: &X,
     alloc: Global,
-    config: Config,
+    settings: Judging,
     reader: &mut R,
     writer: &mut W,
 ) -> Result<Verdict, Refusal>
     requires reads { R.has_failed reader.old ≡ false }
     requires writes { W.has_failed writer.old ≡ false }
-    // A config out of its limits is refused before anything is read or written.
-    ensures limits { HasLimits config
-        ⊎ IsErrAnd result (IsUnopened config reader.old reader.new writer.old writer.new) }
+    // Settings out of their limits are refused before anything is read or written.
+    ensures limits { HasLimits settings
+        ⊎ IsErrAnd result (IsUnopened settings reader.old reader.new writer.old writer.new) }
     // All that the reader had is consumed, the writer grew by a reply text of it, and the verdict is that of the end.
-    ensures done { IfOk result (λ verdict. (end : Machine) × IsVerdictOn end verdict
-        × Finishes MayReply (opening config) end (R.remaining reader.old) (R.remaining reader.new)
+    ensures done { IfOk result (λ verdict. (end : Machine) × IsVerdictOn end.judged verdict
+        × Finishes MayReply (opening (judging settings)) end (R.remaining reader.old) (R.remaining reader.new)
         (W.contents writer.old) (W.contents writer.new)) }
     ensures unfailed { OnOk result ((R.has_failed reader.new ≡ false)
         × (W.has_failed writer.new ≡ false)) }
     // Nothing was read or written; or the writer grew by a beginning of a reply text of the lines read to their end.
     ensures stopped { IfErr result (λ e.
-        IsUnopened config reader.old reader.new writer.old writer.new e
-        ⊎ Stops MayReply (opening config) (R.remaining reader.old) (R.remaining reader.new)
+        IsUnopened settings reader.old reader.new writer.old writer.new e
+        ⊎ Stops MayReply (opening (judging settings)) (R.remaining reader.old) (R.remaining reader.new)
         (W.contents writer.old) (W.contents writer.new) e) }
     // Where the reader failed, all lines that were read to their line feed had their replies.
-    ensures live { result ≡ Err Refusal.ReadFailed → KeepsUp MayReply (opening config)
+    ensures live { result ≡ Err Refusal.ReadFailed → KeepsUp MayReply (opening (judging settings))
         (R.remaining reader.old) (R.remaining reader.new)
         (W.contents writer.old) (W.contents writer.new) }
-    ensures kinds { IfErr result (λ e. MayNotOpen config e ⊎ MayStop e) }
+    ensures kinds { IfErr result (λ e. MayNotJudge settings e ⊎ MayStop e) }
     ensures read { result ≡ Err Refusal.ReadFailed → R.has_failed reader.new ≡ true }
     ensures wrote { result ≡ Err Refusal.WriteFailed → W.has_failed writer.new ≡ true }
 {
-    let core = Core::new(alloc, config)?;
+    let core = Core::to_judge(alloc, settings)?;
     answer_lines(rt, alloc, ScriptMachine { alloc, core }, reader, writer)
 }

@@ -1,3 +1,2 @@
-pub mod JudgedHistory
 pub mod Machine
 pub mod Tickets

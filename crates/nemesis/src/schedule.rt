@@ -45,6 +45,13 @@ impl Schedule {
         if *at <= length { Some(fault) } else { None }
     }
 
+    /// The faults that were not taken, in order, each with the length of the history from which it is due. Takes no memory.
+    pub fn faults(&self) -> &[(u32, Fault)]
+        ensures { result.now ≡ self.now }
+    {
+        &self.faults[self.taken..]
+    }
+
     /// Takes the first fault that was not taken, if there is one. Takes no memory.
     pub fn advance(&mut self)
         ensures { self.new ≡ after_first self.old }

@@ -1,6 +1,6 @@
 use Rattle.std.proofs.Common.{Some, ap, subst, ◌∙◌}
-use Rattle.monitor.specs.JudgedHistory.{IsVerdictOn}
-use Rattle.harness.specs.Machine.{CoreView}
+use Rattle.harness.specs.CoreView.{CoreView}
+use Rattle.board.specs.CoreTape.{IsVerdictOf}
 use Rattle.board.proofs.CoreTruth.{asks_same}
 use Rattle.board.proofs.core_machine.stay.Goals as goal
 
@@ -15,4 +15,4 @@ returns-clause-ready c =
 pub returns-clause-verdict : goal.returns-clause-verdict
 returns-clause-verdict c =
     let a = c.in-Ok.ensures.answered in
-    subst (λ m. IsVerdictOn m c.in-Ok.verdict) (asks_same c.args.core.now.machine c.in-Ok._reply a.0 a.1) a.2
+    subst (λ m. IsVerdictOf m c.in-Ok.verdict) (asks_same c.args.core.now.machine c.in-Ok._reply a.0 a.1) a.2

@@ -3,7 +3,7 @@ use Rattle.std.proofs.lemmas.Result.{err_from_is_err_and}
 use Rattle.edn.specs.View.{value_of}
 use Rattle.edn.specs.declared.refusal.Refusal.{Refusal}
 use Rattle.edn.specs.declared.refusal.Refusal.TheVariants.{NoMemory}
-use Rattle.harness.specs.declared.command.Command.{Command}
+use Rattle.machine.specs.declared.command.Command.{Command}
 use Rattle.jepmon.specs.Command.{ElementAsks}
 use Rattle.jepmon.proofs.Elements.{refused_element}
 use Rattle.jepmon.proofs.command.command_of.Goals as goal

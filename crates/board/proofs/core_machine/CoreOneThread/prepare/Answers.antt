@@ -1,5 +1,5 @@
 use Rattle.std.proofs.Common.{Err, ap, ◌∙◌}
-use Rattle.harness.specs.Machine.{CoreView}
+use Rattle.harness.specs.CoreView.{CoreView}
 use Rattle.board.proofs.CoreTruth.{refused_ready, wants}
 use Rattle.board.proofs.core_machine.CoreOneThread.prepare.Goals as goal
 

@@ -1,0 +1,107 @@
+use Rattle.std.proofs.Common.{◌≡◌, List, None, length, sym, ap, ◌∙◌, subst}
+use Rattle.std.specs.Vec.{vec_capacity}
+use Rattle.edn.specs.declared.refusal.Refusal.TheVariants.{Idle, HistoryFull}
+use Rattle.history.specs.declared.event.Event.{Event}
+use Rattle.history.specs.declared.event.Fault.{Fault}
+use Rattle.std.proofs.Common.{Option}
+use Rattle.generators.specs.Sources.{upcoming}
+use Rattle.machine.specs.declared.command.Command.TheVariants.{Nemesis}
+use Rattle.machine.specs.declared.command.Reply.TheVariants.{Fault as Struck}
+use Rattle.machine.specs.Machine.{Refuses, first_due, idle_from}
+use Rattle.harness.specs.Asking.{MayGiveFault}
+use Rattle.harness.specs.declared.core_object.Change.TheVariants.{StrikeDrawn}
+use Rattle.harness.specs.CoreView.{CoreView, IsPrepared}
+use Rattle.harness.specs.SoundCore.{machine_of}
+use Rattle.harness.proofs.Showing.{Shows}
+use Rattle.harness.proofs.Preparing.{seen, readied}
+use Rattle.harness.proofs.Driving.{drawn_strikes, given_fault}
+use Rattle.harness.proofs.Striking.{has_room, no_room, no_fault, next_given}
+use Rattle.harness.proofs.Takes.{may_strike}
+use Rattle.harness.proofs.core_object.Core.prepare_drawn.Goals as goal
+
+pub returns-in_default-clause-refused : goal.returns-in_default-clause-refused
+returns-in_default-clause-refused c =
+    let a = c.self.inside in
+    let shown = c.history.result.now in
+    let shows : Shows a.monitor shown = (c.history.ensures.concurrency, c.history.ensures.events) in
+    let to = upcoming c.draw_fault.new.source in
+    let idle = idle_from shown.concurrency shown.events 0 shown.concurrency in
+    let none = subst (λ (s : CoreView). first_due s.machine ≡ None) (sym c.self.view_is) c.requires in
+    let gives = subst (λ (o : Option Fault). MayGiveFault a.source idle o to) c.in_default.is c.in_ok-fault.ensures.answer in
+    subst (λ (s : CoreView). Refuses s.machine Nemesis Idle) c.self.view_is (no_fault a.monitor a.source a.schedule a.store a.tickets.items shown to shows none gives)
+
+pub returns-then-index-ge-MOST_EVENTS-clause-refused :
+    goal.returns-then-index-ge-MOST_EVENTS-clause-refused
+returns-then-index-ge-MOST_EVENTS-clause-refused c =
+    let a = c.self.inside in
+    let shown = c.history.result.now in
+    let shows : Shows a.monitor shown = (c.history.ensures.concurrency, c.history.ensures.events) in
+    let to = upcoming c.draw_fault.new.source in
+    let idle = idle_from shown.concurrency shown.events 0 shown.concurrency in
+    let none = subst (λ (s : CoreView). first_due s.machine ≡ None) (sym c.self.view_is) c.requires in
+    let fault : Fault = c.in-Some.fault in
+    let gives = subst (λ (o : Option Fault). MayGiveFault a.source idle o to) c.in-Some.is c.in_ok-fault.ensures.answer in
+    let index : c.len-index.result ≡ length a.monitor.now.events = c.len-index.ensures.value ∙ ap (λ (l : List Event). length l) c.history-2.ensures.events in
+    subst (λ (s : CoreView). Refuses s.machine Nemesis HistoryFull) c.self.view_is
+    (next_given a.monitor a.source a.schedule a.store a.tickets.items shown fault to shows none gives, no_room c.len-index.result a.monitor.now.events index c.if-index-ge-MOST_EVENTS.true)
+
+pub strike-requires-clause-may : goal.strike-requires-clause-may
+strike-requires-clause-may c =
+    let a = c.self.inside in
+    let shown = c.history.result.now in
+    let shows : Shows a.monitor shown = (c.history.ensures.concurrency, c.history.ensures.events) in
+    let to = upcoming c.draw_fault.new.source in
+    let idle = idle_from shown.concurrency shown.events 0 shown.concurrency in
+    let fault : Fault = c.in-Some.fault in
+    let gives = subst (λ (o : Option Fault). MayGiveFault a.source idle o to) c.in-Some.is c.in_ok-fault.ensures.answer in
+    drawn_strikes a.monitor a.source a.schedule a.store a.tickets.items shown fault to c.self.invariant.now shows gives
+
+pub strike-requires-clause-takes : goal.strike-requires-clause-takes
+strike-requires-clause-takes c =
+    let a = c.self.inside in
+    let shown = c.history.result.now in
+    let shows : Shows a.monitor shown = (c.history.ensures.concurrency, c.history.ensures.events) in
+    let to = upcoming c.draw_fault.new.source in
+    let idle = idle_from shown.concurrency shown.events 0 shown.concurrency in
+    let fault : Fault = c.in-Some.fault in
+    let gives = subst (λ (o : Option Fault). MayGiveFault a.source idle o to) c.in-Some.is c.in_ok-fault.ensures.answer in
+    let index : c.len-index.result ≡ length a.monitor.now.events = c.len-index.ensures.value ∙ ap (λ (l : List Event). length l) c.history-2.ensures.events in
+    let may = drawn_strikes a.monitor a.source a.schedule a.store a.tickets.items shown fault to c.self.invariant.now shows gives in
+    may_strike a.monitor.now.concurrency a.store.now.replicas a.monitor.now.events fault c.self.invariant.now.count may
+    (has_room c.len-index.result a.monitor.now.events index c.if-index-ge-MOST_EVENTS.false)
+
+pub invariant_of-self-2 : goal.invariant_of-self-2
+invariant_of-self-2 c =
+    let a = c.self.inside in
+    let shown = c.history.result.now in
+    let shows : Shows a.monitor shown = (c.history.ensures.concurrency, c.history.ensures.events) in
+    let to = upcoming c.draw_fault.new.source in
+    let idle = idle_from shown.concurrency shown.events 0 shown.concurrency in
+    let none = subst (λ (s : CoreView). first_due s.machine ≡ None) (sym c.self.view_is) c.requires in
+    let fault : Fault = c.in-Some.fault in
+    let gives = subst (λ (o : Option Fault). MayGiveFault a.source idle o to) c.in-Some.is c.in_ok-fault.ensures.answer in
+    let index : c.len-index.result ≡ length a.monitor.now.events = c.len-index.ensures.value ∙ ap (λ (l : List Event). length l) c.history-2.ensures.events in
+    let may = drawn_strikes a.monitor a.source a.schedule a.store a.tickets.items shown fault to c.self.invariant.now shows gives in
+    let v = c.in_ok-verdict.verdict in
+    let told = c.in_ok-verdict.ensures in
+    readied (machine_of a.monitor a.source a.schedule a.store a.tickets.items) (seen c.strike.new.monitor c.draw_fault.new.source a.schedule c.strike.new.store a.tickets.items StrikeDrawn) Nemesis (Struck fault c.len-index.result, v) (vec_capacity a.tickets) StrikeDrawn c.self.invariant.now
+    (given_fault a.monitor a.source a.schedule a.store a.tickets.items c.strike.new.monitor c.strike.new.store fault c.len-index.result v c.self.invariant.now may
+    (has_room c.len-index.result a.monitor.now.events index c.if-index-ge-MOST_EVENTS.false) index told.store told.struck told.prepared told.verdict c.draw_fault.new.source shown c.draw_fault.ensures.kept shows none gives) tt
+
+pub returns-clause-answered : goal.returns-clause-answered
+returns-clause-answered c =
+    let a = c.self.inside in
+    let shown = c.history.result.now in
+    let shows : Shows a.monitor shown = (c.history.ensures.concurrency, c.history.ensures.events) in
+    let to = upcoming c.draw_fault.new.source in
+    let idle = idle_from shown.concurrency shown.events 0 shown.concurrency in
+    let none = subst (λ (s : CoreView). first_due s.machine ≡ None) (sym c.self.view_is) c.requires in
+    let fault : Fault = c.in-Some.fault in
+    let gives = subst (λ (o : Option Fault). MayGiveFault a.source idle o to) c.in-Some.is c.in_ok-fault.ensures.answer in
+    let index : c.len-index.result ≡ length a.monitor.now.events = c.len-index.ensures.value ∙ ap (λ (l : List Event). length l) c.history-2.ensures.events in
+    let may = drawn_strikes a.monitor a.source a.schedule a.store a.tickets.items shown fault to c.self.invariant.now shows gives in
+    let v = c.in_ok-verdict.verdict in
+    let told = c.in_ok-verdict.ensures in
+    subst (λ (s : CoreView). IsPrepared s.machine Nemesis (Struck fault c.len-index.result, v) (seen c.strike.new.monitor c.draw_fault.new.source a.schedule c.strike.new.store a.tickets.items StrikeDrawn)) c.self.view_is
+    (given_fault a.monitor a.source a.schedule a.store a.tickets.items c.strike.new.monitor c.strike.new.store fault c.len-index.result v c.self.invariant.now may
+    (has_room c.len-index.result a.monitor.now.events index c.if-index-ge-MOST_EVENTS.false) index told.store told.struck told.prepared told.verdict c.draw_fault.new.source shown c.draw_fault.ensures.kept shows none gives)

@@ -1,0 +1,32 @@
+-- Invariant: what a source may answer a thread and the nemesis
+use Rattle.std.specs.Prelude.{ℕ, Bool, List, Option, Some, None, ◌⊎◌}
+use Rattle.history.specs.declared.event.Fault.{Fault}
+use Rattle.generators.specs.declared.item.Item.TheVariants.{Op as AnOp, Fault as AFault}
+use Rattle.generators.specs.declared.item.Asker.{Asker}
+use Rattle.generators.specs.declared.item.Asker.TheVariants.{Thread, Nemesis}
+use Rattle.generators.specs.declared.item.Drawn.{Drawn}
+use Rattle.generators.specs.declared.item.Drawn.TheVariants.{Op as Gets, Pending, Done}
+use Rattle.generators.specs.Generators.{Generator}
+use Rattle.generators.specs.Draws.{ask_of, MayDraw}
+use Rattle.generators.specs.Sources.{SourceView}
+use Rattle.generators.specs.Words.{word}
+use Rattle.harness.specs.declared.asking.Drew.{Drew}
+use Rattle.harness.specs.declared.asking.Drew.TheVariants.{Op as DrewOp, Pending as DrewPending, Done as DrewDone}
+
+-- the source may answer the asker so, which leads to this generator and place
+abbrev pub MayGive : SourceView → List Bool → Asker → Drawn → Generator × ℕ → Type 0
+MayGive source idle asker drawn to =
+    MayDraw (word source.seed) (ask_of asker idle) source.generator source.place drawn to.0 to.1
+
+abbrev pub drawn_of : Drew → Drawn
+drawn_of (DrewOp op) = Gets (AnOp op)
+drawn_of DrewPending = Pending
+drawn_of DrewDone = Done
+
+abbrev pub MayGiveOp : SourceView → List Bool → ℕ → Drew → Generator × ℕ → Type 0
+MayGiveOp source idle thread drew to = MayGive source idle (Thread thread) (drawn_of drew) to
+
+abbrev pub MayGiveFault : SourceView → List Bool → Option Fault → Generator × ℕ → Type 0
+MayGiveFault source idle (Some fault) to = MayGive source idle Nemesis (Gets (AFault fault)) to
+MayGiveFault source idle None to =
+    MayGive source idle Nemesis Pending to ⊎ MayGive source idle Nemesis Done to

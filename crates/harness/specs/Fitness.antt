@@ -1,0 +1,19 @@
+-- Promise: which operations and faults may be handed in (this project's own)
+use Rattle.history.specs.declared.event.Fault.{Fault}
+use Rattle.history.specs.WellFormed.{IsPart}
+use Rattle.generators.specs.declared.item.Item.{Item}
+use Rattle.generators.specs.declared.item.Item.TheVariants.{Op as AnOp, Fault as AFault}
+use Rattle.test_store.specs.Store.{numbers_of, AreOnce, AreBelow}
+use Rattle.harness.specs.declared.fitness.Test.{Test}
+use Rattle.harness.specs.declared.fitness.Test.TheVariants.{IsPresent, IsInTables}
+
+-- a fault names replicas of the store alone; it names none twice
+abbrev pub FaultPasses : Test → Fault → Type 0
+FaultPasses (IsPresent replicas) fault = AreBelow replicas (numbers_of fault)
+FaultPasses IsInTables fault = AreOnce (numbers_of fault)
+
+-- the same of an item; an operation has a part of its table
+abbrev pub Passes : Test → Item → Type 0
+Passes (IsPresent replicas) (AnOp op) = Unit {0}
+Passes IsInTables (AnOp op) = IsPart op.name op.part
+Passes test (AFault fault) = FaultPasses test fault

@@ -1,0 +1,77 @@
+-- Promise: how the one-thread object is opened, and why it is not (this project's own)
+use Rattle.std.specs.Prelude.{[]}
+use Rattle.edn.specs.declared.refusal.Refusal.{Refusal}
+use Rattle.edn.specs.declared.refusal.Refusal.TheVariants.{BadValue, BadBudget, BadConcurrency, NoMemory, NoSuchReplica}
+use Rattle.history.specs.WellFormed.{IsConcurrency}
+use Rattle.generators.specs.Generators.{generator_of, AllItems, Each}
+use Rattle.test_store.specs.Store.{IsCount}
+use Rattle.monitor.specs.JudgedHistory.{IsBudget}
+use Rattle.monitor.specs.Monitors.{MayNotBegin}
+use Rattle.machine.specs.Machine.{Setup}
+use Rattle.test_store.specs.declared.outcome.Mode.TheVariants.{Strict}
+use Rattle.generators.specs.Generators.{ops}
+use Rattle.harness.specs.declared.config.Config.{Config}
+use Rattle.harness.specs.declared.judging.Judging.{Judging}
+use Rattle.harness.specs.declared.fitness.Test.{Test}
+use Rattle.harness.specs.declared.fitness.Test.TheVariants.{IsPresent, IsInTables}
+use Rattle.harness.specs.Fitness.{FaultPasses, Passes}
+
+abbrev pub setup_of : Config → Setup
+setup_of config = record {
+  concurrency = config.concurrency;
+  kind = config.kind;
+  budget = config.budget;
+  generator = generator_of config.generator;
+  seed = config.seed;
+  schedule = config.schedule;
+  replicas = config.replicas;
+  mode = config.mode;
+}
+
+-- each operation and fault that may come passes the test
+abbrev pub AllPass : Test → Setup → Type 0
+AllPass test setup =
+    AllItems (Passes test) setup.generator × Each (λ x. FaultPasses test x.1) setup.schedule
+
+-- all replicas that are named are there
+abbrev pub HasReplicas : Setup → Type 0
+HasReplicas setup = IsCount setup.replicas × AllPass (IsPresent setup.replicas) setup
+
+-- it may be opened
+abbrev pub IsSetup : Setup → Type 0
+IsSetup setup =
+    IsBudget setup.budget × IsConcurrency setup.concurrency × HasReplicas setup
+    × AllPass IsInTables setup
+
+-- why it is not: by the first test that it does not pass, or memory ran out
+abbrev pub MayNotOpen : Setup → Refusal → Type 0
+MayNotOpen setup BadBudget = ¬ IsBudget setup.budget
+MayNotOpen setup BadConcurrency = IsBudget setup.budget × ¬ IsConcurrency setup.concurrency
+MayNotOpen setup NoSuchReplica =
+    IsBudget setup.budget × IsConcurrency setup.concurrency × ¬ HasReplicas setup
+MayNotOpen setup BadValue =
+    IsBudget setup.budget × IsConcurrency setup.concurrency × HasReplicas setup
+    × ¬ AllPass IsInTables setup
+MayNotOpen setup NoMemory = IsSetup setup
+MayNotOpen setup _ = ⊥
+
+-- Where it only judges: no operation to draw and no fault to come, one replica, strict, and seed 0
+abbrev pub judging : Judging → Setup
+judging j = record {
+  concurrency = j.concurrency;
+  kind = j.kind;
+  budget = j.budget;
+  generator = ops [];
+  seed = 0;
+  schedule = [];
+  replicas = 1;
+  mode = Strict;
+}
+
+-- each number is within its limits
+abbrev pub HasLimits : Judging → Type 0
+HasLimits j = IsBudget j.budget × IsConcurrency j.concurrency
+
+-- why it is not opened: the budget is tested first
+abbrev pub MayNotJudge : Judging → Refusal → Type 0
+MayNotJudge j why = MayNotBegin j.concurrency j.budget why

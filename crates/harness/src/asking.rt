@@ -1,0 +1,74 @@
+//! What a generator is asked, and what it answers.
+ghost use Rattle.std.specs.Prelude.{◌≡◌, ◌<◌, ◌≤◌, IfOk, OnErr, length, take, IsSome};
+ghost use Rattle.history.specs.WellFormed.{HistoryView};
+ghost use Rattle.generators.specs.declared.item.Asker.{Asker};
+ghost use Rattle.generators.specs.Sources.{upcoming};
+ghost use Rattle.machine.specs.Machine.{idle_from};
+ghost use Rattle.harness.specs.Asking.{MayGiveOp, MayGiveFault};
+
+use generators::{Asker, Drawn, Item, Source};
+use history::{Fault, History};
+use models::Op;
+use std::alloc::AllocError;
+
+/// What a thread draws.
+#[derive(Drop)]
+pub(crate) enum Drew {
+    Op(Op),
+    Pending,
+    Done,
+}
+
+/// What the generator would give the thread. It changes nothing but what the source has prepared.
+pub(crate) fn draw_op(
+    source: &mut Source,
+    history: &History,
+    thread: u32,
+) -> Result<Drew, AllocError>
+    ensures answer { IfOk result (λ drew.
+        MayGiveOp source.old (idle_from history.now.concurrency history.now.events 0 history.now.concurrency)
+        thread drew (upcoming source.new)) }
+    ensures kept { source.new ≡ record source.old { next = source.new.next } }
+{
+    let flags = idle_flags(history);
+    let idle = &flags[..history.concurrency() as usize];
+    match source.prepare(idle, Asker::Thread(thread))? {
+        Drawn::Op(Item::Op(op)) => Ok(Drew::Op(op)),
+        Drawn::Op(Item::Fault(_)) => unreachable!(),
+        Drawn::Pending => Ok(Drew::Pending),
+        Drawn::Done => Ok(Drew::Done),
+    }
+}
+
+/// The fault that the generator would give the nemesis, if there is one. It changes nothing but what the source has prepared.
+pub(crate) fn draw_fault(
+    source: &mut Source,
+    history: &History,
+) -> Result<Option<Fault>, AllocError>
+    ensures answer { IfOk result (λ drew.
+        MayGiveFault source.old (idle_from history.now.concurrency history.now.events 0 history.now.concurrency)
+        drew (upcoming source.new)) }
+    ensures kept { source.new ≡ record source.old { next = source.new.next } }
+{
+    let flags = idle_flags(history);
+    let idle = &flags[..history.concurrency() as usize];
+    match source.prepare(idle, Asker::Nemesis)? {
+        Drawn::Op(Item::Fault(fault)) => Ok(Some(fault)),
+        Drawn::Op(Item::Op(_)) => unreachable!(),
+        Drawn::Pending => Ok(None),
+        Drawn::Done => Ok(None),
+    }
+}
+
+// For each thread whether it has no open operation.
+fn idle_flags(history: &History) -> [bool; 64]
+    ensures len { length result ≡ 64 }
+    ensures flags { take history.now.concurrency result
+        ≡ idle_from history.now.concurrency history.now.events 0 history.now.concurrency }
+{
+    let mut flags = [false; 64];
+    for thread in 0..history.concurrency() {
+        flags[thread as usize] = history.open_at(thread).is_none();
+    }
+    flags
+}

@@ -1,0 +1,78 @@
+//! How the one-thread object is opened.
+ghost use Rattle.std.specs.Prelude.{◌↔◌, IsTrue, OnOk, IfErr};
+ghost use Rattle.harness.specs.Setups.{setup_of, AllPass, IsSetup, MayNotOpen};
+
+use crate::fitness::{Test, all_items_pass, all_scheduled_pass};
+use edn::Refusal;
+use generators::Gen;
+use models::ModelKind;
+use nemesis::Schedule;
+use test_store::Mode;
+
+/// The greatest budget.
+pub(crate) const MOST_ENDS: u32 = 65_536;
+
+/// The greatest concurrency.
+pub(crate) const MOST_THREADS: u32 = 64;
+
+// The most replicas.
+const MOST_REPLICAS: u8 = 7;
+
+/// How it is opened.
+#[derive(Drop)]
+pub struct Config {
+    /// How many threads the history has, 1 to 64.
+    pub concurrency: u32,
+    /// The kind of object that a key is for which none was set, and that each key of the store is.
+    pub kind: ModelKind,
+    /// How many ends of a key for which no budget was set may be possible just before an ok, 1 to 65,536.
+    pub budget: u32,
+    /// How many replicas the store has, 1 to 7.
+    pub replicas: u8,
+    /// How they serve.
+    pub mode: Mode,
+    /// What clients and the nemesis do next.
+    pub generator: Gen,
+    /// Which faults strike, whatever the generator says.
+    pub schedule: Schedule,
+    /// The seed of the generator's random words.
+    pub seed: u64,
+}
+
+impl Config {
+    /// Tests that its numbers are within their limits, and that each operation and fault that may come is one that history
+    /// and store take. Takes no memory, and the time of the generator and the schedule.
+    ///
+    /// # Errors
+    /// [`Refusal::BadBudget`] where the budget is not 1 to 65,536, else [`Refusal::BadConcurrency`] where the concurrency is
+    /// not 1 to 64, else [`Refusal::NoSuchReplica`] where the replicas are not 1 to 7 or a fault names one that is not
+    /// there, else [`Refusal::BadValue`] where an operation has a part outside the tables or a fault names a replica twice.
+    pub fn check(&self) -> Result<(), Refusal>
+        ensures within { OnOk result (IsSetup (setup_of self.now)) }
+        ensures refused { IfErr result (MayNotOpen (setup_of self.now)) }
+    {
+        if self.budget < 1 || self.budget > MOST_ENDS {
+            return Err(Refusal::BadBudget);
+        }
+        if self.concurrency < 1 || self.concurrency > MOST_THREADS {
+            return Err(Refusal::BadConcurrency);
+        }
+        if self.replicas < 1 || self.replicas > MOST_REPLICAS {
+            return Err(Refusal::NoSuchReplica);
+        }
+        if !passes(Test::IsPresent(self.replicas), self) {
+            return Err(Refusal::NoSuchReplica);
+        }
+        if !passes(Test::IsInTables, self) {
+            return Err(Refusal::BadValue);
+        }
+        Ok(())
+    }
+}
+
+// Whether each operation and fault that may come passes the test.
+fn passes(test: Test, config: &Config) -> bool
+    ensures { IsTrue result ↔ AllPass test (setup_of config.now) }
+{
+    all_items_pass(test, &config.generator) && all_scheduled_pass(test, &config.schedule)
+}

@@ -1,0 +1,134 @@
+//! What a core answers, as plain data.
+use crate::setups::{Ask, command_of};
+use edn::Refusal;
+use harness::{Command, Core, Reply};
+use history::{EventKind, Fault, Process};
+use linspec::Verdict;
+use models::Found;
+use test_store::Outcome;
+
+/// What a fault does.
+#[derive(Clone, Copy, Debug, PartialEq, Eq)]
+pub(crate) enum Struck {
+    Partition,
+    Heal,
+    LoseReplies,
+    Other,
+}
+
+/// What a command is answered by.
+#[derive(Clone, Copy, Debug, PartialEq, Eq)]
+pub(crate) enum Said {
+    Legal,
+    /// The key, and the index of the event.
+    Illegal(u16, u32),
+    Unknown(u16, u32),
+    /// The ticket, and the index of its invocation.
+    Drawn(u32, u32),
+    Pending,
+    Over,
+    /// A serve took place, and found nothing of its own.
+    Done,
+    /// A serve found this in a register.
+    Found(Option<i64>),
+    FoundOther,
+    NotDone,
+    Lost,
+    /// The fault, and the index of its event.
+    Fault(Struck, u32),
+    /// The number of the refusal. The history and its verdict are as before.
+    Refused(u8),
+    /// A refusal that changed the history or its verdict.
+    RefusedAndChanged(u8),
+}
+
+/// A verdict.
+pub(crate) fn verdict_said(verdict: Verdict) -> Said {
+    match verdict {
+        Verdict::Legal => Said::Legal,
+        Verdict::Illegal { key, index } => Said::Illegal(key, index),
+        Verdict::Unknown { key, index } => Said::Unknown(key, index),
+    }
+}
+
+fn served_said(outcome: &Outcome) -> Said {
+    match outcome {
+        Outcome::Done(Found::Unit) => Said::Done,
+        Outcome::Done(Found::Reg(value)) => Said::Found(*value),
+        Outcome::Done(_) => Said::FoundOther,
+        Outcome::Refused => Said::NotDone,
+        Outcome::Lost => Said::Lost,
+    }
+}
+
+fn fault_said(fault: &Fault) -> Struck {
+    match fault {
+        Fault::Partition(_) => Struck::Partition,
+        Fault::Heal => Struck::Heal,
+        Fault::LoseReplies(_) => Struck::LoseReplies,
+        _ => Struck::Other,
+    }
+}
+
+/// A reply.
+pub(crate) fn reply_said(reply: &Reply) -> Said {
+    match reply {
+        Reply::Verdict(verdict) => verdict_said(*verdict),
+        Reply::Drawn { ticket, index } => Said::Drawn(*ticket, *index),
+        Reply::Pending => Said::Pending,
+        Reply::Done => Said::Over,
+        Reply::Served(outcome) => served_said(outcome),
+        Reply::Fault { fault, index } => Said::Fault(fault_said(fault), *index),
+    }
+}
+
+// How many events there are, and the verdict on them.
+fn standing(core: &Core) -> (u32, Said) {
+    (core.monitor().history().len(), verdict_said(core.verdict()))
+}
+
+/// What the command is answered by.
+pub(crate) fn answer(core: &mut Core, command: Command) -> Said {
+    let before = standing(core);
+    match core.step(command) {
+        Ok(reply) => reply_said(&reply),
+        Err(why) if standing(core) == before => Said::Refused(why.number()),
+        Err(why) => Said::RefusedAndChanged(why.number()),
+    }
+}
+
+/// A command, and how it is to be answered.
+pub(crate) type Row = (Ask, Said);
+
+/// The place of the first command that is answered otherwise, and what it is answered by.
+pub(crate) fn first_other(core: &mut Core, rows: &[Row]) -> Option<(usize, Said)> {
+    for (place, (ask, want)) in rows.iter().enumerate() {
+        let said = answer(core, command_of(*ask));
+        if said != *want {
+            return Some((place, said));
+        }
+    }
+    None
+}
+
+/// The number of the refusal of an opening, 0 where it is opened.
+pub(crate) fn opening_said(opened: Result<Core, Refusal>) -> u8 {
+    match opened {
+        Ok(_) => 0,
+        Err(why) => why.number(),
+    }
+}
+
+/// Whether the events are of these kinds, by these processes.
+pub(crate) fn events_are(core: &Core, want: &[(EventKind, Process)]) -> bool {
+    let events = core.monitor().history().events();
+    if events.len() != want.len() {
+        return false;
+    }
+    for (event, (kind, process)) in events.iter().zip(want.iter()) {
+        if event.kind != *kind || event.process != *process {
+            return false;
+        }
+    }
+    true
+}

@@ -1,0 +1,60 @@
+//! A history that is full.
+use crate::answers::{Row, Said, Struck, first_other};
+use crate::setups::Ask::{Draw, Finish, Heal, Nemesis, Rewind, Serve};
+use crate::setups::{Plain, faulty, heal};
+use edn::Refusal;
+use harness::Core;
+use std::alloc::Global;
+use std::test::Fail;
+use test_store::Mode;
+
+// The most events.
+const MOST: u32 = 1_048_576;
+
+const SERVED: [Row; 2] = [(Draw(0), Said::Drawn(0, 0)), (Serve(0), Said::Done)];
+
+const FULL: [Row; 11] = [
+    (Heal, Said::Refused(7)),
+    (Draw(1), Said::Refused(7)),
+    (Draw(0), Said::Refused(1)),
+    (Finish(0), Said::Refused(7)),
+    (Nemesis, Said::Refused(7)),
+    (Rewind(MOST - 1), Said::Legal),
+    (Nemesis, Said::Fault(Struck::Heal, MOST - 1)),
+    (Nemesis, Said::Refused(14)),
+    (Rewind(MOST - 1), Said::Legal),
+    (Finish(0), Said::Legal),
+    (Finish(0), Said::Refused(7)),
+];
+
+// Fills the history with heals. Whether each was taken.
+fn fill(core: &mut Core) -> bool {
+    for _ in core.monitor().history().len()..MOST {
+        if core.step(heal()).is_err() {
+            return false;
+        }
+    }
+    true
+}
+
+// No event comes in: none that is handed in, no invocation, no completion and no fault. The tests before that one come
+// first all the same. After a cut there is room again.
+fn full_history_row(alloc: Global) -> Result<bool, Refusal> {
+    let mut core = faulty(alloc, Mode::Strict, &[Some(5)], 1, Plain::Heal)?;
+    if first_other(&mut core, &SERVED).is_some() {
+        return Ok(false);
+    }
+    if !fill(&mut core) {
+        return Ok(false);
+    }
+    if first_other(&mut core, &FULL).is_some() {
+        return Ok(false);
+    }
+    Ok(true)
+}
+
+#[test]
+fn full_history(rt: HostRuntime) -> Result<(), Fail> {
+    assert!(rt; full_history_row(rt.alloc())?);
+    Ok(())
+}

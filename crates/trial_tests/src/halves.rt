@@ -1,0 +1,55 @@
+//! The two halves of the commands of a trial.
+use crate::answers::{Row, Said, Struck, reply_said};
+use crate::setups::Ask::{Draw, Finish, Nemesis, Serve};
+use crate::setups::{Ask, Plain, command_of, faulty};
+use edn::Refusal;
+use harness::Core;
+use std::alloc::Global;
+use std::test::Fail;
+use test_store::Mode;
+
+// Whether the command is prepared twice, each time with this reply, and then is committed.
+fn prepared_twice(core: &mut Core, ask: Ask, want: Said) -> bool {
+    let Ok((early, _)) = core.prepare(command_of(ask)) else {
+        return false;
+    };
+    let Ok((late, _)) = core.prepare(command_of(ask)) else {
+        return false;
+    };
+    core.commit();
+    reply_said(&early) == want && reply_said(&late) == want
+}
+
+const ROWS: [Row; 6] = [
+    (Nemesis, Said::Fault(Struck::LoseReplies, 0)),
+    (Draw(0), Said::Drawn(0, 1)),
+    (Serve(0), Said::Lost),
+    (Finish(0), Said::Legal),
+    (Draw(1), Said::Drawn(1, 3)),
+    (Serve(1), Said::Done),
+];
+
+// The place of the first command that is not.
+fn first_not_prepared(core: &mut Core) -> Option<usize> {
+    for (place, (ask, want)) in ROWS.iter().enumerate() {
+        if !prepared_twice(core, *ask, *want) {
+            return Some(place);
+        }
+    }
+    None
+}
+
+fn what_is_prepared_changes_nothing_row(alloc: Global) -> Result<bool, Refusal> {
+    let lose = Plain::LoseReplies(1);
+    let mut core = faulty(alloc, Mode::Strict, &[Some(5), Some(6)], 0, lose)?;
+    if first_not_prepared(&mut core).is_some() {
+        return Ok(false);
+    }
+    Ok(true)
+}
+
+#[test]
+fn what_is_prepared_changes_nothing(rt: HostRuntime) -> Result<(), Fail> {
+    assert!(rt; what_is_prepared_changes_nothing_row(rt.alloc())?);
+    Ok(())
+}

@@ -1,0 +1,20 @@
+//! Worked rows of trials on a `Core`: draws, serves, completions and faults, with every refusal that such commands meet; and
+//! thousands of steps under faults. It has tests alone.
+#![tactic(auto)]
+
+#[cfg(test)]
+mod answers;
+#[cfg(test)]
+mod full_history;
+#[cfg(test)]
+mod halves;
+#[cfg(test)]
+mod openings;
+#[cfg(test)]
+mod refusals;
+#[cfg(test)]
+mod seeded;
+#[cfg(test)]
+mod setups;
+#[cfg(test)]
+mod worked_rows;

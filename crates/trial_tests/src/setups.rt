@@ -1,0 +1,166 @@
+//! How the cores of the rows are opened, and what they are asked, as plain data.
+use edn::Refusal;
+use generators::{Cycle, Gen, Item};
+use harness::{Command, Config, Core};
+use history::{Body, Event, EventKind, Fault, Groups, Process};
+use models::{ModelKind, Name, Op, Part};
+use nemesis::Schedule;
+use std::alloc::{AllocError, Global};
+use test_store::Mode;
+
+/// A command. Events are of a write.
+#[derive(Clone, Copy)]
+pub(crate) enum Ask {
+    Draw(u32),
+    Serve(u32),
+    Finish(u32),
+    Nemesis,
+    Rewind(u32),
+    /// The budget of key 7.
+    Budget(u32),
+    Verdict,
+    /// An event of a write of 5 by this process.
+    Event(u32, EventKind),
+    /// The ok of process 0 to a write of this.
+    Ok(Option<i64>),
+    /// The ok of process 0 to a write of 5, which says that it has this index.
+    Numbered(u32),
+    /// A heal that was handed in.
+    Heal,
+}
+
+fn part_of(value: Option<i64>) -> Part {
+    match value {
+        Some(value) => Part::Int(value),
+        None => Part::Nil,
+    }
+}
+
+/// An operation on key 7.
+pub(crate) fn op(name: Name, part: Part) -> Op {
+    Op { name, key: 7, part }
+}
+
+fn event(index: Option<u32>, process: u32, kind: EventKind, value: Option<i64>) -> Command {
+    Command::Append(Event {
+        index,
+        kind,
+        process: Process::Client(process),
+        body: Body::Op(op(Name::Write, part_of(value))),
+    })
+}
+
+/// A heal that is handed in.
+pub(crate) fn heal() -> Command {
+    Command::Append(Event {
+        index: None,
+        kind: EventKind::Info,
+        process: Process::Nemesis,
+        body: Body::Fault(Fault::Heal),
+    })
+}
+
+/// The command itself.
+pub(crate) fn command_of(ask: Ask) -> Command {
+    match ask {
+        Ask::Draw(thread) => Command::Draw(thread),
+        Ask::Serve(ticket) => Command::Serve(ticket),
+        Ask::Finish(ticket) => Command::Finish(ticket),
+        Ask::Nemesis => Command::Nemesis,
+        Ask::Rewind(n) => Command::Rewind(n),
+        Ask::Budget(n) => Command::SetBudget(7, n),
+        Ask::Verdict => Command::Verdict,
+        Ask::Event(process, kind) => event(None, process, kind, Some(5)),
+        Ask::Ok(value) => event(None, 0, EventKind::Ok, value),
+        Ask::Numbered(index) => event(Some(index), 0, EventKind::Ok, Some(5)),
+        Ask::Heal => heal(),
+    }
+}
+
+/// A fault.
+#[derive(Clone, Copy)]
+pub(crate) enum Plain {
+    Partition(&'static [u8], &'static [u8]),
+    Heal,
+    Pause(u8),
+    Resume(u8),
+    Crash(u8),
+    Restart(u8),
+    LoseReplies(u16),
+}
+
+fn partition(alloc: Global, a: &[u8], b: &[u8]) -> Result<Fault, AllocError> {
+    let mut groups = Vec::new(alloc);
+    groups.push(Vec::from_slice(alloc, a)?)?;
+    groups.push(Vec::from_slice(alloc, b)?)?;
+    Ok(Fault::Partition(Groups::new(groups)))
+}
+
+/// The fault itself.
+pub(crate) fn fault_of(alloc: Global, fault: Plain) -> Result<Fault, AllocError> {
+    match fault {
+        Plain::Partition(a, b) => partition(alloc, a, b),
+        Plain::Heal => Ok(Fault::Heal),
+        Plain::Pause(replica) => Ok(Fault::Pause(replica)),
+        Plain::Resume(replica) => Ok(Fault::Resume(replica)),
+        Plain::Crash(replica) => Ok(Fault::Crash(replica)),
+        Plain::Restart(replica) => Ok(Fault::Restart(replica)),
+        Plain::LoseReplies(count) => Ok(Fault::LoseReplies(count)),
+    }
+}
+
+/// A fault alone, due from this length of the history on.
+pub(crate) fn one_fault(alloc: Global, at: u32, fault: Plain) -> Result<Schedule, AllocError> {
+    let fault = fault_of(alloc, fault)?;
+    Ok(Schedule::new(vec![in alloc; (at, fault)]?))
+}
+
+// For each number its write, and a read where there is none, in turn.
+fn ops_of(alloc: Global, values: &[Option<i64>]) -> Result<Gen, AllocError> {
+    let mut items = Vec::new(alloc);
+    for value in values {
+        let name = match value {
+            Some(_) => Name::Write,
+            None => Name::Read,
+        };
+        items.push(Item::Op(op(name, part_of(*value))))?;
+    }
+    Ok(Gen::Ops(Cycle::new(items)))
+}
+
+/// Two threads that are given a write of each number, and a read where there is none, in turn; three replicas that are
+/// registers; no fault.
+pub(crate) fn config(
+    alloc: Global,
+    mode: Mode,
+    values: &[Option<i64>],
+) -> Result<Config, AllocError> {
+    Ok(Config {
+        concurrency: 2,
+        kind: ModelKind::Register,
+        budget: 4096,
+        replicas: 3,
+        mode,
+        generator: ops_of(alloc, values)?,
+        schedule: Schedule::new(Vec::new(alloc)),
+        seed: 0,
+    })
+}
+
+/// A core of that configuration.
+pub(crate) fn calm(alloc: Global, values: &[Option<i64>]) -> Result<Core, Refusal> {
+    Core::new(alloc, config(alloc, Mode::Strict, values)?)
+}
+
+/// A core of that configuration and mode, with one fault, due from this length of the history on.
+pub(crate) fn faulty(
+    alloc: Global,
+    mode: Mode,
+    values: &[Option<i64>],
+    at: u32,
+    fault: Plain,
+) -> Result<Core, Refusal> {
+    let mut config = config(alloc, mode, values)?;
+    config.schedule = one_fault(alloc, at, fault)?;
+    Core::new(alloc, config)
+}
