@@ -13,8 +13,8 @@ use Rattle.monitor.specs.JudgedHistory.{JudgedHistory}
 use Rattle.monitor.specs.Monitors.{MonitorView}
 use Rattle.monitor.specs.Monitors.{at_rest as monitor_at_rest}
 use Rattle.machine.specs.Machine.{Machine, stale_from}
-use Rattle.harness.specs.declared.core_object.Change.{Change}
-use Rattle.harness.specs.declared.core_object.Change.TheVariants.{Nothing, Judged, Rewind as Cut, Draw as Invoke, Serve as Serving, StrikeDue, StrikeDrawn}
+use Rattle.harness.specs.declared.inner.Change.{Change}
+use Rattle.harness.specs.declared.inner.Change.TheVariants.{Nothing, Judged, Rewind as Cut, Draw as Invoke, Serve as Serving, StrikeDue, StrikeDrawn}
 use Rattle.harness.specs.CoreView.{CoreView, at_rest}
 use Rattle.harness.specs.SoundCore.{machine_of, judged_as, moved_on, struck_as, served_at, with_outcome, next_of, IsSoundMachine, IsSoundCore}
 use Rattle.harness.proofs.Preparing.{seen}

@@ -27,7 +27,7 @@ use Rattle.machine.specs.Machine.{Machine, HasTicket, ThreadMayDraw, Gives, idle
 use Rattle.machine.specs.Tickets.{IsAnswered, served_of}
 use Rattle.machine.proofs.Counting.{served-le}
 use Rattle.machine.proofs.Tickets.{may_complete}
-use Rattle.harness.specs.declared.core_object.Change.TheVariants.{Same, Judged, Draw as Invoke, Serve as Serving, StrikeDue, StrikeDrawn}
+use Rattle.harness.specs.declared.inner.Change.TheVariants.{Same, Judged, Draw as Invoke, Serve as Serving, StrikeDue, StrikeDrawn}
 use Rattle.harness.specs.Asking.{MayGive}
 use Rattle.harness.specs.CoreView.{CoreView, IsPrepared}
 use Rattle.harness.specs.SoundCore.{machine_of, judged_as, moved_on, served_at, IsSoundMachine}

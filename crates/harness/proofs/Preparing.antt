@@ -18,8 +18,8 @@ use Rattle.machine.specs.declared.command.Command.TheVariants.{Append, Rewind, S
 use Rattle.machine.specs.declared.command.Reply.{Reply}
 use Rattle.machine.specs.declared.command.Reply.TheVariants.{Verdict as Says}
 use Rattle.machine.specs.Machine.{Machine, Refuses, MayStep, cut_to}
-use Rattle.harness.specs.declared.core_object.Change.{Change}
-use Rattle.harness.specs.declared.core_object.Change.TheVariants.{Nothing, Same, Judged, Rewind as Cut}
+use Rattle.harness.specs.declared.inner.Change.{Change}
+use Rattle.harness.specs.declared.inner.Change.TheVariants.{Nothing, Same, Judged, Rewind as Cut}
 use Rattle.harness.specs.CoreView.{CoreView, IsPrepared, MayDecline}
 use Rattle.harness.specs.SoundCore.{machine_of, judged_as, next_of, IsSoundMachine, IsReady, IsSoundCore}
 use Rattle.harness.specs.Tickets.{IsOf}

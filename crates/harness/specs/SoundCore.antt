@@ -15,8 +15,8 @@ use Rattle.monitor.specs.JudgedHistory.{JudgedHistory}
 use Rattle.monitor.specs.Monitors.{MonitorView}
 use Rattle.machine.specs.Machine.{Machine, stale_from, most_tickets}
 use Rattle.machine.specs.Tickets.{AreTickets, served_of}
-use Rattle.harness.specs.declared.core_object.Change.{Change}
-use Rattle.harness.specs.declared.core_object.Change.TheVariants.{Nothing, Same, Judged, Rewind, Draw, Serve, StrikeDue, StrikeDrawn}
+use Rattle.harness.specs.declared.inner.Change.{Change}
+use Rattle.harness.specs.declared.inner.Change.TheVariants.{Nothing, Same, Judged, Rewind, Draw, Serve, StrikeDue, StrikeDrawn}
 
 -- what the parts stand for
 abbrev pub machine_of : MonitorView → SourceView → List (ℕ × Fault) → StoreView → List Ticket → Machine

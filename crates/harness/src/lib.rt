@@ -6,6 +6,7 @@ mod asking;
 pub mod config;
 pub mod core_object;
 mod fitness;
+mod inner;
 pub mod judging;
 mod parts;
 mod tickets;

@@ -8,14 +8,14 @@ use Rattle.machine.specs.declared.command.Reply.TheVariants.{Drawn as HasDrawn, 
 use Rattle.machine.specs.Machine.{ThreadMayDraw, idle_from}
 use Rattle.harness.specs.declared.asking.Drew.{Drew}
 use Rattle.harness.specs.declared.asking.Drew.TheVariants.{Op as DrewOp, Pending as DrewPending, Done as DrewDone}
-use Rattle.harness.specs.declared.core_object.Change.TheVariants.{Same, Draw as Invoke}
+use Rattle.harness.specs.declared.inner.Change.TheVariants.{Same, Draw as Invoke}
 use Rattle.harness.specs.Asking.{MayGiveOp}
 use Rattle.harness.specs.CoreView.{CoreView, IsPrepared}
 use Rattle.harness.specs.SoundCore.{machine_of}
 use Rattle.harness.proofs.Showing.{Shows}
 use Rattle.harness.proofs.Preparing.{seen, readied, is_of, declines_at}
 use Rattle.harness.proofs.Driving.{drawn, drawn_takes, pending, done}
-use Rattle.harness.proofs.core_object.Core.prepare_draw.Goals as goal
+use Rattle.harness.proofs.inner.Inner.prepare_draw.Goals as goal
 
 pub returns-in_err-test_draw-clause-refused : goal.returns-in_err-test_draw-clause-refused
 returns-in_err-test_draw-clause-refused c =

@@ -3,12 +3,12 @@ use Rattle.std.specs.Vec.{vec_capacity}
 use Rattle.std.proofs.lemmas.Result.{err_from_is_err_and}
 use Rattle.machine.specs.declared.command.Command.TheVariants.{Finish}
 use Rattle.machine.specs.declared.command.Reply.TheVariants.{Verdict as Says}
-use Rattle.harness.specs.declared.core_object.Change.TheVariants.{Judged}
+use Rattle.harness.specs.declared.inner.Change.TheVariants.{Judged}
 use Rattle.harness.specs.CoreView.{CoreView, IsPrepared}
 use Rattle.harness.specs.SoundCore.{machine_of}
 use Rattle.harness.proofs.Preparing.{seen, readied, is_of, declines_at}
 use Rattle.harness.proofs.Driving.{finish_takes, finished, finishes_here}
-use Rattle.harness.proofs.core_object.Core.prepare_finish.Goals as goal
+use Rattle.harness.proofs.inner.Inner.prepare_finish.Goals as goal
 
 pub returns-in_err-event-clause-refused : goal.returns-in_err-event-clause-refused
 returns-in_err-event-clause-refused c =

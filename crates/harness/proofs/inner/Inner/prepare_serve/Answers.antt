@@ -6,13 +6,13 @@ use Rattle.machine.specs.declared.command.Reply.TheVariants.{Served}
 use Rattle.test_store.specs.declared.outcome.Outcome.{Outcome}
 use Rattle.test_store.specs.Store.{StoreView}
 use Rattle.trials.specs.declared.ticket.Ticket.{Ticket}
-use Rattle.harness.specs.declared.core_object.Change.TheVariants.{Serve as Serving}
+use Rattle.harness.specs.declared.inner.Change.TheVariants.{Serve as Serving}
 use Rattle.harness.specs.CoreView.{CoreView, IsPrepared}
 use Rattle.harness.specs.SoundCore.{machine_of}
 use Rattle.harness.specs.Tickets.{MayServe as MayBeServed}
 use Rattle.harness.proofs.Preparing.{seen, readied, is_of, declines_at}
 use Rattle.harness.proofs.Driving.{served, versions_fit, number_below, serves_here, at_entry}
-use Rattle.harness.proofs.core_object.Core.prepare_serve.Goals as goal
+use Rattle.harness.proofs.inner.Inner.prepare_serve.Goals as goal
 
 pub returns-in_err-ticket-clause-refused : goal.returns-in_err-ticket-clause-refused
 returns-in_err-ticket-clause-refused c =

@@ -5,7 +5,7 @@ use Rattle.machine.specs.Machine.{Machine, opening}
 use Rattle.harness.specs.Setups.{setup_of}
 use Rattle.harness.specs.SoundCore.{machine_of}
 use Rattle.harness.proofs.Opening.{not_stored, opened, declines_to_open}
-use Rattle.harness.proofs.core_object.Core.new.Goals as goal
+use Rattle.harness.proofs.inner.Inner.new.Goals as goal
 
 pub returns-in_err-store-clause-refused : goal.returns-in_err-store-clause-refused
 returns-in_err-store-clause-refused c =

@@ -1,10 +1,10 @@
 use Rattle.std.proofs.Common.{subst}
 use Rattle.machine.specs.declared.command.Command.TheVariants.{Verdict as Ask}
 use Rattle.machine.specs.declared.command.Reply.TheVariants.{Verdict as Says}
-use Rattle.harness.specs.declared.core_object.Change.TheVariants.{Same}
+use Rattle.harness.specs.declared.inner.Change.TheVariants.{Same}
 use Rattle.harness.specs.CoreView.{CoreView, IsPrepared}
 use Rattle.harness.proofs.Preparing.{seen, asked_for}
-use Rattle.harness.proofs.core_object.Core.prepare_verdict.Goals as goal
+use Rattle.harness.proofs.inner.Inner.prepare_verdict.Goals as goal
 
 pub returns : goal.returns
 returns c =

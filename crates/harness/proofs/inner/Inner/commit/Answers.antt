@@ -6,7 +6,7 @@ use Rattle.harness.proofs.Preparing.{seen}
 use Rattle.harness.proofs.Committing.{noted, serve_brings, serve_sound}
 use Rattle.std.specs.Vec.{vec_capacity}
 use Rattle.std.proofs.Math.ListN.{set}
-use Rattle.harness.proofs.core_object.Core.commit.Goals as goal
+use Rattle.harness.proofs.inner.Inner.commit.Goals as goal
 
 pub invariant_of-self-in-Serve : goal.invariant_of-self-in-Serve
 invariant_of-self-in-Serve c =

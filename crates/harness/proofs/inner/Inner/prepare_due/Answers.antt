@@ -7,14 +7,14 @@ use Rattle.test_store.specs.Store.{MayStrike}
 use Rattle.machine.specs.declared.command.Command.TheVariants.{Nemesis}
 use Rattle.machine.specs.declared.command.Reply.TheVariants.{Fault as Struck}
 use Rattle.machine.specs.Machine.{Refuses}
-use Rattle.harness.specs.declared.core_object.Change.TheVariants.{StrikeDue}
+use Rattle.harness.specs.declared.inner.Change.TheVariants.{StrikeDue}
 use Rattle.harness.specs.CoreView.{CoreView, IsPrepared}
 use Rattle.harness.specs.SoundCore.{machine_of}
 use Rattle.harness.proofs.Preparing.{seen, readied}
 use Rattle.harness.proofs.Driving.{due}
 use Rattle.harness.proofs.Striking.{has_room, no_room, due_strikes, due_is, next_due}
 use Rattle.harness.proofs.Takes.{may_strike}
-use Rattle.harness.proofs.core_object.Core.prepare_due.Goals as goal
+use Rattle.harness.proofs.inner.Inner.prepare_due.Goals as goal
 
 pub returns-then-index-ge-MOST_EVENTS-clause-refused : goal.returns-then-index-ge-MOST_EVENTS-clause-refused
 returns-then-index-ge-MOST_EVENTS-clause-refused c =

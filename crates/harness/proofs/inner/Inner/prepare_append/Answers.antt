@@ -2,11 +2,11 @@ use Rattle.std.proofs.Common.{subst}
 use Rattle.std.specs.Vec.{vec_capacity}
 use Rattle.machine.specs.declared.command.Command.TheVariants.{Append}
 use Rattle.machine.specs.declared.command.Reply.TheVariants.{Verdict as Says}
-use Rattle.harness.specs.declared.core_object.Change.TheVariants.{Judged}
+use Rattle.harness.specs.declared.inner.Change.TheVariants.{Judged}
 use Rattle.harness.specs.CoreView.{CoreView, IsPrepared}
 use Rattle.harness.specs.SoundCore.{machine_of}
 use Rattle.harness.proofs.Preparing.{seen, readied, appended}
-use Rattle.harness.proofs.core_object.Core.prepare_append.Goals as goal
+use Rattle.harness.proofs.inner.Inner.prepare_append.Goals as goal
 
 pub invariant_of-self-2 : goal.invariant_of-self-2
 invariant_of-self-2 c =

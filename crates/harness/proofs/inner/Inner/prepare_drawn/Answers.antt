@@ -9,7 +9,7 @@ use Rattle.machine.specs.declared.command.Command.TheVariants.{Nemesis}
 use Rattle.machine.specs.declared.command.Reply.TheVariants.{Fault as Struck}
 use Rattle.machine.specs.Machine.{Refuses, first_due, idle_from}
 use Rattle.harness.specs.Asking.{MayGiveFault}
-use Rattle.harness.specs.declared.core_object.Change.TheVariants.{StrikeDrawn}
+use Rattle.harness.specs.declared.inner.Change.TheVariants.{StrikeDrawn}
 use Rattle.harness.specs.CoreView.{CoreView, IsPrepared}
 use Rattle.harness.specs.SoundCore.{machine_of}
 use Rattle.harness.proofs.Showing.{Shows}
@@ -17,7 +17,7 @@ use Rattle.harness.proofs.Preparing.{seen, readied}
 use Rattle.harness.proofs.Driving.{drawn_strikes, given_fault}
 use Rattle.harness.proofs.Striking.{has_room, no_room, no_fault, next_given}
 use Rattle.harness.proofs.Takes.{may_strike}
-use Rattle.harness.proofs.core_object.Core.prepare_drawn.Goals as goal
+use Rattle.harness.proofs.inner.Inner.prepare_drawn.Goals as goal
 
 pub returns-in_default-clause-refused : goal.returns-in_default-clause-refused
 returns-in_default-clause-refused c =
