@@ -7,3 +7,4 @@ pub mod Refusing
 pub mod Gathering
 pub mod Seating
 pub mod CoreTruth
+pub mod Crossing

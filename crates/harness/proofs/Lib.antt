@@ -1,5 +1,6 @@
 pub mod Asked
 pub mod Committing
+pub mod Crossing
 pub mod Driving
 pub mod Fitting
 pub mod Idle
