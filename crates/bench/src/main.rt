@@ -1,5 +1,5 @@
-//! Times a glance and a call from inside, on a board and under a plain lock. Without `glance` among its words it only
-//! says how it is run.
+//! Times a glance and a call from inside, on a board and under a plain lock, and the commands of a trial. Without words that it
+//! knows it only says how it is run.
 #![tactic(auto)]
 
 pub mod monitors;
@@ -7,6 +7,7 @@ pub mod plans;
 pub mod runs;
 pub mod setups;
 pub mod tables;
+pub mod trial_runs;
 
 use std::alloc::{AllocError, Global};
 use std::env::Args;
@@ -14,26 +15,48 @@ use std::rt::Env;
 use std::time::Duration;
 use std::{env, io};
 use tables::print_table;
+use trial_runs::print_trials;
 
-const USAGE: &str = "bench glance MILLISECONDS: times glances and calls, each for so long";
+const USAGE: &str = "bench glance MILLISECONDS: times glances and calls, each for so long
+bench trials ROUNDS: times draws, serves and completions, for so many rounds";
+
+// What was asked for.
+#[derive(Clone, Copy)]
+enum Wish {
+    // Glances and calls, each for so many milliseconds.
+    Glances(u32),
+    // Trials of so many rounds.
+    Trials(u32),
+}
 
 // The words after the program's name.
 fn rest_of(alloc: Global, words: Args) -> Result<Vec<String>, AllocError> {
     words.skip(1).collect(alloc)
 }
 
-// How long each run is to last, in milliseconds, where that was asked for.
-fn length_given<R: Env + AllocGlobal>(rt: &R) -> io::Result<Option<u32>> {
+fn wish_of(word: &str, number: &str) -> Option<Wish> {
+    let number = number.parse::<u32>().ok()?;
+    match word {
+        "glance" => Some(Wish::Glances(number)),
+        "trials" => Some(Wish::Trials(number)),
+        _ => None,
+    }
+}
+
+fn wish_given<R: Env + AllocGlobal>(rt: &R) -> io::Result<Option<Wish>> {
     let words = rest_of(rt.alloc(), env::args(rt)?)?;
     Ok(match words.as_slice() {
-        [word, length] if word.as_str() == "glance" => length.as_str().parse::<u32>().ok(),
+        [word, number] => wish_of(word.as_str(), number.as_str()),
         _ => None,
     })
 }
 
 fn main(rt: HostRuntime) -> io::Result<()> {
-    match length_given(&rt)? {
-        Some(length) => print_table(&rt, rt.alloc(), Duration::from_millis(u64::from(length))),
+    match wish_given(&rt)? {
+        Some(Wish::Glances(length)) => {
+            print_table(&rt, rt.alloc(), Duration::from_millis(u64::from(length)))
+        }
+        Some(Wish::Trials(rounds)) => print_trials(&rt, rt.alloc(), rounds),
         None => println!(rt; "{USAGE}"),
     }
 }
