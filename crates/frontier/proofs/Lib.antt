@@ -13,14 +13,11 @@ pub mod Growing
 pub mod Pending
 pub mod Masks
 pub mod Indexed
-pub mod Digits
 pub mod Rows
 pub mod Leading
 pub mod Showing
-pub mod Packing
 pub mod Including
 pub mod Telling
-pub mod Putting
 pub mod Stating
 pub mod Moving
 pub mod Settling

@@ -12,7 +12,8 @@ use Rattle.frontier.specs.declared.table.Table.{Table}
 use Rattle.frontier.specs.EndSteps.{TakesLast, Next, Along, Grows}
 use Rattle.models.specs.declared.finding.Found.{Found}
 use Rattle.frontier.specs.KeptEnds.{AreIncluded}
-use Rattle.frontier.specs.Tables.{AreShown, IsOnceIn, IsPut, LeadsTo, Says, Shows, ShownWith, Widens, rows_of, with_rows}
+use Rattle.frontier.specs.Tables.{AreShown, IsOnceIn, LeadsTo, Says, Shows, ShownWith, Widens, rows_of, with_rows}
+use Rattle.rows.specs.RowSets.{IsPut}
 use Rattle.frontier.proofs.Adding.{IsFront-itself, IsFront-push, IsFront-trans, Adds-old, Adds-new, Adds-change, Adds-more, Adds-none, Adds-start, one_more}
 use Rattle.frontier.proofs.Reaching.{reached_next}
 use Rattle.frontier.proofs.Rows.{clash, one_end, one_row, says_more, place_of, has_place, some_at, get_push}

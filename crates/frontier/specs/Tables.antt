@@ -85,11 +85,6 @@ pub record Widens {S : Type 0} (old new : Table S) : Type 0 where
   pub states_once : IsOnceIn old.states → IsOnceIn new.states
   pub founds_once : IsOnceIn old.founds.items → IsOnceIn new.founds.items
 
--- the row is with the others
-abbrev pub IsPut : List ℕ → List (List ℕ) → List (List ℕ) → Type 0
-IsPut row old new =
-    (Contains old row × (new ≡ old)) ⊎ ((¬ Contains old row) × (new ≡ old ++ row ∷ []))
-
 -- what the call leads to from the end, as a row
 abbrev pub LeadsTo : (o : Object) → Table o.State → List PendingOp → End o.State → PendingOp
     → Option (List ℕ) → Type 0

@@ -10,9 +10,9 @@ ghost use Rattle.frontier.specs.Tables.{AreShown, HasEachOnce, IsOpenAt, Shows, 
 use crate::kept_end::{KeptEnd, copy_of, keep};
 use crate::pending_op::PendingOp;
 use crate::places::Places;
-use crate::row_set::RowSet;
 use crate::table::{self, Table};
 use models::{Answer, SeqObject, finding};
+use rows::RowSet;
 use std::alloc::{AllocError, Global};
 
 // Whether the call is of this operation, which is open.

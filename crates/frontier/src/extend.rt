@@ -12,9 +12,9 @@ ghost use Rattle.frontier.specs.Tables.{IsAdvanced, ShownWith, ShownGrown, with_
 use crate::ends;
 use crate::moves::Move;
 use crate::pending_op::PendingOp;
-use crate::row_set::RowSet;
 use crate::table::{self, Table};
 use models::{Answer, SeqObject};
+use rows::RowSet;
 use std::alloc::{AllocError, Global};
 
 // Adds what the call at this place leads to from the end of the row that stands here.

@@ -9,10 +9,8 @@ mod kept_end;
 mod moves;
 mod pending_op;
 mod places;
-mod row_set;
 mod states;
 mod table;
-mod words;
 
 pub use any_frontier::AnyFrontier;
 pub use frontier::{Frontier, Step};

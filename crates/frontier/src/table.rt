@@ -15,9 +15,9 @@ ghost use Rattle.frontier.specs.Tables.{LeadsTo, Shows, Widens, found_by, row_le
 use crate::kept_end::{KeptEnd, found_in, has};
 use crate::moves::{self, Move};
 use crate::pending_op::PendingOp;
-use crate::row_set::RowSet;
 use crate::states::{self, States};
 use models::{Found, Op, SeqObject};
+use rows::RowSet;
 use std::alloc::{AllocError, Global};
 
 /// The ends that an ok finds, each a row of numbers. The first says where its state stands; then comes one for each call:

@@ -1,7 +1,8 @@
 use Rattle.std.proofs.Common.{◌+◌, get_or, is_some, length, set, refl, sym, ap, ◌∙◌, subst, arith}
 use Rattle.std.proofs.lemmas.Option.{get_or_from_slice_get, slice_get_within}
 use Rattle.models.specs.Objects.{of_table}
-use Rattle.frontier.specs.Tables.{IsPut, LeadsTo, row_led, rows_of}
+use Rattle.frontier.specs.Tables.{LeadsTo, row_led, rows_of}
+use Rattle.rows.specs.RowSets.{IsPut}
 use Rattle.history.specs.Events.{IsFront}
 use Rattle.frontier.proofs.Adding.{IsFront-itself}
 use Rattle.frontier.proofs.Showing.{front_by, row_still, none_there, some_there, widens_rows}
