@@ -3,16 +3,14 @@ pub mod Included
 pub mod Adding
 pub mod Changes
 pub mod CallsInTurn
-pub mod Rounds
 pub mod JustInTime
 pub mod Reaching
 pub mod AfterEvents
 pub mod Generating
 pub mod Starting
+pub mod Closing
 pub mod Growing
 pub mod Pending
-pub mod Masks
-pub mod Indexed
 pub mod Rows
 pub mod Leading
 pub mod Showing

@@ -1,5 +1,5 @@
 -- Invariant: ends as rows of numbers
-use Rattle.std.specs.Prelude.{◌<◌, ◌≤◌, ◌≡◌, ◌≢◌, ◌↔◌, ℕ, ◌+◌, ◌⊎◌, Bool, true, false, Option, Some, None, List, [], ◌∷◌, ◌++◌, length, set, slice_get, get_or}
+use Rattle.std.specs.Prelude.{◌<◌, ◌≤◌, ◌≡◌, ◌≢◌, ◌↔◌, ℕ, ◌+◌, Bool, true, false, Option, Some, None, List, [], length, set, slice_get, get_or}
 use Rattle.std.specs.List.{Contains, filter}
 use Rattle.std.specs.FinMap as finmap
 use Rattle.std.specs.FinSet as finset

@@ -4,12 +4,11 @@ ghost use Rattle.std.specs.Prelude.{IfOk, OnOk, IfSome};
 ghost use Rattle.linspec.specs.Ends.{End};
 ghost use Rattle.frontier.specs.KeptEnds.{end_kept};
 ghost use Rattle.std.specs.List.{filter};
-ghost use Rattle.frontier.specs.EndSteps.{FitsAt, Settles, Crashes, Along, Adds, is_other};
+ghost use Rattle.frontier.specs.EndSteps.{FitsAt, Settles, Along, after_crash, is_other};
 ghost use Rattle.frontier.specs.Tables.{AreShown, HasEachOnce, IsOpenAt, Shows, ShownWith, with_rows};
 
-use crate::kept_end::{KeptEnd, copy_of, keep};
+use crate::kept_end::{KeptEnd, copy_of};
 use crate::pending_op::PendingOp;
-use crate::places::Places;
 use crate::table::{self, Table};
 use models::{Answer, SeqObject, finding};
 use rows::RowSet;
@@ -101,21 +100,20 @@ pub fn settled<S: Ord + Drop>(
     }
 }
 
-/// The ends after the operation has crashed.
+/// The ends after the operation has crashed, in the same order. Ends that differed before may be the same then.
 pub fn crashed_ends<M: SeqObject>(
     alloc: Global,
     ends: &[KeptEnd<M::State>],
     id: u32,
 ) -> Result<Vec<KeptEnd<M::State>>, AllocError>
-    ensures { let crashed = Along (Crashes id) (map end_kept ends.now) in
-        IfOk result (λ after. Adds crashed [] (map end_kept after.items)) }
+    ensures { let ends = map end_kept ends.now in
+        IfOk result (λ after. map end_kept after.items ≡ map (λ e. after_crash e id) ends) }
 {
-    let mut after = Vec::new(alloc);
-    let mut places = Places::new(alloc)?;
+    let mut after = Vec::with_capacity(alloc, ends.len())?;
     for kept in ends {
         let mut crashed = copy_of::<M>(alloc, kept)?;
         crashed.crash(id)?;
-        keep::<M>(&mut after, &mut places, crashed)?;
+        after.push(crashed)?;
     }
     Ok(after)
 }

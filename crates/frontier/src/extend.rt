@@ -1,11 +1,11 @@
 //! The ends that calls lead to from others.
-ghost use Rattle.std.specs.Prelude.{◌≡◌, ◌↔◌, ◌+◌, ◌*◌, ◌<◌, ◌≤◌, true, false};
+ghost use Rattle.std.specs.Prelude.{◌≡◌, ◌↔◌, ◌+◌, ◌*◌, ◌<◌, ◌≤◌, true, false, take, drop};
 ghost use Rattle.std.specs.Prelude.{ℕ, List, length, slice_get, Some, None, IfOk, OnOk};
 ghost use Rattle.models.specs.Objects.{of_table};
 ghost use Rattle.history.specs.Events.{IsFront};
 ghost use Rattle.linspec.specs.Ends.{End};
 ghost use Rattle.frontier.specs.Moves.{AreMoves};
-ghost use Rattle.frontier.specs.EndSteps.{TakesLast, Next, Grows};
+ghost use Rattle.frontier.specs.EndSteps.{AreClosed, TakesLast, Next, Grows};
 ghost use Rattle.frontier.specs.Tables.{AreShown, HasEachOnce, Shows, Widens, rows_of};
 ghost use Rattle.frontier.specs.Tables.{IsAdvanced, ShownWith, ShownGrown, with_rows};
 
@@ -48,7 +48,7 @@ fn grow_at<M: SeqObject>(
     Ok(())
 }
 
-// Adds what each call leads to from the end of the row that stands here.
+// Adds what each call from that place on leads to from the end of the row that stands here.
 fn grow_from<M: SeqObject>(
     alloc: Global,
     table: &mut Table<M::State>,
@@ -56,6 +56,7 @@ fn grow_from<M: SeqObject>(
     from: usize,
     row: &[usize],
     calls: &[PendingOp],
+    first: usize,
     applied: &mut u64,
 ) -> Result<(), AllocError>
     requires { slice_get (rows_of table.old) from ≡ Some row.now }
@@ -65,28 +66,40 @@ fn grow_from<M: SeqObject>(
         AreMoves M.apply_to table.old calls.now moves.old.items → HasEachOnce calls.now
         → (e : End M.State) (ends : List (End M.State))
         → Shows table.old calls.now row.now e → AreShown table.old calls.now ends
-        → OnOk result (ShownWith table.new calls.now ends (Next object calls.now e)) }
+        → OnOk result (ShownWith table.new calls.now ends
+        (Next object (drop first calls.now) e)) }
     ensures widens { Widens table.old table.new }
     ensures front { IsFront (rows_of table.old) (rows_of table.new) }
     ensures cost { applied.new ≤ applied.old + length calls.now }
 {
-    for at in 0..calls.len() {
+    for at in first..calls.len() {
         grow_at::<M>(alloc, table, moves, from, row, calls, at, applied)?;
     }
     Ok(())
 }
 
-// Adds what the calls lead to, one after another: goes through the rows once while they grow at their end. False where
-// they are more than the budget, and then there may be more to add.
+// From which call on the calls are tried on the end at this place: on a kept one those that were not tried yet.
+fn first_for(at: usize, kept: usize, tried: usize) -> usize
+    ensures old { at < kept → result ≡ tried }
+    ensures new { kept ≤ at → result ≡ 0 }
+{
+    if at < kept { tried } else { 0 }
+}
+
+// Adds what the calls lead to, one after another: goes through the rows once while they grow at their end. The first
+// calls, which were tried already, are tried on new rows alone. False where the rows are more than the budget, and then
+// there may be more to add.
 fn grow<M: SeqObject>(
     alloc: Global,
     table: &mut Table<M::State>,
     calls: &[PendingOp],
+    tried: usize,
     budget: u32,
     applied: &mut u64,
 ) -> Result<bool, AllocError>
     ensures grows { let object = of_table M.State M.start_state M.apply_to in
         HasEachOnce calls.now → (ends : List (End M.State)) → AreShown table.old calls.now ends
+        → AreClosed object (take tried calls.now) ends
         → IfOk result (ShownGrown object table.new calls.now ends) }
     ensures within { IfOk result (λ all. all ≡ true → length (rows_of table.new) ≤ budget) }
     ensures beyond { IfOk result (λ all. all ≡ false → budget < length (rows_of table.new)) }
@@ -96,6 +109,7 @@ fn grow<M: SeqObject>(
 {
     let mut moves = Vec::new(alloc);
     let mut row = Vec::new(alloc);
+    let kept = table.rows.len();
     for at in 0..budget as usize {
         if table.rows.len() > budget as usize {
             return Ok(false);
@@ -103,8 +117,9 @@ fn grow<M: SeqObject>(
         if at >= table.rows.len() {
             return Ok(true);
         }
+        let first = first_for(at, kept, tried);
         table.rows.read(at, &mut row)?;
-        grow_from::<M>(alloc, table, &mut moves, at, &row, calls, applied)?;
+        grow_from::<M>(alloc, table, &mut moves, at, &row, calls, first, applied)?;
     }
     Ok(table.rows.len() <= budget as usize)
 }
@@ -115,6 +130,7 @@ fn found_rows<M: SeqObject>(
     alloc: Global,
     table: &mut Table<M::State>,
     calls: &[PendingOp],
+    tried: usize,
     budget: u32,
     applied: &mut u64,
     id: u32,
@@ -122,17 +138,19 @@ fn found_rows<M: SeqObject>(
 ) -> Result<Option<RowSet>, AllocError>
     ensures all { let object = of_table M.State M.start_state M.apply_to in
         HasEachOnce calls.now → (ends : List (End M.State)) → AreShown table.old calls.now ends
+        → AreClosed object (take tried calls.now) ends
         → IfOk result (λ found. (rows : List (List ℕ)) → found ≡ Some rows
         → IsAdvanced object (with_rows table.new rows) calls.now ends budget id answer.now) }
     ensures over { let object = of_table M.State M.start_state M.apply_to in
         HasEachOnce calls.now → (ends : List (End M.State)) → AreShown table.old calls.now ends
+        → AreClosed object (take tried calls.now) ends
         → IfOk result (λ found. found ≡ None
         → (more : List (End M.State)) × Grows object calls.now ends more × (budget < length more)) }
     ensures widens { Widens table.old table.new }
     ensures front { IsFront (rows_of table.old) (rows_of table.new) }
     ensures cost { applied.new ≤ applied.old + (budget + 1) * length calls.now }
 {
-    if !grow::<M>(alloc, table, calls, budget, applied)? {
+    if !grow::<M>(alloc, table, calls, tried, budget, applied)? {
         return Ok(None);
     }
     let rows = ends::settled(alloc, table, calls, id, answer)?;
@@ -141,12 +159,13 @@ fn found_rows<M: SeqObject>(
 
 /// The rows of the ends that are left after the operation has returned with this answer: of those where it is in and what it
 /// found fits, each without it. `None` where all ends, these and what the calls lead to from them one after another, are more
-/// than the budget. This is so where each call is of another operation. No more ends than the budget are extended. The
-/// rows of the table stay.
+/// than the budget. This is so where each call is of another operation, and the first calls, so many as were tried
+/// already, lead from the ends to no others. No more ends than the budget are extended. The rows of the table stay.
 pub fn advance<M: SeqObject>(
     alloc: Global,
     table: &mut Table<M::State>,
     calls: &[PendingOp],
+    tried: usize,
     budget: u32,
     applied: &mut u64,
     id: u32,
@@ -154,10 +173,12 @@ pub fn advance<M: SeqObject>(
 ) -> Result<Option<RowSet>, AllocError>
     ensures all { let object = of_table M.State M.start_state M.apply_to in
         HasEachOnce calls.now → (ends : List (End M.State)) → AreShown table.old calls.now ends
+        → AreClosed object (take tried calls.now) ends
         → IfOk result (λ found. (rows : List (List ℕ)) → found ≡ Some rows
         → IsAdvanced object (with_rows table.new rows) calls.now ends budget id answer.now) }
     ensures over { let object = of_table M.State M.start_state M.apply_to in
         HasEachOnce calls.now → (ends : List (End M.State)) → AreShown table.old calls.now ends
+        → AreClosed object (take tried calls.now) ends
         → IfOk result (λ found. found ≡ None
         → (more : List (End M.State)) × Grows object calls.now ends more × (budget < length more)) }
     ensures widens { Widens table.old table.new }
@@ -165,7 +186,7 @@ pub fn advance<M: SeqObject>(
     ensures cost { applied.new ≤ applied.old + (budget + 1) * length calls.now }
 {
     let kept = table.rows.len();
-    let found = found_rows::<M>(alloc, table, calls, budget, applied, id, answer);
+    let found = found_rows::<M>(alloc, table, calls, tried, budget, applied, id, answer);
     table.rows.truncate(kept);
     found
 }

@@ -35,6 +35,7 @@ pub struct Frontier<M: SeqObject> {
     budget: u32,
     applied: u64,
     calls: Vec<PendingOp>,
+    tried: usize,
     table: Table<M::State>,
 }
 
@@ -69,6 +70,7 @@ impl<M: SeqObject> Frontier<M> {
             budget,
             applied: 0,
             calls,
+            tried: 0,
             table,
         })
     }
@@ -162,8 +164,9 @@ impl<M: SeqObject> Frontier<M> {
 
     /// An open operation has returned with this answer. Over where more ends than the budget stand just before it: then,
     /// and on `AllocError`, the frontier stands for what it stood for. Tries each operation that may still take place
-    /// at most once on each end, and as a rule once in each state of an end; looks what comes of it up in a hash set; goes
-    /// on with no end once these are more than the budget.
+    /// at most once on each end, and as a rule once in each state of an end, and on the ends that the last ok left only the
+    /// operations invoked since; looks what comes of it up in a hash set; goes on with no end once these are more than the
+    /// budget.
     pub fn ok(&mut self, id: u32, answer: &Answer) -> Result<Step, AllocError>
         ensures step { let object = of_table M.State M.start_state M.apply_to in
             let old = StandsFor object self.old in
@@ -182,6 +185,7 @@ impl<M: SeqObject> Frontier<M> {
             self.alloc,
             &mut self.table,
             &self.calls,
+            self.tried,
             self.budget,
             &mut self.applied,
             id,
@@ -192,6 +196,7 @@ impl<M: SeqObject> Frontier<M> {
         };
         self.table.rows = rows;
         pending_op::drop_call(&mut self.calls, id);
+        self.tried = self.calls.len();
         Ok(step_of(self.table.rows.len()))
     }
 
@@ -221,11 +226,12 @@ impl<M: SeqObject> Frontier<M> {
         pending_op::drop_call(&mut calls, id);
         self.table = table::of_ends::<M>(self.alloc, &ends, &calls)?;
         self.calls = calls;
+        self.tried = self.tried.saturating_sub(1);
         Ok(step_of(self.table.rows.len()))
     }
 
     /// An open operation has crashed: it may take place at any later moment, or never. On `AllocError` the frontier is
-    /// unchanged. Compares the ends with one another.
+    /// unchanged. Makes its rows anew.
     pub fn crash(&mut self, id: u32) -> Result<(), AllocError>
         ensures kept { let object = of_table M.State M.start_state M.apply_to in
             let old = StandsFor object self.old in let new = StandsFor object self.new in
@@ -239,6 +245,7 @@ impl<M: SeqObject> Frontier<M> {
         pending_op::mark_crashed(&mut calls, id);
         self.table = table::of_ends::<M>(self.alloc, &after, &calls)?;
         self.calls = calls;
+        self.tried = 0;
         Ok(())
     }
 
@@ -260,6 +267,7 @@ impl<M: SeqObject> Frontier<M> {
             budget: self.budget,
             applied: self.applied,
             calls: pending_op::copy_calls(self.alloc, &self.calls)?,
+            tried: self.tried,
             table: table::copied::<M>(self.alloc, &self.table)?,
         })
     }

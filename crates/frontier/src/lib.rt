@@ -8,7 +8,6 @@ pub mod frontier;
 mod kept_end;
 mod moves;
 mod pending_op;
-mod places;
 mod states;
 mod table;
 

@@ -1,6 +1,6 @@
 -- rows of numbers as words
 use Rattle.std.proofs.Common.{◌≡◌, ℕ, zero, suc, ◌+◌, ◌*◌, ◌^◌, ◌/◌, ◌%◌, ◌<◌, ◌≤◌, ◌-◌, ⊎_elim, List, [], ◌∷◌, ◌++◌, drop, length, get_or, set, refl, sym, ap, ◌∙◌, subst, arith, add-one, append_assoc}
-use Rattle.std.proofs.Math.Nat.{add-mul-mod_self_left, mod-eq_of_lt, mod-lt, add-mul-div_left, div-eq_of_lt, mul-le-mul_left, mul-le-mul_right, pow-le-pow_right, pow-zero, pow-suc, mul-zero, mul_comm, mul-one, zero-mul, mod-le, zero-add}
+use Rattle.std.proofs.Math.Nat.{add-mul-mod_self_left, mod-eq_of_lt, mod-lt, add-mul-div_left, div-eq_of_lt, mul-le-mul_left, mul-le-mul_right, pow-le-pow_right, pow-zero, pow-suc, mul-zero, mul_comm, mul-one, zero-mul, mod-le, zero-add, div-one, div-div-eq-div-mul, mod-one}
 use Rattle.std.proofs.lemmas.Nat.{pow-add, pow_pos}
 use Rattle.std.proofs.lemmas.Bool.{cases_eq}
 use Rattle.std.proofs.lemmas.List.{drop_more, get_or-set_same, get_or-set_other, length-set, length-drop}
@@ -196,3 +196,22 @@ shifted_fits bits at number lt room =
     let turned : 2 ^ bits * 2 ^ (bits * at) ≡ 2 ^ (bits * at) * 2 ^ bits = mul_comm (2 ^ bits) (2 ^ (bits * at)) in
     let some = pow_pos (bits * at) in
     omega (arith, pow, le, more, one, turned, some)
+
+-- one number of a word
+pub digit_at : (base n w p : ℕ) → p < n → get_or (digits base n w) p 0 ≡ w / base ^ p % base
+digit_at base zero w p lt = absurd (omega (arith, lt))
+digit_at base (suc n) w zero lt = ap (λ x. x % base) (sym (ap (λ x. w / x) (pow-zero base) ∙ div-one w))
+digit_at base (suc n) w (suc p) lt =
+    digit_at base n (w / base) p (omega (arith, lt))
+    ∙ ap (λ x. x % base) (div-div-eq-div-mul w base (base ^ p) ∙ ap (λ x. w / x) (sym (pow-suc base p ∙ mul_comm (base ^ p) base)))
+
+pub no_digit : (base n w p : ℕ) → n ≤ p → get_or (digits base n w) p 0 ≡ 0
+no_digit base zero w p le = refl
+no_digit base (suc n) w zero le = absurd (omega (arith, le))
+no_digit base (suc n) w (suc p) le = no_digit base n (w / base) p (omega (arith, le))
+
+-- where each is of no bits
+pub digit_none : (n w p : ℕ) → get_or (digits 1 n w) p 0 ≡ 0
+digit_none zero w p = refl
+digit_none (suc n) w zero = mod-one w
+digit_none (suc n) w (suc p) = digit_none n (w / 1) p

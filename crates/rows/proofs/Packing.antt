@@ -12,6 +12,7 @@ use Rattle.std.specs.Vec.{vec_len}
 use Rattle.std.proofs.Math.Nat.{mod-add-div, mul-div_cancel_left, mul-zero, zero-mod, zero-mul}
 use Rattle.std.proofs.lemmas.Nat.{div-add-mod', mod_below, pow_pos}
 use Rattle.std.proofs.lemmas.Option.{get_or_from_slice_get, slice_get-map}
+use Rattle.rows.proofs.Digits.{length-digits}
 use Rattle.rows.proofs.Elements.{Contains-cons_cases, Contains-head, Contains-nil, Contains-tail, clash, from_map, has_place, one_of, taken_more, to_map}
 
 word_there : (w : ℕ) (ws : List ℕ) → list_any (nat_eq w) ws ≡ true → Contains ws w
@@ -112,6 +113,15 @@ pub row_there : (rows : List (List ℕ)) (bits long from w : ℕ) (words : List 
 row_there rows bits long from w words is here =
     get_or_from_slice_get rows from (digits (2 ^ bits) long w) []
     (ap (λ l. slice_get l from) (sym is) ∙ slice_get-map (digits (2 ^ bits) long) words from ∙ ap (option_map (digits (2 ^ bits) long)) here)
+
+pub row_long : (bits long at : ℕ) (words : List ℕ) (rows : List (List ℕ)) → map (digits (2 ^ bits) long) words ≡ rows → at < length rows → length (get_or rows at []) ≡ long
+row_long bits long at words rows is lt =
+    ap (λ l. length (get_or l at [])) (sym is) ∙ each_long words at (subst (λ (l : List (List ℕ)). at < length l) (sym is) lt)
+  where
+    each_long : (ws : List ℕ) (at : ℕ) → at < length (map (digits (2 ^ bits) long) ws) → length (get_or (map (digits (2 ^ bits) long) ws) at []) ≡ long
+    each_long [] at lt = absurd (omega (arith, lt))
+    each_long (w ∷ ws) zero lt = length-digits (2 ^ bits) long w
+    each_long (w ∷ ws) (suc at) lt = each_long ws at (omega (arith, lt))
 
 pub below_by : (n bits : ℕ) → n / 2 ^ bits ≡ 0 → n < 2 ^ bits
 below_by n bits e =

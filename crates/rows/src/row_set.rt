@@ -1,9 +1,9 @@
 //! Rows of numbers, each once.
-ghost use Rattle.std.specs.Prelude.{◌≡◌, ◌<◌, ◌≤◌, ◌*◌, ◌^◌, [], ◌∷◌, ◌++◌, false, Some, IsTrue, map, take, length, get_or, set, slice_get, IfOk, OnOk, OnErr};
+ghost use Rattle.std.specs.Prelude.{◌≡◌, ◌↔◌, ◌<◌, ◌≤◌, ◌*◌, ◌^◌, [], ◌∷◌, ◌++◌, false, Some, IsTrue, map, take, length, get_or, set, slice_get, IfOk, OnOk, OnErr};
 ghost use Rattle.rows.specs.Words.{ArePacked, digits, items_of};
 ghost use Rattle.rows.specs.RowSets.{IsPut};
 
-use crate::words::{changed, packed, unpack};
+use crate::words::{changed, number_at, packed, unpack};
 use indexmap::IndexSet;
 use std::alloc::{AllocError, Global};
 use std::marker::Model;
@@ -96,6 +96,31 @@ fn listed(
     Ok(lists)
 }
 
+// The number at this place of the list that stands here, and zero where there is none.
+fn number_in_list(lists: &IndexSet<Vec<usize>>, at: usize, place: usize) -> usize
+    ensures { result ≡ get_or (get_or (map items_of lists.now.keys) at []) place 0 }
+{
+    let Some(list) = lists.get_index(at) else {
+        return 0;
+    };
+    match list.get(place) {
+        Some(number) => *number,
+        None => 0,
+    }
+}
+
+// The number at this place of the row of the word that stands here, and zero where there is none.
+fn number_in_word(words: &IndexSet<u128>, bits: u32, long: usize, at: usize, place: usize) -> usize
+    requires { ArePacked bits long words.now.keys }
+    ensures { let rows = map (digits (2 ^ bits) long) words.now.keys in
+        result ≡ get_or (get_or rows at []) place 0 }
+{
+    match words.get_index(at) {
+        Some(word) if bits > 0 && place < long => number_at(*word, bits, place),
+        _ => 0,
+    }
+}
+
 impl RowSet {
     /// No rows. They are expected to have so many numbers.
     pub fn new(alloc: Global, long: usize) -> RowSet
@@ -109,6 +134,21 @@ impl RowSet {
             words: IndexSet::new(alloc),
             lists: IndexSet::new(alloc),
         }
+    }
+
+    /// Takes all rows out. Those to come are expected to have so many numbers. Keeps the memory, unless that was for far
+    /// more rows than there were last.
+    pub fn restart(&mut self, long: usize)
+        ensures { self.new ≡ [] }
+    {
+        if self.words.capacity() / 16 > self.words.len().saturating_add(64) {
+            self.words = IndexSet::new(self.alloc);
+        }
+        self.words.clear();
+        self.lists = IndexSet::new(self.alloc);
+        self.wide = false;
+        self.long = long;
+        self.bits = bits_for(long);
     }
 
     /// How many rows there are.
@@ -137,6 +177,40 @@ impl RowSet {
                 unreachable!()
             };
             unpack(*word, self.bits, self.long, row)
+        }
+    }
+
+    /// The number at this place of the row that stands here, and zero where there is none.
+    pub fn number(&self, at: usize, place: usize) -> usize
+        ensures { result ≡ get_or (get_or self.now at []) place 0 }
+    {
+        if self.wide {
+            number_in_list(&self.lists, at, place)
+        } else {
+            number_in_word(&self.words, self.bits, self.long, at, place)
+        }
+    }
+
+    /// Whether the row that stands here has zero at this place.
+    pub fn has_zero(&self, at: usize, place: usize) -> bool
+        requires { at < length self.now }
+        ensures { IsTrue result ↔ (slice_get (get_or self.now at []) place ≡ Some 0) }
+    {
+        place < self.length_at(at) && self.number(at, place) == 0
+    }
+
+    // How many numbers the row has that stands here.
+    fn length_at(&self, at: usize) -> usize
+        requires { at < length self.now }
+        ensures { result ≡ length (get_or self.now at []) }
+    {
+        if self.wide {
+            let Some(list) = self.lists.get_index(at) else {
+                unreachable!()
+            };
+            list.len()
+        } else {
+            self.long
         }
     }
 

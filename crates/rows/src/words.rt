@@ -1,5 +1,5 @@
 //! Rows of numbers as words.
-ghost use Rattle.std.specs.Prelude.{◌≡◌, ◌+◌, ◌*◌, ◌%◌, ◌^◌, ◌<◌, ◌≤◌, length, get_or, set, IfSome, OnOk};
+ghost use Rattle.std.specs.Prelude.{◌≡◌, ◌+◌, ◌*◌, ◌/◌, ◌%◌, ◌^◌, ◌<◌, ◌≤◌, length, get_or, set, IfSome, OnOk};
 ghost use Rattle.rows.specs.Words.{IsWordOf, digits, value};
 
 use std::alloc::AllocError;
@@ -30,6 +30,16 @@ fn placed(number: usize, bits: u32, at: usize) -> u128
     ensures { result ≡ number * (2 ^ bits) ^ at }
 {
     (number as u128) << (bits * at as u32)
+}
+
+/// The number at this place of the word.
+pub fn number_at(word: u128, bits: u32, at: usize) -> usize
+    requires bits { bits ≤ 32 }
+    requires some { 0 < bits }
+    requires room { bits * (at + 1) ≤ 128 }
+    ensures { result ≡ word / (2 ^ bits) ^ at % 2 ^ bits }
+{
+    first_of(word >> (bits * at as u32), bits)
 }
 
 /// Writes the numbers of the word: so many, each of so many bits, the first from the lowest.

@@ -1,4 +1,5 @@
-use Rattle.std.proofs.Common.{◌≤◌, ◌+◌, ◌*◌, length, refl, ◌∙◌, subst}
+use Rattle.std.proofs.Common.{rules, ◌≡◌, ◌≤◌, ◌+◌, ◌*◌, length, refl, ◌∙◌, subst}
+use Rattle.std.specs.Vec.{vec_len}
 use Rattle.std.proofs.lemmas.Result.{err_from_is_err_and}
 use Rattle.models.specs.Objects.{of_table}
 use Rattle.history.specs.Events.Mark.{Returned}
@@ -15,7 +16,7 @@ returns-in_err-found-clause-kept g c =
     let o = of_table g.row.M-State.Denot g.M.SeqObject.start_state g.M.SeqObject.apply_to in
     let p = err_from_is_err_and c.from_residual.result c.from_residual.ensures.1 in
     rw p.1 (λ marks stands.
-    stands_too o c.args.self.now marks _ refl stands (shown_more c.args.self.now.calls.items c.args.self.now.table c.advance.new.table stands.kept c.in_err-found.ensures.widens c.in_err-found.ensures.rows stands.shown))
+    stands_too o c.args.self.now marks _ refl refl stands (shown_more c.args.self.now.calls.items c.args.self.now.table c.advance.new.table stands.kept c.in_err-found.ensures.widens c.in_err-found.ensures.rows stands.shown))
 
 pub returns-in_err-found-clause-cost : goal.returns-in_err-found-clause-cost
 returns-in_err-found-clause-cost g c marks stands n most =
@@ -29,7 +30,7 @@ returns-in_default-clause-step g c =
     record {
       right = λ marks stands is_open.
           too_many_by o c.args.self.now marks stands c.deref.result.now c.deref.ensures.value c.args.self.now.budget
-          (λ once ends shown. c.in_ok-found.ensures.over once ends shown c.in_default.is);
+          (λ once ends shown closed. c.in_ok-found.ensures.over once ends shown closed c.in_default.is);
       over_at_ok = λ over. tt;
     }
 
@@ -38,7 +39,7 @@ returns-in_default-clause-kept g c =
     let o = of_table g.row.M-State.Denot g.M.SeqObject.start_state g.M.SeqObject.apply_to in
     record {
       over = λ over marks stands.
-          stands_too o c.args.self.now marks _ refl stands (shown_more c.args.self.now.calls.items c.args.self.now.table c.advance.new.table stands.kept c.in_ok-found.ensures.widens c.in_ok-found.ensures.rows stands.shown);
+          stands_too o c.args.self.now marks _ refl refl stands (shown_more c.args.self.now.calls.items c.args.self.now.table c.advance.new.table stands.kept c.in_ok-found.ensures.widens c.in_ok-found.ensures.rows stands.shown);
       taken = λ ne. absurd (ne refl);
     }
 
@@ -55,7 +56,7 @@ returns-clause-step g c =
       right = λ marks stands is_open.
           let t = with_rows c.advance.new.table c.in-Some.rows in
           let found = advanced o c.args.self.now marks stands c.deref.result.now c.deref.ensures.value t c.args.self.now.budget c.args.id c.args.answer.now
-          (λ once ends shown. c.in_ok-found.ensures.all once ends shown c.in-Some.rows c.in-Some.is) in
+          (λ once ends shown closed. c.in_ok-found.ensures.all once ends shown closed c.in-Some.rows c.in-Some.is) in
           step_by o found.left.more c.len.result (c.len.ensures ∙ found.left.shown.long) marks (Returned c.args.id c.args.answer.now)
           (generates_left o c.args.self.now marks stands c.args.self.now.budget t c.args.id is_open c.args.answer.now found)
           c.args.self.now.budget (within o c.args.self.now marks stands c.args.self.now.budget t c.args.id is_open c.args.answer.now found)
@@ -71,8 +72,9 @@ returns-clause-kept g c =
       taken = λ _ marks stands is_open.
           let t = with_rows c.advance.new.table c.in-Some.rows in
           let found = advanced o c.args.self.now marks stands c.deref.result.now c.deref.ensures.value t c.args.self.now.budget c.args.id c.args.answer.now
-          (λ once ends shown. c.in_ok-found.ensures.all once ends shown c.in-Some.rows c.in-Some.is) in
-          stands_after o c.args.self.now marks stands c.args.self.now.budget t c.args.id is_open c.args.answer.now found _ refl c.drop_call.ensures;
+          (λ once ends shown closed. c.in_ok-found.ensures.all once ends shown closed c.in-Some.rows c.in-Some.is) in
+          stands_after o c.args.self.now marks stands c.args.self.now.budget t c.args.id is_open c.args.answer.now found _ refl c.drop_call.ensures
+          (let long : vec_len c.drop_call.new.calls ≡ length c.drop_call.new.calls.items = search rules in c.len-self.ensures ∙ long);
     }
 
 pub returns-clause-cost : goal.returns-clause-cost
