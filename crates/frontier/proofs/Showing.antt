@@ -1,7 +1,7 @@
 -- lists of ends that rows say
 use Rattle.std.proofs.Common.{◌≡◌, ℕ, ◌+◌, ◌<◌, ◌≤◌, inl, inr, ⊎_elim, Some, List, [], ◌∷◌, ◌++◌, length, take, drop, zero, suc, slice_get, get_or, Vec, Global, refl, sym, ap, ◌∙◌, subst, arith, length-append}
 use Rattle.std.specs.List.{Contains}
-use Rattle.std.proofs.lemmas.List.{take-append-le, take_all}
+use Rattle.std.proofs.lemmas.List.{get_or_append_left, take-append-le, take_all}
 use Rattle.std.proofs.lemmas.List.Elements.{Contains-push_cases}
 use Rattle.std.proofs.lemmas.Option.{slice_get_within, get_or_from_slice_get}
 use Rattle.models.specs.Objects.{Object}
@@ -146,9 +146,12 @@ end_at calls t ends a i row h =
     let e = some_at ends i (omega (arith, b, l)) in
     (e.0, e.1, a.each i row e.0 h e.1)
 
--- the row at a place, and rows that stay where one more is put
-pub row_still : (old new : List (List ℕ)) (i : ℕ) (row : List ℕ) → new ≡ old → slice_get old i ≡ Some row → get_or new i [] ≡ row
-row_still old new i row same h = ap (λ l. get_or l i []) same ∙ get_or_from_slice_get old i row [] h
+-- rows that stay where more are put
+pub front_stays : (old new : List (List ℕ)) (i : ℕ) → i < length old → IsFront old new → get_or new i [] ≡ get_or old i []
+front_stays old new i lt front = ap (λ l. get_or l i []) (sym front.1) ∙ get_or_append_left old front.0 [] i lt
+
+pub front_within : (old new : List (List ℕ)) (i : ℕ) → i < length old → IsFront old new → i < length new
+front_within old new i lt front = let long = ap length (sym front.1) ∙ length-append old front.0 in omega (arith, lt, long)
 
 pub front_by : (old same new : List (List ℕ)) (row : List ℕ) → same ≡ old → IsPut row same new → IsFront old new
 front_by old same new row is put =

@@ -6,13 +6,15 @@ ghost use Rattle.history.specs.Events.Mark.{Invoked, Returned, Failed, Crashed};
 ghost use Rattle.frontier.specs.Meaning.{StandsFor, Answers, Keeps, Takes, TakesUnlessOver};
 ghost use Rattle.frontier.specs.Meaning.{CostsAtMost, applied_of, budget_of, mark_by};
 
+use crate::ends;
+use crate::extend::{self, Room};
 use crate::kept_end::KeptEnd;
 use crate::pending_op::{self, PendingOp};
 use crate::table::{self, Table};
-use crate::{ends, extend};
 use history::EventKind;
 use models::{Answer, Op, SeqObject};
 use std::alloc::{AllocError, Global};
+use std::mem::swap;
 
 /// What an event leaves.
 #[derive(Clone, Copy, Debug, PartialEq, Eq)]
@@ -37,6 +39,7 @@ pub struct Frontier<M: SeqObject> {
     calls: Vec<PendingOp>,
     tried: usize,
     table: Table<M::State>,
+    room: Room,
 }
 
 // Alive where some end is left, else Dead.
@@ -72,6 +75,7 @@ impl<M: SeqObject> Frontier<M> {
             calls,
             tried: 0,
             table,
+            room: Room::new(alloc),
         })
     }
 
@@ -181,9 +185,10 @@ impl<M: SeqObject> Frontier<M> {
             CostsAtMost (budget_of self.old) old (Returned id answer.now)
             (applied_of self.old) (applied_of self.new) }
     {
-        let found = extend::advance::<M>(
+        let all = extend::advance::<M>(
             self.alloc,
             &mut self.table,
+            &mut self.room,
             &self.calls,
             self.tried,
             self.budget,
@@ -191,10 +196,10 @@ impl<M: SeqObject> Frontier<M> {
             id,
             answer,
         )?;
-        let Some(rows) = found else {
+        if !all {
             return Ok(Step::Over);
-        };
-        self.table.rows = rows;
+        }
+        swap(&mut self.table.rows, &mut self.room.rows);
         pending_op::drop_call(&mut self.calls, id);
         self.tried = self.calls.len();
         Ok(step_of(self.table.rows.len()))
@@ -269,6 +274,7 @@ impl<M: SeqObject> Frontier<M> {
             calls: pending_op::copy_calls(self.alloc, &self.calls)?,
             tried: self.tried,
             table: table::copied::<M>(self.alloc, &self.table)?,
+            room: Room::new(self.alloc),
         })
     }
 }

@@ -1,10 +1,10 @@
-use Rattle.std.proofs.Common.{drop, subst, arith}
+use Rattle.std.proofs.Common.{[], drop, get_or, refl, sym, ◌∙◌, subst, arith}
 use Rattle.std.proofs.lemmas.List.{take_all}
 use Rattle.models.specs.Objects.{of_table}
 use Rattle.frontier.specs.EndSteps.{Next}
-use Rattle.frontier.specs.Tables.{ShownWith, rows_of}
-use Rattle.frontier.proofs.Rows.{get_front, some_at}
-use Rattle.frontier.proofs.Showing.{next_there, none_yet, shows_more, widens_itself, widens_on}
+use Rattle.frontier.specs.Tables.{ShownWith, Shows, rows_of}
+use Rattle.frontier.proofs.Rows.{some_at}
+use Rattle.frontier.proofs.Showing.{front_stays, front_within, next_there, none_yet, shows_more, widens_itself, widens_on}
 use Rattle.frontier.proofs.Adding.{IsFront-itself, IsFront-trans}
 use Rattle.frontier.proofs.extend.grow_from.Goals as goal
 
@@ -12,7 +12,8 @@ pub loop-at-init : goal.loop-at-init
 loop-at-init g c = record {
   widens = widens_itself c.args.table.now;
   front = IsFront-itself (rows_of c.args.table.now);
-  here = c.requires;
+  here = refl;
+  within = c.requires;
   moves = λ known. known;
   grown = λ known once e ends shows shown. record { more = ends; shown = shown; front = IsFront-itself ends; adds = none_yet (of_table g.row.M-State.Denot g.M.SeqObject.start_state g.M.SeqObject.apply_to) c.args.calls.now c.args.first e ends };
   from = omega arith;
@@ -26,13 +27,15 @@ loop-at-preserved g c =
     record {
       widens = widens_on c.args.table.now c.loop-at.table c.grow_at.new.table c.loop-at.invariant.widens c.in_ok-grow_at.ensures.widens;
       front = IsFront-trans (rows_of c.args.table.now) (rows_of c.loop-at.table) (rows_of c.grow_at.new.table) c.loop-at.invariant.front c.in_ok-grow_at.ensures.front;
-      here = get_front (rows_of c.loop-at.table) (rows_of c.grow_at.new.table) c.args.from c.args.row.now c.in_ok-grow_at.ensures.front c.loop-at.invariant.here;
+      here = front_stays (rows_of c.loop-at.table) (rows_of c.grow_at.new.table) c.args.from c.loop-at.invariant.within c.in_ok-grow_at.ensures.front ∙ c.loop-at.invariant.here;
+      within = front_within (rows_of c.loop-at.table) (rows_of c.grow_at.new.table) c.args.from c.loop-at.invariant.within c.in_ok-grow_at.ensures.front;
       moves = λ known. c.in_ok-grow_at.ensures.moves (c.loop-at.invariant.moves known);
       grown = λ known once e ends shows shown.
           let call = some_at c.args.calls.now c.loop-at.at (omega arith) in
           let s = c.loop-at.invariant.grown known once e ends shows shown in
           next_there o c.args.calls.now e ends c.loop-at.at call.0 call.1 c.args.first c.loop-at.invariant.from c.loop-at.table c.grow_at.new.table s
-          (c.in_ok-grow_at.ensures.adds (c.loop-at.invariant.moves known) once call.0 e s.more call.1 (shows_more c.args.calls.now c.args.table.now c.loop-at.table c.args.row.now e c.loop-at.invariant.widens shows) s.shown);
+          (c.in_ok-grow_at.ensures.adds (c.loop-at.invariant.moves known) once call.0 e s.more call.1 (subst (λ r. Shows c.loop-at.table c.args.calls.now r e) (sym c.loop-at.invariant.here)
+          (shows_more c.args.calls.now c.args.table.now c.loop-at.table (get_or (rows_of c.args.table.now) c.args.from []) e c.loop-at.invariant.widens shows)) s.shown);
       from = (let a = c.loop-at.invariant.from in omega (arith, a));
       upto = omega arith;
       cost = (let a = c.loop-at.invariant.cost in let b = c.in_ok-grow_at.ensures.cost in omega (arith, a, b));

@@ -32,6 +32,7 @@ returns-then-not-lengthen-clause-kept g c =
       calls = c.reserve.new.self;
       tried = f.tried;
       table = record { states = f.table.states; founds = f.table.founds; rows = c.lengthen.new.self };
+      room = f.room;
     } in
     takes_from (StandsFor o f) (StandsFor o mid) (StandsFor o c.invoke_anew-then-not-lengthen.new.self) (Invoked c.args.id c.args.op) c.invoke_anew-then-not-lengthen.result
     (λ marks stands. stands_same o f marks mid c.in_ok-reserve.ensures.items refl (record { states = refl; founds = refl; rows = c.lengthen.ensures.same c.if-not-lengthen.true }) stands)
