@@ -16,7 +16,7 @@ returns-in_err-all-clause-kept g c =
     let o = of_table g.row.M-State.Denot g.M.SeqObject.start_state g.M.SeqObject.apply_to in
     let p = err_from_is_err_and c.from_residual.result c.from_residual.ensures.1 in
     rw p.1 (λ marks stands.
-    stands_too o c.args.self.now marks _ refl refl stands (shown_more c.args.self.now.calls.items c.args.self.now.table c.advance.new.table stands.kept c.in_err-all.ensures.widens c.in_err-all.ensures.rows stands.shown))
+    stands_too o c.args.self.now marks _ refl refl stands (shown_more c.args.self.now.calls.items c.args.self.now.table c.advance.new.table stands.kept c.in_err-all.ensures.widens c.in_err-all.ensures.err_keeps stands.shown))
 
 pub returns-in_err-all-clause-cost : goal.returns-in_err-all-clause-cost
 returns-in_err-all-clause-cost g c marks stands n most =
@@ -39,7 +39,7 @@ returns-then-not-all-clause-kept g c =
     let o = of_table g.row.M-State.Denot g.M.SeqObject.start_state g.M.SeqObject.apply_to in
     record {
       over = λ over marks stands.
-          stands_too o c.args.self.now marks _ refl refl stands (shown_more c.args.self.now.calls.items c.args.self.now.table c.advance.new.table stands.kept c.in_ok-all.ensures.widens c.in_ok-all.ensures.rows stands.shown);
+          stands_too o c.args.self.now marks _ refl refl stands (shown_more c.args.self.now.calls.items c.args.self.now.table c.advance.new.table stands.kept c.in_ok-all.ensures.widens (c.in_ok-all.ensures.over_keeps c.if-not-all.true) stands.shown);
       taken = λ ne. absurd (ne refl);
     }
 
