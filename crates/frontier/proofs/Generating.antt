@@ -1,5 +1,5 @@
 -- ends from which pending operations lead to all ends of the history, after each event
-use Rattle.std.proofs.Common.{◌≡◌, ◌≢◌, ◌↔◌, ◌+◌, ◌<◌, inr, ⊎_elim, false, not, ℕ, List, [], ◌∷◌, ◌++◌, length, take, drop, is_some, refl, sym, ap, subst, arith}
+use Rattle.std.proofs.Common.{◌≡◌, ◌≢◌, ◌↔◌, ◌+◌, ◌<◌, inr, ⊎_elim, false, not, ℕ, List, [], ◌∷◌, ◌++◌, length, map, take, drop, is_some, refl, sym, ap, subst, arith}
 use Rattle.std.specs.List.{filter, Contains}
 use Rattle.std.specs.FinMap as finmap
 use Rattle.models.specs.declared.operation.Op.{Op}
@@ -13,7 +13,7 @@ use Rattle.linspec.specs.Ends.{End, IsEnd, HasMoreThan}
 use Rattle.linspec.proofs.Lists.{Contains-nil, Contains-head, Pairwise-left}
 use Rattle.std.proofs.lemmas.List.{length-take-le, take-append-drop}
 use Rattle.std.proofs.lemmas.List.Elements.{Contains-append_left}
-use Rattle.linspec.proofs.Filters.{from_filter, to_filter}
+use Rattle.linspec.proofs.Filters.{from_filter, from_map, to_filter, to_map}
 use Rattle.linspec.proofs.Completions.{fail_after, fail_before, info_after, info_before}
 use Rattle.linspec.proofs.Reach.{Reaches, invoke_after, invoke_before}
 use Rattle.linspec.proofs.Fronts.{IsLinearizable-end}
@@ -98,21 +98,25 @@ module _ (o : Object) (ends : List (End o.State)) (marks : List Mark) (id : ℕ)
         );
   }
 
-  pub generates_after_crash : (after : List (End o.State)) → Adds (Along (Crashes id) ends) [] after → Generates o after (marks ++ Crashed id ∷ [])
-  generates_after_crash after adds = record {
+  pub generates_after_crash : (after : List (End o.State)) → ((f : End o.State) → Contains after f ↔ Along (Crashes id) ends f) → Generates o after (marks ++ Crashed id ∷ [])
+  generates_after_crash after each = record {
     sound = λ f h.
-        ⊎_elim
-        (λ k. absurd (Contains-nil f k))
-        (λ s. subst (IsEnd o (marks ++ Crashed id ∷ [])) s.2 (info_after o marks id is_open s.0 (gen.sound s.0 s.1)))
-        ((adds.each f).0 h);
+        let s = (each f).0 h in
+        subst (IsEnd o (marks ++ Crashed id ∷ [])) s.2 (info_after o marks id is_open s.0 (gen.sound s.0 s.1));
     enough = λ f end.
         let b = info_before o marks id is_open f end in
         let c = gen.enough b.0 b.1 in (
           after_crash c.0 id,
-          (adds.each (after_crash c.0 id)).1 (inr (c.0, c.1, refl)),
+          (each (after_crash c.0 id)).1 (c.0, c.1, refl),
           (c.2.0, subst (Reaches o (marks ++ Crashed id ∷ []) (after_crash c.0 id) c.2.0) (sym b.2) (Reaches-crashed o marks id is_open c.2.0 c.0 b.0 (gen.sound c.0 c.1) c.2.1)),
         );
   }
+
+pub crash_each : (o : Object) (ends : List (End o.State)) (id : ℕ) (after : List (End o.State)) → after ≡ map (λ e. after_crash e id) ends → (f : End o.State) → Contains after f ↔ Along (Crashes id) ends f
+crash_each o ends id after is f = (
+  (λ h. from_map (λ e. after_crash e id) ends f (subst (λ l. Contains l f) is h)),
+  (λ s. subst (λ l. Contains l f) (sym is) (subst (Contains (map (λ e. after_crash e id) ends)) s.2 (to_map (λ e. after_crash e id) ends s.0 s.1))),
+)
 
 more_than : (o : Object) (marks : List Mark) (ends : List (End o.State)) (budget : ℕ) → Pairwise (λ d e. d ≢ e) ends → ((e : End o.State) → Contains ends e → IsEnd o marks e) → budget < length ends → HasMoreThan o marks budget
 more_than o marks ends budget once each more = record {

@@ -1,5 +1,5 @@
 -- the operations that ends include are among the calls, after each event
-use Rattle.std.proofs.Common.{◌≡◌, ◌≢◌, IsTrue, ℕ, zero, suc, ⊎_elim, true, false, not, Option, Some, None, is_some, List, [], ◌∷◌, ◌++◌, map, refl, sym, ap, ◌∙◌, subst}
+use Rattle.std.proofs.Common.{◌≡◌, ◌≢◌, ◌↔◌, IsTrue, ℕ, zero, suc, ⊎_elim, true, false, not, Option, Some, None, is_some, List, [], ◌∷◌, ◌++◌, map, refl, sym, ap, ◌∙◌, subst}
 use Rattle.std.specs.List.{filter, Contains}
 use Rattle.std.specs.Ordering.{nat_cmp}
 use Rattle.std.specs.FinMap as finmap
@@ -137,12 +137,10 @@ module _ {S : Type 0} (calls : List PendingOp) where
           (cases_eq q id);
     }
 
-    pub included_after_crash : (ends after : List (End S)) → AreIncluded calls ends → Adds (Along (Crashes id) ends) [] after → AreIncluded (map (crash_call id) calls) after
-    included_after_crash ends after a adds f h =
-        ⊎_elim
-        (λ k. absurd (Contains-nil f k))
-        (λ s. subst (IsIncluded (map (crash_call id) calls)) s.2 (included_crashed s.0 (finmap.get s.0.pending id) refl (a s.0 s.1)))
-        ((adds.each f).0 h)
+    pub included_after_crash : (ends after : List (End S)) → AreIncluded calls ends → ((f : End S) → Contains after f ↔ Along (Crashes id) ends f) → AreIncluded (map (crash_call id) calls) after
+    included_after_crash ends after a each f h =
+        let s = (each f).0 h in
+        subst (IsIncluded (map (crash_call id) calls)) s.2 (included_crashed s.0 (finmap.get s.0.pending id) refl (a s.0 s.1))
 
 -- what calls lead to includes calls alone
 module _ (o : Object) (calls : List PendingOp) where

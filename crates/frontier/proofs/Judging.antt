@@ -1,5 +1,5 @@
 -- an ok: all ends, what is left of them, and what the frontier stands for then
-use Rattle.std.proofs.Common.{◌≡◌, ℕ, ◌<◌, List, [], ◌∷◌, ◌++◌, map, length, sym, subst, arith}
+use Rattle.std.proofs.Common.{◌≡◌, ℕ, ◌<◌, List, [], ◌∷◌, ◌++◌, map, length, take, sym, ◌∙◌, subst, arith}
 use Rattle.std.specs.List.{filter}
 use Rattle.models.specs.declared.finding.Answer.{Answer}
 use Rattle.models.specs.Objects.{Object}
@@ -13,10 +13,12 @@ use Rattle.frontier.specs.declared.frontier.Frontier.{Frontier}
 use Rattle.frontier.specs.declared.table.Table.{Table}
 use Rattle.frontier.specs.declared.kept_end.KeptEnd.{KeptEnd}
 use Rattle.frontier.specs.KeptEnds.{AreIncluded, ArePending, end_kept}
-use Rattle.frontier.specs.EndSteps.{Along, Grows, is_other}
+use Rattle.frontier.specs.EndSteps.{AreClosed, Grows, is_other}
 use Rattle.frontier.specs.Meaning.{StandsFor}
-use Rattle.frontier.specs.Tables.{AreShown, HasEachOnce, IsAdvanced, IsThat, ShownWith}
+use Rattle.frontier.specs.Tables.{AreShown, HasEachOnce, IsAdvanced}
+use Rattle.std.proofs.lemmas.List.{take_all}
 use Rattle.frontier.proofs.AfterEvents.{ends_after_ok}
+use Rattle.frontier.proofs.Closing.{closed_after_ok}
 use Rattle.frontier.proofs.Generating.{Generates, all_found, generates_all, more_found}
 use Rattle.frontier.proofs.Including.{included_after_ok, included_all}
 use Rattle.frontier.proofs.Pending.{AreOnce, calls_after_ok, once_without}
@@ -45,8 +47,8 @@ module _ {M : Type 0} (o : Object) (f : Frontier M o.State) (marks : List Mark) 
     pub generates_left : Generates o found.left.more (marks ++ Returned id answer ∷ [])
     generates_left = generates_all o found.left.more (marks ++ Returned id answer ∷ []) after
 
-    pub stands_after : (g : Frontier M o.State) → g.table ≡ t → g.calls.items ≡ filter (is_other id) f.calls.items → StandsFor o g (marks ++ Returned id answer ∷ [])
-    stands_after g table calls_are =
+    pub stands_after : (g : Frontier M o.State) → g.table ≡ t → g.calls.items ≡ filter (is_other id) f.calls.items → g.tried ≡ length g.calls.items → StandsFor o g (marks ++ Returned id answer ∷ [])
+    stands_after g table calls_are tried =
         stands_by o g (marks ++ Returned id answer ∷ []) found.left.more
         (subst (λ l. AreShown g.table l found.left.more) (sym calls_are) (subst (λ u. AreShown u (filter (is_other id) f.calls.items) found.left.more) (sym table) found.left.shown))
         generates_left after.once
@@ -55,6 +57,9 @@ module _ {M : Type 0} (o : Object) (f : Frontier M o.State) (marks : List Mark) 
         (subst (λ l. AreIncluded l found.left.more) (sym calls_are)
         (included_after_ok f.calls.items marks stands.well_kept.pending id is_open answer found.all found.left.more
         (included_all o f.calls.items stands.kept found.all stands.well_kept.included found.adds) found.left.adds))
+        (omega (arith, tried))
+        (subst (λ l. AreClosed o l found.left.more) (sym (take_all g.tried g.calls.items (omega (arith, tried)) ∙ calls_are))
+        (closed_after_ok o f.calls.items stands.kept found.all found.left.more id answer found.adds found.left.adds))
 
 -- in the words of the code, which reads the calls as a slice
 module _ {M : Type 0} (o : Object) (f : Frontier M o.State) (marks : List Mark) (stands : StandsFor o f marks) (calls : List PendingOp) (same : calls ≡ f.calls.items) where
@@ -64,16 +69,16 @@ module _ {M : Type 0} (o : Object) (f : Frontier M o.State) (marks : List Mark) 
   its_rows : AreShown f.table calls stands.kept
   its_rows = subst (λ l. AreShown f.table l stands.kept) (sym same) stands.shown
 
-  pub advanced : (t : Table o.State) (budget id : ℕ) (answer : Answer) → (HasEachOnce calls → (ends : List (End o.State)) → AreShown f.table calls ends → IsAdvanced o t calls ends budget id answer) → IsAdvanced o t f.calls.items stands.kept budget id answer
-  advanced t budget id answer h = subst (λ l. IsAdvanced o t l stands.kept budget id answer) same (h calls_once stands.kept its_rows)
+  its_tried : AreClosed o (take f.tried calls) stands.kept
+  its_tried = subst (λ l. AreClosed o (take f.tried l) stands.kept) (sym same) stands.closed
 
-  pub too_many_by : (budget : ℕ) → (HasEachOnce calls → (ends : List (End o.State)) → AreShown f.table calls ends → (more : List (End o.State)) × Grows o calls ends more × (budget < length more)) → HasMoreThan o marks budget
+  pub advanced : (t : Table o.State) (budget id : ℕ) (answer : Answer) → (HasEachOnce calls → (ends : List (End o.State)) → AreShown f.table calls ends → AreClosed o (take f.tried calls) ends → IsAdvanced o t calls ends budget id answer) → IsAdvanced o t f.calls.items stands.kept budget id answer
+  advanced t budget id answer h = subst (λ l. IsAdvanced o t l stands.kept budget id answer) same (h calls_once stands.kept its_rows its_tried)
+
+  pub too_many_by : (budget : ℕ) → (HasEachOnce calls → (ends : List (End o.State)) → AreShown f.table calls ends → AreClosed o (take f.tried calls) ends → (more : List (End o.State)) × Grows o calls ends more × (budget < length more)) → HasMoreThan o marks budget
   too_many_by budget h =
-      let m = h calls_once stands.kept its_rows in
+      let m = h calls_once stands.kept its_rows its_tried in
       too_many o f marks stands budget m.0 (subst (λ l. Grows o l stands.kept m.0) same m.1) m.2
-
-  pub shown_again : (t : Table o.State) → (HasEachOnce calls → (ends : List (End o.State)) → AreShown f.table calls ends → ShownWith t calls [] (Along IsThat ends)) → ShownWith t f.calls.items [] (Along IsThat stands.kept)
-  shown_again t h = subst (λ l. ShownWith t l [] (Along IsThat stands.kept)) same (h calls_once stands.kept its_rows)
 
   pub kept_ends : (items : List (KeptEnd o.State)) → (HasEachOnce calls → (ends : List (End o.State)) → AreShown f.table calls ends → map end_kept items ≡ ends) → map end_kept items ≡ stands.kept
   kept_ends items h = h calls_once stands.kept its_rows

@@ -1,7 +1,7 @@
 -- lists of ends that rows say
-use Rattle.std.proofs.Common.{◌≡◌, ℕ, ◌+◌, ◌<◌, ◌≤◌, inl, inr, ⊎_elim, Some, List, [], ◌∷◌, ◌++◌, length, take, slice_get, get_or, Vec, Global, sym, ap, ◌∙◌, subst, arith, length-append}
+use Rattle.std.proofs.Common.{◌≡◌, ℕ, ◌+◌, ◌<◌, ◌≤◌, inl, inr, ⊎_elim, Some, List, [], ◌∷◌, ◌++◌, length, take, drop, zero, suc, slice_get, get_or, Vec, Global, refl, sym, ap, ◌∙◌, subst, arith, length-append}
 use Rattle.std.specs.List.{Contains}
-use Rattle.std.proofs.lemmas.List.{take-append-le, take_all}
+use Rattle.std.proofs.lemmas.List.{get_or_append_left, take-append-le, take_all}
 use Rattle.std.proofs.lemmas.List.Elements.{Contains-push_cases}
 use Rattle.std.proofs.lemmas.Option.{slice_get_within, get_or_from_slice_get}
 use Rattle.models.specs.Objects.{Object}
@@ -9,11 +9,12 @@ use Rattle.history.specs.Events.{IsFront}
 use Rattle.linspec.specs.Ends.{End}
 use Rattle.frontier.specs.declared.pending_op.PendingOp.{PendingOp}
 use Rattle.frontier.specs.declared.table.Table.{Table}
-use Rattle.frontier.specs.EndSteps.{TakesLast, Next, Along, Grows}
+use Rattle.frontier.specs.EndSteps.{Adds, TakesLast, Next, Along, Grows}
 use Rattle.models.specs.declared.finding.Found.{Found}
 use Rattle.frontier.specs.KeptEnds.{AreIncluded}
-use Rattle.frontier.specs.Tables.{AreShown, IsOnceIn, IsPut, LeadsTo, Says, Shows, ShownWith, Widens, rows_of, with_rows}
-use Rattle.frontier.proofs.Adding.{IsFront-itself, IsFront-push, IsFront-trans, Adds-old, Adds-new, Adds-change, Adds-more, Adds-none, Adds-start, one_more}
+use Rattle.frontier.specs.Tables.{AreShown, IsOnceIn, LeadsTo, Says, Shows, ShownWith, Widens, rows_of, with_rows}
+use Rattle.rows.specs.RowSets.{IsPut}
+use Rattle.frontier.proofs.Adding.{IsFront-itself, IsFront-push, IsFront-trans, Adds-old, Adds-new, Adds-change, Adds-more, Adds-more_from, Adds-none, Adds-start, one_more}
 use Rattle.frontier.proofs.Reaching.{reached_next}
 use Rattle.frontier.proofs.Rows.{clash, one_end, one_row, says_more, place_of, has_place, some_at, get_push}
 
@@ -145,9 +146,12 @@ end_at calls t ends a i row h =
     let e = some_at ends i (omega (arith, b, l)) in
     (e.0, e.1, a.each i row e.0 h e.1)
 
--- the row at a place, and rows that stay where one more is put
-pub row_still : (old new : List (List ℕ)) (i : ℕ) (row : List ℕ) → new ≡ old → slice_get old i ≡ Some row → get_or new i [] ≡ row
-row_still old new i row same h = ap (λ l. get_or l i []) same ∙ get_or_from_slice_get old i row [] h
+-- rows that stay where more are put
+pub front_stays : (old new : List (List ℕ)) (i : ℕ) → i < length old → IsFront old new → get_or new i [] ≡ get_or old i []
+front_stays old new i lt front = ap (λ l. get_or l i []) (sym front.1) ∙ get_or_append_left old front.0 [] i lt
+
+pub front_within : (old new : List (List ℕ)) (i : ℕ) → i < length old → IsFront old new → i < length new
+front_within old new i lt front = let long = ap length (sym front.1) ∙ length-append old front.0 in omega (arith, lt, long)
 
 pub front_by : (old same new : List (List ℕ)) (row : List ℕ) → same ≡ old → IsPut row same new → IsFront old new
 front_by old same new row is put =
@@ -196,13 +200,22 @@ module _ (o : Object) (calls : List PendingOp) (e : End o.State) (ends : List (E
         adds = Adds-change (λ y. leads.0 ≡ y) (TakesLast o e c) ends p.more (λ y q. (leads.2 y).1 q) (λ y k. (leads.2 y).0 k) p.adds;
       }
 
-  pub next_there : (t u : Table o.State) → (s : ShownWith t calls ends (Next o (take i calls) e)) → ShownWith u calls s.more (TakesLast o e c) → ShownWith u calls ends (Next o (take (i + 1) calls) e)
-  next_there t u s p = record {
+  pub next_there : (from : ℕ) → from ≤ i → (t u : Table o.State) → (s : ShownWith t calls ends (Next o (drop from (take i calls)) e)) → ShownWith u calls s.more (TakesLast o e c)
+      → ShownWith u calls ends (Next o (drop from (take (i + 1) calls)) e)
+  next_there from low t u s p = record {
     more = p.more;
     shown = p.shown;
     front = IsFront-trans ends s.more p.more s.front p.front;
-    adds = Adds-more (TakesLast o e) calls ends s.more p.more i c within is_here s.adds p.adds;
+    adds = Adds-more_from (TakesLast o e) calls ends s.more p.more from i c low within is_here s.adds p.adds;
   }
+
+none_between : {X : Type 0} (n : ℕ) (xs : List X) → drop n (take n xs) ≡ []
+none_between zero xs = refl
+none_between (suc n) [] = refl
+none_between (suc n) (x ∷ xs) = none_between n xs
+
+pub none_yet : (o : Object) (calls : List PendingOp) (first : ℕ) (e : End o.State) (ends : List (End o.State)) → Adds (Next o (drop first (take first calls)) e) ends ends
+none_yet o calls first e ends = subst (λ l. Adds (Next o l e) ends ends) (sym (none_between first calls)) (Adds-start (TakesLast o e) ends)
 
 -- the ends that were gone through lead nowhere else
 abbrev pub AreDone : (o : Object) → List PendingOp → List (End o.State) → ℕ → Type 0

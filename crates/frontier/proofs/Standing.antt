@@ -1,5 +1,5 @@
 -- frontiers, by the ends that they keep, and the answers by how many are left
-use Rattle.std.proofs.Common.{◌≡◌, ◌≢◌, ◌↔◌, ℕ, ◌+◌, ⊎_elim, Bool, false, not, Option, Some, None, Result, Ok, Err, MatchResult, option_map, List, [], ◌∷◌, ◌++◌, map, length, slice_get, get_or, refl, sym, ap, ◌∙◌, subst, arith, length-append}
+use Rattle.std.proofs.Common.{◌≡◌, ◌≢◌, ◌↔◌, ℕ, ◌+◌, ◌-◌, ◌≤◌, take, ⊎_elim, Bool, false, not, Option, Some, None, Result, Ok, Err, MatchResult, option_map, List, [], ◌∷◌, ◌++◌, map, length, slice_get, get_or, refl, sym, ap, ◌∙◌, subst, arith, length-append}
 use Rattle.std.specs.List.{filter}
 use Rattle.std.proofs.lemmas.Bool.{cases_Bool}
 use Rattle.models.specs.Objects.{Object}
@@ -27,9 +27,10 @@ use Rattle.models.specs.declared.operation.Op.{Op}
 use Rattle.models.specs.declared.finding.Found.{Found}
 use Rattle.linspec.specs.MarkRule.{IsNew}
 use Rattle.linspec.specs.Ends.{End, IsEnd}
-use Rattle.frontier.proofs.Starting.{back, reached_back, reached_to, to}
+use Rattle.frontier.proofs.Starting.{back, to}
+use Rattle.frontier.proofs.Closing.{closed_after_fail, closed_again, one_fewer}
 use Rattle.frontier.specs.Meaning.{StandsFor, Blows, IsStep, Keeps, Takes}
-use Rattle.frontier.specs.EndSteps.{Adds, Along, IsReached, is_in, is_other}
+use Rattle.frontier.specs.EndSteps.{Adds, Along, AreClosed, IsReached, is_in, is_other}
 use Rattle.frontier.proofs.Including.{included_after_fail, included_more}
 use Rattle.frontier.proofs.Generating.{Generates, generates_by, reached_by, generates_after_fail, none_left, some_left}
 
@@ -38,36 +39,25 @@ module _ {M : Type 0} (o : Object) (f : Frontier M o.State) (marks : List Mark) 
   generates_of stands = generates_by o stands.kept f.calls.items marks stands.well_kept.pending stands.ends
 
   pub stands_by : (kept : List (End o.State)) → AreShown f.table f.calls.items kept → Generates o kept marks → Pairwise (λ d e. d ≢ e) kept → ArePending f.calls.items marks → Pairwise (λ (c d : PendingOp). c.id ≢ d.id) f.calls.items
-      → AreIncluded f.calls.items kept → StandsFor o f marks
-  stands_by kept shown gen once pending calls_once included = record {
+      → AreIncluded f.calls.items kept → f.tried ≤ length f.calls.items → AreClosed o (take f.tried f.calls.items) kept → StandsFor o f marks
+  stands_by kept shown gen once pending calls_once included tried closed = record {
     kept = kept;
     shown = shown;
     ends = reached_by o kept f.calls.items marks pending gen;
     well_kept = record { once = once; included = included; pending = pending; calls_once = calls_once };
+    tried = tried;
+    closed = closed;
   }
 
   -- one that shows the same ends, of the same calls, stands for the same
-  pub stands_too : (g : Frontier M o.State) → g.calls.items ≡ f.calls.items → (stands : StandsFor o f marks) → AreShown g.table f.calls.items stands.kept → StandsFor o g marks
-  stands_too g same stands shown = record {
+  pub stands_too : (g : Frontier M o.State) → g.calls.items ≡ f.calls.items → g.tried ≡ f.tried → (stands : StandsFor o f marks) → AreShown g.table f.calls.items stands.kept → StandsFor o g marks
+  stands_too g same tried stands shown = record {
     kept = stands.kept;
     shown = subst (λ l. AreShown g.table l stands.kept) (sym same) shown;
     ends = λ e. subst (λ l. IsReached o l stands.kept e ↔ IsEnd o marks e) (sym same) (stands.ends e);
     well_kept = subst (λ l. IsWellKept l stands.kept marks) (sym same) stands.well_kept;
-  }
-
-  -- and one that shows them in another order
-  pub stands_again : (g : Frontier M o.State) → g.calls.items ≡ f.calls.items → (stands : StandsFor o f marks) → ShownWith g.table f.calls.items [] (Along IsThat stands.kept) → StandsFor o g marks
-  stands_again g same stands s = record {
-    kept = s.more;
-    shown = subst (λ l. AreShown g.table l s.more) (sym same) s.shown;
-    ends = λ e. subst (λ l. IsReached o l s.more e ↔ IsEnd o marks e) (sym same)
-        ((λ r. (stands.ends e).0 (reached_back o f.calls.items stands.kept s.more s.adds e r)), (λ h. reached_to o f.calls.items stands.kept s.more s.adds e ((stands.ends e).1 h)));
-    well_kept = subst (λ l. IsWellKept l s.more marks) (sym same) (record {
-      once = s.adds.once tt;
-      included = λ e h. stands.well_kept.included e (back o f.calls.items stands.kept s.more s.adds e h);
-      pending = stands.well_kept.pending;
-      calls_once = stands.well_kept.calls_once;
-    });
+    tried = subst (λ n. n ≤ length g.calls.items) (sym tried) (subst (λ l. f.tried ≤ length l) (sym same) stands.tried);
+    closed = subst (λ n. AreClosed o (take n g.calls.items) stands.kept) (sym tried) (subst (λ l. AreClosed o (take f.tried l) stands.kept) (sym same) stands.closed);
   }
 
 -- ends in another order
@@ -86,17 +76,18 @@ same_back t u s = record { states = sym s.states; founds = sym s.founds; rows = 
 
 module _ {M : Type 0} (o : Object) where
   -- one with the same table, of the same calls
-  pub stands_same : (f : Frontier M o.State) (marks : List Mark) (g : Frontier M o.State) → g.calls.items ≡ f.calls.items → IsSameTable f.table g.table → StandsFor o f marks → StandsFor o g marks
-  stands_same f marks g calls same stands =
-      stands_too o f marks g calls stands (shown_more f.calls.items f.table g.table stands.kept (widens_rows f.table g.table same.states same.founds) same.rows stands.shown)
+  pub stands_same : (f : Frontier M o.State) (marks : List Mark) (g : Frontier M o.State) → g.calls.items ≡ f.calls.items → g.tried ≡ f.tried → IsSameTable f.table g.table → StandsFor o f marks → StandsFor o g marks
+  stands_same f marks g calls tried same stands =
+      stands_too o f marks g calls tried stands (shown_more f.calls.items f.table g.table stands.kept (widens_rows f.table g.table same.states same.founds) same.rows stands.shown)
 
   -- one whose rows say ends in some order
   pub stands_shown : (g : Frontier M o.State) (marks : List Mark) (ends : List (End o.State)) (calls : List PendingOp) → g.calls.items ≡ calls → ShownWith g.table calls [] (Along IsThat ends) → Generates o ends marks → ArePending calls marks
-      → Pairwise (λ (c d : PendingOp). c.id ≢ d.id) calls → AreIncluded calls ends → StandsFor o g marks
-  stands_shown g marks ends calls is s gen pending once included =
+      → Pairwise (λ (c d : PendingOp). c.id ≢ d.id) calls → AreIncluded calls ends → g.tried ≤ length calls → AreClosed o (take g.tried calls) ends → StandsFor o g marks
+  stands_shown g marks ends calls is s gen pending once included tried closed =
       stands_by o g marks s.more (subst (λ l. AreShown g.table l s.more) (sym is) s.shown) (generates_again o ends s.more s.adds marks gen) (s.adds.once tt)
       (subst (λ l. ArePending l marks) (sym is) pending) (subst (Pairwise (λ (c d : PendingOp). c.id ≢ d.id)) (sym is) once)
       (subst (λ l. AreIncluded l s.more) (sym is) (included_again o ends s.more s.adds calls included))
+      (subst (λ l. g.tried ≤ length l) (sym is) tried) (subst (λ l. AreClosed o (take g.tried l) s.more) (sym is) (closed_again o (take g.tried calls) ends s.more s.adds closed))
 
 -- in the words of the code: the ends as they are kept, and their number
 map-filter : {X Y : Type 0} (f : X → Y) (p : Y → Bool) (xs : List X) → map f (filter (λ x. p (f x)) xs) ≡ filter p (map f xs)
@@ -186,6 +177,14 @@ module _ {M : Type 0} (o : Object) (f : Frontier M o.State) (marks : List Mark) 
 
   pub failed_included : AreIncluded (filter (is_other id) f.calls.items) (map end_kept left)
   failed_included = kept_included_after_fail f.calls.items marks stands.well_kept.pending items left id is_open (subst (AreIncluded f.calls.items) (sym are) stands.well_kept.included) is
+
+  pub failed_closed : (tried : ℕ) → tried ≡ f.tried - 1 → AreClosed o (take tried (filter (is_other id) f.calls.items)) (map end_kept left)
+  failed_closed tried less =
+      subst (AreClosed o (take tried (filter (is_other id) f.calls.items))) (sym (ap (map end_kept) is ∙ map-filter end_kept (λ e. not (is_in e id false)) items ∙ ap (filter (λ (e : End o.State). not (is_in e id false))) are))
+      (closed_after_fail id o f.calls.items stands.well_kept.calls_once f.tried tried less stands.kept stands.closed)
+
+  pub failed_tried : (tried : ℕ) → tried ≡ f.tried - 1 → tried ≤ length (filter (is_other id) f.calls.items)
+  failed_tried tried less = let long = one_fewer id f.calls.items stands.well_kept.calls_once in let le = stands.tried in omega (arith, long, le, less)
 
 -- the answer by the number of ends that are left
 module _ (o : Object) (ends : List (End o.State)) (n : ℕ) (long : n ≡ length ends) (marks : List Mark) (mark : Mark) (gen : Generates o ends (marks ++ mark ∷ [])) where

@@ -66,6 +66,10 @@ pub record TakesLast (o : Object) (e : End o.State) (c : PendingOp) (f : End o.S
 abbrev pub Next : (o : Object) → List PendingOp → End o.State → End o.State → Type 0
 Next o calls e f = (c : PendingOp) × Contains calls c × TakesLast o e c f
 
+-- the calls lead from these ends to no others
+abbrev pub AreClosed : (o : Object) → List PendingOp → List (End o.State) → Type 0
+AreClosed o calls ends = (e f : End o.State) → Contains ends e → Next o calls e f → Contains ends f
+
 -- some c of the list makes y
 abbrev pub Along : {C Y : Type 0} → (C → Y → Type 0) → List C → Y → Type 0
 Along {C} R cs y = (c : C) × Contains cs c × R c y

@@ -1,5 +1,5 @@
 -- Promise: which histories of one key a frontier stands for, and what an event makes of them
-use Rattle.std.specs.Prelude.{◌≡◌, ◌≢◌, ◌↔◌, ℕ, ◌+◌, ◌*◌, ◌≤◌, ◌⊎◌, List, [], ◌∷◌, ◌++◌, length}
+use Rattle.std.specs.Prelude.{◌≡◌, ◌≢◌, ◌↔◌, ℕ, ◌+◌, ◌*◌, ◌≤◌, ◌⊎◌, List, [], ◌∷◌, ◌++◌, length, take}
 use Rattle.std.specs.List.{Contains}
 use Rattle.models.specs.declared.operation.Op.{Op}
 use Rattle.models.specs.Objects.{Object, answer_of}
@@ -16,7 +16,7 @@ use Rattle.frontier.specs.declared.frontier.Step.{Step}
 use Rattle.frontier.specs.declared.frontier.Step.TheVariants.{Alive, Dead, Over}
 use Rattle.frontier.specs.KeptEnds.{IsWellKept}
 use Rattle.frontier.specs.Tables.{AreShown}
-use Rattle.frontier.specs.EndSteps.{IsReached}
+use Rattle.frontier.specs.EndSteps.{AreClosed, IsReached}
 
 -- a frontier that keeps these ends represents the end: operations that may still take place lead to
 -- it, one after another, from an end that is kept (Lowe 2017)
@@ -25,13 +25,16 @@ abbrev pub Represents : {M : Type 0} (o : Object) → Frontier M o.State → Lis
 Represents o f kept e = IsReached o f.calls.items kept e
 
 -- the frontier stands for the history: its rows say some ends, and by these it represents exactly
--- the ends of the history. How it keeps them is its own, and no layer above cites it
+-- the ends of the history. The calls that were tried already lead from the kept ends to no others.
+-- How it keeps them is its own, and no layer above cites it
 pub record StandsFor {M : Type 0} (o : Object) (f : Frontier M o.State) (marks : List Mark)
     : Type 0 where
   pub kept : List (End o.State)
   pub shown : AreShown f.table f.calls.items kept
   pub ends : (e : End o.State) → Represents o f kept e ↔ IsEnd o marks e
   pub well_kept : IsWellKept f.calls.items kept marks
+  pub tried : f.tried ≤ length f.calls.items
+  pub closed : AreClosed o (take f.tried f.calls.items) kept
 
 -- the greatest number of ends that an ok may meet
 abbrev pub budget_of : {M S : Type 0} → Frontier M S → ℕ

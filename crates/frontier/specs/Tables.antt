@@ -1,5 +1,5 @@
 -- Invariant: ends as rows of numbers
-use Rattle.std.specs.Prelude.{◌<◌, ◌≤◌, ◌≡◌, ◌≢◌, ◌↔◌, ℕ, ◌+◌, ◌⊎◌, Bool, true, false, Option, Some, None, List, [], ◌∷◌, ◌++◌, length, set, slice_get, get_or}
+use Rattle.std.specs.Prelude.{◌<◌, ◌≤◌, ◌≡◌, ◌≢◌, ◌↔◌, ℕ, ◌+◌, Bool, true, false, Option, Some, None, List, [], length, set, slice_get, get_or}
 use Rattle.std.specs.List.{Contains, filter}
 use Rattle.std.specs.FinMap as finmap
 use Rattle.std.specs.FinSet as finset
@@ -84,11 +84,6 @@ pub record Widens {S : Type 0} (old new : Table S) : Type 0 where
   pub founds : IsFront old.founds.items new.founds.items
   pub states_once : IsOnceIn old.states → IsOnceIn new.states
   pub founds_once : IsOnceIn old.founds.items → IsOnceIn new.founds.items
-
--- the row is with the others
-abbrev pub IsPut : List ℕ → List (List ℕ) → List (List ℕ) → Type 0
-IsPut row old new =
-    (Contains old row × (new ≡ old)) ⊎ ((¬ Contains old row) × (new ≡ old ++ row ∷ []))
 
 -- what the call leads to from the end, as a row
 abbrev pub LeadsTo : (o : Object) → Table o.State → List PendingOp → End o.State → PendingOp

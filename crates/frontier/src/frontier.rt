@@ -6,13 +6,15 @@ ghost use Rattle.history.specs.Events.Mark.{Invoked, Returned, Failed, Crashed};
 ghost use Rattle.frontier.specs.Meaning.{StandsFor, Answers, Keeps, Takes, TakesUnlessOver};
 ghost use Rattle.frontier.specs.Meaning.{CostsAtMost, applied_of, budget_of, mark_by};
 
+use crate::ends;
+use crate::extend::{self, Room};
 use crate::kept_end::KeptEnd;
 use crate::pending_op::{self, PendingOp};
 use crate::table::{self, Table};
-use crate::{ends, extend};
 use history::EventKind;
 use models::{Answer, Op, SeqObject};
 use std::alloc::{AllocError, Global};
+use std::mem::swap;
 
 /// What an event leaves.
 #[derive(Clone, Copy, Debug, PartialEq, Eq)]
@@ -35,7 +37,9 @@ pub struct Frontier<M: SeqObject> {
     budget: u32,
     applied: u64,
     calls: Vec<PendingOp>,
+    tried: usize,
     table: Table<M::State>,
+    room: Room,
 }
 
 // Alive where some end is left, else Dead.
@@ -69,7 +73,9 @@ impl<M: SeqObject> Frontier<M> {
             budget,
             applied: 0,
             calls,
+            tried: 0,
             table,
+            room: Room::new(alloc),
         })
     }
 
@@ -162,8 +168,9 @@ impl<M: SeqObject> Frontier<M> {
 
     /// An open operation has returned with this answer. Over where more ends than the budget stand just before it: then,
     /// and on `AllocError`, the frontier stands for what it stood for. Tries each operation that may still take place
-    /// at most once on each end, and as a rule once in each state of an end; looks what comes of it up in a hash set; goes
-    /// on with no end once these are more than the budget.
+    /// at most once on each end, and as a rule once in each state of an end, and on the ends that the last ok left only the
+    /// operations invoked since; looks what comes of it up in a hash set; goes on with no end once these are more than the
+    /// budget.
     pub fn ok(&mut self, id: u32, answer: &Answer) -> Result<Step, AllocError>
         ensures step { let object = of_table M.State M.start_state M.apply_to in
             let old = StandsFor object self.old in
@@ -178,20 +185,23 @@ impl<M: SeqObject> Frontier<M> {
             CostsAtMost (budget_of self.old) old (Returned id answer.now)
             (applied_of self.old) (applied_of self.new) }
     {
-        let found = extend::advance::<M>(
+        let all = extend::advance::<M>(
             self.alloc,
             &mut self.table,
+            &mut self.room,
             &self.calls,
+            self.tried,
             self.budget,
             &mut self.applied,
             id,
             answer,
         )?;
-        let Some(rows) = found else {
+        if !all {
             return Ok(Step::Over);
-        };
-        self.table.rows = rows;
+        }
+        swap(&mut self.table.rows, &mut self.room.rows);
         pending_op::drop_call(&mut self.calls, id);
+        self.tried = self.calls.len();
         Ok(step_of(self.table.rows.len()))
     }
 
@@ -221,11 +231,12 @@ impl<M: SeqObject> Frontier<M> {
         pending_op::drop_call(&mut calls, id);
         self.table = table::of_ends::<M>(self.alloc, &ends, &calls)?;
         self.calls = calls;
+        self.tried = self.tried.saturating_sub(1);
         Ok(step_of(self.table.rows.len()))
     }
 
     /// An open operation has crashed: it may take place at any later moment, or never. On `AllocError` the frontier is
-    /// unchanged. Compares the ends with one another.
+    /// unchanged. Makes its rows anew.
     pub fn crash(&mut self, id: u32) -> Result<(), AllocError>
         ensures kept { let object = of_table M.State M.start_state M.apply_to in
             let old = StandsFor object self.old in let new = StandsFor object self.new in
@@ -239,6 +250,7 @@ impl<M: SeqObject> Frontier<M> {
         pending_op::mark_crashed(&mut calls, id);
         self.table = table::of_ends::<M>(self.alloc, &after, &calls)?;
         self.calls = calls;
+        self.tried = 0;
         Ok(())
     }
 
@@ -260,7 +272,9 @@ impl<M: SeqObject> Frontier<M> {
             budget: self.budget,
             applied: self.applied,
             calls: pending_op::copy_calls(self.alloc, &self.calls)?,
+            tried: self.tried,
             table: table::copied::<M>(self.alloc, &self.table)?,
+            room: Room::new(self.alloc),
         })
     }
 }

@@ -1,13 +1,9 @@
 //! Ends, as they are kept.
-ghost use Rattle.std.specs.Prelude.{◌≡◌, ◌↔◌, Bool, true, false, IsTrue, IfOk, OnOk, map, option_copied};
-ghost use Rattle.std.specs.List.{All, Contains};
-ghost use Rattle.history.specs.Events.{IsFront};
-ghost use Rattle.frontier.specs.KeptEnds.{end_kept, found_at, pending_in, crashed_in, has_crashed};
-ghost use Rattle.frontier.specs.EndSteps.{settled, after_crash, is_in, with_call, Adds};
-ghost use Rattle.frontier.specs.Places.{IsIndexed, StandsAt};
+ghost use Rattle.std.specs.Prelude.{◌≡◌, false, IfOk, OnOk, option_copied};
+ghost use Rattle.frontier.specs.KeptEnds.{end_kept, found_at, has_crashed};
+ghost use Rattle.frontier.specs.EndSteps.{settled, after_crash, is_in, with_call};
 
 use crate::pending_op::PendingOp;
-use crate::places::{Places, bucket_of};
 use models::{Found, SeqObject};
 use std::alloc::{AllocError, Global};
 
@@ -31,59 +27,11 @@ pub fn found_in(pending: &[(u32, Found)], id: u32) -> Option<&Found>
     None
 }
 
-// Whether both tell the same of the operation.
-fn agree_at(a: &[(u32, Found)], b: &[(u32, Found)], id: u32) -> bool
-    ensures { IsTrue result ↔ (found_at a.now id ≡ found_at b.now id) }
-{
-    match (found_in(a, id), found_in(b, id)) {
-        (None, None) => true,
-        (Some(found), Some(other)) => found.same(other),
-        _ => false,
-    }
-}
-
-// Whether both tell the same of each operation of the first.
-fn agree_on(a: &[(u32, Found)], b: &[(u32, Found)]) -> bool
-    ensures { IsTrue result ↔ All (λ e. found_at a.now e.0 ≡ found_at b.now e.0) a.now }
-{
-    a.iter().all(|entry| agree_at(a, b, entry.0))
-}
-
-// Whether both include the same operations, which found the same.
-fn same_pending(a: &[(u32, Found)], b: &[(u32, Found)]) -> bool
-    ensures { IsTrue result ↔ (pending_in a.now ≡ pending_in b.now) }
-{
-    agree_on(a, b) && agree_on(b, a)
-}
-
 /// Whether the operation is among these.
 pub fn has(ids: &[u32], id: u32) -> bool
     ensures { result ≡ has_crashed ids.now id }
 {
     ids.contains(&id)
-}
-
-// Whether the second has all operations of the first.
-fn has_all(a: &[u32], b: &[u32]) -> bool
-    ensures { IsTrue result ↔ All (λ id. IsTrue (has_crashed b.now id)) a.now }
-{
-    a.iter().all(|id| has(b, *id))
-}
-
-// Whether both have the same operations.
-fn same_crashed(a: &[u32], b: &[u32]) -> bool
-    ensures { IsTrue result ↔ (crashed_in a.now ≡ crashed_in b.now) }
-{
-    has_all(a, b) && has_all(b, a)
-}
-
-// Whether both are the same end.
-fn same_end<M: SeqObject>(a: &KeptEnd<M::State>, b: &KeptEnd<M::State>) -> bool
-    ensures { IsTrue result ↔ (end_kept a.now ≡ end_kept b.now) }
-{
-    M::same(&a.state, &b.state)
-        && same_pending(&a.pending, &b.pending)
-        && same_crashed(&a.crashed, &b.crashed)
 }
 
 // The same entries.
@@ -154,48 +102,4 @@ impl<S> KeptEnd<S> {
         }
         Ok(())
     }
-}
-
-// Whether the end stands at this place of the list.
-fn stands_at<M: SeqObject>(ends: &[KeptEnd<M::State>], at: usize, end: &KeptEnd<M::State>) -> bool
-    ensures { IsTrue result ↔ StandsAt ends.now at (end_kept end.now) }
-{
-    at < ends.len() && same_end::<M>(&ends[at], end)
-}
-
-// Whether the end is among these.
-fn is_kept<M: SeqObject>(
-    ends: &[KeptEnd<M::State>],
-    places: &Places,
-    end: &KeptEnd<M::State>,
-) -> bool
-    requires { IsIndexed places.now ends.now }
-    ensures { IsTrue result ↔ Contains (map end_kept ends.now) (end_kept end.now) }
-{
-    let bucket = places.of_bucket(bucket_of(end));
-    for at in bucket {
-        if stands_at::<M>(ends, *at, end) {
-            return true;
-        }
-    }
-    false
-}
-
-/// Puts the end with the others, unless it is there. Compares it with those that may include the same operations.
-pub fn keep<M: SeqObject>(
-    ends: &mut Vec<KeptEnd<M::State>>,
-    places: &mut Places,
-    end: KeptEnd<M::State>,
-) -> Result<(), AllocError>
-    requires { IsIndexed places.old ends.old.items }
-    ensures adds { let old = map end_kept ends.old.items in
-        OnOk result (Adds (λ e. end_kept end ≡ e) old (map end_kept ends.new.items)) }
-    ensures front { IsFront ends.old.items ends.new.items }
-    ensures indexed { IsIndexed places.new ends.new.items }
-{
-    if !is_kept::<M>(ends, places, &end) {
-        places.add(bucket_of(&end), ends.len())?;
-        ends.push(end)?;
-    }
-    Ok(())
 }

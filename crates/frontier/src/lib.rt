@@ -8,11 +8,8 @@ pub mod frontier;
 mod kept_end;
 mod moves;
 mod pending_op;
-mod places;
-mod row_set;
 mod states;
 mod table;
-mod words;
 
 pub use any_frontier::AnyFrontier;
 pub use frontier::{Frontier, Step};

@@ -1,6 +1,6 @@
 //! Ends as rows of numbers.
-ghost use Rattle.std.specs.Prelude.{◌≡◌, ◌+◌, ◌-◌, ◌^◌, ◌<◌, ◌≤◌, min, Some, slice_get, map, length};
-ghost use Rattle.std.specs.Prelude.{◌↔◌, IsTrue, IfOk, OnOk, IsSome, IsSomeAnd, option_copied, List, [], ◌∷◌, ◌++◌};
+ghost use Rattle.std.specs.Prelude.{◌≡◌, ◌+◌, ◌-◌, ◌^◌, ◌<◌, ◌≤◌, min, Some, slice_get, get_or, map, length};
+ghost use Rattle.std.specs.Prelude.{IfOk, OnOk, IsSome, IsSomeAnd, option_copied, List, [], ◌∷◌, ◌++◌};
 ghost use Rattle.std.specs.Option.{option_to_list};
 ghost use Rattle.models.specs.Objects.{of_table};
 ghost use Rattle.history.specs.Events.{IsFront};
@@ -15,9 +15,9 @@ ghost use Rattle.frontier.specs.Tables.{LeadsTo, Shows, Widens, found_by, row_le
 use crate::kept_end::{KeptEnd, found_in, has};
 use crate::moves::{self, Move};
 use crate::pending_op::PendingOp;
-use crate::row_set::RowSet;
 use crate::states::{self, States};
 use models::{Found, Op, SeqObject};
+use rows::RowSet;
 use std::alloc::{AllocError, Global};
 
 /// The ends that an ok finds, each a row of numbers. The first says where its state stands; then comes one for each call:
@@ -112,26 +112,13 @@ pub fn step<M: SeqObject>(
     M::apply(alloc, state, op)
 }
 
-// The state of the row's end.
-fn state_of<'a, S: Ord + Drop>(table: &'a Table<S>, row: &[usize]) -> Option<&'a S>
-    ensures { (calls : List PendingOp) (e : End S) → Shows table.now calls row.now e
+// The state of the end of the row that stands here.
+fn state_of<S: Ord + Drop>(table: &Table<S>, from: usize) -> Option<&S>
+    ensures { let row = get_or (rows_of table.now) from [] in
+        (calls : List PendingOp) (e : End S) → Shows table.now calls row e
         → IsSomeAnd result (λ s. s.now ≡ e.state) }
 {
-    match row.first() {
-        Some(at) => table.states.get(*at),
-        None => None,
-    }
-}
-
-// Whether the number at this place is zero.
-fn is_zero(row: &[usize], at: usize) -> bool
-    ensures zero { IsTrue result ↔ (slice_get row.now at ≡ Some 0) }
-    ensures within { IsTrue result → at < length row.now }
-{
-    match row.get(at) {
-        Some(number) => *number == 0,
-        None => false,
-    }
+    table.states.get(table.rows.number(from, 0))
 }
 
 /// What is told of what the call found.
@@ -141,34 +128,37 @@ pub fn told_by(crashed: bool, found: Found) -> Found
     if crashed { Found::Unit } else { found }
 }
 
-/// Where the call at this place leads from the row's end, if it can take place last: the number of the state after it, and
-/// of what is told of what it found.
+/// Where the call at this place leads from the end of the row that stands here, if it can take place last: the number of the
+/// state after it, and of what is told of what it found.
 pub fn led_to<M: SeqObject>(
     alloc: Global,
     table: &mut Table<M::State>,
     moves: &mut Vec<Move>,
-    row: &[usize],
+    from: usize,
     calls: &[PendingOp],
     at: usize,
     applied: &mut u64,
 ) -> Result<Option<(usize, usize)>, AllocError>
     requires within { at < length calls.now }
+    requires here { from < length (rows_of table.old) }
     ensures moves { AreMoves M.apply_to table.old calls.now moves.old.items
         → OnOk result (AreMoves M.apply_to table.new calls.now moves.new.items) }
     ensures next { let object = of_table M.State M.start_state M.apply_to in
+        let row = get_or (rows_of table.old) from [] in
         AreMoves M.apply_to table.old calls.now moves.old.items → HasEachOnce calls.now
         → (c : PendingOp) (e : End M.State) → slice_get calls.now at ≡ Some c
-        → Shows table.old calls.now row.now e
-        → IfOk result (λ to. LeadsTo object table.new calls.now e c (row_led row.now at to)) }
-    ensures zero_there { IfOk result (λ to. IsSome to → slice_get row.now (at + 1) ≡ Some 0) }
+        → Shows table.old calls.now row e
+        → IfOk result (λ to. LeadsTo object table.new calls.now e c (row_led row at to)) }
+    ensures zero_there { let row = get_or (rows_of table.old) from [] in
+        IfOk result (λ to. IsSome to → slice_get row (at + 1) ≡ Some 0) }
     ensures widens { Widens table.old table.new }
     ensures rows { rows_of table.new ≡ rows_of table.old }
     ensures cost { applied.new ≤ applied.old + 1 }
 {
-    if !is_zero(row, at + 1) {
+    if !table.rows.has_zero(from, at + 1) {
         return Ok(None);
     }
-    let number = row[0];
+    let number = table.rows.number(from, 0);
     match moves::tried::<M>(alloc, table, moves, number, calls, at, applied)? {
         Move::To(to, slot) => Ok(Some((to, slot))),
         Move::Nowhere => Ok(None),
@@ -198,21 +188,25 @@ pub fn of_ends<M: SeqObject>(
     Ok(table)
 }
 
-/// What the call at this place found, by the row, if it is in.
+/// What the call at this place found, by the row that stands here, if it is in.
 pub fn found_in_row<'a, S: Ord + Drop>(
     table: &'a Table<S>,
-    row: &[usize],
+    from: usize,
     calls: &[PendingOp],
     at: usize,
 ) -> Option<&'a Found>
     requires { at < length calls.now }
-    ensures found { (c : PendingOp) (e : End S) → slice_get calls.now at ≡ Some c
-        → Shows table.now calls.now row.now e → option_copied result ≡ found_by e c }
-    ensures within { IsSome result → at + 1 < length row.now }
+    ensures found { let row = get_or (rows_of table.now) from [] in
+        (c : PendingOp) (e : End S) → slice_get calls.now at ≡ Some c
+        → Shows table.now calls.now row e → option_copied result ≡ found_by e c }
+    ensures within { let row = get_or (rows_of table.now) from [] in
+        IsSome result → at + 1 < length row }
 {
-    match row.get(at + 1) {
-        Some(slot) if *slot > 0 => table.founds.get(*slot - 1),
-        _ => None,
+    let slot = table.rows.number(from, at + 1);
+    if slot > 0 {
+        table.founds.get(slot - 1)
+    } else {
+        None
     }
 }
 
@@ -220,16 +214,17 @@ pub fn found_in_row<'a, S: Ord + Drop>(
 fn include_at<S: Ord + Drop>(
     kept: &mut KeptEnd<S>,
     table: &Table<S>,
-    row: &[usize],
+    from: usize,
     calls: &[PendingOp],
     at: usize,
 ) -> Result<(), AllocError>
     requires { at < length calls.now }
-    ensures { HasEachOnce calls.now → (e : End S) → Shows table.now calls.now row.now e
+    ensures { let row = get_or (rows_of table.now) from [] in
+        HasEachOnce calls.now → (e : End S) → Shows table.now calls.now row e
         → IsToldBefore calls.now e (end_kept kept.old) at
         → OnOk result (IsToldBefore calls.now e (end_kept kept.new) (at + 1)) }
 {
-    match found_in_row(table, row, calls, at) {
+    match found_in_row(table, from, calls, at) {
         Some(found) => {
             kept.include(&calls[at], found.copy()?)?;
             Ok(())
@@ -238,17 +233,18 @@ fn include_at<S: Ord + Drop>(
     }
 }
 
-// The end that the row says.
+// The end that the row says that stands here.
 fn kept_of<M: SeqObject>(
     alloc: Global,
     table: &Table<M::State>,
-    row: &[usize],
+    from: usize,
     calls: &[PendingOp],
 ) -> Result<Option<KeptEnd<M::State>>, AllocError>
-    ensures { HasEachOnce calls.now → (e : End M.State) → Shows table.now calls.now row.now e
+    ensures { let row = get_or (rows_of table.now) from [] in
+        HasEachOnce calls.now → (e : End M.State) → Shows table.now calls.now row e
         → IfOk result (λ kept. IsSomeAnd kept (λ k. end_kept k ≡ e)) }
 {
-    let Some(state) = state_of(table, row) else {
+    let Some(state) = state_of(table, from) else {
         return Ok(None);
     };
     let mut kept = KeptEnd {
@@ -257,23 +253,24 @@ fn kept_of<M: SeqObject>(
         crashed: Vec::new(alloc),
     };
     for at in 0..calls.len() {
-        include_at(&mut kept, table, row, calls, at)?;
+        include_at(&mut kept, table, from, calls, at)?;
     }
     Ok(Some(kept))
 }
 
-// Puts the end that the row says after the others.
+// Puts the end that the row says that stands here after the others.
 fn push_end<M: SeqObject>(
     alloc: Global,
     ends: &mut Vec<KeptEnd<M::State>>,
     table: &Table<M::State>,
-    row: &[usize],
+    from: usize,
     calls: &[PendingOp],
 ) -> Result<(), AllocError>
-    ensures { HasEachOnce calls.now → (e : End M.State) → Shows table.now calls.now row.now e
+    ensures { let row = get_or (rows_of table.now) from [] in
+        HasEachOnce calls.now → (e : End M.State) → Shows table.now calls.now row e
         → OnOk result (map end_kept ends.new.items ≡ map end_kept ends.old.items ++ e ∷ []) }
 {
-    match kept_of::<M>(alloc, table, row, calls)? {
+    match kept_of::<M>(alloc, table, from, calls)? {
         Some(kept) => {
             ends.push(kept)?;
             Ok(())
@@ -292,10 +289,8 @@ pub fn ends_of<M: SeqObject>(
         → AreShown table.now calls.now ends → IfOk result (λ kept. map end_kept kept.items ≡ ends) }
 {
     let mut ends = Vec::with_capacity(alloc, table.rows.len())?;
-    let mut row = Vec::new(alloc);
-    for at in 0..table.rows.len() {
-        table.rows.read(at, &mut row)?;
-        push_end::<M>(alloc, &mut ends, table, &row, calls)?;
+    for from in 0..table.rows.len() {
+        push_end::<M>(alloc, &mut ends, table, from, calls)?;
     }
     Ok(ends)
 }

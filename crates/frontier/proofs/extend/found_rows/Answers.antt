@@ -1,28 +1,25 @@
-use Rattle.std.proofs.Common.{subst, arith}
+use Rattle.std.proofs.Common.{arith}
 use Rattle.models.specs.Objects.{of_table}
-use Rattle.frontier.specs.Tables.{IsAdvanced, with_rows}
 use Rattle.frontier.proofs.Growing.{grown_all}
-use Rattle.frontier.proofs.Rows.{one_of}
 use Rattle.frontier.proofs.extend.found_rows.Goals as goal
 
 pub returns-then-not-branch-clause-over : goal.returns-then-not-branch-clause-over
-returns-then-not-branch-clause-over g c once ends shown none =
-    let n = c.in_ok-grow.ensures.grows once ends shown in
+returns-then-not-branch-clause-over g c once ends shown closed none =
+    let n = c.in_ok-grow.ensures.grows once ends shown closed in
     let long = n.shown.long in
     let beyond = c.in_ok-grow.ensures.beyond c.if-not-branch.true in
     (n.more, n.grows, omega (arith, long, beyond))
 
 pub returns-clause-all : goal.returns-clause-all
-returns-clause-all g c once ends shown rows is =
+returns-clause-all g c once ends shown closed _ =
     let o = of_table g.row.M-State.Denot g.M.SeqObject.start_state g.M.SeqObject.apply_to in
-    let n = c.in_ok-grow.ensures.grows once ends shown in
+    let n = c.in_ok-grow.ensures.grows once ends shown closed in
     let all = c.if-not-branch.false in
     let long = n.shown.long in
     let few = c.in_ok-grow.ensures.within all in
-    subst (λ r. IsAdvanced o (with_rows c.grow.new.table r) c.args.calls.now ends c.args.budget c.args.id c.args.answer.now) (one_of _ rows is)
-    (record {
+    record {
       all = n.more;
       adds = grown_all o c.args.calls.now ends n.more n.grows (n.closed all);
       within = omega (arith, long, few);
-      left = c.in_ok-rows.ensures once n.more n.shown;
-    })
+      left = c.in_ok-settled.ensures once n.more n.shown;
+    }

@@ -4,5 +4,5 @@ use Rattle.frontier.specs.KeptEnds.{end_kept}
 use Rattle.frontier.specs.Tables.{AreShown, HasEachOnce}
 use Rattle.frontier.proofs.table.ends_of.Given as goal
 
-abbrev pub invariant-loop-at : goal.invariant-loop-at
-invariant-loop-at g l = HasEachOnce l.calls → (ends : List (End g.row.M-State.Denot)) → AreShown l.table l.calls ends → map end_kept l.ends.items ≡ take l.at ends
+abbrev pub invariant-loop-from : goal.invariant-loop-from
+invariant-loop-from g l = HasEachOnce l.calls → (ends : List (End g.row.M-State.Denot)) → AreShown l.table l.calls ends → map end_kept l.ends.items ≡ take l.from ends

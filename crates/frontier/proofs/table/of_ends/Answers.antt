@@ -2,7 +2,8 @@ use Rattle.std.proofs.Common.{◌≡◌, [], map, length, refl, subst, arith}
 use Rattle.std.proofs.lemmas.List.{take_all, length-map}
 use Rattle.frontier.specs.KeptEnds.{end_kept}
 use Rattle.frontier.specs.EndSteps.{Along}
-use Rattle.frontier.specs.Tables.{IsPut, IsThat, ShownWith, rows_of}
+use Rattle.frontier.specs.Tables.{IsThat, ShownWith, rows_of}
+use Rattle.rows.specs.RowSets.{IsPut}
 use Rattle.frontier.proofs.Rows.{has_place, mapped_at}
 use Rattle.frontier.proofs.Showing.{shown_after, shown_first, shown_none, widens_rows}
 use Rattle.frontier.proofs.table.of_ends.Goals as goal

@@ -5,7 +5,7 @@ use Rattle.models.specs.Objects.{of_table}
 use Rattle.history.specs.Events.Mark.{Failed}
 use Rattle.frontier.specs.KeptEnds.{end_kept}
 use Rattle.frontier.specs.EndSteps.{is_other}
-use Rattle.frontier.proofs.Standing.{failed_generates, failed_included, generates_again, shown_of, stands_shown, step_by}
+use Rattle.frontier.proofs.Standing.{failed_closed, failed_generates, failed_included, failed_tried, generates_again, shown_of, stands_shown, step_by}
 use Rattle.frontier.proofs.Judging.{kept_ends}
 use Rattle.frontier.proofs.Pending.{calls_after_fail, once_without}
 use Rattle.frontier.proofs.frontier.Frontier.fail.Goals as goal
@@ -44,5 +44,7 @@ returns-clause-kept g c =
           let calls = c.drop_call.ensures ∙ ap (filter (is_other id)) (c.in_ok-calls.ensures ∙ c.deref-2.ensures.value) in
           let s = shown_of c.in_ok-self.field-0 c.deref-4.result.now (filter (is_other id) f.calls.items) c.deref-3.result.now c.retain.new.self.items (c.deref-4.ensures.value ∙ calls) c.deref-3.ensures.value c.in_ok-self.ensures included in
           stands_shown o _ (marks ++ Failed id ∷ []) (map end_kept c.retain.new.self.items) (filter (is_other id) f.calls.items) calls s gen
-          (calls_after_fail f.calls.items marks stands.well_kept.pending id) (once_without f.calls.items id stands.well_kept.calls_once) included;
+          (calls_after_fail f.calls.items marks stands.well_kept.pending id) (once_without f.calls.items id stands.well_kept.calls_once) included
+          (failed_tried o f marks stands id is_open c.in_ok-ends.ends.items c.retain.new.self.items are is c.saturating_sub-self.result c.saturating_sub-self.ensures)
+          (failed_closed o f marks stands id is_open c.in_ok-ends.ends.items c.retain.new.self.items are is c.saturating_sub-self.result c.saturating_sub-self.ensures);
     }

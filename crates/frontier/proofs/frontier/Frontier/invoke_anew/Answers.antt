@@ -1,9 +1,11 @@
-use Rattle.std.proofs.Common.{◌∷◌, ◌++◌, [], false, ap, map, sym, ◌∙◌, subst}
+use Rattle.std.proofs.Common.{◌∷◌, ◌≡◌, ◌+◌, ◌++◌, [], false, ap, length, length-append, map, sym, take, ◌∙◌, subst, arith}
 use Rattle.models.specs.Objects.{of_table}
 use Rattle.history.specs.Events.Mark.{Invoked}
 use Rattle.frontier.specs.declared.pending_op.PendingOp.{PendingOp}
 use Rattle.frontier.specs.KeptEnds.{AreIncluded, end_kept}
 use Rattle.frontier.proofs.Standing.{generates_of, shown_of, stands_shown}
+use Rattle.frontier.specs.EndSteps.{AreClosed}
+use Rattle.frontier.proofs.Closing.{tried_still}
 use Rattle.frontier.proofs.Judging.{kept_ends}
 use Rattle.frontier.proofs.Generating.{Generates, generates_after_invoke}
 use Rattle.frontier.proofs.Including.{included_more}
@@ -23,3 +25,5 @@ returns-clause-kept g c marks stands new =
     (generates_after_invoke o (map end_kept c.in_ok-ends.ends.items) marks c.args.id c.args.op new (subst (λ l. Generates o l marks) (sym are) (generates_of o f marks stands)))
     (calls_after_invoke f.calls.items marks stands.well_kept.pending c.args.id c.args.op new)
     (once_after_invoke f.calls.items marks stands.well_kept.pending c.args.id c.args.op new stands.well_kept.calls_once) included
+    (let le = stands.tried in let long : length (f.calls.items ++ call ∷ []) ≡ length f.calls.items + 1 = length-append f.calls.items (call ∷ []) in omega (arith, le, long))
+    (subst (λ l. AreClosed o l (map end_kept c.in_ok-ends.ends.items)) (sym (tried_still f.tried f.calls.items call stands.tried)) (subst (AreClosed o (take f.tried f.calls.items)) (sym are) stands.closed))

@@ -1,9 +1,10 @@
-use Rattle.std.proofs.Common.{ap, map, ◌∙◌, ◌∷◌, ◌++◌, []}
+use Rattle.std.proofs.Common.{ap, map, ◌∙◌, ◌∷◌, ◌++◌, [], arith}
 use Rattle.models.specs.Objects.{of_table}
 use Rattle.frontier.specs.declared.kept_end.KeptEnd.{KeptEnd}
 use Rattle.frontier.specs.KeptEnds.{end_kept}
 use Rattle.frontier.proofs.Standing.{shown_of, stands_shown}
 use Rattle.frontier.proofs.Generating.{generates_all}
+use Rattle.frontier.proofs.Closing.{closed_none}
 use Rattle.frontier.proofs.AfterEvents.{kept_at_start, calls_at_start}
 use Rattle.frontier.proofs.Including.{included_of_start}
 use Rattle.frontier.proofs.frontier.Frontier.start.Goals as goal
@@ -17,4 +18,4 @@ returns-clause-stands g c =
     let included = included_of_start [] c.push.new.self.items k items c.new.ensures.items c.new-2.ensures.items in
     stands_shown o _ [] (map end_kept c.push.new.self.items) [] c.new-calls.ensures.items
     (shown_of c.in_ok-table.table c.deref-2.result.now [] c.deref.result.now c.push.new.self.items (c.deref-2.ensures.value ∙ c.new-calls.ensures.items) c.deref.ensures.value c.in_ok-table.ensures included)
-    (generates_all o _ [] are) calls_at_start tt included
+    (generates_all o _ [] are) calls_at_start tt included (omega arith) (closed_none o (map end_kept c.push.new.self.items))

@@ -1,9 +1,0 @@
-use Rattle.std.proofs.Common.{ℕ, ◌^◌, ◌/◌, ap, ◌∙◌, ◌++◌, ◌∷◌, [], refl, arith}
-use Rattle.frontier.specs.Words.{digits}
-use Rattle.frontier.proofs.Digits.{read_more}
-use Rattle.frontier.proofs.words.unpack.Goals as goal
-
-pub loop-place-preserved : goal.loop-place-preserved
-loop-place-preserved c =
-    read_more (2 ^ c.args.bits) c.args.long c.loop-place._place c.loop-place.rest (c.loop-place.rest / 2 ^ c.args.bits) c.loop-place.row.items c.push.new.self.items (digits (2 ^ c.args.bits) c.args.long c.args.word)
-    (omega arith) (c.in_ok-push.ensures.items ∙ ap (λ (x : ℕ). c.loop-place.row.items ++ x ∷ []) c.first_of.ensures) refl c.loop-place.invariant

@@ -1,0 +1,4 @@
+pub mod Elements
+pub mod Digits
+pub mod Packing
+pub mod Putting

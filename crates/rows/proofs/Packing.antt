@@ -1,0 +1,186 @@
+-- words put with others, by the rows that they stand for
+use Rattle.std.proofs.Common.{◌≡◌, inl, inr, ⊎_elim, ℕ, ◌+◌, ◌*◌, ◌/◌, ◌%◌, ◌^◌, ◌<◌, ◌≤◌, Bool, true, false, nat_eq, List, [], ◌∷◌, ◌++◌, map, length, take, drop, slice_get, Some, option_map, zero, suc, get_or, Vec, Global, refl, sym, ap, ◌∙◌, subst, if◌then◌else◌, ◌||◌, arith, add-one}
+use Rattle.std.specs.List.{AllByRecursion, AllZip, Contains, each_same, IsDistinct, list_any}
+use Rattle.std.proofs.lemmas.Bool.{true≢false, eq-eqb, eqb-true}
+use Rattle.std.proofs.lemmas.Map.Keys.{IsDistinct-head, IsDistinct-tail}
+use Rattle.std.proofs.lemmas.List.{map_push, take-append-drop}
+use Rattle.indexmap.specs.IndexSet.{insert_key}
+use Rattle.std.proofs.lemmas.List.Elements.{Contains-append_left, Contains-push_cases}
+use Rattle.rows.specs.RowSets.{IsPut}
+use Rattle.rows.specs.Words.{ArePacked, IsWordOf, digits, items_of, rows_in, value}
+use Rattle.std.specs.Vec.{vec_len}
+use Rattle.std.proofs.Math.Nat.{mod-add-div, mul-div_cancel_left, mul-zero, zero-mod, zero-mul}
+use Rattle.std.proofs.lemmas.Nat.{div-add-mod', mod_below, pow_pos}
+use Rattle.std.proofs.lemmas.Option.{get_or_from_slice_get, slice_get-map}
+use Rattle.rows.proofs.Digits.{length-digits}
+use Rattle.rows.proofs.Elements.{Contains-cons_cases, Contains-head, Contains-nil, Contains-tail, clash, from_map, has_place, one_of, taken_more, to_map}
+
+word_there : (w : ℕ) (ws : List ℕ) → list_any (nat_eq w) ws ≡ true → Contains ws w
+word_there w [] e = absurd (true≢false (sym e))
+word_there w (x ∷ ws) e = by (nat_eq w x) refl (word_there w ws)
+  where
+    by : (b : Bool) → nat_eq w x ≡ b → (list_any (nat_eq w) ws ≡ true → Contains ws w) → Contains (x ∷ ws) w
+    by true is rest = subst (Contains (x ∷ ws)) (sym (eqb-true w x is)) (Contains-head x ws)
+    by false is rest = Contains-tail x ws w (rest (sym (ap (λ b. b || list_any (nat_eq w) ws) is) ∙ e))
+
+not_there : (w : ℕ) (ws : List ℕ) → list_any (nat_eq w) ws ≡ false → ¬ Contains ws w
+not_there w [] e h = Contains-nil w h
+not_there w (x ∷ ws) e h = by (nat_eq w x) refl (not_there w ws)
+  where
+    by : (b : Bool) → nat_eq w x ≡ b → (list_any (nat_eq w) ws ≡ false → ¬ Contains ws w) → ⊥
+    by true is rest = true≢false (sym (ap (λ b. b || list_any (nat_eq w) ws) is) ∙ e)
+    by false is rest =
+        ⊎_elim
+        (λ q. true≢false (sym (eq-eqb w x (sym q)) ∙ is))
+        (rest (sym (ap (λ b. b || list_any (nat_eq w) ws) is) ∙ e))
+        (Contains-cons_cases x ws w h)
+
+module _ (bits long : ℕ) (row : List ℕ) (w : ℕ) (is_long : length row ≡ long) (is_word : IsWordOf (2 ^ bits) row w) where
+  its_digits : digits (2 ^ bits) long w ≡ row
+  its_digits = subst (λ n. digits (2 ^ bits) n w ≡ row) is_long is_word.1
+
+  pub exact_word : value (2 ^ bits) (digits (2 ^ bits) long w) ≡ w
+  exact_word = ap (value (2 ^ bits)) its_digits ∙ is_word.0
+
+  module _ (ws now : List ℕ) (are : ArePacked bits long ws) (is : now ≡ insert_key nat_eq ws w) where
+    pub put_word : IsPut row (map (digits (2 ^ bits) long) ws) (map (digits (2 ^ bits) long) now)
+    put_word = by (list_any (nat_eq w) ws) refl
+      where
+        by : (b : Bool) → list_any (nat_eq w) ws ≡ b → IsPut row (map (digits (2 ^ bits) long) ws) (map (digits (2 ^ bits) long) now)
+        by true e = inl (
+          subst (Contains (map (digits (2 ^ bits) long) ws)) its_digits (to_map (digits (2 ^ bits) long) ws w (word_there w ws e)),
+          ap (map (digits (2 ^ bits) long)) (is ∙ ap (λ b. if b then ws else ws ++ w ∷ []) e),
+        )
+        by false e = inr (
+          (λ h.
+              let k = from_map (digits (2 ^ bits) long) ws row h in
+              let same : k.0 ≡ w = sym (are.exact k.0 k.1) ∙ ap (value (2 ^ bits)) k.2 ∙ is_word.0 in
+              not_there w ws e (subst (Contains ws) same k.1)),
+          ap (map (digits (2 ^ bits) long)) (is ∙ ap (λ b. if b then ws else ws ++ w ∷ []) e) ∙ map_push (digits (2 ^ bits) long) ws w ∙ ap (λ r. map (digits (2 ^ bits) long) ws ++ r ∷ []) its_digits,
+        )
+
+    pub packed_still : ArePacked bits long now
+    packed_still = by (list_any (nat_eq w) ws) refl
+      where
+        by : (b : Bool) → list_any (nat_eq w) ws ≡ b → ArePacked bits long now
+        by true e = subst (ArePacked bits long) (sym (is ∙ ap (λ b. if b then ws else ws ++ w ∷ []) e)) are
+        by false e = subst (ArePacked bits long) (sym (is ∙ ap (λ b. if b then ws else ws ++ w ∷ []) e)) (record {
+          few = are.few;
+          room = are.room;
+          exact = λ k h. ⊎_elim (are.exact k) (λ q. subst (λ x. value (2 ^ bits) (digits (2 ^ bits) long x) ≡ x) q exact_word) (Contains-push_cases ws w k h);
+        })
+
+pub packed_none : (bits long : ℕ) (ws : List ℕ) → ws ≡ [] → bits ≤ 32 → bits * long ≤ 128 → ArePacked bits long ws
+packed_none bits long ws none few room = record {
+  few = few;
+  room = room;
+  exact = λ w h. absurd (Contains-nil w (subst (λ l. Contains l w) none h));
+}
+
+-- words that are made lists, one after another
+all_at : (P : ℕ → Type 0) (ws : List ℕ) → AllByRecursion P ws → (i x : ℕ) → slice_get ws i ≡ Some x → P x
+all_at P [] all i x h = absurd (clash x _ refl h)
+all_at P (w ∷ ws) all zero x h = subst P (one_of w x h) all.0
+all_at P (w ∷ ws) all (suc i) x h = all_at P ws all.1 i x h
+
+not_before : (ws : List ℕ) → IsDistinct nat_eq ws → (i x : ℕ) → slice_get ws i ≡ Some x → ¬ Contains (take i ws) x
+not_before [] distinct i x h = absurd (clash x _ refl h)
+not_before (w ∷ ws) distinct zero x h = λ k. Contains-nil x k
+not_before (w ∷ ws) distinct (suc i) x h = λ k.
+    ⊎_elim
+    (λ q. true≢false (sym (eq-eqb w x q) ∙ all_at (λ y. nat_eq w y ≡ false) ws (IsDistinct-head nat_eq w ws distinct) i x h))
+    (not_before ws (IsDistinct-tail nat_eq w ws distinct) i x h)
+    (Contains-cons_cases w (take i ws) x k)
+
+pub listed_more : (bits long : ℕ) (ws : List ℕ) → ArePacked bits long ws → IsDistinct nat_eq ws → (i w : ℕ) → slice_get ws i ≡ Some w → (row : List ℕ) → row ≡ digits (2 ^ bits) long w
+    → (old new : List (List ℕ)) → IsPut row old new → old ≡ map (digits (2 ^ bits) long) (take i ws) → new ≡ map (digits (2 ^ bits) long) (take (i + 1) ws)
+listed_more bits long ws are distinct i w here row is old new put so_far =
+    ⊎_elim
+    (λ p.
+    let k = from_map (digits (2 ^ bits) long) (take i ws) row (subst (λ l. Contains l row) so_far p.0) in
+    let among : Contains ws k.0 = subst (λ l. Contains l k.0) (take-append-drop i ws) (Contains-append_left (take i ws) (drop i ws) k.0 k.1) in
+    let same : k.0 ≡ w = sym (are.exact k.0 among) ∙ ap (value (2 ^ bits)) (k.2 ∙ is) ∙ are.exact w (has_place ws i w here) in
+    absurd (not_before ws distinct i w here (subst (Contains (take i ws)) same k.1)))
+    (λ p.
+    p.1 ∙ (λ j. so_far j ++ is j ∷ []) ∙ sym (map_push (digits (2 ^ bits) long) (take i ws) w) ∙ ap (map (digits (2 ^ bits) long)) (sym (taken_more ws i w here)))
+    put
+
+-- what a set of rows shows, and its numbers below the base
+pub shows_words : (wide : Bool) (bits long : ℕ) (words : List ℕ) (lists : List (Vec ℕ Global)) → wide ≡ false → rows_in wide bits long words lists ≡ map (digits (2 ^ bits) long) words
+shows_words wide bits long words lists e = ap (λ b. rows_in b bits long words lists) e
+
+pub row_there : (rows : List (List ℕ)) (bits long from w : ℕ) (words : List ℕ) → map (digits (2 ^ bits) long) words ≡ rows → slice_get words from ≡ Some w → get_or rows from [] ≡ digits (2 ^ bits) long w
+row_there rows bits long from w words is here =
+    get_or_from_slice_get rows from (digits (2 ^ bits) long w) []
+    (ap (λ l. slice_get l from) (sym is) ∙ slice_get-map (digits (2 ^ bits) long) words from ∙ ap (option_map (digits (2 ^ bits) long)) here)
+
+pub row_long : (bits long at : ℕ) (words : List ℕ) (rows : List (List ℕ)) → map (digits (2 ^ bits) long) words ≡ rows → at < length rows → length (get_or rows at []) ≡ long
+row_long bits long at words rows is lt =
+    ap (λ l. length (get_or l at [])) (sym is) ∙ each_long words at (subst (λ (l : List (List ℕ)). at < length l) (sym is) lt)
+  where
+    each_long : (ws : List ℕ) (at : ℕ) → at < length (map (digits (2 ^ bits) long) ws) → length (get_or (map (digits (2 ^ bits) long) ws) at []) ≡ long
+    each_long [] at lt = absurd (omega (arith, lt))
+    each_long (w ∷ ws) zero lt = length-digits (2 ^ bits) long w
+    each_long (w ∷ ws) (suc at) lt = each_long ws at (omega (arith, lt))
+
+pub below_by : (n bits : ℕ) → n / 2 ^ bits ≡ 0 → n < 2 ^ bits
+below_by n bits e =
+    let some = pow_pos bits in
+    let all = div-add-mod' n (2 ^ bits) in
+    let rest = mod_below n (2 ^ bits) some in
+    let none : n / 2 ^ bits * 2 ^ bits ≡ 0 = ap (λ x. x * 2 ^ bits) e ∙ zero-mul (2 ^ bits) in
+    omega (arith, all, rest, none)
+
+-- rows with a zero more, fewer rows, and copies of rows
+zeros_more : (base n w : ℕ) → 0 < base → value base (digits base n w) ≡ w → (digits base (suc n) w ≡ digits base n w ++ 0 ∷ []) × (value base (digits base (suc n) w) ≡ w)
+zeros_more base zero w some is =
+    let none : w ≡ 0 = sym is in
+    let zero' : 0 % base ≡ 0 = zero-mod base in
+    let first : w % base ≡ 0 = ap (λ x. x % base) none ∙ zero' in
+    ((λ i. first i ∷ []), (let m : base * 0 ≡ 0 = mul-zero base in let v : w % base + base * 0 ≡ w = omega (arith, first, m, none) in v))
+zeros_more base (suc n) w some is =
+    let rest : value base (digits base n (w / base)) ≡ w / base = rest_exact base (w % base) (w / base) (value base (digits base n (w / base))) w some (mod-add-div w base) is in
+    let r = zeros_more base n (w / base) some rest in (
+      ap (λ l. w % base ∷ l) r.0,
+      ap (λ v. w % base + base * v) r.1 ∙ mod-add-div w base,
+    )
+  where
+    rest_exact : (base r q v w : ℕ) → 0 < base → r + base * q ≡ w → r + base * v ≡ w → v ≡ q
+    rest_exact base r q v w some a b =
+        let same : base * v ≡ base * q = omega (arith, a, b) in
+        sym (mul-div_cancel_left v some) ∙ ap (λ x. x / base) same ∙ mul-div_cancel_left q some
+
+pub longer_rows : (bits long : ℕ) (ws : List ℕ) → ((w : ℕ) → Contains ws w → value (2 ^ bits) (digits (2 ^ bits) long w) ≡ w) → map (digits (2 ^ bits) (long + 1)) ws ≡ map (λ row. row ++ 0 ∷ []) (map (digits (2 ^ bits) long) ws)
+longer_rows bits long [] exact = refl
+longer_rows bits long (w ∷ ws) exact =
+    λ i. (ap (λ n. digits (2 ^ bits) n w) (add-one long) ∙ (zeros_more (2 ^ bits) long w (pow_pos bits) (exact w (Contains-head w ws))).0) i ∷ longer_rows bits long ws (λ x h. exact x (Contains-tail w ws x h)) i
+
+pub packed_longer : (bits long : ℕ) (ws : List ℕ) → bits * (long + 1) ≤ 128 → ArePacked bits long ws → ArePacked bits (long + 1) ws
+packed_longer bits long ws room are = record {
+  few = are.few;
+  room = room;
+  exact = λ w h. ap (λ n. value (2 ^ bits) (digits (2 ^ bits) n w)) (add-one long) ∙ (zeros_more (2 ^ bits) long w (pow_pos bits) (are.exact w h)).1;
+}
+
+pub packed_fewer : (bits long n : ℕ) (ws now : List ℕ) → now ≡ take n ws → ArePacked bits long ws → ArePacked bits long now
+packed_fewer bits long n ws now is are = record {
+  few = are.few;
+  room = are.room;
+  exact = λ w h. are.exact w (subst (λ l. Contains l w) (take-append-drop n ws) (Contains-append_left (take n ws) (drop n ws) w (subst (λ l. Contains l w) is h)));
+}
+
+pub packed_same : (bits long : ℕ) (ws now : List ℕ) → now ≡ ws → ArePacked bits long ws → ArePacked bits long now
+packed_same bits long ws now is are = subst (ArePacked bits long) (sym is) are
+
+pub shows_lists : (wide : Bool) (bits long : ℕ) (words : List ℕ) (lists : List (Vec ℕ Global)) → wide ≡ true → rows_in wide bits long words lists ≡ map items_of lists
+shows_lists wide bits long words lists e = ap (λ b. rows_in b bits long words lists) e
+
+pub copied_rows : (wide : Bool) (bits long : ℕ) (words : List ℕ) (lists : List (Vec ℕ Global)) (ws : List ℕ) (ls : List (Vec ℕ Global)) → ws ≡ words → map items_of ls ≡ map items_of lists → rows_in wide bits long ws ls ≡ rows_in wide bits long words lists
+copied_rows true bits long words lists ws ls a b = b
+copied_rows false bits long words lists ws ls a b = ap (map (digits (2 ^ bits) long)) a
+
+pub copied_lists : (ls now : List (Vec ℕ Global)) → AllZip (λ (v w : Vec ℕ Global). AllZip (λ (x y : ℕ). y ≡ x) v.items w.items × (vec_len w ≡ vec_len v)) ls now → map items_of now ≡ map items_of ls
+copied_lists [] [] h = refl
+copied_lists [] (w ∷ ws) h = absurd h
+copied_lists (v ∷ vs) [] h = absurd h
+copied_lists (v ∷ vs) (w ∷ ws) h = λ i. each_same v.items w.items h.0.0 i ∷ copied_lists vs ws h.1 i

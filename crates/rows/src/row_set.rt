@@ -1,0 +1,314 @@
+//! Rows of numbers, each once.
+ghost use Rattle.std.specs.Prelude.{◌≡◌, ◌↔◌, ◌<◌, ◌≤◌, ◌*◌, ◌^◌, [], ◌∷◌, ◌++◌, false, Some, IsTrue, map, take, length, get_or, set, slice_get, IfOk, OnOk, OnErr};
+ghost use Rattle.rows.specs.Words.{ArePacked, digits, items_of};
+ghost use Rattle.rows.specs.RowSets.{IsPut};
+
+use crate::words::{changed, number_at, packed, unpack};
+use indexmap::IndexSet;
+use std::alloc::{AllocError, Global};
+use std::marker::Model;
+
+/// Rows of numbers, none twice, in the order in which they were put. As long as they are of the expected length and
+/// their numbers small, each is one word; else each is a list of its own.
+#[derive(Drop)]
+pub struct RowSet {
+    alloc: Global,
+    long: usize,
+    bits: u32,
+    wide: bool,
+    words: IndexSet<u128>,
+    lists: IndexSet<Vec<usize>>,
+}
+
+impl Model for RowSet {
+    ghost use Rattle.std.specs.Prelude.{List, ℕ};
+    ghost use Rattle.rows.specs.Words.{ArePacked, rows_in};
+
+    ghost Value = { List (List ℕ) };
+
+    ghost view = { λ a. rows_in a.wide a.bits a.long a.words.keys a.lists.keys };
+
+    ghost invariant = { λ a. ArePacked a.bits a.long a.words.keys };
+}
+
+// How many bits each number has, where so many stand in a word, with room for two more.
+fn bits_for(long: usize) -> u32
+    ensures few { result ≤ 32 }
+    ensures room { result * long ≤ 128 }
+{
+    if long <= 2 {
+        32
+    } else if long <= 126 {
+        128 / (long as u32 + 2)
+    } else {
+        0
+    }
+}
+
+// Writes the numbers of the row in place of those that were there.
+fn rewrite(next: &mut Vec<usize>, row: &[usize]) -> Result<(), AllocError>
+    ensures { OnOk result (next.new.items ≡ row.now) }
+{
+    next.clear();
+    next.extend_from_slice(row)?;
+    Ok(())
+}
+
+// The same numbers.
+fn copied(alloc: Global, row: &[usize]) -> Result<Vec<usize>, AllocError>
+    ensures { IfOk result (λ copy. copy.items ≡ row.now) }
+{
+    let mut copy = Vec::with_capacity(alloc, row.len())?;
+    copy.extend_from_slice(row)?;
+    Ok(copy)
+}
+
+// Puts the list with the others, if it is not there.
+fn put_list(lists: &mut IndexSet<Vec<usize>>, list: Vec<usize>) -> Result<(), AllocError>
+    ensures put { let old = map items_of lists.old.keys in let new = map items_of lists.new.keys in
+        OnOk result (IsPut list.items old new) }
+    ensures err { OnErr result (lists.new.keys ≡ lists.old.keys) }
+{
+    lists.insert(list)?;
+    Ok(())
+}
+
+// The rows of the words, as lists.
+fn listed(
+    alloc: Global,
+    words: &IndexSet<u128>,
+    bits: u32,
+    long: usize,
+) -> Result<IndexSet<Vec<usize>>, AllocError>
+    requires { ArePacked bits long words.now.keys }
+    ensures { IfOk result (λ lists.
+        map items_of lists.keys ≡ map (digits (2 ^ bits) long) words.now.keys) }
+{
+    let mut lists = IndexSet::new(alloc);
+    for at in 0..words.len() {
+        let Some(word) = words.get_index(at) else {
+            unreachable!()
+        };
+        let mut list = Vec::with_capacity(alloc, long)?;
+        unpack(*word, bits, long, &mut list)?;
+        put_list(&mut lists, list)?;
+    }
+    Ok(lists)
+}
+
+// The number at this place of the list that stands here, and zero where there is none.
+fn number_in_list(lists: &IndexSet<Vec<usize>>, at: usize, place: usize) -> usize
+    ensures { result ≡ get_or (get_or (map items_of lists.now.keys) at []) place 0 }
+{
+    let Some(list) = lists.get_index(at) else {
+        return 0;
+    };
+    match list.get(place) {
+        Some(number) => *number,
+        None => 0,
+    }
+}
+
+// The number at this place of the row of the word that stands here, and zero where there is none.
+fn number_in_word(words: &IndexSet<u128>, bits: u32, long: usize, at: usize, place: usize) -> usize
+    requires { ArePacked bits long words.now.keys }
+    ensures { let rows = map (digits (2 ^ bits) long) words.now.keys in
+        result ≡ get_or (get_or rows at []) place 0 }
+{
+    match words.get_index(at) {
+        Some(word) if bits > 0 && place < long => number_at(*word, bits, place),
+        _ => 0,
+    }
+}
+
+impl RowSet {
+    /// No rows. They are expected to have so many numbers.
+    pub fn new(alloc: Global, long: usize) -> RowSet
+        ensures { result ≡ [] }
+    {
+        RowSet {
+            alloc,
+            long,
+            bits: bits_for(long),
+            wide: false,
+            words: IndexSet::new(alloc),
+            lists: IndexSet::new(alloc),
+        }
+    }
+
+    /// Takes all rows out. Those to come are expected to have so many numbers. Keeps the memory, unless that was for far
+    /// more rows than there were last.
+    pub fn restart(&mut self, long: usize)
+        ensures { self.new ≡ [] }
+    {
+        if self.words.capacity() / 16 > self.words.len().saturating_add(64) {
+            self.words = IndexSet::new(self.alloc);
+        }
+        self.words.clear();
+        self.lists = IndexSet::new(self.alloc);
+        self.wide = false;
+        self.long = long;
+        self.bits = bits_for(long);
+    }
+
+    /// How many rows there are.
+    pub fn len(&self) -> usize
+        ensures { result ≡ length self.now }
+    {
+        if self.wide {
+            self.lists.len()
+        } else {
+            self.words.len()
+        }
+    }
+
+    /// Writes the row at this place, in place of what was there.
+    pub fn read(&self, at: usize, row: &mut Vec<usize>) -> Result<(), AllocError>
+        requires { at < length self.now }
+        ensures { OnOk result (slice_get self.now at ≡ Some row.new.items) }
+    {
+        if self.wide {
+            let Some(list) = self.lists.get_index(at) else {
+                unreachable!()
+            };
+            rewrite(row, list)
+        } else {
+            let Some(word) = self.words.get_index(at) else {
+                unreachable!()
+            };
+            unpack(*word, self.bits, self.long, row)
+        }
+    }
+
+    /// The number at this place of the row that stands here, and zero where there is none.
+    pub fn number(&self, at: usize, place: usize) -> usize
+        ensures { result ≡ get_or (get_or self.now at []) place 0 }
+    {
+        if self.wide {
+            number_in_list(&self.lists, at, place)
+        } else {
+            number_in_word(&self.words, self.bits, self.long, at, place)
+        }
+    }
+
+    /// Whether the row that stands here has zero at this place.
+    pub fn has_zero(&self, at: usize, place: usize) -> bool
+        requires { at < length self.now }
+        ensures { IsTrue result ↔ (slice_get (get_or self.now at []) place ≡ Some 0) }
+    {
+        place < self.length_at(at) && self.number(at, place) == 0
+    }
+
+    // How many numbers the row has that stands here.
+    fn length_at(&self, at: usize) -> usize
+        requires { at < length self.now }
+        ensures { result ≡ length (get_or self.now at []) }
+    {
+        if self.wide {
+            let Some(list) = self.lists.get_index(at) else {
+                unreachable!()
+            };
+            list.len()
+        } else {
+            self.long
+        }
+    }
+
+    /// Puts the row with the others, if it is not there.
+    pub fn put(&mut self, row: &[usize]) -> Result<(), AllocError>
+        ensures put { OnOk result (IsPut row.now self.old self.new) }
+        ensures err { OnErr result (self.new ≡ self.old) }
+    {
+        if !self.wide && row.len() == self.long {
+            if let Some(word) = packed(row, self.bits) {
+                self.words.insert(word)?;
+                return Ok(());
+            }
+        }
+        let list = copied(self.alloc, row)?;
+        self.put_wide(list)
+    }
+
+    // Puts the list with the others, all as lists.
+    fn put_wide(&mut self, list: Vec<usize>) -> Result<(), AllocError>
+        ensures put { OnOk result (IsPut list.items self.old self.new) }
+        ensures err { OnErr result (self.new ≡ self.old) }
+    {
+        if !self.wide {
+            self.lists = listed(self.alloc, &self.words, self.bits, self.long)?;
+            self.wide = true;
+            self.words = IndexSet::new(self.alloc);
+        }
+        put_list(&mut self.lists, list)
+    }
+
+    /// Puts the row at a place with this first number, and with this number where it has zero, if that is not there.
+    pub fn put_next(
+        &mut self,
+        from: usize,
+        to: usize,
+        at: usize,
+        slot: usize,
+    ) -> Result<(), AllocError>
+        requires from { from < length self.old }
+        requires after { 0 < at }
+        requires within { at < length (get_or self.old from []) }
+        requires zero_there { get_or (get_or self.old from []) at 0 ≡ 0 }
+        ensures put { OnOk result
+            (IsPut (set (set (get_or self.old from []) 0 to) at slot) self.old self.new) }
+        ensures err { OnErr result (self.new ≡ self.old) }
+    {
+        if !self.wide && self.bits > 0 && to >> self.bits == 0 && slot >> self.bits == 0 {
+            let Some(word) = self.words.get_index(from) else {
+                unreachable!()
+            };
+            let next = changed(*word, self.bits, self.long, to, at, slot);
+            self.words.insert(next)?;
+            return Ok(());
+        }
+        let mut next = Vec::new(self.alloc);
+        self.read(from, &mut next)?;
+        next[0] = to;
+        next[at] = slot;
+        self.put_wide(next)
+    }
+
+    /// Each row gets a zero behind it, if that takes no memory, and it is told whether.
+    pub fn lengthen(&mut self) -> bool
+        ensures longer { IsTrue result → self.new ≡ map (λ row. row ++ 0 ∷ []) self.old }
+        ensures same { result ≡ false → self.new ≡ self.old }
+    {
+        if self.wide || self.long >= 128 || self.bits as usize * (self.long + 1) > 128 {
+            return false;
+        }
+        self.long += 1;
+        true
+    }
+
+    /// Leaves so many rows, the first ones.
+    pub fn truncate(&mut self, len: usize)
+        ensures { self.new ≡ take len self.old }
+    {
+        if self.wide {
+            self.lists.truncate(len);
+        } else {
+            self.words.truncate(len);
+        }
+    }
+
+    /// The same rows, with memory of their own.
+    pub fn copied(&self) -> Result<RowSet, AllocError>
+        ensures { IfOk result (λ rows. rows ≡ self.now) }
+    {
+        let words = self.words.clone()?;
+        let lists = self.lists.clone()?;
+        Ok(RowSet {
+            alloc: self.alloc,
+            long: self.long,
+            bits: self.bits,
+            wide: self.wide,
+            words,
+            lists,
+        })
+    }
+}

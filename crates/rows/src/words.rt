@@ -1,0 +1,92 @@
+//! Rows of numbers as words.
+ghost use Rattle.std.specs.Prelude.{◌≡◌, ◌+◌, ◌*◌, ◌/◌, ◌%◌, ◌^◌, ◌<◌, ◌≤◌, length, get_or, set, IfSome, OnOk};
+ghost use Rattle.rows.specs.Words.{IsWordOf, digits, value};
+
+use std::alloc::AllocError;
+
+// The number of numbers of so many bits.
+fn base_of(bits: u32) -> u128
+    requires { bits ≤ 32 }
+    ensures is { result ≡ 2 ^ bits }
+    ensures some { 0 < result }
+    ensures small { result ≤ 4294967296 }
+{
+    1 << bits
+}
+
+// The first number of the word.
+fn first_of(word: u128, bits: u32) -> usize
+    requires { bits ≤ 32 }
+    ensures { result ≡ word % 2 ^ bits }
+{
+    (word & (base_of(bits) - 1)) as usize
+}
+
+// The number at this place.
+fn placed(number: usize, bits: u32, at: usize) -> u128
+    requires number { number < 2 ^ bits }
+    requires some { 0 < bits }
+    requires room { bits * (at + 1) ≤ 128 }
+    ensures { result ≡ number * (2 ^ bits) ^ at }
+{
+    (number as u128) << (bits * at as u32)
+}
+
+/// The number at this place of the word.
+pub fn number_at(word: u128, bits: u32, at: usize) -> usize
+    requires bits { bits ≤ 32 }
+    requires some { 0 < bits }
+    requires room { bits * (at + 1) ≤ 128 }
+    ensures { result ≡ word / (2 ^ bits) ^ at % 2 ^ bits }
+{
+    first_of(word >> (bits * at as u32), bits)
+}
+
+/// Writes the numbers of the word: so many, each of so many bits, the first from the lowest.
+pub fn unpack(word: u128, bits: u32, long: usize, row: &mut Vec<usize>) -> Result<(), AllocError>
+    requires { bits ≤ 32 }
+    ensures { OnOk result (row.new.items ≡ digits (2 ^ bits) long word) }
+{
+    row.clear();
+    let mut rest = word;
+    for _place in 0..long {
+        row.push(first_of(rest, bits))?;
+        rest = rest >> bits;
+    }
+    Ok(())
+}
+
+/// The word of the row, if none of its numbers has more bits.
+pub fn packed(row: &[usize], bits: u32) -> Option<u128>
+    requires bits { bits ≤ 32 }
+    requires room { bits * length row.now ≤ 128 }
+    ensures { IfSome result (λ word. IsWordOf (2 ^ bits) row.now word) }
+{
+    let base = base_of(bits);
+    let mut word: u128 = 0;
+    for at in 0..row.len() {
+        let number = row[row.len() - 1 - at] as u128;
+        if number >= base {
+            return None;
+        }
+        word = word * base + number;
+    }
+    Some(word)
+}
+
+/// The word with this first number, and with this number at a place where zero stands.
+pub fn changed(word: u128, bits: u32, long: usize, to: usize, at: usize, slot: usize) -> u128
+    requires bits { bits ≤ 32 }
+    requires some { 0 < bits }
+    requires room { bits * long ≤ 128 }
+    requires exact { value (2 ^ bits) (digits (2 ^ bits) long word) ≡ word }
+    requires to { to < 2 ^ bits }
+    requires after { 0 < at }
+    requires within { at < long }
+    requires zero_there { get_or (digits (2 ^ bits) long word) at 0 ≡ 0 }
+    requires slot { slot < 2 ^ bits }
+    ensures { let row = digits (2 ^ bits) long word in
+        IsWordOf (2 ^ bits) (set (set row 0 to) at slot) result }
+{
+    word - first_of(word, bits) as u128 + to as u128 + placed(slot, bits, at)
+}
