@@ -10,7 +10,7 @@ ghost use Rattle.frontier.specs.Tables.{AreShown, HasEachOnce, Shows, Widens, ro
 ghost use Rattle.frontier.specs.Tables.{IsAdvanced, ShownWith, ShownGrown, with_rows};
 
 use crate::ends;
-use crate::moves::Move;
+use crate::moves::{self, Move};
 use crate::pending_op::PendingOp;
 use crate::table::{self, Table};
 use models::{Answer, SeqObject};
@@ -125,7 +125,7 @@ fn grow<M: SeqObject>(
     ensures front { IsFront (rows_of table.old) (rows_of table.new) }
     ensures cost { applied.new ≤ applied.old + (budget + 1) * length calls.now }
 {
-    moves.clear();
+    moves::forget(alloc, moves);
     let kept = table.rows.len();
     for at in 0..budget as usize {
         if table.rows.len() > budget as usize {

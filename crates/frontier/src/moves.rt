@@ -1,5 +1,5 @@
 //! What calls do in states, by numbers.
-ghost use Rattle.std.specs.Prelude.{◌≡◌, ◌+◌, ◌*◌, ◌<◌, ◌≤◌, ◌⊎◌, ℕ, Some, length, get_or, slice_get};
+ghost use Rattle.std.specs.Prelude.{◌≡◌, ◌+◌, ◌*◌, ◌<◌, ◌≤◌, ◌⊎◌, ℕ, [], Some, length, get_or, slice_get};
 ghost use Rattle.std.specs.Prelude.{IfOk, OnOk, IfSome};
 ghost use Rattle.std.specs.Option.{option_to_list};
 ghost use Rattle.frontier.specs.Moves.{AreMoves, IsTo, known_at};
@@ -13,6 +13,9 @@ use std::alloc::{AllocError, Global};
 
 // More moves than these are not remembered.
 const MOST: usize = 1 << 20;
+
+// The memory of more moves than these is not kept.
+const MOST_KEPT: usize = 1 << 14;
 
 /// What a call does in a state.
 #[derive(Clone, Copy)]
@@ -30,6 +33,16 @@ fn place_of(number: usize, at: usize, calls: usize) -> Option<usize>
     ensures { IfSome result (λ place. place ≡ number * calls + at) }
 {
     number.checked_mul(calls)?.checked_add(at)
+}
+
+/// Forgets all moves. Keeps their memory, if it is not much.
+pub fn forget(alloc: Global, moves: &mut Vec<Move>)
+    ensures { moves.new.items ≡ [] }
+{
+    if moves.capacity() > MOST_KEPT {
+        *moves = Vec::new(alloc);
+    }
+    moves.clear();
 }
 
 // What is known of the call at this place in the state with this number.
