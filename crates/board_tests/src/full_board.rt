@@ -1,9 +1,10 @@
 //! A board with all its seats.
-ghost use Rattle.std.specs.Prelude.{◌≡◌};
+ghost use Rattle.std.specs.Prelude.{◌≡◌, length};
 
 use crate::boards::{blank, write_then_read_another};
 use crate::said::{Said, answer_of, plain_of};
-use board::{Blank, Board, Seat, Tag};
+use crate::shared::SharedBoard;
+use board::{Blank, Tag};
 use harness::Command;
 use std::marker::Brand;
 use std::process::Abort;
@@ -59,15 +60,15 @@ impl Tally {
 }
 
 // One call of each seat, and a glance after it.
-fn call_each<B: Tag, R: Wait>(rt: &R, board: &Board<B>, seats: &mut [Seat<B>]) -> Tally {
+fn call_each<M: SharedBoard, R: Wait>(rt: &R, board: &M, seats: &mut [M::Seat]) -> Tally {
     let mut tally = Tally {
         commits: 0,
         missed: 0,
     };
     for seat in seats.iter_mut() {
-        let (commit, _) = answer_of(&board.call(rt, seat, Command::Verdict));
+        let (commit, _) = board.call(rt, seat);
         let seen = match board.glance(seat) {
-            Some(glance) => glance.commit,
+            Some((seen, _)) => seen,
             None => 0,
         };
         let bit = match commit {
@@ -80,6 +81,39 @@ fn call_each<B: Tag, R: Wait>(rt: &R, board: &Board<B>, seats: &mut [Seat<B>]) -
         });
     }
     tally
+}
+
+// The calls of 64 seats, in four threads.
+fn call_in_threads<M: SharedBoard + Sync, R: Threads + Wait + Sync>(
+    rt: &R,
+    board: &M,
+    seats: &mut [M::Seat],
+) -> Tally
+where
+    M::Seat: Send,
+    requires { length seats.old ≡ 64 }
+{
+    let (left, right) = seats.split_at_mut(32);
+    let (first, second) = left.split_at_mut(16);
+    let (third, fourth) = right.split_at_mut(16);
+    let ((a, b), (c, d)) = join(
+        rt,
+        move || {
+            join(
+                rt,
+                move || call_each(rt, board, first),
+                move || call_each(rt, board, second),
+            )
+        },
+        move || {
+            join(
+                rt,
+                move || call_each(rt, board, third),
+                move || call_each(rt, board, fourth),
+            )
+        },
+    );
+    a.with(b).with(c.with(d))
 }
 
 /// Calls of 64 seats in four threads are the commits 1 to 64, each once. No call is left out, and no glance beside them
@@ -97,28 +131,7 @@ fn call_at_once<B: Tag + Send + Sync, R: Threads + Wait + Abort + Sync>(rt: &R, 
     let Ok((board, mut seats)) = blank.open::<B>() else {
         panic!(rt; "not opened")
     };
-    let lent = &board;
-    let (left, right) = seats.as_mut_slice().split_at_mut(32);
-    let (first, second) = left.split_at_mut(16);
-    let (third, fourth) = right.split_at_mut(16);
-    let ((a, b), (c, d)) = join(
-        rt,
-        move || {
-            join(
-                rt,
-                move || call_each(rt, lent, first),
-                move || call_each(rt, lent, second),
-            )
-        },
-        move || {
-            join(
-                rt,
-                move || call_each(rt, lent, third),
-                move || call_each(rt, lent, fourth),
-            )
-        },
-    );
-    let all = a.with(b).with(c.with(d));
+    let all = call_in_threads(rt, &board, seats.as_mut_slice());
     let core = board.end(rt, seats);
     assert_eq!(rt; all.commits, u64::MAX);
     assert_eq!(rt; all.missed, 0);

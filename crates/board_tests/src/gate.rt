@@ -2,10 +2,10 @@
 ghost use Rattle.std.specs.Prelude.{◌≡◌};
 
 use crate::boards::{TURNS, blank, comes};
-use crate::said::{Said, answer_of};
-use board::{Blank, Board, Seat, Tag};
+use crate::said::Said;
+use crate::shared::SharedBoard;
+use board::{Blank, Tag};
 use edn::Gate;
-use harness::Command;
 use std::marker::Brand;
 use std::process::Abort;
 use std::sync::Wait;
@@ -31,29 +31,47 @@ impl Gate for Hold {
     fn end(&self, _place: u32) {}
 }
 
-fn call_held<B: Tag, R: Wait>(
+fn call_held<M: SharedBoard, R: Wait>(
     rt: &R,
-    board: &Board<B>,
-    mut seat: Seat<B>,
+    board: &M,
+    mut seat: M::Seat,
     hold: &Hold,
-) -> (Seat<B>, (u64, Said)) {
-    let answer = answer_of(&board.call_at(rt, &mut seat, Command::Verdict, hold));
+) -> (M::Seat, (u64, Said)) {
+    let answer = board.call_at(rt, &mut seat, hold);
     (seat, answer)
 }
 
 // A call that is made once the held one has begun its gate.
-fn call_beside<B: Tag, R: Wait>(
+fn call_beside<M: SharedBoard, R: Wait>(
     rt: &R,
-    board: &Board<B>,
-    mut seat: Seat<B>,
+    board: &M,
+    mut seat: M::Seat,
     hold: &Hold,
-) -> (Seat<B>, Option<(u64, Said)>) {
+) -> (M::Seat, Option<(u64, Said)>) {
     if !comes(&hold.begun, TURNS) {
         return (seat, None);
     }
-    let answer = answer_of(&board.call(rt, &mut seat, Command::Verdict));
+    let answer = board.call(rt, &mut seat);
     hold.answered.store(true, Ordering::SeqCst);
     (seat, Some(answer))
+}
+
+// The held call of one seat, and the other's call beside it.
+fn hold_beside<M: SharedBoard + Sync, R: Threads + Wait + Sync>(
+    rt: &R,
+    board: &M,
+    caller: M::Seat,
+    other: M::Seat,
+    hold: &Hold,
+) -> ((M::Seat, (u64, Said)), (M::Seat, Option<(u64, Said)>))
+where
+    M::Seat: Send + Drop,
+{
+    join(
+        rt,
+        move || call_held(rt, board, caller, hold),
+        move || call_beside(rt, board, other, hold),
+    )
 }
 
 /// A gate begins under the lock: a call that is made while it goes on comes after the held one. Tried by hand: with the
@@ -77,13 +95,7 @@ fn hold_one<B: Tag + Send + Sync, R: Threads + Wait + Abort + Sync>(rt: &R, blan
     };
     let caller = seats.pop().unwrap();
     let other = seats.pop().unwrap();
-    let lent = &board;
-    let gate = &hold;
-    let ((caller, held), (other, beside)) = join(
-        rt,
-        move || call_held(rt, lent, caller, gate),
-        move || call_beside(rt, lent, other, gate),
-    );
+    let ((caller, held), (other, beside)) = hold_beside(rt, &board, caller, other, &hold);
     let kept = seats.push(other).is_ok() && seats.push(caller).is_ok();
     board.end(rt, seats);
     assert!(rt; kept);

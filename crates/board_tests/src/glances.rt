@@ -3,9 +3,9 @@ ghost use Rattle.std.specs.Prelude.{◌≡◌};
 
 use crate::boards::{TURNS, blank, comes, write_then_read_another};
 use crate::said::{Said, answer_of, seen_of};
-use board::{Blank, Board, Seat, Tag};
+use crate::shared::SharedBoard;
+use board::{Blank, Tag};
 use edn::Gate;
-use harness::Command;
 use std::marker::Brand;
 use std::process::Abort;
 use std::sync::Wait;
@@ -45,6 +45,8 @@ fn follow<B: Tag, R: Wait + Abort>(rt: &R, blank: Blank)
     board.end(rt, seats);
 }
 
+type Seen = Option<(u64, Said)>;
+
 // A moment of a call of the seat with this number, which lasts until a glance was made, for so many turns.
 #[derive(Drop)]
 struct Moment {
@@ -77,11 +79,11 @@ impl Moment {
     }
 
     // What a glance shows in this moment.
-    fn glance<B: Tag>(&self, board: &Board<B>, seat: &mut Seat<B>) -> Option<(u64, Said)> {
+    fn glance<M: SharedBoard>(&self, board: &M, seat: &mut M::Seat) -> Seen {
         if !comes(&self.come, TURNS) {
             return None;
         }
-        let seen = seen_of(board.glance(seat));
+        let seen = board.glance(seat);
         self.glanced.store(true, Ordering::SeqCst);
         seen
     }
@@ -104,27 +106,43 @@ impl Gate for Meeting {
     }
 }
 
-type Seen = Option<(u64, Said)>;
-
 // A glance before the call publishes, and one after that.
-fn glance_inside<B: Tag>(
-    board: &Board<B>,
-    mut seat: Seat<B>,
+fn glance_inside<M: SharedBoard>(
+    board: &M,
+    mut seat: M::Seat,
     meeting: &Meeting,
-) -> (Seat<B>, (Seen, Seen)) {
+) -> (M::Seat, (Seen, Seen)) {
     let before = meeting.before.glance(board, &mut seat);
     let after = meeting.after.glance(board, &mut seat);
     (seat, (before, after))
 }
 
-fn call_held<B: Tag, R: Wait>(
+fn call_held<M: SharedBoard, R: Wait>(
     rt: &R,
-    board: &Board<B>,
-    mut seat: Seat<B>,
+    board: &M,
+    mut seat: M::Seat,
     meeting: &Meeting,
-) -> (Seat<B>, (u64, Said)) {
-    let answer = answer_of(&board.call_at(rt, &mut seat, Command::Verdict, meeting));
+) -> (M::Seat, (u64, Said)) {
+    let answer = board.call_at(rt, &mut seat, meeting);
     (seat, answer)
+}
+
+// The held call of one seat, and the other's glances inside it.
+fn hold_and_glance<M: SharedBoard + Sync, R: Threads + Wait + Sync>(
+    rt: &R,
+    board: &M,
+    caller: M::Seat,
+    other: M::Seat,
+    meeting: &Meeting,
+) -> ((M::Seat, (u64, Said)), (M::Seat, (Seen, Seen)))
+where
+    M::Seat: Send + Drop,
+{
+    join(
+        rt,
+        move || call_held(rt, board, caller, meeting),
+        move || glance_inside(board, other, meeting),
+    )
 }
 
 /// While a call holds the lock, a glance in another thread answers: before the entry is published with what stood before
@@ -149,12 +167,8 @@ fn meet<B: Tag + Send + Sync, R: Threads + Wait + Abort + Sync>(rt: &R, blank: B
     };
     let caller = seats.pop().unwrap();
     let other = seats.pop().unwrap();
-    let lent = &board;
-    let gate = &meeting;
-    let ((caller, answer), (other, (before, after))) = join(
-        rt,
-        move || call_held(rt, lent, caller, gate),
-        move || glance_inside(lent, other, gate),
+    let ((caller, answer), (other, (before, after))) = hold_and_glance(
+        rt, &board, caller, other, &meeting,
     );
     let kept = seats.push(other).is_ok() && seats.push(caller).is_ok();
     board.end(rt, seats);

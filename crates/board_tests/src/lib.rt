@@ -23,4 +23,6 @@ mod rewinds;
 #[cfg(test)]
 mod said;
 #[cfg(test)]
+mod shared;
+#[cfg(test)]
 mod threads;

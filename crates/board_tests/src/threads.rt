@@ -2,10 +2,10 @@
 ghost use Rattle.std.specs.Prelude.{◌≡◌};
 
 use crate::boards::blank;
-use crate::said::{Said, answer_of, plain_of};
-use board::{Blank, Board, Seat, Tag};
-use harness::Command;
-use std::alloc::Global;
+use crate::said::{Said, plain_of};
+use crate::shared::SharedBoard;
+use board::{Blank, Tag};
+use std::alloc::{AllocError, Global};
 use std::marker::Brand;
 use std::process::Abort;
 use std::sync::Wait;
@@ -14,15 +14,28 @@ use std::thread;
 use std::thread::Threads;
 
 // One call, whose commit is added to the others.
-fn call_once<B: Tag, R: Wait>(
+fn call_once<M: SharedBoard, R: Wait>(
     rt: &R,
-    board: &Board<B>,
-    mut seat: Seat<B>,
+    board: &M,
+    mut seat: M::Seat,
     commits: &AtomicU64,
-) -> Seat<B> {
-    let (commit, _) = answer_of(&board.call(rt, &mut seat, Command::Verdict));
+) -> M::Seat {
+    let (commit, _) = board.call(rt, &mut seat);
     commits.fetch_add(commit, Ordering::SeqCst);
     seat
+}
+
+// Each seat calls once in a thread of its own, and comes back.
+fn send_all<M: SharedBoard + Sync, R: Threads + Wait + Sync>(
+    rt: &R,
+    board: &M,
+    seats: Vec<M::Seat>,
+    commits: &AtomicU64,
+) -> Result<Vec<M::Seat>, AllocError>
+where
+    M::Seat: Send + Drop,
+{
+    thread::map_vec(rt, seats, &|seat| call_once(rt, board, seat, commits))
 }
 
 /// Each seat goes to a thread of its own, calls there, and comes back to the one that ends the board. All that is asked of
@@ -44,8 +57,7 @@ fn send_and_end<B: Tag + Send + Sync, R: Threads + Wait + Abort + Sync>(
         panic!(rt; "not opened")
     };
     let commits = AtomicU64::new(0);
-    let (lent, sum) = (&board, &commits);
-    let back = thread::map_vec(rt, seats, &|seat| call_once(rt, lent, seat, sum));
+    let back = send_all(rt, &board, seats, &commits);
     let core = board.end(rt, back.unwrap_or(Vec::new(alloc)));
     assert_eq!(rt; commits.load(Ordering::SeqCst), 10);
     assert_eq!(rt; plain_of(core.verdict()), Said::Legal);
