@@ -5,6 +5,7 @@ pub mod Changes
 pub mod CallsInTurn
 pub mod JustInTime
 pub mod Reaching
+pub mod Renewing
 pub mod AfterEvents
 pub mod Generating
 pub mod Starting

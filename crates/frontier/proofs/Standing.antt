@@ -71,9 +71,6 @@ module _ (o : Object) (ends first : List (End o.State)) (adds : Adds (Along IsTh
   pub included_again : (calls : List PendingOp) → AreIncluded calls ends → AreIncluded calls first
   included_again calls included e h = included e (back o [] ends first adds e h)
 
-pub same_back : {S : Type 0} (t u : Table S) → IsSameTable t u → IsSameTable u t
-same_back t u s = record { states = sym s.states; founds = sym s.founds; rows = sym s.rows }
-
 module _ {M : Type 0} (o : Object) where
   -- one with the same table, of the same calls
   pub stands_same : (f : Frontier M o.State) (marks : List Mark) (g : Frontier M o.State) → g.calls.items ≡ f.calls.items → g.tried ≡ f.tried → IsSameTable f.table g.table → StandsFor o f marks → StandsFor o g marks

@@ -40,20 +40,6 @@ module _ {S : Type 0} (cmp : S → S → Ordering) where
     get_alike : (places : BTreeMap S ℕ) (s t : S) → is_eq (cmp s t) ≡ true → get cmp places s ≡ get cmp places t
     get_alike places s t e = λ i. lookup (λ k. (eq_by_cmp_equiv total).congr s t k e i) places.entries
 
-    -- a state that is put in turn is new
-    pub not_yet : (places old : BTreeMap S ℕ) (states : List S) (at : ℕ) (s : S) → ArePlaces cmp places states → ArePlaces cmp old (take at states) → slice_get states at ≡ Some s → get cmp old s ≡ None
-    not_yet places old states at s are so_far here = by (get cmp old s) refl
-      where
-        by : (r : Option ℕ) → get cmp old s ≡ r → get cmp old s ≡ None
-        by None e = e
-        by (Some n) e =
-            let t = so_far.stands s n e in
-            let lt = slice_get_within (take at states) n t.0 t.1 in
-            let fewer : length (take at states) ≡ at = length-take-le at states (let w = slice_get_within states at s here in omega (arith, w)) in
-            let there : slice_get states n ≡ Some t.0 = subst (λ l. slice_get l n ≡ Some t.0) (take-append-drop at states) (get_left (take at states) (drop at states) n t.0 t.1) in
-            let same : at ≡ n = one_of at n (sym (are.has at s here) ∙ get_alike places s t.0 t.2 ∙ are.has n t.0 there) in
-            absurd (omega (arith, lt, fewer, same))
-
     -- a state more
     pub one_place : (old new : BTreeMap S ℕ) (states now : List S) (s : S) (at : ℕ) → at ≡ length states → get cmp old s ≡ None → ((q : S) → get cmp new q ≡ cond (is_eq (cmp s q)) (Some at) (get cmp old q)) → now ≡ states ++ s ∷ []
         → ArePlaces cmp old states → ArePlaces cmp new now

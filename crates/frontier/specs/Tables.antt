@@ -130,6 +130,21 @@ pub record IsToldBefore {S : Type 0} (calls : List PendingOp) (e k : End S) (n :
 abbrev pub with_rows : {S : Type 0} → Table S → List (List ℕ) → Table S
 with_rows t rows = record { states = t.states; founds = t.founds; rows = rows }
 
+-- the rows have the same numbers but for the first, which stands for the same state
+abbrev pub SaysTheSame : {S : Type 0} → List S → List S → List ℕ → List ℕ → Type 0
+SaysTheSame {S} states others row new =
+    (to : ℕ) × (s : S) × (slice_get states (get_or row 0 0) ≡ Some s)
+    × (slice_get others to ≡ Some s) × (0 < length row) × (new ≡ set row 0 to)
+
+-- the other table has the first rows so, and no more
+pub record SayTheSame {S : Type 0} (t u : Table S) (n : ℕ) : Type 0 where
+  pub founds : u.founds.items ≡ t.founds.items
+  pub once : IsOnceIn u.states
+  pub long : length (rows_of u) ≡ n
+  pub each : (i : ℕ) (row : List ℕ) → i < n → slice_get (rows_of t) i ≡ Some row
+      → (new : List ℕ) × (slice_get (rows_of u) i ≡ Some new)
+      × SaysTheSame t.states u.states row new
+
 -- both have the same states, found things and rows
 pub record IsSameTable {S : Type 0} (t u : Table S) : Type 0 where
   pub states : u.states ≡ t.states

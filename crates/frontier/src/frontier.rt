@@ -273,7 +273,7 @@ impl<M: SeqObject> Frontier<M> {
             applied: self.applied,
             calls: pending_op::copy_calls(self.alloc, &self.calls)?,
             tried: self.tried,
-            table: table::copied::<M>(self.alloc, &self.table)?,
+            table: table::copied::<M>(self.alloc, &self.table, &self.calls)?,
             room: Room::new(self.alloc),
         })
     }

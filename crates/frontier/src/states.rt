@@ -39,6 +39,17 @@ impl<S: Ord + Drop> States<S> {
         }
     }
 
+    /// No states yet, with memory for as many as these, or for that many where these are more.
+    pub fn none_of(&self, alloc: Global, most: usize) -> Result<States<S>, AllocError>
+        ensures none { IfOk result (λ none. none ≡ []) }
+        ensures once { IsOnceIn self.now }
+    {
+        Ok(States {
+            items: Vec::with_capacity(alloc, self.items.len().min(most))?,
+            places: BTreeMap::new(alloc),
+        })
+    }
+
     /// How many there are.
     pub fn len(&self) -> usize
         ensures { result ≡ length self.now }
@@ -75,22 +86,4 @@ pub fn number_of<M: SeqObject>(
         Ok(_) => Ok(at),
         Err(_full) => unreachable!(),
     }
-}
-
-/// The same states, with the same numbers.
-pub fn copied<M: SeqObject>(
-    alloc: Global,
-    states: &States<M::State>,
-) -> Result<States<M::State>, AllocError>
-    ensures { IfOk result (λ copy. copy ≡ states.now) }
-{
-    let mut items = Vec::with_capacity(alloc, states.items.len())?;
-    let mut places = BTreeMap::new(alloc);
-    for at in 0..states.items.len() {
-        let state = M::copy(alloc, &states.items[at])?;
-        let key = M::copy(alloc, &state)?;
-        places.insert(key, at)?;
-        items.push(state)?;
-    }
-    Ok(States { items, places })
 }

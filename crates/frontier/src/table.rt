@@ -1,5 +1,5 @@
 //! Ends as rows of numbers.
-ghost use Rattle.std.specs.Prelude.{◌≡◌, ◌+◌, ◌-◌, ◌^◌, ◌<◌, ◌≤◌, min, Some, slice_get, get_or, map, length};
+ghost use Rattle.std.specs.Prelude.{◌≡◌, ◌↔◌, true, ◌+◌, ◌-◌, ◌^◌, ◌<◌, ◌≤◌, min, Some, slice_get, get_or, map, length};
 ghost use Rattle.std.specs.Prelude.{IfOk, OnOk, IsSome, IsSomeAnd, option_copied, List, [], ◌∷◌, ◌++◌};
 ghost use Rattle.std.specs.Option.{option_to_list};
 ghost use Rattle.models.specs.Objects.{of_table};
@@ -9,7 +9,7 @@ ghost use Rattle.frontier.specs.KeptEnds.{AreIncluded, IsIncluded, end_kept};
 ghost use Rattle.frontier.specs.EndSteps.{Along};
 ghost use Rattle.frontier.specs.Moves.{AreMoves};
 ghost use Rattle.frontier.specs.Tables.{HasEachOnce, IsOnceIn, IsSlot};
-ghost use Rattle.frontier.specs.Tables.{AreShown, IsThat, IsToldBefore, IsSameTable, ShownWith, told_by};
+ghost use Rattle.frontier.specs.Tables.{AreShown, IsThat, IsToldBefore, SayTheSame, ShownWith, told_by};
 ghost use Rattle.frontier.specs.Tables.{LeadsTo, Shows, Widens, found_by, row_led, rows_of};
 
 use crate::kept_end::{KeptEnd, found_in, has};
@@ -306,19 +306,51 @@ fn copied_founds(alloc: Global, founds: &[Found]) -> Result<Vec<Found>, AllocErr
     Ok(copies)
 }
 
-/// The same table, with memory of its own.
+// Puts the row that stands here in the other table, by the number that its state has there. False where it is not one
+// more there.
+fn put_again<M: SeqObject>(
+    alloc: Global,
+    table: &Table<M::State>,
+    from: usize,
+    other: &mut Table<M::State>,
+) -> Result<bool, AllocError>
+    requires { from < length (rows_of table.now) }
+    ensures { SayTheSame table.now other.old from
+        → IfOk result (λ more. more ≡ true → SayTheSame table.now other.new (from + 1)) }
+{
+    let mut row = Vec::new(alloc);
+    table.rows.read(from, &mut row)?;
+    let Some(state) = table.states.get(table.rows.number(from, 0)) else {
+        return Ok(false);
+    };
+    let number = states::number_of::<M>(alloc, &mut other.states, M::copy(alloc, state)?)?;
+    if row.is_empty() {
+        return Ok(false);
+    }
+    row[0] = number;
+    other.rows.put(&row)?;
+    Ok(other.rows.len() > from)
+}
+
+/// The same ends as rows, with memory of their own, and with the states of these ends alone. `AllocError` also where two
+/// rows say the same, or one says no state, and so they say no ends.
 pub fn copied<M: SeqObject>(
     alloc: Global,
     table: &Table<M::State>,
+    calls: &[PendingOp],
 ) -> Result<Table<M::State>, AllocError>
-    ensures { IfOk result (λ other. IsSameTable table.now other) }
+    ensures { IfOk result (λ other. (l : List PendingOp) (ends : List (End M.State))
+        → AreShown table.now l ends ↔ AreShown other l ends) }
 {
-    let states = states::copied::<M>(alloc, &table.states)?;
-    let founds = copied_founds(alloc, &table.founds)?;
-    let rows = table.rows.copied()?;
-    Ok(Table {
-        states,
-        founds,
-        rows,
-    })
+    let mut other = Table {
+        states: table.states.none_of(alloc, table.rows.len())?,
+        founds: copied_founds(alloc, &table.founds)?,
+        rows: RowSet::new(alloc, calls.len().saturating_add(1)),
+    };
+    for from in 0..table.rows.len() {
+        if !put_again::<M>(alloc, table, from, &mut other)? {
+            return Err(AllocError);
+        }
+    }
+    Ok(other)
 }
