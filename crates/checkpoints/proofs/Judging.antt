@@ -1,5 +1,5 @@
 -- how a key stands with one more event
-use Rattle.std.proofs.Common.{◌≡◌, ℕ, ◌⊎◌, inl, inr, ⊎_elim, cond, nat_eq, Option, Some, None, List, [], ◌∷◌, ◌++◌, refl, sym, ap, ◌∙◌, subst}
+use Rattle.std.proofs.Common.{◌≡◌, ◌≢◌, ℕ, ◌⊎◌, inl, inr, ⊎_elim, cond, nat_eq, Option, Some, None, List, [], ◌∷◌, ◌++◌, refl, sym, ap, ◌∙◌, subst}
 use Rattle.std.proofs.lemmas.Bool.{cases_eq}
 use Rattle.std.proofs.lemmas.List.{append-nil}
 use Rattle.std.specs.Ordering.{nat_cmp}
@@ -16,6 +16,7 @@ use Rattle.history.specs.declared.event.Event.{Event}
 use Rattle.history.specs.Events.{OpEvent, Mark, Entry, act_by, op_event_in, op_event, mark_by_act, entry_by, entries_by, last_by, last_after, entries_of, marks}
 use Rattle.history.specs.Events.Mark.{Invoked, Returned, Failed, Crashed}
 use Rattle.history.specs.ProcessRule.{MayAct, MayCome, busy_by, busy_after, IsHistory}
+use Rattle.linspec.specs.declared.verdict.KeyStatus.{KeyStatus}
 use Rattle.linspec.specs.declared.verdict.KeyStatus.TheVariants as status
 use Rattle.linspec.specs.MarkRule.{IsNew, MayFollow, AreWellFormed}
 use Rattle.linspec.specs.Ends.{HasMoreThan}
@@ -30,8 +31,9 @@ use Rattle.frontier.specs.AnyFrontier.{AnyStandsFor, any_budget_of, kind_of_fron
 use Rattle.checkpoints.specs.declared.live_key.LiveKey.{LiveKey}
 use Rattle.checkpoints.specs.declared.key_state.KeyState.{KeyState}
 use Rattle.checkpoints.specs.declared.key_state.KeyState.TheVariants.{Alive, Dead, Over}
-use Rattle.checkpoints.specs.LiveKey.{invocation_of, busy_of, IsLiveKey, id_by, open_by}
+use Rattle.checkpoints.specs.LiveKey.{invocation_of, busy_of, KnowsOpen, IsLiveKey, id_by, closed_by}
 use Rattle.checkpoints.specs.KeyState.{status_of, IsAlive, IsKeyState}
+use Rattle.checkpoints.proofs.Noting.{IsNoted, knows_after, still_known, none_closed}
 use Rattle.checkpoints.proofs.Pushes.{entries_of-push, invocation_of-push, busy_of-push, MayCome-push}
 use Rattle.checkpoints.proofs.Statuses.{IsLinearizable-empty, none_blown, fronts_of_none, over_here, over_stays, dead_here, dead_stays, alive_here}
 
@@ -56,25 +58,6 @@ one_mark index last kinds.Invoke op = refl
 one_mark index last kinds.Ok op = refl
 one_mark index last kinds.Fail op = refl
 one_mark index last kinds.Info op = refl
-
--- who is busy after the event, and with what
-module _ (index p key : ℕ) (op : Op) (last : ℕ → ℕ) (busy : ℕ → Option ℕ) (was now : ℕ → Option ℕ) (knows : (q k : ℕ) → busy q ≡ Some k → was q ≡ Some (last q)) where
-  closed : ((q : ℕ) → now q ≡ cond (nat_eq q p) None (was q)) → (q k : ℕ) → cond (nat_eq q p) None (busy q) ≡ Some k → now q ≡ Some (last q)
-  closed is q k h =
-      ⊎_elim
-      (λ e. (let clash : None ≡ Some k = sym (cond_same q p None (busy q) e) ∙ h in cc))
-      (λ ne. is q ∙ cond_other q p None (was q) ne ∙ knows q k (sym (cond_other q p None (busy q) ne) ∙ h))
-      (cases_eq q p)
-
-  knows_after : (kind : EventKind) → ((q : ℕ) → now q ≡ cond (nat_eq q p) (open_by index kind) (was q)) → (q k : ℕ) → busy_by busy p key (act_by kind op) q ≡ Some k → now q ≡ Some (last_by index last p (act_by kind op) q)
-  knows_after kinds.Invoke is q k h =
-      ⊎_elim
-      (λ e. is q ∙ cond_same q p (Some index) (was q) e ∙ ap Some (sym (cond_same q p index (last q) e)))
-      (λ ne. is q ∙ cond_other q p (Some index) (was q) ne ∙ knows q k (sym (cond_other q p (Some key) (busy q) ne) ∙ h) ∙ ap Some (sym (cond_other q p index (last q) ne)))
-      (cases_eq q p)
-  knows_after kinds.Ok is q k h = closed is q k h
-  knows_after kinds.Fail is q k h = closed is q k h
-  knows_after kinds.Info is q k h = closed is q k h
 
 -- an event makes one entry or none
 none_or_one : (i : ℕ) (last : ℕ → ℕ) (o : Option OpEvent) → (entries_by i last o ≡ []) ⊎ ((e : Entry) × (entries_by i last o ≡ e ∷ []))
@@ -171,78 +154,74 @@ module _ (kind : ModelKind) (budget : ℕ) (events : List (ℕ × Event)) (index
     may_follow : MayFollow (marks (entries_of events)) (mark_by the_id event.kind op)
     may_follow = well_with (object_of kind) budget events (index, event) history entry entries (marks (entries_of events)) [] (mark_by the_id event.kind op) (sym (marks-append (entries_of events) (entry ∷ [])))
 
-    -- what a step makes of the key
-    module _ (after : LiveKey) (kind_stays : kind_of_frontier after.frontier ≡ kind_of_frontier live.frontier) (budget_stays : any_budget_of after.frontier ≡ any_budget_of live.frontier) (turned : (q : ℕ) → get nat_cmp after.invocations q ≡ cond (nat_eq q p) (open_by index event.kind) (get nat_cmp live.invocations q)) where
-      abbrev pub judged : Step → KeyState
-      judged steps.Alive = Alive after
-      judged steps.Dead = Dead index
-      judged steps.Over = Over index
+    -- what is open after the event, and where it is noted
+    busy_then : (q : ℕ) → busy_of (events ++ (index, event) ∷ []) q ≡ busy_by (busy_of events) p op.key (act_by event.kind op) q
+    busy_then q = ap (λ (f : ℕ → Option ℕ). f q) (busy_of-push events (index, event)) ∙ ap (λ o. busy_after (busy_of events) o q) speaks
 
-      marks_with : marks (entries_of events ++ entry ∷ []) ≡ marks (entries_of events) ++ mark_by the_id event.kind op ∷ []
-      marks_with = marks-append (entries_of events) (entry ∷ [])
+    last_then : (q : ℕ) → invocation_of (events ++ (index, event) ∷ []) q ≡ last_by index (invocation_of events) p (act_by event.kind op) q
+    last_then q = ap (λ (f : ℕ → ℕ). f q) (invocation_of-push events (index, event)) ∙ ap (λ o. last_after index (invocation_of events) o q) speaks
 
-      not_here : ¬ Blows (object_of kind) budget (marks (entries_of events)) (mark_by the_id event.kind op) → (id : ℕ) (answer : Answer) → entry.mark ≡ Returned id answer → ¬ HasMoreThan (object_of kind) (marks (entries_of events)) budget
-      not_here none id answer is = subst (λ m. ¬ Blows (object_of kind) budget (marks (entries_of events)) m) is none
+    pub knows_then : (after : LiveKey) → ((q : ℕ) → q ≢ p → get nat_cmp after.invocations q ≡ get nat_cmp live.invocations q) → IsNoted index event.kind (get nat_cmp after.invocations p) → KnowsOpen (events ++ (index, event) ∷ []) after
+    knows_then after others noted q k h =
+        knows_after index p op.key op (invocation_of events) (busy_of events) (get nat_cmp live.invocations) (get nat_cmp after.invocations) is_live.knows others event.kind noted q k (sym (busy_then q) ∙ h)
+        ∙ ap Some (sym (last_then q))
 
-      live_after : AnyStandsFor after.frontier (marks (entries_of events) ++ mark_by the_id event.kind op ∷ []) → IsLiveKey kind budget (events ++ (index, event) ∷ []) after
-      live_after stands = record {
-        stands = subst (AnyStandsFor after.frontier) (sym (ap marks entries ∙ marks_with)) stands;
-        kind_is = kind_stays ∙ is_live.kind_is;
-        budget_is = budget_stays ∙ is_live.budget_is;
-        knows = λ q k h.
-            knows_after index p op.key op (invocation_of events) (busy_of events) (get nat_cmp live.invocations) (get nat_cmp after.invocations) is_live.knows event.kind turned q k
-            (sym (ap (λ o. busy_after (busy_of events) o q) speaks) ∙ ap (λ (f : ℕ → Option ℕ). f q) (sym (busy_of-push events (index, event))) ∙ h)
-            ∙ ap Some (sym (ap (λ (f : ℕ → ℕ). f q) (invocation_of-push events (index, event)) ∙ ap (λ o. last_after index (invocation_of events) o q) speaks));
-      }
+    -- the events so far are known still, and the process that is closed has no open operation after the event
+    pub knows_still : (after : LiveKey) → ((q : ℕ) → q ≢ p → get nat_cmp after.invocations q ≡ get nat_cmp live.invocations q) → get nat_cmp after.invocations p ≡ id_by index event.kind (get nat_cmp live.invocations p) → KnowsOpen events after
+    knows_still after others here =
+        still_known index p op.key op (invocation_of events) (busy_of events) (get nat_cmp live.invocations) (get nat_cmp after.invocations) is_live.knows others event.kind
+        (subst (MayCome (busy_of events)) speaks (MayCome-push events (index, event) history)) here
 
-      by_step : (step : Step) → IsStep (object_of kind) budget (marks (entries_of events)) (mark_by the_id event.kind op) step
-          → TakesUnlessOver (AnyStandsFor live.frontier) (AnyStandsFor after.frontier) (mark_by the_id event.kind op) step → IsKeyState kind budget (events ++ (index, event) ∷ []) (judged step)
-      by_step steps.Alive s kept = (
+    pub closed_then : (q : ℕ) → closed_by p event.kind ≡ Some q → busy_of (events ++ (index, event) ∷ []) q ≡ None
+    closed_then q is = busy_then q ∙ none_closed p op.key op (busy_of events) event.kind q is
+
+    -- what a step says of the key
+    abbrev pub status_at : Step → KeyStatus
+    status_at steps.Alive = status.Alive
+    status_at steps.Dead = status.Dead index
+    status_at steps.Over = status.Over index
+
+    marks_with : marks (entries_of events ++ entry ∷ []) ≡ marks (entries_of events) ++ mark_by the_id event.kind op ∷ []
+    marks_with = marks-append (entries_of events) (entry ∷ [])
+
+    not_here : ¬ Blows (object_of kind) budget (marks (entries_of events)) (mark_by the_id event.kind op) → (id : ℕ) (answer : Answer) → entry.mark ≡ Returned id answer → ¬ HasMoreThan (object_of kind) (marks (entries_of events)) budget
+    not_here none id answer is = subst (λ m. ¬ Blows (object_of kind) budget (marks (entries_of events)) m) is none
+
+    by_step : (step : Step) → IsStep (object_of kind) budget (marks (entries_of events)) (mark_by the_id event.kind op) step → IsKeyStatus (object_of kind) budget (entries_of (events ++ (index, event) ∷ [])) (status_at step)
+    by_step steps.Alive s =
         subst (λ l. IsKeyStatus (object_of kind) budget l status.Alive) (sym entries)
-            (alive_here (object_of kind) budget (entries_of events) entry (not_here s.0) alive.0 alive.1 (subst (IsLinearizable (object_of kind)) (sym marks_with) s.1)),
-        live_after (kept.taken (λ e. cc) (marks (entries_of events)) is_live.stands may_follow),
-      )
-      by_step steps.Dead s kept =
-          let r = dead_here (object_of kind) budget (entries_of events) entry (not_here s.0) alive.0 alive.1 (subst (λ l. ¬ IsLinearizable (object_of kind) l) (sym marks_with) s.1) in
-          subst (λ l. IsKeyStatus (object_of kind) budget l (status.Dead index)) (sym entries) (r.0, (entry, r.1, refl))
-      by_step steps.Over s kept =
-          let b = blown_at (object_of kind) budget (marks (entries_of events)) (mark_by the_id event.kind op) s in
-          subst (λ l. IsKeyStatus (object_of kind) budget l (status.Over index)) (sym entries) (over_here (object_of kind) budget (entries_of events) entry b.0.0 b.0.1 b.0.2 alive.0 b.1)
+        (alive_here (object_of kind) budget (entries_of events) entry (not_here s.0) alive.0 alive.1 (subst (IsLinearizable (object_of kind)) (sym marks_with) s.1))
+    by_step steps.Dead s =
+        let r = dead_here (object_of kind) budget (entries_of events) entry (not_here s.0) alive.0 alive.1 (subst (λ l. ¬ IsLinearizable (object_of kind) l) (sym marks_with) s.1) in
+        subst (λ l. IsKeyStatus (object_of kind) budget l (status.Dead index)) (sym entries) (r.0, (entry, r.1, refl))
+    by_step steps.Over s =
+        let b = blown_at (object_of kind) budget (marks (entries_of events)) (mark_by the_id event.kind op) s in
+        subst (λ l. IsKeyStatus (object_of kind) budget l (status.Over index)) (sym entries) (over_here (object_of kind) budget (entries_of events) entry b.0.0 b.0.1 b.0.2 alive.0 b.1)
 
-      pub after_step : KillNothing (object_of kind) → (id : ℕ) → Some id ≡ id_by index event.kind (get nat_cmp live.invocations p) → (step : Step)
-          → Answers (object_of (kind_of_frontier live.frontier)) (any_budget_of live.frontier) (AnyStandsFor live.frontier) (mark_by id event.kind op) step
-          → TakesUnlessOver (AnyStandsFor live.frontier) (AnyStandsFor after.frontier) (mark_by id event.kind op) step
-          → IsKeyState kind budget (events ++ (index, event) ∷ []) (judged step)
-      after_step kills id is step answers kept =
-          let same_id : Some id ≡ Some the_id = is ∙ finds_id in
-          let same : id ≡ the_id = cc in
-          let before : IsLinearizable (object_of kind) (marks (entries_of events)) = alive.1 (entries_of events) ([], append-nil (entries_of events)) in
-          let here = subst (λ k. Answers (object_of k) budget (AnyStandsFor live.frontier) (mark_by the_id event.kind op) step) is_live.kind_is
-          (subst (λ n. Answers (object_of (kind_of_frontier live.frontier)) n (AnyStandsFor live.frontier) (mark_by the_id event.kind op) step) is_live.budget_is
-          (subst (λ n. Answers (object_of (kind_of_frontier live.frontier)) (any_budget_of live.frontier) (AnyStandsFor live.frontier) (mark_by n event.kind op) step) same answers)) in
-          by_step step
-          (step_of_answer (object_of kind) kills budget (marks (entries_of events)) (mark_by the_id event.kind op) may_follow before step (here.right (marks (entries_of events)) is_live.stands may_follow))
-          (subst (λ n. TakesUnlessOver (AnyStandsFor live.frontier) (AnyStandsFor after.frontier) (mark_by n event.kind op) step) same kept)
+    -- the same in the words of the code: the operation that was found, and what the step was
+    module _ (found : Option ℕ) (finds : found ≡ id_by index event.kind (get nat_cmp live.invocations p)) where
+      pub never_none : found ≡ None → ⊥
+      never_none none = always_some (sym finds ∙ none)
 
--- the same in the words of the code: the operation that was found, and what the step was
-module _ (kind : ModelKind) (budget : ℕ) (events : List (ℕ × Event)) (index : ℕ) (event : Event) (live : LiveKey) (is_live : IsLiveKey kind budget events live) (alive : IsAlive kind budget events) (history : IsHistory (events ++ (index, event) ∷ [])) (p : ℕ) (is_client : event.process ≡ processes.Client p) (op : Op) (is_op : event.body ≡ bodies.Op op) (found : Option ℕ) (finds : found ≡ id_by index event.kind (get nat_cmp live.invocations p)) where
-  pub never_none : found ≡ None → ⊥
-  never_none none = always_some kind budget events index event live is_live alive history p is_client op is_op (sym finds ∙ none)
+      module _ (id : ℕ) (is_id : found ≡ Some id) (step : Step) where
+        same_id : id ≡ the_id
+        same_id = (let both : Some id ≡ Some the_id = sym is_id ∙ (finds ∙ finds_id) in cc)
 
-  module _ (after : LiveKey) (kind_stays : kind_of_frontier after.frontier ≡ kind_of_frontier live.frontier) (budget_stays : any_budget_of after.frontier ≡ any_budget_of live.frontier) (turned : (q : ℕ) → get nat_cmp after.invocations q ≡ cond (nat_eq q p) (open_by index event.kind) (get nat_cmp live.invocations q)) (id : ℕ) (is_id : found ≡ Some id) (step : Step)
-      (answers : Answers (object_of (kind_of_frontier live.frontier)) (any_budget_of live.frontier) (AnyStandsFor live.frontier) (mark_by id event.kind op) step)
-      (kept : TakesUnlessOver (AnyStandsFor live.frontier) (AnyStandsFor after.frontier) (mark_by id event.kind op) step) (kills : KillNothing (object_of kind)) where
-    by_judge : IsKeyState kind budget (events ++ (index, event) ∷ []) (judged kind budget events index event live is_live alive history p is_client op is_op after kind_stays budget_stays turned step)
-    by_judge = after_step kind budget events index event live is_live alive history p is_client op is_op after kind_stays budget_stays turned kills id (sym is_id ∙ finds) step answers kept
+        pub status_stepped : Answers (object_of (kind_of_frontier live.frontier)) (any_budget_of live.frontier) (AnyStandsFor live.frontier) (mark_by id event.kind op) step → KillNothing (object_of kind)
+            → (s : Step) → step ≡ s → IsKeyStatus (object_of kind) budget (entries_of (events ++ (index, event) ∷ [])) (status_at s)
+        status_stepped answers kills s is =
+            let before : IsLinearizable (object_of kind) (marks (entries_of events)) = alive.1 (entries_of events) ([], append-nil (entries_of events)) in
+            let here = subst (λ k. Answers (object_of k) budget (AnyStandsFor live.frontier) (mark_by the_id event.kind op) step) is_live.kind_is
+            (subst (λ n. Answers (object_of (kind_of_frontier live.frontier)) n (AnyStandsFor live.frontier) (mark_by the_id event.kind op) step) is_live.budget_is
+            (subst (λ n. Answers (object_of (kind_of_frontier live.frontier)) (any_budget_of live.frontier) (AnyStandsFor live.frontier) (mark_by n event.kind op) step) same_id answers)) in
+            subst (λ r. IsKeyStatus (object_of kind) budget (entries_of (events ++ (index, event) ∷ [])) (status_at r)) is
+            (by_step step (step_of_answer (object_of kind) kills budget (marks (entries_of events)) (mark_by the_id event.kind op) may_follow before step (here.right (marks (entries_of events)) is_live.stands may_follow)))
 
-    pub stands_alive : step ≡ steps.Alive → IsKeyState kind budget (events ++ (index, event) ∷ []) (Alive after)
-    stands_alive is = subst (λ s. IsKeyState kind budget (events ++ (index, event) ∷ []) (judged kind budget events index event live is_live alive history p is_client op is_op after kind_stays budget_stays turned s)) is by_judge
-
-    pub stands_dead : step ≡ steps.Dead → IsKeyStatus (object_of kind) budget (entries_of (events ++ (index, event) ∷ [])) (status.Dead index)
-    stands_dead is = subst (λ s. IsKeyState kind budget (events ++ (index, event) ∷ []) (judged kind budget events index event live is_live alive history p is_client op is_op after kind_stays budget_stays turned s)) is by_judge
-
-    pub stands_over : step ≡ steps.Over → IsKeyStatus (object_of kind) budget (entries_of (events ++ (index, event) ∷ [])) (status.Over index)
-    stands_over is = subst (λ s. IsKeyState kind budget (events ++ (index, event) ∷ []) (judged kind budget events index event live is_live alive history p is_client op is_op after kind_stays budget_stays turned s)) is by_judge
+        -- what the frontier stands for after a step of Alive, now or once it is carried out
+        pub marks_stepped : (next : List Mark → Type 0) → TakesUnlessOver (AnyStandsFor live.frontier) next (mark_by id event.kind op) step → step ≡ steps.Alive → next (marks (entries_of (events ++ (index, event) ∷ [])))
+        marks_stepped next kept is =
+            let same_kept = subst (λ n. TakesUnlessOver (AnyStandsFor live.frontier) next (mark_by n event.kind op) step) same_id kept in
+            subst next (sym (ap marks entries ∙ marks_with)) (same_kept.taken (λ e. cc) (marks (entries_of events)) is_live.stands may_follow)
 
 -- a key without events is alive
 pub alive_at_first : (o : Object) (budget : ℕ) → IsKeyStatus o budget [] status.Alive

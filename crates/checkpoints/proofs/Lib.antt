@@ -4,6 +4,8 @@ pub mod Soundness
 pub mod Pushes
 pub mod Statuses
 pub mod Judging
+pub mod Noting
+pub mod Preparing
 pub mod Copies
 pub mod Cutting
 pub mod Settled

@@ -9,13 +9,17 @@ use Rattle.history.specs.ProcessRule.{IsHistory}
 use Rattle.linspec.specs.declared.verdict.KeyStatus.{KeyStatus}
 use Rattle.linspec.specs.Verdicts.{IsKeyStatus}
 use Rattle.checkpoints.specs.declared.key_state.KeyState.{KeyState}
+use Rattle.checkpoints.specs.declared.key_state.KeyState.TheVariants.{Alive, Dead, Over}
 use Rattle.checkpoints.specs.declared.key_line.Prepared.{Prepared}
+use Rattle.checkpoints.specs.declared.next.Next.{Next}
+use Rattle.checkpoints.specs.declared.next.Next.TheVariants.{Stays, Goes, Becomes}
 use Rattle.checkpoints.specs.declared.saving.Saves.{Saves}
 use Rattle.checkpoints.specs.KeyState.{IsKeyState, status_of}
+use Rattle.checkpoints.specs.Next.{IsNext, status_by}
 use Rattle.checkpoints.specs.KeyLineView.{KeyHistory, KeyLineView, IsStatusOf, events_below, with_pushed, cut_at, judged_by}
 use Rattle.checkpoints.specs.Saved.{AreSaved}
 use Rattle.checkpoints.specs.Saves.{saved_by, HasRoom, IsSaveOf}
-use Rattle.checkpoints.specs.SoundLine.{kept_and_added, brought, replays_of, HasPlace, IsJudged, IsReady, IsSoundLine}
+use Rattle.checkpoints.specs.SoundLine.{kept_and_added, brought, replays_of, HasPlace, IsJudged, IsBrought, IsReady, IsSoundLine}
 use Rattle.checkpoints.proofs.Judging.{status_is}
 use Rattle.checkpoints.proofs.Cutting.{IsHistory-take}
 use Rattle.checkpoints.proofs.SavedStates.{AreSaved-take, AreSaved-after}
@@ -28,27 +32,39 @@ all_and events k le x = ap (λ l. l ++ x ∷ []) (take_all k events le)
 pub status_right : (kind : ModelKind) (budget : ℕ) (events : List (ℕ × Event)) (state : KeyState) → IsKeyState kind budget events state → (s : KeyStatus) → s ≡ status_of state → IsKeyStatus (object_of kind) budget (entries_of events) s
 status_right kind budget events state stands s is = subst (IsKeyStatus (object_of kind) budget (entries_of events)) (sym is) (status_is kind budget events state stands)
 
+-- the status of what a state becomes is that of what it is judged by then
+pub next_right : (kind : ModelKind) (budget : ℕ) (events : List (ℕ × Event)) (state : KeyState) (next : Next) → IsNext kind budget events state next → (s : KeyStatus) → s ≡ status_by state next → IsKeyStatus (object_of kind) budget (entries_of events) s
+next_right kind budget events state Stays is s eq = status_right kind budget events state is s eq
+next_right kind budget events (Alive live) Goes is s eq = subst (IsKeyStatus (object_of kind) budget (entries_of events)) (sym eq) is.0
+next_right kind budget events (Dead i) Goes is s eq = absurd is
+next_right kind budget events (Over i) Goes is s eq = absurd is
+next_right kind budget events state (Becomes other) is s eq = status_right kind budget events other is s eq
+
 module _ (kind : ModelKind) (budget : ℕ) (events : List (ℕ × Event)) (state : KeyState) (saved : List KeyState) (now : IsJudged kind budget events state saved) where
+  -- a state that stands for the same events takes its place
+  pub judged_still : (standing : KeyState) → IsKeyState kind budget events standing → IsJudged kind budget events standing saved
+  judged_still standing stands = record { history = now.history; stands = stands; saved_are = now.saved_are }
+
   -- an event is added behind all others
-  pub pushed : (k : ℕ) → k ≡ length events → (x : ℕ × Event) (after : KeyState) (saves : Saves) → IsHistory (events ++ x ∷ []) → IsKeyState kind budget (events ++ x ∷ []) after → IsSaveOf kind budget events x saves
-      → IsJudged kind budget (kept_and_added k (Some x) events) after (saved_by k saves saved)
-  pushed k all x after saves history stands is = subst (λ l. IsJudged kind budget l after (saved_by k saves saved)) (sym (all_and events k (omega arith) x))
+  pub pushed : (k : ℕ) → k ≡ length events → (x : ℕ × Event) (standing : KeyState) (next : Next) (saves : Saves) → IsHistory (events ++ x ∷ []) → IsNext kind budget (events ++ x ∷ []) standing next → IsSaveOf kind budget events x saves
+      → IsBrought kind budget (kept_and_added k (Some x) events) standing next (saved_by k saves saved)
+  pushed k all x standing next saves history stands is = subst (λ l. IsBrought kind budget l standing next (saved_by k saves saved)) (sym (all_and events k (omega arith) x))
       (record { history = history; stands = stands; saved_are = AreSaved-after kind budget events saved now.saved_are x k all saves is })
 
   -- the first so many events are kept
-  pub cut_judged : (k : ℕ) → k ≤ length events → (after : KeyState) → IsKeyState kind budget (take k events) after → IsJudged kind budget (take k events) after (take (k / 64) saved)
-  cut_judged k le after stands = record { history = IsHistory-take k events now.history; stands = stands; saved_are = AreSaved-take kind budget events saved now.saved_are k le }
+  pub cut_brought : (k : ℕ) → k ≤ length events → (next : Next) → IsNext kind budget (take k events) state next → IsBrought kind budget (take k events) state next (take (k / 64) saved)
+  cut_brought k le next stands = record { history = IsHistory-take k events now.history; stands = stands; saved_are = AreSaved-take kind budget events saved now.saved_are k le }
 
-  -- a copy stands for the first so many, where these are all
-  pub copy_stands : (k : ℕ) → length events ≤ k → (after : KeyState) → IsKeyState kind budget events after → IsKeyState kind budget (take k events) after
-  copy_stands k le after stands = subst (λ l. IsKeyState kind budget l after) (sym (take_all k events le)) stands
+  -- the key stands for the first so many, where these are all
+  pub all_stand : (k : ℕ) → length events ≤ k → IsKeyState kind budget (take k events) state
+  all_stand k le = subst (λ l. IsKeyState kind budget l state) (sym (take_all k events le)) now.stands
 
 -- another kind and budget judge the same events
-pub rebuilt_judged : (kind : ModelKind) (budget : ℕ) (events read : List (ℕ × Event)) → read ≡ events → IsHistory events → (state : KeyState) (saved : List KeyState) → (IsHistory read → IsKeyState kind budget read state) → (IsHistory read → AreSaved kind budget read saved)
-    → (k : ℕ) → length events ≤ k → IsJudged kind budget (take k events) state saved
-rebuilt_judged kind budget events read same history state saved stands are k le =
+pub rebuilt_brought : (kind : ModelKind) (budget : ℕ) (events read : List (ℕ × Event)) → read ≡ events → IsHistory events → (now state : KeyState) (saved : List KeyState) → (IsHistory read → IsKeyState kind budget read state) → (IsHistory read → AreSaved kind budget read saved)
+    → (k : ℕ) → length events ≤ k → IsBrought kind budget (take k events) now (Becomes state) saved
+rebuilt_brought kind budget events read same history now state saved stands are k le =
     let whole : IsHistory read = subst IsHistory (sym same) history in
-    subst (λ l. IsJudged kind budget l state saved) (same ∙ sym (take_all k events le)) (record { history = whole; stands = stands whole; saved_are = are whole })
+    subst (λ l. IsBrought kind budget l now (Becomes state) saved) (same ∙ sym (take_all k events le)) (record { history = whole; stands = stands whole; saved_are = are whole })
 
 -- what was found of the events, read from their place
 pub read_stands : (kind : ModelKind) (budget : ℕ) (events read : List (ℕ × Event)) → read ≡ events → IsHistory events → (state : KeyState) → (IsHistory read → IsKeyState kind budget read state) → IsKeyState kind budget events state
@@ -98,21 +114,25 @@ gone_stands kind budget k events read same saved read_saved same_saved history a
     (found (subst IsHistory (sym same) history) (subst (λ l. AreSaved kind budget l read_saved) (sym same) (subst (AreSaved kind budget events) (sym same_saved) are)))
 
 module _ (kind : ModelKind) (budget : ℕ) (events : List (ℕ × Event)) (state : KeyState) (saved : List KeyState) (room saves_room : ℕ) (prepared : Option Prepared) (sound : IsSoundLine kind budget events state saved room saves_room prepared) where
+  still : (standing : KeyState) → IsKeyState kind budget events standing → (new : List (ℕ × Event)) → new ≡ events → (new_saved : List KeyState) → new_saved ≡ saved → IsJudged kind budget new standing new_saved
+  still standing stands new same new_saved same_saved =
+      subst (λ l. IsJudged kind budget l standing new_saved) (sym same) (subst (IsJudged kind budget events standing) (sym same_saved) (judged_still kind budget events state saved sound.now standing stands))
+
   -- nothing is prepared
-  pub IsSoundLine-dropped : (new : List (ℕ × Event)) → new ≡ events → (new_saved : List KeyState) → new_saved ≡ saved → (new_room new_saves_room : ℕ) (left : Option Prepared) → left ≡ None
-      → IsSoundLine kind budget new state new_saved new_room new_saves_room left
-  IsSoundLine-dropped new same new_saved same_saved new_room new_saves_room left none = record {
-    now = subst (λ l. IsJudged kind budget l state new_saved) (sym same) (subst (IsJudged kind budget events state) (sym same_saved) sound.now);
+  pub IsSoundLine-dropped : (standing : KeyState) → IsKeyState kind budget events standing → (new : List (ℕ × Event)) → new ≡ events → (new_saved : List KeyState) → new_saved ≡ saved → (new_room new_saves_room : ℕ) (left : Option Prepared) → left ≡ None
+      → IsSoundLine kind budget new standing new_saved new_room new_saves_room left
+  IsSoundLine-dropped standing stands new same new_saved same_saved new_room new_saves_room left none = record {
+    now = still standing stands new same new_saved same_saved;
     next = λ q e. (let clash : None ≡ Some q = sym none ∙ e in cc);
   }
 
   -- a change is prepared
-  pub IsSoundLine-prepared : (new : List (ℕ × Event)) → new ≡ events → (new_saved : List KeyState) → new_saved ≡ saved → (new_room new_saves_room : ℕ) (p : Prepared) (left : Option Prepared) → left ≡ Some p → IsReady events saved new_room new_saves_room p
-      → IsSoundLine kind budget new state new_saved new_room new_saves_room left
-  IsSoundLine-prepared new same new_saved same_saved new_room new_saves_room p left left_is ready = record {
-    now = subst (λ l. IsJudged kind budget l state new_saved) (sym same) (subst (IsJudged kind budget events state) (sym same_saved) sound.now);
-    next = λ q is. (let both : Some p ≡ Some q = sym left_is ∙ is in let eq : p ≡ q = cc in subst (IsReady new new_saved new_room new_saves_room) eq
-        (subst (λ l. IsReady l new_saved new_room new_saves_room p) (sym same) (subst (λ l. IsReady events l new_room new_saves_room p) (sym same_saved) ready)));
+  pub IsSoundLine-prepared : (standing : KeyState) → IsKeyState kind budget events standing → (new : List (ℕ × Event)) → new ≡ events → (new_saved : List KeyState) → new_saved ≡ saved → (new_room new_saves_room : ℕ) (p : Prepared) (left : Option Prepared) → left ≡ Some p
+      → IsReady events standing saved new_room new_saves_room p → IsSoundLine kind budget new standing new_saved new_room new_saves_room left
+  IsSoundLine-prepared standing stands new same new_saved same_saved new_room new_saves_room p left left_is ready = record {
+    now = still standing stands new same new_saved same_saved;
+    next = λ q is. (let both : Some p ≡ Some q = sym left_is ∙ is in let eq : p ≡ q = cc in subst (IsReady new standing new_saved new_room new_saves_room) eq
+        (subst (λ l. IsReady l standing new_saved new_room new_saves_room p) (sym same) (subst (λ l. IsReady events standing l new_room new_saves_room p) (sym same_saved) ready)));
   }
 
   pub has_place : (p : Prepared) → prepared ≡ Some p → HasPlace (length events) room p.added
@@ -122,9 +142,13 @@ module _ (kind : ModelKind) (budget : ℕ) (events : List (ℕ × Event)) (state
   has_room p is = (sound.next p is).saves_place
 
   -- it is carried out
-  pub IsSoundLine-committed : (p : Prepared) → prepared ≡ Some p → (left : Option Prepared) → left ≡ None → (new : List (ℕ × Event)) (new_saved : List KeyState) (new_room new_saves_room : ℕ) → new ≡ kept_and_added p.kept p.added events → new_saved ≡ saved_by p.kept p.saves saved
-      → IsSoundLine p.kind p.budget new p.state new_saved new_room new_saves_room left
-  IsSoundLine-committed p is left none new new_saved new_room new_saves_room are are_saved = record {
-    now = subst (λ l. IsJudged p.kind p.budget l p.state new_saved) (sym are) (subst (IsJudged p.kind p.budget (kept_and_added p.kept p.added events) p.state) (sym are_saved) (sound.next p is).judged);
-    next = λ q e. (let clash : None ≡ Some q = sym none ∙ e in cc);
-  }
+  pub IsSoundLine-committed : (p : Prepared) → prepared ≡ Some p → (left : Option Prepared) → left ≡ None → (after : KeyState) → ((k : ModelKind) (b : ℕ) (es : List (ℕ × Event)) → IsNext k b es state p.next → IsKeyState k b es after)
+      → (new : List (ℕ × Event)) (new_saved : List KeyState) (new_room new_saves_room : ℕ) → new ≡ kept_and_added p.kept p.added events → new_saved ≡ saved_by p.kept p.saves saved
+      → IsSoundLine p.kind p.budget new after new_saved new_room new_saves_room left
+  IsSoundLine-committed p is left none after goes new new_saved new_room new_saves_room are are_saved =
+      let brings = (sound.next p is).brings in
+      record {
+        now = subst (λ l. IsJudged p.kind p.budget l after new_saved) (sym are) (subst (IsJudged p.kind p.budget (kept_and_added p.kept p.added events) after) (sym are_saved)
+            (record { history = brings.history; stands = goes p.kind p.budget (kept_and_added p.kept p.added events) brings.stands; saved_are = brings.saved_are }));
+        next = λ q e. (let clash : None ≡ Some q = sym none ∙ e in cc);
+      }

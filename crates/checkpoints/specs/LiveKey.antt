@@ -8,7 +8,7 @@ use Rattle.history.specs.declared.event.EventKind.TheVariants.{Invoke, Ok, Fail,
 use Rattle.history.specs.declared.event.Event.{Event}
 use Rattle.history.specs.Events.{op_event, last_after, entries_of, marks}
 use Rattle.history.specs.ProcessRule.{busy_after}
-use Rattle.frontier.specs.AnyFrontier.{AnyStandsFor, any_budget_of, kind_of_frontier}
+use Rattle.frontier.specs.AnyFrontier.{AnyStandsFor, AnyWillStandFor, any_budget_of, kind_of_frontier}
 use Rattle.checkpoints.specs.declared.live_key.LiveKey.{LiveKey}
 
 -- the last invocation of each process, and the key of each process's open operation, after events
@@ -26,14 +26,28 @@ invocation_of events = invocations_from (λ _. 0) events
 abbrev pub busy_of : List (ℕ × Event) → ℕ → Option ℕ
 busy_of events = busy_from (λ _. None) events
 
--- the frontier stands for the events, and the open operation of each process that has one is known
+-- the open operation of each process that has one is known
+abbrev pub KnowsOpen : List (ℕ × Event) → LiveKey → Type 0
+KnowsOpen events live = (p k : ℕ) → busy_of events p ≡ Some k
+    → get nat_cmp live.invocations p ≡ Some (invocation_of events p)
+
+-- the frontier stands for the events, and what is open is known
 pub record IsLiveKey (kind : ModelKind) (budget : ℕ) (events : List (ℕ × Event)) (live : LiveKey)
     : Type 0 where
   pub stands : AnyStandsFor live.frontier (marks (entries_of events))
   pub kind_is : kind_of_frontier live.frontier ≡ kind
   pub budget_is : any_budget_of live.frontier ≡ budget
-  pub knows : (p k : ℕ) → busy_of events p ≡ Some k
-      → get nat_cmp live.invocations p ≡ Some (invocation_of events p)
+  pub knows : KnowsOpen events live
+
+-- so it will be of these events, once what is prepared is carried out: the process that is closed
+-- then has no open operation after them
+pub record WillBeLive (kind : ModelKind) (budget : ℕ) (events : List (ℕ × Event)) (live : LiveKey)
+    : Type 0 where
+  pub stands : AnyWillStandFor live.frontier (marks (entries_of events))
+  pub kind_is : kind_of_frontier live.frontier ≡ kind
+  pub budget_is : any_budget_of live.frontier ≡ budget
+  pub knows : KnowsOpen events live
+  pub closed : (p : ℕ) → live.closes ≡ Some p → busy_of events p ≡ None
 
 -- the operation that an event is of, where this one was open
 abbrev pub id_by : ℕ → EventKind → Option ℕ → Option ℕ
@@ -48,3 +62,10 @@ open_by index Invoke = Some index
 open_by index Ok = None
 open_by index Fail = None
 open_by index Info = None
+
+-- the process that an event of it leaves with no open operation
+abbrev pub closed_by : ℕ → EventKind → Option ℕ
+closed_by process Invoke = None
+closed_by process Ok = Some process
+closed_by process Fail = Some process
+closed_by process Info = Some process

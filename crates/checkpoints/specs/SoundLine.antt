@@ -5,8 +5,10 @@ use Rattle.history.specs.declared.event.Event.{Event}
 use Rattle.history.specs.ProcessRule.{IsHistory}
 use Rattle.checkpoints.specs.declared.key_state.KeyState.{KeyState}
 use Rattle.checkpoints.specs.declared.key_line.Prepared.{Prepared}
+use Rattle.checkpoints.specs.declared.next.Next.{Next}
 use Rattle.checkpoints.specs.KeyState.{IsKeyState}
 use Rattle.checkpoints.specs.KeyLineView.{KeyHistory}
+use Rattle.checkpoints.specs.Next.{IsNext}
 use Rattle.checkpoints.specs.Saved.{AreSaved}
 use Rattle.checkpoints.specs.Saves.{saved_by, HasRoom}
 
@@ -40,10 +42,18 @@ pub record IsJudged (kind : ModelKind) (budget : ℕ) (events : List (ℕ × Eve
   pub stands : IsKeyState kind budget events state
   pub saved_are : AreSaved kind budget events saved
 
--- what a prepared change brings is so too, and carrying it out needs no memory
-pub record IsReady (events : List (ℕ × Event)) (saved : List KeyState) (room saves_room : ℕ)
-    (p : Prepared) : Type 0 where
-  pub judged : IsJudged p.kind p.budget (kept_and_added p.kept p.added events) p.state
+-- where a key that stands so now becomes this, they are a history then, and the key and what is
+-- saved of it stand so
+pub record IsBrought (kind : ModelKind) (budget : ℕ) (events : List (ℕ × Event)) (state : KeyState)
+    (next : Next) (saved : List KeyState) : Type 0 where
+  pub history : IsHistory events
+  pub stands : IsNext kind budget events state next
+  pub saved_are : AreSaved kind budget events saved
+
+-- what a prepared change brings is so, and carrying it out needs no memory
+pub record IsReady (events : List (ℕ × Event)) (state : KeyState) (saved : List KeyState)
+    (room saves_room : ℕ) (p : Prepared) : Type 0 where
+  pub brings : IsBrought p.kind p.budget (kept_and_added p.kept p.added events) state p.next
       (saved_by p.kept p.saves saved)
   pub place : HasPlace (length events) room p.added
   pub saves_place : HasRoom (length saved) saves_room p.saves
@@ -52,4 +62,5 @@ pub record IsSoundLine (kind : ModelKind) (budget : ℕ) (events : List (ℕ × 
     (state : KeyState) (saved : List KeyState) (room saves_room : ℕ) (prepared : Option Prepared)
     : Type 0 where
   pub now : IsJudged kind budget events state saved
-  pub next : (p : Prepared) → prepared ≡ Some p → IsReady events saved room saves_room p
+  pub next : (p : Prepared) → prepared ≡ Some p
+      → IsReady events state saved room saves_room p

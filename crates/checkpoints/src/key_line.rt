@@ -1,27 +1,30 @@
 //! The line of one key.
 ghost use Rattle.std.specs.Prelude.{◌≡◌, ◌≤◌, Some, None, [], ◌∷◌, ◌++◌, take, length, nat_lt};
 ghost use Rattle.std.specs.Prelude.{IsSome, IfSome, IfOk, OnOk, OnErr};
+ghost use Rattle.std.specs.Prelude.{vec_capacity};
 ghost use Rattle.history.specs.ProcessRule.{IsHistory};
 ghost use Rattle.checkpoints.specs.KeyLineView.{IsStatusOf, without_events, at_rest, with_next, with_pushed, cut_at, judged_by};
 ghost use Rattle.checkpoints.specs.KeyLineView.{events_below, loses_at, begins_below, replays_at, count_on};
+ghost use Rattle.checkpoints.specs.SoundLine.{kept_and_added, HasPlace};
 
 use crate::key_state::KeyState;
-use crate::saving::{Saves, gone_back, judged_anew, saved_of, saves_after};
+use crate::next::Next;
+use crate::saving::{Saves, gone_back, judged_anew, keep_and_save, prepare_event};
 use history::Event;
 use linspec::KeyStatus;
 use models::ModelKind;
 use std::alloc::{AllocError, Global};
 use std::marker::Model;
 
-/// What may be committed: the first so many events stay, one may follow, and the key, judged by this kind and budget, then
-/// stands so. It took so many replays.
+/// What may be committed: the first so many events stay, one may follow, and this becomes of the key, which is then judged by
+/// this kind and budget. It took so many replays.
 #[derive(Drop)]
 struct Prepared {
     kind: ModelKind,
     budget: u32,
     kept: usize,
     added: Option<(u32, Event)>,
-    state: KeyState,
+    next: Next,
     saves: Saves,
     replays: u64,
 }
@@ -95,9 +98,9 @@ impl KeyLine {
     }
 
     /// Prepares to append this event, and gives the status that [`commit`](Self::commit) will bring. The index is the
-    /// event's place in the whole history. It takes the time of a copy of the ends of the events so far, of two where the
-    /// event is a 64th one, and of what the event does to them: see [`Frontier`](frontier::Frontier)'s `invoke`, `ok`,
-    /// `fail` and `crash`. It is one replay.
+    /// event's place in the whole history. It takes the time of what the event does to the ends of the events so far: see
+    /// [`Frontier`](frontier::Frontier)'s `prepare`. It copies no end, but where the event is a 64th one: then it takes the
+    /// time of two copies of the ends, and the event is given to one of them. It is one replay.
     ///
     /// # Errors
     ///
@@ -110,28 +113,27 @@ impl KeyLine {
         ensures err { OnErr result (self.new ≡ at_rest self.old.now self.old.replayed) }
     {
         drop_prepared(&mut self.prepared);
-        let state = self.state.copy()?.after(index, &event)?;
         self.events.reserve(1)?;
         let count = self.events.len();
-        let saves = saves_after(&mut self.saved, &state, count)?;
-        let status = state.status();
-        let next = Prepared {
+        let (next, saves) = prepare_event(&mut self.state, &mut self.saved, count, index, &event)?;
+        let status = next.status(&self.state);
+        let change = Prepared {
             kind: self.kind,
             budget: self.budget,
             kept: count,
             added: Some((index, event)),
-            state,
+            next,
             saves,
             replays: 1,
         };
-        prepare(&mut self.prepared, next);
+        prepare(&mut self.prepared, change);
         Ok(status)
     }
 
     /// Prepares to keep the events whose index is below `n` alone, and gives the status that [`commit`](Self::commit) will
     /// bring. It takes the time of a copy of the ends that were saved after the last 64th event that stays, and of fewer
     /// than 64 replays: of the events behind it, each given to that copy. Where it takes no event away, it makes none, and
-    /// copies the ends as they are.
+    /// copies no end.
     ///
     /// # Errors
     ///
@@ -145,8 +147,8 @@ impl KeyLine {
         drop_prepared(&mut self.prepared);
         let kept = count_below(&self.events, n);
         let mut replays = 0;
-        let state = if kept < self.events.len() {
-            gone_back(
+        let next = if kept < self.events.len() {
+            Next::Becomes(gone_back(
                 self.alloc,
                 self.kind,
                 self.budget,
@@ -154,21 +156,21 @@ impl KeyLine {
                 &self.saved,
                 kept,
                 &mut replays,
-            )?
+            )?)
         } else {
-            self.state.copy()?
+            Next::Stays
         };
-        let status = state.status();
-        let next = Prepared {
+        let status = next.status(&self.state);
+        let change = Prepared {
             kind: self.kind,
             budget: self.budget,
             kept,
             added: None,
-            state,
+            next,
             saves: Saves::Kept,
             replays,
         };
-        prepare(&mut self.prepared, next);
+        prepare(&mut self.prepared, change);
         Ok(status)
     }
 
@@ -190,16 +192,16 @@ impl KeyLine {
         let mut replays = 0;
         let (state, saved) = judged_anew(self.alloc, kind, budget, &self.events, &mut replays)?;
         let status = state.status();
-        let next = Prepared {
+        let change = Prepared {
             kind,
             budget,
             kept: self.events.len(),
             added: None,
-            state,
+            next: Next::Becomes(state),
             saves: Saves::Anew(saved),
             replays,
         };
-        prepare(&mut self.prepared, next);
+        prepare(&mut self.prepared, change);
         Ok(status)
     }
 
@@ -209,28 +211,21 @@ impl KeyLine {
         ensures { IfSome self.old.next (λ next.
             self.new ≡ at_rest next (count_on self.old.replayed self.old.due)) }
     {
-        if let Some(next) = self.prepared.take() {
+        if let Some(change) = self.prepared.take() {
             let Prepared {
                 kind,
                 budget,
                 kept,
                 added,
-                state,
+                next,
                 saves,
                 replays,
-            } = next;
-            self.events.truncate(kept);
-            if let Some(event) = added {
-                self.events.push_reserved(event);
-            }
-            match saves {
-                Saves::Kept => self.saved.truncate(saved_of(kept)),
-                Saves::More(state) => self.saved.push_reserved(state),
-                Saves::Anew(saved) => self.saved = saved,
-            }
+            } = change;
+            keep_and_add(&mut self.events, kept, added);
+            keep_and_save(&mut self.saved, kept, saves);
+            self.state.commit(next);
             self.kind = kind;
             self.budget = budget;
-            self.state = state;
             self.replayed = self.replayed.saturating_add(replays);
         }
     }
@@ -340,10 +335,21 @@ fn drop_prepared(prepared: &mut Option<Prepared>)
 }
 
 // This change is prepared.
-fn prepare(prepared: &mut Option<Prepared>, next: Prepared)
-    ensures { prepared.new ≡ Some next }
+fn prepare(prepared: &mut Option<Prepared>, change: Prepared)
+    ensures { prepared.new ≡ Some change }
 {
-    *prepared = Some(next);
+    *prepared = Some(change);
+}
+
+// Keeps the first so many events, and adds this one, if there is one. Takes no memory.
+fn keep_and_add(events: &mut Vec<(u32, Event)>, kept: usize, added: Option<(u32, Event)>)
+    requires { HasPlace (length events.old.items) (vec_capacity events.old) added }
+    ensures { events.new.items ≡ kept_and_added kept added events.old.items }
+{
+    events.truncate(kept);
+    if let Some(event) = added {
+        events.push_reserved(event);
+    }
 }
 
 // How many of the events, whose indices rise, have an index below n.

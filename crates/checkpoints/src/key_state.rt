@@ -5,8 +5,10 @@ ghost use Rattle.history.specs.declared.event.Event.{Event};
 ghost use Rattle.history.specs.ProcessRule.{IsHistory};
 ghost use Rattle.checkpoints.specs.KeyLineView.{count_on};
 ghost use Rattle.checkpoints.specs.KeyState.{IsKeyState, status_of};
+ghost use Rattle.checkpoints.specs.Next.{IsNext};
 
 use crate::live_key::LiveKey;
+use crate::next::Next;
 use history::Event;
 use linspec::KeyStatus;
 use models::ModelKind;
@@ -50,6 +52,40 @@ impl KeyState {
             KeyState::Alive(live) => live.after(index, event),
             KeyState::Dead(index) => Ok(KeyState::Dead(index)),
             KeyState::Over(index) => Ok(KeyState::Over(index)),
+        }
+    }
+
+    /// Prepares one more event, and says what becomes of the key. It stands as it stood until [`commit`](Self::commit), also
+    /// on `AllocError`. No end is copied.
+    pub(crate) fn prepare(&mut self, index: u32, event: &Event) -> Result<Next, AllocError>
+        ensures now { (kind : ModelKind) (budget : ℕ) (events : List (ℕ × Event))
+            → IsKeyState kind budget events self.old
+            → IsHistory (events ++ (index, event.now) ∷ [])
+            → IsKeyState kind budget events self.new }
+        ensures next { (kind : ModelKind) (budget : ℕ) (events : List (ℕ × Event))
+            → IsKeyState kind budget events self.old
+            → IsHistory (events ++ (index, event.now) ∷ [])
+            → IfOk result (IsNext kind budget (events ++ (index, event.now) ∷ []) self.new) }
+    {
+        match self {
+            KeyState::Alive(live) => live.prepare(index, event),
+            KeyState::Dead(_) | KeyState::Over(_) => Ok(Next::Stays),
+        }
+    }
+
+    /// Carries out what becomes of the key. Takes no memory.
+    pub(crate) fn commit(&mut self, next: Next)
+        ensures { (kind : ModelKind) (budget : ℕ) (events : List (ℕ × Event))
+            → IsNext kind budget events self.old next → IsKeyState kind budget events self.new }
+    {
+        match next {
+            Next::Stays => {}
+            Next::Goes => {
+                if let KeyState::Alive(live) = self {
+                    live.commit();
+                }
+            }
+            Next::Becomes(state) => *self = state,
         }
     }
 

@@ -5,6 +5,7 @@ mod key_line;
 mod key_state;
 pub mod laws;
 mod live_key;
+mod next;
 mod saving;
 
 pub use key_line::KeyLine;

@@ -1,14 +1,17 @@
 //! A key that is alive, with the ends of its events.
-ghost use Rattle.std.specs.Prelude.{◌≡◌, ℕ, List, [], ◌∷◌, ◌++◌, nat_eq, if◌then◌else◌, IfOk, OnOk};
+ghost use Rattle.std.specs.Prelude.{◌≡◌, ℕ, List, [], ◌∷◌, ◌++◌, nat_eq, if◌then◌else◌, IfOk, OnOk, OnErr};
 ghost use Rattle.std.specs.Ordering.{nat_cmp};
 ghost use Rattle.std.specs.BTreeMap.{get};
 ghost use Rattle.models.specs.declared.model_kind.ModelKind.{ModelKind};
 ghost use Rattle.history.specs.declared.event.Event.{Event};
 ghost use Rattle.history.specs.ProcessRule.{IsHistory};
-ghost use Rattle.checkpoints.specs.LiveKey.{IsLiveKey, id_by, open_by};
+ghost use Rattle.checkpoints.specs.LiveKey.{IsLiveKey, WillBeLive, id_by, open_by, closed_by};
 ghost use Rattle.checkpoints.specs.KeyState.{IsAlive, IsKeyState};
+ghost use Rattle.checkpoints.specs.Next.{IsNext};
+ghost use Rattle.checkpoints.specs.declared.key_state.KeyState.{KeyState};
 
 use crate::key_state::KeyState;
+use crate::next::Next;
 use frontier::{AnyFrontier, Step};
 use history::{Body, Event, EventKind, Process};
 use linspec::laws::never_kills_law;
@@ -16,11 +19,13 @@ use models::ModelKind;
 use std::alloc::{AllocError, Global};
 use std::collections::BTreeMap;
 
-/// The ends of the events so far, and for each process with an open operation the index of its invocation.
+/// The ends of the events so far, and for each process with an open operation the index of its invocation. One more event
+/// may be prepared: in the ends, and by the process that it leaves with no open operation.
 #[derive(Drop)]
 pub(crate) struct LiveKey {
     frontier: AnyFrontier,
     invocations: BTreeMap<u32, u32>,
+    closes: Option<u32>,
 }
 
 impl LiveKey {
@@ -32,10 +37,11 @@ impl LiveKey {
         Ok(LiveKey {
             frontier,
             invocations: BTreeMap::new(alloc),
+            closes: None,
         })
     }
 
-    /// A key with the same events.
+    /// A key with the same events. Nothing is prepared of it.
     pub(crate) fn copy(&self) -> Result<Self, AllocError>
         ensures { (kind : ModelKind) (budget : ℕ) (events : List (ℕ × Event))
             → IsLiveKey kind budget events self.now → IfOk result (IsLiveKey kind budget events) }
@@ -45,6 +51,7 @@ impl LiveKey {
         Ok(LiveKey {
             frontier,
             invocations,
+            closes: None,
         })
     }
 
@@ -73,6 +80,50 @@ impl LiveKey {
             Step::Over => Ok(KeyState::Over(index)),
         }
     }
+
+    /// Prepares one more event, and says what becomes of the key. It stands as it stood until [`commit`](Self::commit), and
+    /// what was prepared before is dropped. No end is copied.
+    pub(crate) fn prepare(&mut self, index: u32, event: &Event) -> Result<Next, AllocError>
+        ensures now { (kind : ModelKind) (budget : ℕ) (events : List (ℕ × Event))
+            → IsLiveKey kind budget events self.old → IsAlive kind budget events
+            → IsHistory (events ++ (index, event.now) ∷ [])
+            → IsLiveKey kind budget events self.new }
+        ensures next { (kind : ModelKind) (budget : ℕ) (events : List (ℕ × Event))
+            → IsLiveKey kind budget events self.old → IsAlive kind budget events
+            → IsHistory (events ++ (index, event.now) ∷ [])
+            → IfOk result (IsNext kind budget (events ++ (index, event.now) ∷ [])
+            (KeyState.Alive self.new)) }
+    {
+        never_kills_law();
+        // An event that speaks of no operation changes nothing.
+        let Process::Client(process) = event.process else {
+            return Ok(Next::Stays);
+        };
+        let Body::Op(op) = &event.body else {
+            return Ok(Next::Stays);
+        };
+        // By the process rule every completion finds an open operation.
+        let Some(id) = noted(&mut self.invocations, process, index, event.kind)? else {
+            return Ok(Next::Stays);
+        };
+        self.closes = closing(process, event.kind);
+        match self.frontier.prepare(id, event.kind, op)? {
+            Step::Alive => Ok(Next::Goes),
+            Step::Dead => Ok(Next::Becomes(KeyState::Dead(index))),
+            Step::Over => Ok(Next::Becomes(KeyState::Over(index))),
+        }
+    }
+
+    /// Carries out what is prepared: the ends go on, and an operation that is completed is open no more. Takes no memory.
+    pub(crate) fn commit(&mut self)
+        ensures { (kind : ModelKind) (budget : ℕ) (events : List (ℕ × Event))
+            → WillBeLive kind budget events self.old → IsLiveKey kind budget events self.new }
+    {
+        if let Some(process) = self.closes.take() {
+            self.invocations.remove(&process);
+        }
+        self.frontier.commit();
+    }
 }
 
 // The operation that an event of the process is of, named by the index of its invocation: an invocation opens one, and a
@@ -93,5 +144,39 @@ fn turn(
             Ok(Some(index))
         }
         EventKind::Ok | EventKind::Fail | EventKind::Info => Ok(invocations.remove(&process)),
+    }
+}
+
+// The operation that a prepared event of the process is of. An invocation is noted at once, since its process has no open
+// operation before it; what a completion closes stays noted until it is carried out.
+fn noted(
+    invocations: &mut BTreeMap<u32, u32>,
+    process: u32,
+    index: u32,
+    kind: EventKind,
+) -> Result<Option<u32>, AllocError>
+    ensures id { IfOk result (λ id. id ≡ id_by index kind (get nat_cmp invocations.old process)) }
+    ensures invocations { OnOk result ((q : ℕ) → get nat_cmp invocations.new q
+        ≡ (if nat_eq q process then id_by index kind (get nat_cmp invocations.old q)
+        else get nat_cmp invocations.old q)) }
+    ensures err { OnErr result ((q : ℕ) →
+        get nat_cmp invocations.new q ≡ get nat_cmp invocations.old q) }
+{
+    match kind {
+        EventKind::Invoke => {
+            invocations.insert(process, index)?;
+            Ok(Some(index))
+        }
+        EventKind::Ok | EventKind::Fail | EventKind::Info => Ok(invocations.get(&process).copied()),
+    }
+}
+
+// The process that an event of it leaves with no open operation, if it does.
+fn closing(process: u32, kind: EventKind) -> Option<u32>
+    ensures { result ≡ closed_by process kind }
+{
+    match kind {
+        EventKind::Invoke => None,
+        EventKind::Ok | EventKind::Fail | EventKind::Info => Some(process),
     }
 }

@@ -6,10 +6,12 @@ ghost use Rattle.history.specs.declared.event.Event.{Event};
 ghost use Rattle.history.specs.ProcessRule.{IsHistory};
 ghost use Rattle.checkpoints.specs.KeyLineView.{count_on};
 ghost use Rattle.checkpoints.specs.KeyState.{IsKeyState};
+ghost use Rattle.checkpoints.specs.Next.{IsNext};
 ghost use Rattle.checkpoints.specs.Saved.{AreSaved};
-ghost use Rattle.checkpoints.specs.Saves.{IsSaveOf, HasRoom};
+ghost use Rattle.checkpoints.specs.Saves.{IsSaveOf, HasRoom, saved_by};
 
 use crate::key_state::KeyState;
+use crate::next::Next;
 use history::Event;
 use models::ModelKind;
 use std::alloc::{AllocError, Global};
@@ -28,32 +30,53 @@ pub(crate) enum Saves {
     Anew(Vec<KeyState>),
 }
 
-/// How many of the saved states are of the first so many events.
-pub(crate) fn saved_of(events: usize) -> usize
-    ensures { result ≡ events / 64 }
+/// Carries out what becomes of the saved states, where so many events are kept. Takes no memory.
+pub(crate) fn keep_and_save(saved: &mut Vec<KeyState>, kept: usize, saves: Saves)
+    requires { HasRoom (length saved.old.items) (vec_capacity saved.old) saves }
+    ensures { saved.new.items ≡ saved_by kept saves saved.old.items }
 {
-    events / EVERY
+    match saves {
+        Saves::Kept => saved.truncate(kept / EVERY),
+        Saves::More(state) => saved.push_reserved(state),
+        Saves::Anew(new) => *saved = new,
+    }
 }
 
-/// What becomes of the saved states where the key stands so with one more event: a copy of each 64th is saved, and there is
-/// room for it.
-pub(crate) fn saves_after(
+/// Prepares one more event of a key that has so many, and says what becomes of the key and of what is saved of it. A 64th
+/// event is given to a copy of the key, of which a copy is saved, and there is room for it. Any other event is prepared in
+/// place, and no end is copied.
+pub(crate) fn prepare_event(
+    state: &mut KeyState,
     saved: &mut Vec<KeyState>,
-    state: &KeyState,
     events: usize,
-) -> Result<Saves, AllocError>
+    index: u32,
+    event: &Event,
+) -> Result<(Next, Saves), AllocError>
+    ensures now { (kind : ModelKind) (budget : ℕ) (before : List (ℕ × Event))
+        → IsKeyState kind budget before state.old
+        → IsHistory (before ++ (index, event.now) ∷ [])
+        → IsKeyState kind budget before state.new }
     ensures items { saved.new.items ≡ saved.old.items }
-    ensures room { IfOk result (HasRoom (length saved.new.items) (vec_capacity saved.new)) }
-    ensures saves { (kind : ModelKind) (budget : ℕ) (before : List (ℕ × Event)) (x : ℕ × Event)
-        → length before ≡ events → IsKeyState kind budget (before ++ x ∷ []) state.now
-        → IfOk result (IsSaveOf kind budget before x) }
+    ensures room { IfOk result (λ changes.
+        HasRoom (length saved.new.items) (vec_capacity saved.new) changes.1) }
+    ensures next { (kind : ModelKind) (budget : ℕ) (before : List (ℕ × Event))
+        → IsKeyState kind budget before state.old
+        → IsHistory (before ++ (index, event.now) ∷ [])
+        → IfOk result (λ changes.
+        IsNext kind budget (before ++ (index, event.now) ∷ []) state.new changes.0) }
+    ensures saves { (kind : ModelKind) (budget : ℕ) (before : List (ℕ × Event))
+        → length before ≡ events → IsKeyState kind budget before state.old
+        → IsHistory (before ++ (index, event.now) ∷ [])
+        → IfOk result (λ changes. IsSaveOf kind budget before (index, event.now) changes.1) }
 {
     if events % EVERY != EVERY - 1 {
-        return Ok(Saves::Kept);
+        let next = state.prepare(index, event)?;
+        return Ok((next, Saves::Kept));
     }
     saved.reserve(1)?;
-    let copy = state.copy()?;
-    Ok(Saves::More(copy))
+    let after = state.copy()?.after(index, event)?;
+    let copy = after.copy()?;
+    Ok((Next::Becomes(after), Saves::More(copy)))
 }
 
 // Saves a copy of the state where it is that with a 64th event.

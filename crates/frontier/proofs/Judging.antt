@@ -14,7 +14,7 @@ use Rattle.frontier.specs.declared.table.Table.{Table}
 use Rattle.frontier.specs.declared.kept_end.KeptEnd.{KeptEnd}
 use Rattle.frontier.specs.KeptEnds.{AreIncluded, ArePending, end_kept}
 use Rattle.frontier.specs.EndSteps.{AreClosed, Grows, is_other}
-use Rattle.frontier.specs.Meaning.{StandsFor}
+use Rattle.frontier.specs.Meaning.{Lists}
 use Rattle.frontier.specs.Tables.{AreShown, HasEachOnce, IsAdvanced}
 use Rattle.std.proofs.lemmas.List.{take_all}
 use Rattle.frontier.proofs.AfterEvents.{ends_after_ok}
@@ -25,7 +25,7 @@ use Rattle.frontier.proofs.Pending.{AreOnce, calls_after_ok, once_without}
 use Rattle.frontier.proofs.Standing.{stands_by}
 use Rattle.frontier.proofs.TheEnds.{AreTheEnds}
 
-module _ {M : Type 0} (o : Object) (f : Frontier M o.State) (marks : List Mark) (stands : StandsFor o f marks) (budget : ℕ) where
+module _ {M : Type 0} (o : Object) (f : Frontier M o.State) (marks : List Mark) (stands : Lists o f marks) (budget : ℕ) where
   -- there are more than the budget
   pub too_many : (more : List (End o.State)) → Grows o f.calls.items stands.kept more → budget < length more → HasMoreThan o marks budget
   too_many more grows lt = more_found o stands.kept f.calls.items marks stands.ends more budget stands.well_kept.once grows lt
@@ -47,7 +47,7 @@ module _ {M : Type 0} (o : Object) (f : Frontier M o.State) (marks : List Mark) 
     pub generates_left : Generates o found.left.more (marks ++ Returned id answer ∷ [])
     generates_left = generates_all o found.left.more (marks ++ Returned id answer ∷ []) after
 
-    pub stands_after : (g : Frontier M o.State) → g.table ≡ t → g.calls.items ≡ filter (is_other id) f.calls.items → g.tried ≡ length g.calls.items → StandsFor o g (marks ++ Returned id answer ∷ [])
+    pub stands_after : (g : Frontier M o.State) → g.table ≡ t → g.calls.items ≡ filter (is_other id) f.calls.items → g.tried ≡ length g.calls.items → Lists o g (marks ++ Returned id answer ∷ [])
     stands_after g table calls_are tried =
         stands_by o g (marks ++ Returned id answer ∷ []) found.left.more
         (subst (λ l. AreShown g.table l found.left.more) (sym calls_are) (subst (λ u. AreShown u (filter (is_other id) f.calls.items) found.left.more) (sym table) found.left.shown))
@@ -62,7 +62,7 @@ module _ {M : Type 0} (o : Object) (f : Frontier M o.State) (marks : List Mark) 
         (closed_after_ok o f.calls.items stands.kept found.all found.left.more id answer found.adds found.left.adds))
 
 -- in the words of the code, which reads the calls as a slice
-module _ {M : Type 0} (o : Object) (f : Frontier M o.State) (marks : List Mark) (stands : StandsFor o f marks) (calls : List PendingOp) (same : calls ≡ f.calls.items) where
+module _ {M : Type 0} (o : Object) (f : Frontier M o.State) (marks : List Mark) (stands : Lists o f marks) (calls : List PendingOp) (same : calls ≡ f.calls.items) where
   calls_once : HasEachOnce calls
   calls_once = subst HasEachOnce (sym same) stands.well_kept.calls_once
 

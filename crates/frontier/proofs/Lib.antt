@@ -20,4 +20,5 @@ pub mod Stating
 pub mod Moving
 pub mod Settling
 pub mod Standing
+pub mod Preparing
 pub mod Judging

@@ -29,17 +29,17 @@ use Rattle.linspec.specs.MarkRule.{IsNew}
 use Rattle.linspec.specs.Ends.{End, IsEnd}
 use Rattle.frontier.proofs.Starting.{back, to}
 use Rattle.frontier.proofs.Closing.{closed_after_fail, closed_again, one_fewer}
-use Rattle.frontier.specs.Meaning.{StandsFor, Blows, IsStep, Keeps, Takes}
+use Rattle.frontier.specs.Meaning.{Lists, Blows, IsStep, Keeps, Takes}
 use Rattle.frontier.specs.EndSteps.{Adds, Along, AreClosed, IsReached, is_in, is_other}
 use Rattle.frontier.proofs.Including.{included_after_fail, included_more}
 use Rattle.frontier.proofs.Generating.{Generates, generates_by, reached_by, generates_after_fail, none_left, some_left}
 
 module _ {M : Type 0} (o : Object) (f : Frontier M o.State) (marks : List Mark) where
-  pub generates_of : (stands : StandsFor o f marks) → Generates o stands.kept marks
+  pub generates_of : (stands : Lists o f marks) → Generates o stands.kept marks
   generates_of stands = generates_by o stands.kept f.calls.items marks stands.well_kept.pending stands.ends
 
   pub stands_by : (kept : List (End o.State)) → AreShown f.table f.calls.items kept → Generates o kept marks → Pairwise (λ d e. d ≢ e) kept → ArePending f.calls.items marks → Pairwise (λ (c d : PendingOp). c.id ≢ d.id) f.calls.items
-      → AreIncluded f.calls.items kept → f.tried ≤ length f.calls.items → AreClosed o (take f.tried f.calls.items) kept → StandsFor o f marks
+      → AreIncluded f.calls.items kept → f.tried ≤ length f.calls.items → AreClosed o (take f.tried f.calls.items) kept → Lists o f marks
   stands_by kept shown gen once pending calls_once included tried closed = record {
     kept = kept;
     shown = shown;
@@ -50,7 +50,7 @@ module _ {M : Type 0} (o : Object) (f : Frontier M o.State) (marks : List Mark) 
   }
 
   -- one that shows the same ends, of the same calls, stands for the same
-  pub stands_too : (g : Frontier M o.State) → g.calls.items ≡ f.calls.items → g.tried ≡ f.tried → (stands : StandsFor o f marks) → AreShown g.table f.calls.items stands.kept → StandsFor o g marks
+  pub stands_too : (g : Frontier M o.State) → g.calls.items ≡ f.calls.items → g.tried ≡ f.tried → (stands : Lists o f marks) → AreShown g.table f.calls.items stands.kept → Lists o g marks
   stands_too g same tried stands shown = record {
     kept = stands.kept;
     shown = subst (λ l. AreShown g.table l stands.kept) (sym same) shown;
@@ -76,13 +76,13 @@ same_back t u s = record { states = sym s.states; founds = sym s.founds; rows = 
 
 module _ {M : Type 0} (o : Object) where
   -- one with the same table, of the same calls
-  pub stands_same : (f : Frontier M o.State) (marks : List Mark) (g : Frontier M o.State) → g.calls.items ≡ f.calls.items → g.tried ≡ f.tried → IsSameTable f.table g.table → StandsFor o f marks → StandsFor o g marks
+  pub stands_same : (f : Frontier M o.State) (marks : List Mark) (g : Frontier M o.State) → g.calls.items ≡ f.calls.items → g.tried ≡ f.tried → IsSameTable f.table g.table → Lists o f marks → Lists o g marks
   stands_same f marks g calls tried same stands =
       stands_too o f marks g calls tried stands (shown_more f.calls.items f.table g.table stands.kept (widens_rows f.table g.table same.states same.founds) same.rows stands.shown)
 
   -- one whose rows say ends in some order
   pub stands_shown : (g : Frontier M o.State) (marks : List Mark) (ends : List (End o.State)) (calls : List PendingOp) → g.calls.items ≡ calls → ShownWith g.table calls [] (Along IsThat ends) → Generates o ends marks → ArePending calls marks
-      → Pairwise (λ (c d : PendingOp). c.id ≢ d.id) calls → AreIncluded calls ends → g.tried ≤ length calls → AreClosed o (take g.tried calls) ends → StandsFor o g marks
+      → Pairwise (λ (c d : PendingOp). c.id ≢ d.id) calls → AreIncluded calls ends → g.tried ≤ length calls → AreClosed o (take g.tried calls) ends → Lists o g marks
   stands_shown g marks ends calls is s gen pending once included tried closed =
       stands_by o g marks s.more (subst (λ l. AreShown g.table l s.more) (sym is) s.shown) (generates_again o ends s.more s.adds marks gen) (s.adds.once tt)
       (subst (λ l. ArePending l marks) (sym is) pending) (subst (Pairwise (λ (c d : PendingOp). c.id ≢ d.id)) (sym is) once)
@@ -170,7 +170,7 @@ shown_of t calls now ends kept a b h =
     (subst (λ l. AreIncluded l (map end_kept ends) → ShownWith t l [] (Along IsThat (map end_kept ends))) a h)
 
 -- a fail
-module _ {M : Type 0} (o : Object) (f : Frontier M o.State) (marks : List Mark) (stands : StandsFor o f marks) (id : ℕ) (is_open : IsOpen marks id) (items left : List (KeptEnd o.State)) (are : map end_kept items ≡ stands.kept)
+module _ {M : Type 0} (o : Object) (f : Frontier M o.State) (marks : List Mark) (stands : Lists o f marks) (id : ℕ) (is_open : IsOpen marks id) (items left : List (KeptEnd o.State)) (are : map end_kept items ≡ stands.kept)
     (is : left ≡ filter (λ k. not (is_in (end_kept k) id false)) items) where
   pub failed_generates : Generates o (map end_kept left) (marks ++ Failed id ∷ [])
   failed_generates = kept_after_fail o items left marks id is_open (subst (λ l. Generates o l marks) (sym are) (generates_of o f marks stands)) is

@@ -6,7 +6,7 @@ use Rattle.models.specs.Objects.{register, cas_register, mutex, fifo_queue, set_
 use Rattle.history.specs.Events.{Mark}
 use Rattle.frontier.specs.declared.any_frontier.AnyFrontier.{AnyFrontier}
 use Rattle.frontier.specs.declared.any_frontier.AnyFrontier.TheVariants.{Register, CasRegister, Mutex, FifoQueue, Set}
-use Rattle.frontier.specs.Meaning.{StandsFor, applied_of, budget_of}
+use Rattle.frontier.specs.Meaning.{StandsFor, WillStandFor, applied_of, budget_of}
 
 abbrev pub kind_of_frontier : AnyFrontier → ModelKind
 kind_of_frontier (Register f) = kinds.Register
@@ -22,6 +22,14 @@ AnyStandsFor (CasRegister f) marks = StandsFor cas_register f.value marks
 AnyStandsFor (Mutex f) marks = StandsFor mutex f.value marks
 AnyStandsFor (FifoQueue f) marks = StandsFor fifo_queue f.value marks
 AnyStandsFor (Set f) marks = StandsFor set_of_numbers f.value marks
+
+-- with what is prepared the frontier will stand for the history
+abbrev pub AnyWillStandFor : AnyFrontier → List Mark → Type 0
+AnyWillStandFor (Register f) marks = WillStandFor register f.value marks
+AnyWillStandFor (CasRegister f) marks = WillStandFor cas_register f.value marks
+AnyWillStandFor (Mutex f) marks = WillStandFor mutex f.value marks
+AnyWillStandFor (FifoQueue f) marks = WillStandFor fifo_queue f.value marks
+AnyWillStandFor (Set f) marks = WillStandFor set_of_numbers f.value marks
 
 -- the greatest number of ends that an ok may meet
 abbrev pub any_budget_of : AnyFrontier → ℕ

@@ -3,7 +3,7 @@ ghost use Rattle.std.specs.Prelude.{◌≡◌, ◌↔◌, List, [], IfOk, MatchR
 ghost use Rattle.models.specs.Objects.{object_of};
 ghost use Rattle.history.specs.Events.{Mark};
 ghost use Rattle.frontier.specs.Meaning.{Answers, CostsAtMost, Keeps, TakesUnlessOver, mark_by};
-ghost use Rattle.frontier.specs.AnyFrontier.{AnyStandsFor, any_applied_of, any_budget_of};
+ghost use Rattle.frontier.specs.AnyFrontier.{AnyStandsFor, AnyWillStandFor, any_applied_of, any_budget_of};
 ghost use Rattle.frontier.specs.AnyFrontier.{kind_of_frontier};
 
 use crate::frontier::{Frontier, Step};
@@ -60,6 +60,22 @@ macro_rules! observe_of {
     };
 }
 
+macro_rules! prepare_of {
+    ($any:expr, $id:expr, $event:expr, $op:expr; $($K:ident $name:literal),*) => {
+        match $any {
+            $(AnyFrontier::$K(frontier) => frontier.prepare($id, $event, $op),)*
+        }
+    };
+}
+
+macro_rules! commit_of {
+    ($any:expr; $($K:ident $name:literal),*) => {
+        match $any {
+            $(AnyFrontier::$K(frontier) => frontier.commit(),)*
+        }
+    };
+}
+
 impl AnyFrontier {
     /// The frontier of a history without events of an object of this kind. The budget is the greatest number of ends
     /// that an ok may meet. `AllocError` where there is no memory for it.
@@ -90,6 +106,35 @@ impl AnyFrontier {
             (any_applied_of self.old) (any_applied_of self.new) }
     {
         each_kind!(observe_of; self, id, kind, op)
+    }
+
+    /// Prepares an event of an operation, and gives its answer: [`Frontier::prepare`]. The frontier stands for what it stood
+    /// for until [`commit`](Self::commit). After Over nothing is prepared; after `AllocError` no commit must follow. What was
+    /// prepared before is dropped.
+    pub fn prepare(&mut self, id: u32, kind: EventKind, op: &Op) -> Result<Step, AllocError>
+        ensures step { let object = object_of (kind_of_frontier self.old) in
+            let old = AnyStandsFor self.old in
+            IfOk result (Answers object (any_budget_of self.old) old (mark_by id kind op.now)) }
+        ensures now { Keeps (AnyStandsFor self.old) (AnyStandsFor self.new) }
+        ensures next { let old = AnyStandsFor self.old in let next = AnyWillStandFor self.new in
+            IfOk result (TakesUnlessOver old next (mark_by id kind op.now)) }
+        ensures kind { kind_of_frontier self.new ≡ kind_of_frontier self.old }
+        ensures budget { any_budget_of self.new ≡ any_budget_of self.old }
+        ensures cost { let old = AnyStandsFor self.old in
+            CostsAtMost (any_budget_of self.old) old (mark_by id kind op.now)
+            (any_applied_of self.old) (any_applied_of self.new) }
+    {
+        each_kind!(prepare_of; self, id, kind, op)
+    }
+
+    /// Carries out what is prepared, if anything is: [`Frontier::commit`]. Takes no memory.
+    pub fn commit(&mut self)
+        ensures stands { Keeps (AnyWillStandFor self.old) (AnyStandsFor self.new) }
+        ensures kind { kind_of_frontier self.new ≡ kind_of_frontier self.old }
+        ensures budget { any_budget_of self.new ≡ any_budget_of self.old }
+        ensures cost { any_applied_of self.new ≡ any_applied_of self.old }
+    {
+        each_kind!(commit_of; self)
     }
 
     /// How many steps were made so far: [`Frontier::applied`].

@@ -1,6 +1,6 @@
 //! The ends that calls lead to from others.
 ghost use Rattle.std.specs.Prelude.{◌≡◌, ◌↔◌, ◌+◌, ◌*◌, ◌<◌, ◌≤◌, true, false, take, drop};
-ghost use Rattle.std.specs.Prelude.{List, [], get_or, length, slice_get, Some, IfOk, OnOk, OnErr};
+ghost use Rattle.std.specs.Prelude.{List, [], get_or, length, slice_get, Some, IfOk, OnOk};
 ghost use Rattle.models.specs.Objects.{of_table};
 ghost use Rattle.history.specs.Events.{IsFront};
 ghost use Rattle.linspec.specs.Ends.{End};
@@ -177,8 +177,7 @@ fn found_rows<M: SeqObject>(
 /// Puts the rows of the ends that are left after the operation has returned with this answer into the room: of those where it
 /// is in and what it found fits, each without it. False where all ends, these and what the calls lead to from them one after
 /// another, are more than the budget. This is so where each call is of another operation, and the first calls, so many as
-/// were tried already, lead from the ends to no others. No more ends than the budget are extended. The rows of the table stay
-/// where they are not all, and where there is no memory.
+/// were tried already, lead from the ends to no others. No more ends than the budget are extended. The rows of the table stay.
 pub fn advance<M: SeqObject>(
     alloc: Global,
     table: &mut Table<M::State>,
@@ -201,19 +200,13 @@ pub fn advance<M: SeqObject>(
         → IfOk result (λ all. all ≡ false
         → (more : List (End M.State)) × Grows object calls.now ends more × (budget < length more)) }
     ensures widens { Widens table.old table.new }
-    ensures over_keeps { IfOk result (λ all. all ≡ false → rows_of table.new ≡ rows_of table.old) }
-    ensures err_keeps { OnErr result (rows_of table.new ≡ rows_of table.old) }
+    ensures rows { rows_of table.new ≡ rows_of table.old }
     ensures cost { applied.new ≤ applied.old + (budget + 1) * length calls.now }
 {
     let kept = table.rows.len();
     let found = found_rows::<M>(
         alloc, table, room, calls, tried, budget, applied, id, answer,
     );
-    match found {
-        Ok(true) => Ok(true),
-        other => {
-            table.rows.truncate(kept);
-            other
-        }
-    }
+    table.rows.truncate(kept);
+    found
 }

@@ -1,11 +1,13 @@
 //! Frontiers, and what each event does to one.
-ghost use Rattle.std.specs.Prelude.{◌≡◌, ◌≢◌, ◌↔◌, List, [], IfOk, MatchResult};
+ghost use Rattle.std.specs.Prelude.{◌≡◌, ◌≢◌, ◌↔◌, List, [], IfOk, OnOk, OnErr, MatchResult};
 ghost use Rattle.models.specs.Objects.{of_table};
 ghost use Rattle.history.specs.Events.{Mark};
 ghost use Rattle.history.specs.Events.Mark.{Invoked, Returned, Failed, Crashed};
-ghost use Rattle.frontier.specs.Meaning.{StandsFor, Answers, Keeps, Takes, TakesUnlessOver};
+ghost use Rattle.frontier.specs.Meaning.{StandsFor, WillStandFor, IsListed, IsIdle};
+ghost use Rattle.frontier.specs.Meaning.{Answers, Keeps, Takes, TakesUnlessOver};
 ghost use Rattle.frontier.specs.Meaning.{CostsAtMost, applied_of, budget_of, mark_by};
 
+use crate::change::{self, Change, Fresh};
 use crate::ends;
 use crate::extend::{self, Room};
 use crate::kept_end::KeptEnd;
@@ -14,7 +16,7 @@ use crate::table::{self, Table};
 use history::EventKind;
 use models::{Answer, Op, SeqObject};
 use std::alloc::{AllocError, Global};
-use std::mem::swap;
+use std::mem::{replace, swap};
 
 /// What an event leaves.
 #[derive(Clone, Copy, Debug, PartialEq, Eq)]
@@ -31,15 +33,20 @@ pub enum Step {
 /// It does not keep the events. It keeps some ends, from which pending operations lead to all others, and only an ok
 /// tries operations: it finds all ends there are just before it, and keeps those that include the operation with what
 /// fits the answer.
+///
+/// An event can be prepared, which may fail and leaves what the frontier stands for, and then committed, which takes no
+/// memory. What was prepared before is dropped.
 #[derive(Drop)]
 pub struct Frontier<M: SeqObject> {
     alloc: Global,
     budget: u32,
     applied: u64,
     calls: Vec<PendingOp>,
+    fresh: Option<Fresh>,
     tried: usize,
     table: Table<M::State>,
     room: Room,
+    next: Change<M::State>,
 }
 
 // Alive where some end is left, else Dead.
@@ -73,16 +80,18 @@ impl<M: SeqObject> Frontier<M> {
             budget,
             applied: 0,
             calls,
+            fresh: None,
             tried: 0,
             table,
             room: Room::new(alloc),
+            next: Change::Nothing,
         })
     }
 
     /// Any event of an operation: [`invoke`](Self::invoke), [`ok`](Self::ok), [`fail`](Self::fail) or
     /// [`crash`](Self::crash) by the kind of the event. The id is the index of the operation's invocation, and the part
     /// of an ok is the answer. An invocation and an info are answered Alive, since they kill nothing. On `AllocError`
-    /// the frontier is unchanged.
+    /// the frontier is unchanged. It is [`prepare`](Self::prepare) and [`commit`](Self::commit) in one.
     pub fn observe(&mut self, id: u32, kind: EventKind, op: &Op) -> Result<Step, AllocError>
         ensures step { let object = of_table M.State M.start_state M.apply_to in
             let old = StandsFor object self.old in
@@ -97,25 +106,71 @@ impl<M: SeqObject> Frontier<M> {
             CostsAtMost (budget_of self.old) old (mark_by id kind op.now)
             (applied_of self.old) (applied_of self.new) }
     {
+        let step = self.prepare(id, kind, op)?;
+        self.commit();
+        Ok(step)
+    }
+
+    /// Prepares any event of an operation, and gives its answer, as [`observe`](Self::observe) does. The frontier stands
+    /// for what it stood for until [`commit`](Self::commit). After Over nothing is prepared; after `AllocError` no commit
+    /// must follow.
+    pub fn prepare(&mut self, id: u32, kind: EventKind, op: &Op) -> Result<Step, AllocError>
+        ensures step { let object = of_table M.State M.start_state M.apply_to in
+            let old = StandsFor object self.old in
+            IfOk result (Answers object (budget_of self.old) old (mark_by id kind op.now)) }
+        ensures now { let object = of_table M.State M.start_state M.apply_to in
+            Keeps (StandsFor object self.old) (StandsFor object self.new) }
+        ensures next { let object = of_table M.State M.start_state M.apply_to in
+            let old = StandsFor object self.old in let next = WillStandFor object self.new in
+            IfOk result (TakesUnlessOver old next (mark_by id kind op.now)) }
+        ensures budget { budget_of self.new ≡ budget_of self.old }
+        ensures cost { let object = of_table M.State M.start_state M.apply_to in
+            let old = StandsFor object self.old in
+            CostsAtMost (budget_of self.old) old (mark_by id kind op.now)
+            (applied_of self.old) (applied_of self.new) }
+    {
         match kind {
             EventKind::Invoke => {
-                self.invoke(id, op.copy()?)?;
+                self.prepare_invoke(id, op.copy()?)?;
                 Ok(Step::Alive)
             }
             EventKind::Ok => {
                 let answer = Answer::of_part(op.part.copy()?);
-                self.ok(id, &answer)
+                self.prepare_ok(id, &answer)
             }
-            EventKind::Fail => self.fail(id),
+            EventKind::Fail => self.prepare_fail(id),
             EventKind::Info => {
-                self.crash(id)?;
+                self.prepare_crash(id)?;
                 Ok(Step::Alive)
             }
         }
     }
 
+    /// Carries out what is prepared, if anything is. Takes no memory.
+    pub fn commit(&mut self)
+        ensures stands { let object = of_table M.State M.start_state M.apply_to in
+            Keeps (WillStandFor object self.old) (StandsFor object self.new) }
+        ensures budget { budget_of self.new ≡ budget_of self.old }
+        ensures cost { applied_of self.new ≡ applied_of self.old }
+    {
+        match replace(&mut self.next, Change::Nothing) {
+            Change::Nothing => {}
+            Change::Invoked(fresh) => self.fresh = Some(fresh),
+            Change::Returned(id) => {
+                swap(&mut self.table.rows, &mut self.room.rows);
+                pending_op::drop_call(&mut self.calls, id);
+                self.tried = self.calls.len();
+            }
+            Change::Anew(calls, table, tried) => {
+                self.calls = calls;
+                self.table = table;
+                self.tried = tried;
+            }
+        }
+    }
+
     /// An operation is invoked, whose id (the index of its invocation) no event before it has. On `AllocError` the
-    /// frontier is unchanged. Tries nothing, and goes through the rows once.
+    /// frontier is unchanged. Tries nothing.
     pub fn invoke(&mut self, id: u32, op: Op) -> Result<(), AllocError>
         ensures kept { let object = of_table M.State M.start_state M.apply_to in
             let old = StandsFor object self.old in let new = StandsFor object self.new in
@@ -123,21 +178,59 @@ impl<M: SeqObject> Frontier<M> {
         ensures budget { budget_of self.new ≡ budget_of self.old }
         ensures cost { applied_of self.new ≡ applied_of self.old }
     {
+        self.prepare_invoke(id, op)?;
+        self.commit();
+        Ok(())
+    }
+
+    // The first half of `invoke`: it is noted at `commit`, and gets its place in the rows with the next event.
+    fn prepare_invoke(&mut self, id: u32, op: Op) -> Result<(), AllocError>
+        ensures now { let object = of_table M.State M.start_state M.apply_to in
+            Keeps (StandsFor object self.old) (StandsFor object self.new) }
+        ensures next { let object = of_table M.State M.start_state M.apply_to in
+            let old = StandsFor object self.old in let next = WillStandFor object self.new in
+            OnOk result (Takes old next (Invoked id op)) }
+        ensures budget { budget_of self.new ≡ budget_of self.old }
+        ensures cost { applied_of self.new ≡ applied_of self.old }
+    {
+        self.list_fresh()?;
+        self.next = Change::Invoked(Fresh { id, op });
+        Ok(())
+    }
+
+    // Drops what is prepared, and takes the fresh operation among the calls, with a place in each row.
+    fn list_fresh(&mut self) -> Result<(), AllocError>
+        ensures listed { let object = of_table M.State M.start_state M.apply_to in
+            OnOk result (Keeps (StandsFor object self.old) (IsListed object self.new)) }
+        ensures nothing { let object = of_table M.State M.start_state M.apply_to in
+            OnErr result (Keeps (StandsFor object self.old) (IsIdle object self.new)) }
+        ensures budget { budget_of self.new ≡ budget_of self.old }
+        ensures cost { applied_of self.new ≡ applied_of self.old }
+    {
+        change::drop_change(&mut self.next);
+        if self.fresh.is_none() {
+            return Ok(());
+        }
         if self.is_crowded() {
-            return self.invoke_anew(id, op);
+            return self.list_anew();
         }
         self.calls.reserve(1)?;
         if !self.table.rows.lengthen() {
-            return self.invoke_anew(id, op);
+            return self.list_anew();
         }
-        let call = PendingOp {
-            id,
-            op,
-            crashed: false,
-        };
-        match self.calls.push(call) {
-            Ok(_) => Ok(()),
-            Err(_full) => unreachable!(),
+        match self.fresh.take() {
+            Some(Fresh { id, op }) => {
+                let call = PendingOp {
+                    id,
+                    op,
+                    crashed: false,
+                };
+                match self.calls.push(call) {
+                    Ok(_) => Ok(()),
+                    Err(_full) => unreachable!(),
+                }
+            }
+            None => Ok(()),
         }
     }
 
@@ -146,23 +239,28 @@ impl<M: SeqObject> Frontier<M> {
         self.table.states.len() / 4 > self.table.rows.len().saturating_add(8)
     }
 
-    // The same as `invoke`, with a new table.
-    fn invoke_anew(&mut self, id: u32, op: Op) -> Result<(), AllocError>
-        ensures kept { let object = of_table M.State M.start_state M.apply_to in
-            let old = StandsFor object self.old in let new = StandsFor object self.new in
-            MatchResult result (λ _. Takes old new (Invoked id op)) (λ _. Keeps old new) }
+    // The same as `list_fresh`, with a new table.
+    fn list_anew(&mut self) -> Result<(), AllocError>
+        ensures listed { let object = of_table M.State M.start_state M.apply_to in
+            OnOk result (Keeps (IsIdle object self.old) (IsListed object self.new)) }
+        ensures nothing { let object = of_table M.State M.start_state M.apply_to in
+            OnErr result (Keeps (IsIdle object self.old) (IsIdle object self.new)) }
         ensures budget { budget_of self.new ≡ budget_of self.old }
         ensures cost { applied_of self.new ≡ applied_of self.old }
     {
-        let ends = table::ends_of::<M>(self.alloc, &self.table, &self.calls)?;
+        let Some(fresh) = &self.fresh else {
+            return Ok(());
+        };
         let mut calls = pending_op::copy_calls(self.alloc, &self.calls)?;
         calls.push(PendingOp {
-            id,
-            op,
+            id: fresh.id,
+            op: fresh.op.copy()?,
             crashed: false,
         })?;
+        let ends = table::ends_of::<M>(self.alloc, &self.table, &self.calls)?;
         self.table = table::of_ends::<M>(self.alloc, &ends, &calls)?;
         self.calls = calls;
+        self.fresh = None;
         Ok(())
     }
 
@@ -185,6 +283,28 @@ impl<M: SeqObject> Frontier<M> {
             CostsAtMost (budget_of self.old) old (Returned id answer.now)
             (applied_of self.old) (applied_of self.new) }
     {
+        let step = self.prepare_ok(id, answer)?;
+        self.commit();
+        Ok(step)
+    }
+
+    // The first half of `ok`: the rows that are left are put into the room, and take the others' place at `commit`.
+    fn prepare_ok(&mut self, id: u32, answer: &Answer) -> Result<Step, AllocError>
+        ensures step { let object = of_table M.State M.start_state M.apply_to in
+            let old = StandsFor object self.old in
+            IfOk result (Answers object (budget_of self.old) old (Returned id answer.now)) }
+        ensures now { let object = of_table M.State M.start_state M.apply_to in
+            Keeps (StandsFor object self.old) (StandsFor object self.new) }
+        ensures next { let object = of_table M.State M.start_state M.apply_to in
+            let old = StandsFor object self.old in let next = WillStandFor object self.new in
+            IfOk result (TakesUnlessOver old next (Returned id answer.now)) }
+        ensures budget { budget_of self.new ≡ budget_of self.old }
+        ensures cost { let object = of_table M.State M.start_state M.apply_to in
+            let old = StandsFor object self.old in
+            CostsAtMost (budget_of self.old) old (Returned id answer.now)
+            (applied_of self.old) (applied_of self.new) }
+    {
+        self.list_fresh()?;
         let all = extend::advance::<M>(
             self.alloc,
             &mut self.table,
@@ -199,10 +319,8 @@ impl<M: SeqObject> Frontier<M> {
         if !all {
             return Ok(Step::Over);
         }
-        swap(&mut self.table.rows, &mut self.room.rows);
-        pending_op::drop_call(&mut self.calls, id);
-        self.tried = self.calls.len();
-        Ok(step_of(self.table.rows.len()))
+        self.next = Change::Returned(id);
+        Ok(step_of(self.room.rows.len()))
     }
 
     /// How many steps were made so far: how often an operation was tried in a state, also in an ok that was answered Over
@@ -225,14 +343,33 @@ impl<M: SeqObject> Frontier<M> {
         ensures budget { budget_of self.new ≡ budget_of self.old }
         ensures cost { applied_of self.new ≡ applied_of self.old }
     {
+        let step = self.prepare_fail(id)?;
+        self.commit();
+        Ok(step)
+    }
+
+    // The first half of `fail`: makes the rows that take the others' place at `commit`.
+    fn prepare_fail(&mut self, id: u32) -> Result<Step, AllocError>
+        ensures step { let object = of_table M.State M.start_state M.apply_to in
+            let old = StandsFor object self.old in
+            IfOk result (Answers object (budget_of self.old) old (Failed id)) }
+        ensures now { let object = of_table M.State M.start_state M.apply_to in
+            Keeps (StandsFor object self.old) (StandsFor object self.new) }
+        ensures next { let object = of_table M.State M.start_state M.apply_to in
+            let old = StandsFor object self.old in let next = WillStandFor object self.new in
+            IfOk result (TakesUnlessOver old next (Failed id)) }
+        ensures budget { budget_of self.new ≡ budget_of self.old }
+        ensures cost { applied_of self.new ≡ applied_of self.old }
+    {
+        self.list_fresh()?;
         let mut ends = table::ends_of::<M>(self.alloc, &self.table, &self.calls)?;
         ends.retain(|kept| !kept.includes(id));
         let mut calls = pending_op::copy_calls(self.alloc, &self.calls)?;
         pending_op::drop_call(&mut calls, id);
-        self.table = table::of_ends::<M>(self.alloc, &ends, &calls)?;
-        self.calls = calls;
-        self.tried = self.tried.saturating_sub(1);
-        Ok(step_of(self.table.rows.len()))
+        let table = table::of_ends::<M>(self.alloc, &ends, &calls)?;
+        let left = table.rows.len();
+        self.next = Change::Anew(calls, table, self.tried.saturating_sub(1));
+        Ok(step_of(left))
     }
 
     /// An open operation has crashed: it may take place at any later moment, or never. On `AllocError` the frontier is
@@ -244,13 +381,28 @@ impl<M: SeqObject> Frontier<M> {
         ensures budget { budget_of self.new ≡ budget_of self.old }
         ensures cost { applied_of self.new ≡ applied_of self.old }
     {
+        self.prepare_crash(id)?;
+        self.commit();
+        Ok(())
+    }
+
+    // The first half of `crash`: makes the rows that take the others' place at `commit`.
+    fn prepare_crash(&mut self, id: u32) -> Result<(), AllocError>
+        ensures now { let object = of_table M.State M.start_state M.apply_to in
+            Keeps (StandsFor object self.old) (StandsFor object self.new) }
+        ensures next { let object = of_table M.State M.start_state M.apply_to in
+            let old = StandsFor object self.old in let next = WillStandFor object self.new in
+            OnOk result (Takes old next (Crashed id)) }
+        ensures budget { budget_of self.new ≡ budget_of self.old }
+        ensures cost { applied_of self.new ≡ applied_of self.old }
+    {
+        self.list_fresh()?;
         let ends = table::ends_of::<M>(self.alloc, &self.table, &self.calls)?;
         let after = ends::crashed_ends::<M>(self.alloc, &ends, id)?;
         let mut calls = pending_op::copy_calls(self.alloc, &self.calls)?;
         pending_op::mark_crashed(&mut calls, id);
-        self.table = table::of_ends::<M>(self.alloc, &after, &calls)?;
-        self.calls = calls;
-        self.tried = 0;
+        let table = table::of_ends::<M>(self.alloc, &after, &calls)?;
+        self.next = Change::Anew(calls, table, 0);
         Ok(())
     }
 
@@ -259,7 +411,7 @@ impl<M: SeqObject> Frontier<M> {
         self.alloc
     }
 
-    /// An equal frontier, with memory of its own; `AllocError` where there is none.
+    /// An equal frontier, with memory of its own and nothing prepared; `AllocError` where there is none.
     pub fn copy(&self) -> Result<Self, AllocError>
         ensures same { let object = of_table M.State M.start_state M.apply_to in
             IfOk result (λ f. (marks : List Mark)
@@ -272,9 +424,11 @@ impl<M: SeqObject> Frontier<M> {
             budget: self.budget,
             applied: self.applied,
             calls: pending_op::copy_calls(self.alloc, &self.calls)?,
+            fresh: change::copied_fresh(&self.fresh)?,
             tried: self.tried,
             table: table::copied::<M>(self.alloc, &self.table)?,
             room: Room::new(self.alloc),
+            next: Change::Nothing,
         })
     }
 }

@@ -2,6 +2,7 @@
 #![tactic(auto)]
 
 pub mod any_frontier;
+mod change;
 mod ends;
 mod extend;
 pub mod frontier;

@@ -1,18 +1,10 @@
+use Rattle.std.proofs.Common.{sym, subst}
+use Rattle.models.specs.Objects.{of_table}
+use Rattle.frontier.specs.Meaning.{CostsAtMost, StandsFor, mark_by}
 use Rattle.frontier.proofs.frontier.Frontier.observe.Goals as goal
 
-pub returns-in_ok-invoke-in-Invoke-clause-kept : goal.returns-in_ok-invoke-in-Invoke-clause-kept
-returns-in_ok-invoke-in-Invoke-clause-kept g c =
-    rw c.in-Invoke.is (record {
-      over = λ over. cc;
-      taken = λ _. rw (← c.in_ok-copy-in-Invoke.ensures) c.in_ok-invoke-in-Invoke.ensures.kept;
-    })
-
-pub returns-in_ok-crash-in-Info-clause-kept : goal.returns-in_ok-crash-in-Info-clause-kept
-returns-in_ok-crash-in-Info-clause-kept g c =
-    rw c.in-Info.is (record {
-      over = λ over. cc;
-      taken = λ _. c.in_ok-crash-in-Info.ensures.kept;
-    })
-
-pub returns-in_ok-copy-in-Ok-clause-cost : goal.returns-in_ok-copy-in-Ok-clause-cost
-returns-in_ok-copy-in-Ok-clause-cost g c = rw c.in-Ok.is c.ok.ensures.cost
+pub returns-clause-cost : goal.returns-clause-cost
+returns-clause-cost g c =
+    let o = of_table g.row.M-State.Denot g.M.SeqObject.start_state g.M.SeqObject.apply_to in
+    let f = c.args.self.now in
+    subst (λ a. CostsAtMost f.budget (StandsFor o f) (mark_by c.args.id c.args.kind c.args.op.now) f.applied a) (sym c.commit.ensures.cost) c.in_ok-step.ensures.cost

@@ -1,8 +1,9 @@
-use Rattle.std.proofs.Common.{ap, map, ◌∙◌, ◌∷◌, ◌++◌, [], arith}
+use Rattle.std.proofs.Common.{◌≤◌, ap, refl, map, ◌∙◌, ◌∷◌, ◌++◌, [], arith}
 use Rattle.models.specs.Objects.{of_table}
 use Rattle.frontier.specs.declared.kept_end.KeptEnd.{KeptEnd}
 use Rattle.frontier.specs.KeptEnds.{end_kept}
 use Rattle.frontier.proofs.Standing.{shown_of, stands_shown}
+use Rattle.frontier.proofs.Preparing.{listed_stands}
 use Rattle.frontier.proofs.Generating.{generates_all}
 use Rattle.frontier.proofs.Closing.{closed_none}
 use Rattle.frontier.proofs.AfterEvents.{kept_at_start, calls_at_start}
@@ -16,6 +17,8 @@ returns-clause-stands g c =
     let items = c.in_ok-push.ensures.items ∙ ap (λ l. l ++ k ∷ []) c.new-ends.ensures.items in
     let are = kept_at_start o c.push.new.self.items k items c.start.ensures c.new.ensures.items c.new-2.ensures.items in
     let included = included_of_start [] c.push.new.self.items k items c.new.ensures.items c.new-2.ensures.items in
-    stands_shown o _ [] (map end_kept c.push.new.self.items) [] c.new-calls.ensures.items
+    let tried : 0 ≤ 0 = omega arith in
+    listed_stands o _ [] refl
+    (stands_shown o _ [] (map end_kept c.push.new.self.items) [] c.new-calls.ensures.items
     (shown_of c.in_ok-table.table c.deref-2.result.now [] c.deref.result.now c.push.new.self.items (c.deref-2.ensures.value ∙ c.new-calls.ensures.items) c.deref.ensures.value c.in_ok-table.ensures included)
-    (generates_all o _ [] are) calls_at_start tt included (omega arith) (closed_none o (map end_kept c.push.new.self.items))
+    (generates_all o _ [] are) calls_at_start tt included tried (closed_none o (map end_kept c.push.new.self.items)))

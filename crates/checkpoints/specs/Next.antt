@@ -1,0 +1,30 @@
+-- Invariant: what becomes of a key by a change that is prepared
+use Rattle.std.specs.Prelude.{ℕ, List}
+use Rattle.models.specs.declared.model_kind.ModelKind.{ModelKind}
+use Rattle.history.specs.declared.event.Event.{Event}
+use Rattle.linspec.specs.declared.verdict.KeyStatus.{KeyStatus}
+use Rattle.checkpoints.specs.LiveKey.{WillBeLive}
+use Rattle.checkpoints.specs.declared.key_state.KeyState.{KeyState}
+use Rattle.checkpoints.specs.declared.key_state.KeyState.TheVariants.{Alive, Dead, Over}
+use Rattle.checkpoints.specs.declared.next.Next.{Next}
+use Rattle.checkpoints.specs.declared.next.Next.TheVariants.{Stays, Goes, Becomes}
+use Rattle.checkpoints.specs.KeyState.{status_of, IsAlive, IsKeyState}
+
+-- the key is alive after the events, and what it has prepared are these events
+abbrev pub GoesOn : ModelKind → ℕ → List (ℕ × Event) → KeyState → Type 0
+GoesOn kind budget events (Alive live) =
+    IsAlive kind budget events × WillBeLive kind budget events live
+GoesOn kind budget events (Dead i) = ⊥
+GoesOn kind budget events (Over i) = ⊥
+
+-- where this becomes of a key that stands so now, it stands for the events then
+abbrev pub IsNext : ModelKind → ℕ → List (ℕ × Event) → KeyState → Next → Type 0
+IsNext kind budget events state Stays = IsKeyState kind budget events state
+IsNext kind budget events state Goes = GoesOn kind budget events state
+IsNext kind budget events state (Becomes other) = IsKeyState kind budget events other
+
+-- what is known of it then: a key that goes on is alive now and then
+abbrev pub status_by : KeyState → Next → KeyStatus
+status_by state Stays = status_of state
+status_by state Goes = status_of state
+status_by state (Becomes other) = status_of other

@@ -1,0 +1,29 @@
+//! What becomes of a key by a change that is prepared.
+ghost use Rattle.std.specs.Prelude.{◌≡◌};
+ghost use Rattle.checkpoints.specs.Next.{status_by};
+
+use crate::key_state::KeyState;
+use linspec::KeyStatus;
+
+/// What becomes of a key's state where the change is carried out.
+#[derive(Drop)]
+pub(crate) enum Next {
+    /// The key stands as it did: it is dead or over, or it loses no event, or the event is of no operation.
+    Stays,
+    /// The key is alive, and carries out what it has prepared.
+    Goes,
+    /// This state takes its place.
+    Becomes(KeyState),
+}
+
+impl Next {
+    /// What will be known of the key that stands so now.
+    pub(crate) fn status(&self, state: &KeyState) -> KeyStatus
+        ensures { result ≡ status_by state.now self.now }
+    {
+        match self {
+            Next::Stays | Next::Goes => state.status(),
+            Next::Becomes(other) => other.status(),
+        }
+    }
+}

@@ -1,0 +1,112 @@
+-- frontiers with an operation that has no place in the rows yet, and with a change that is prepared
+use Rattle.std.proofs.Common.{◌≡◌, ◌∙◌, ℕ, Option, Some, None, Result, Ok, Err, OnOk, OnErr, List, [], ◌∷◌, ◌++◌, refl, sym, subst}
+use Rattle.std.specs.declared.alloc.AllocError.{AllocError}
+use Rattle.models.specs.Objects.{Object}
+use Rattle.history.specs.Events.{Mark}
+use Rattle.history.specs.Events.Mark.{Invoked}
+use Rattle.linspec.specs.MarkRule.{MayFollow}
+use Rattle.frontier.specs.declared.change.Change.{Change}
+use Rattle.frontier.specs.declared.change.Change.TheVariants.{Nothing, Invoked as ToInvoked}
+use Rattle.frontier.specs.declared.change.Fresh.{Fresh}
+use Rattle.frontier.specs.declared.frontier.Frontier.{Frontier}
+use Rattle.frontier.specs.declared.pending_op.PendingOp.{PendingOp}
+use Rattle.frontier.specs.declared.table.Table.{Table}
+use Rattle.frontier.specs.declared.frontier.Step.{Step}
+use Rattle.frontier.specs.Meaning.{Answers, CostsAtMost, Keeps, TakesUnlessOver}
+use Rattle.frontier.specs.Meaning.{IsIdle, IsListed, IsOf, Lists, ListsBut, Makes, StandsFor, StandsWith, WillStandFor}
+use Rattle.frontier.specs.Tables.{AreShown, Widens, rows_of}
+use Rattle.frontier.proofs.Showing.{shown_more}
+use Rattle.frontier.proofs.Standing.{stands_too}
+
+module _ {M : Type 0} (o : Object) (f g : Frontier M o.State) where
+  -- the same rows, calls and tried calls
+  pub lists_like : g.table ≡ f.table → g.calls.items ≡ f.calls.items → g.tried ≡ f.tried → (marks : List Mark) → Lists o f marks → Lists o g marks
+  lists_like table calls tried marks l = stands_too o f marks g calls tried l (subst (λ t. AreShown t f.calls.items l.kept) (sym table) l.shown)
+
+  -- more stands in the table, but no more rows
+  pub lists_more : g.calls.items ≡ f.calls.items → g.tried ≡ f.tried → Widens f.table g.table → rows_of g.table ≡ rows_of f.table → (marks : List Mark) → Lists o f marks → Lists o g marks
+  lists_more calls tried widens rows marks l = stands_too o f marks g calls tried l (shown_more f.calls.items f.table g.table l.kept widens rows l.shown)
+
+  -- the operation has no place in the rows yet
+  pub lists_but : (fresh : Fresh) (marks : List Mark) → ((before : List Mark) → Lists o f before → Lists o g before) → ListsBut o f fresh marks → ListsBut o g fresh marks
+  lists_but fresh marks to l = record { before = l.before; is = l.is; may = l.may; lists = to l.before l.lists }
+
+  pub stands_with : ((before : List Mark) → Lists o f before → Lists o g before) → (fresh : Option Fresh) (marks : List Mark) → StandsWith o f fresh marks → StandsWith o g fresh marks
+  stands_with to None marks l = to marks l
+  stands_with to (Some fresh) marks l = lists_but fresh marks to l
+
+  pub stands_to : ((before : List Mark) → Lists o f before → Lists o g before) → g.fresh ≡ f.fresh → (marks : List Mark) → StandsFor o f marks → StandsFor o g marks
+  stands_to to same marks s = record { stands = subst (λ x. StandsWith o g x marks) (sym same) (stands_with to f.fresh marks s.stands) }
+
+  pub stands_like : IsOf g f.table f.calls.items f.tried f.fresh → (marks : List Mark) → StandsFor o f marks → StandsFor o g marks
+  stands_like is marks s = stands_to (lists_like is.0 is.1 is.2) is.3 marks s
+
+  -- nothing is prepared
+  pub idle_like : IsOf g f.table f.calls.items f.tried f.fresh → g.next ≡ Nothing → (marks : List Mark) → StandsFor o f marks → IsIdle o g marks
+  idle_like is nothing marks s = record { nothing = nothing; stands = stands_like is marks s }
+
+module _ {M : Type 0} (o : Object) (f : Frontier M o.State) (marks : List Mark) where
+  pub listed_stands : f.fresh ≡ None → Lists o f marks → StandsFor o f marks
+  listed_stands none l = record { stands = subst (λ x. StandsWith o f x marks) (sym none) l }
+
+  pub listed_of : f.fresh ≡ None → StandsFor o f marks → Lists o f marks
+  listed_of none s = subst (λ x. StandsWith o f x marks) none s.stands
+
+  pub but_of : (fresh : Fresh) → f.fresh ≡ Some fresh → StandsFor o f marks → ListsBut o f fresh marks
+  but_of fresh some s = subst (λ x. StandsWith o f x marks) some s.stands
+
+  pub idle_will : IsIdle o f marks → WillStandFor o f marks
+  idle_will idle = record { will = λ g makes. stands_like o f g (subst (λ n. Makes n f g) idle.nothing makes) marks idle.stands }
+
+  pub listed_idle : IsListed o f marks → IsIdle o f marks
+  listed_idle l = record { nothing = l.nothing; stands = listed_stands l.none l.lists }
+
+  -- an invocation is prepared
+  pub will_invoke : (fresh : Fresh) → f.next ≡ ToInvoked fresh → MayFollow marks (Invoked fresh.id fresh.op) → Lists o f marks → WillStandFor o f (marks ++ Invoked fresh.id fresh.op ∷ [])
+  will_invoke fresh is may l = record {
+    will = λ g makes.
+        let made = subst (λ n. Makes n f g) is makes in record {
+          stands = subst (λ x. StandsWith o g x (marks ++ Invoked fresh.id fresh.op ∷ [])) (sym made.3)
+          (record { before = marks; is = refl; may = may; lists = lists_like o f g made.0 made.1 made.2 marks l });
+        };
+  }
+
+  -- another event is
+  pub will_by : (next : Change o.State) → f.next ≡ next → f.fresh ≡ None → (table : Table o.State) (calls : List PendingOp) (tried : ℕ) → ((g : Frontier M o.State) → Makes next f g → IsOf g table calls tried f.fresh)
+      → ((g : Frontier M o.State) → g.table ≡ table → g.calls.items ≡ calls → g.tried ≡ tried → Lists o g marks) → WillStandFor o f marks
+  will_by next is none table calls tried made lists = record {
+    will = λ g makes.
+        let m = made g (subst (λ n. Makes n f g) is makes) in
+        record { stands = subst (λ x. StandsWith o g x marks) (sym (m.3 ∙ none)) (lists g m.0 m.1 m.2) };
+  }
+
+pub lists_is : {M : Type 0} (o : Object) (f : Frontier M o.State) (marks before : List Mark) → marks ≡ before → Lists o f before → Lists o f marks
+lists_is o f marks before is l = subst (Lists o f) (sym is) l
+
+-- what is prepared is carried out
+pub made_by : {M : Type 0} (o : Object) (f g : Frontier M o.State) (marks : List Mark) (next : Change o.State) → next ≡ f.next → Makes next f g → WillStandFor o f marks → StandsFor o g marks
+made_by o f g marks next is made w = w.will g (subst (λ n. Makes n f g) is made)
+
+-- where the calls take the fresh one, and where they do not
+pub ok_keeps : (old mid new : List Mark → Type 0) (r : Result (Unit {0}) AllocError) → Keeps old mid → OnOk r (Keeps mid new) → OnOk r (Keeps old new)
+ok_keeps old mid new (Ok x) to on = λ marks stands. on marks (to marks stands)
+ok_keeps old mid new (Err e) to on = tt
+
+pub err_keeps : (old mid new : List Mark → Type 0) (r : Result (Unit {0}) AllocError) → Keeps old mid → OnErr r (Keeps mid new) → OnErr r (Keeps old new)
+err_keeps old mid new (Ok x) to on = tt
+err_keeps old mid new (Err e) to on = λ marks stands. on marks (to marks stands)
+
+-- what is said by way of a frontier that stands for the same
+module _ (old mid : List Mark → Type 0) (keeps : Keeps old mid) where
+  pub answers_from : (o : Object) (budget : ℕ) (mark : Mark) (step : Step) → Answers o budget mid mark step → Answers o budget old mark step
+  answers_from o budget mark step a = record { right = λ marks stands may. a.right marks (keeps marks stands) may; over_at_ok = a.over_at_ok }
+
+  pub taken_from : (next : List Mark → Type 0) (mark : Mark) (step : Step) → TakesUnlessOver mid next mark step → TakesUnlessOver old next mark step
+  taken_from next mark step t = record { over = λ e marks stands. t.over e marks (keeps marks stands); taken = λ ne marks stands may. t.taken ne marks (keeps marks stands) may }
+
+  pub costs_from : (budget : ℕ) (mark : Mark) (before after : ℕ) → CostsAtMost budget mid mark before after → CostsAtMost budget old mark before after
+  costs_from budget mark before after costs marks stands n most = costs marks (keeps marks stands) n most
+
+-- and by carrying it out
+pub taken_on : (old next new : List Mark → Type 0) (mark : Mark) (step : Step) → TakesUnlessOver old next mark step → Keeps next new → TakesUnlessOver old new mark step
+taken_on old next new mark step t on = record { over = λ e marks stands. on marks (t.over e marks stands); taken = λ ne marks stands may. on _ (t.taken ne marks stands may) }

@@ -1,0 +1,29 @@
+use Rattle.std.proofs.Common.{rules, ◌≡◌, ap, length, refl, ◌∙◌}
+use Rattle.std.specs.Vec.{vec_len}
+use Rattle.models.specs.Objects.{of_table}
+use Rattle.frontier.specs.declared.change.Change.TheVariants.{Nothing, Anew, Invoked, Returned}
+use Rattle.frontier.proofs.Preparing.{made_by}
+use Rattle.frontier.proofs.frontier.Frontier.commit.Goals as goal
+
+pub returns-in-Nothing-clause-stands : goal.returns-in-Nothing-clause-stands
+returns-in-Nothing-clause-stands g c marks =
+    let o = of_table g.row.M-State.Denot g.M.SeqObject.start_state g.M.SeqObject.apply_to in
+    made_by o c.args.self.now _ marks Nothing c.in-Nothing.ensures.value (refl, refl, refl, refl)
+
+pub returns-in-Invoked-clause-stands : goal.returns-in-Invoked-clause-stands
+returns-in-Invoked-clause-stands g c marks =
+    let o = of_table g.row.M-State.Denot g.M.SeqObject.start_state g.M.SeqObject.apply_to in
+    made_by o c.args.self.now _ marks (Invoked c.in-Invoked.fresh) c.in-Invoked.ensures.value (refl, refl, refl, refl)
+
+pub returns-in-Returned-clause-stands : goal.returns-in-Returned-clause-stands
+returns-in-Returned-clause-stands g c marks =
+    let o = of_table g.row.M-State.Denot g.M.SeqObject.start_state g.M.SeqObject.apply_to in
+    let f = c.args.self.now in
+    let long : vec_len c.drop_call.new.calls ≡ length c.drop_call.new.calls.items = search rules in
+    made_by o f _ marks (Returned c.in-Returned.id) c.in-Returned.ensures.value
+    ((λ i. record { states = f.table.states; founds = f.table.founds; rows = c.swap.ensures.x_after i }), c.drop_call.ensures, c.len-self.ensures ∙ long ∙ ap length c.drop_call.ensures, refl)
+
+pub returns-in-Anew-clause-stands : goal.returns-in-Anew-clause-stands
+returns-in-Anew-clause-stands g c marks =
+    let o = of_table g.row.M-State.Denot g.M.SeqObject.start_state g.M.SeqObject.apply_to in
+    made_by o c.args.self.now _ marks (Anew c.in-Anew.calls c.in-Anew.table c.in-Anew.tried) c.in-Anew.ensures.value (refl, refl, refl, refl)

@@ -1,0 +1,47 @@
+//! Changes of a frontier that are prepared.
+ghost use Rattle.std.specs.Prelude.{◌≡◌, IfOk};
+
+use crate::pending_op::PendingOp;
+use crate::table::Table;
+use models::Op;
+use std::alloc::AllocError;
+
+/// An operation that was invoked: its id, and what it is.
+#[derive(Drop)]
+pub struct Fresh {
+    pub id: u32,
+    pub op: Op,
+}
+
+/// What a prepared event makes of a frontier. To carry it out takes no memory.
+#[derive(Drop)]
+pub enum Change<S: Ord + Drop> {
+    /// Nothing.
+    Nothing,
+    /// This operation is invoked.
+    Invoked(Fresh),
+    /// The operation with this id has returned: the rows in the room take the place of the others.
+    Returned(u32),
+    /// These calls and this table take the place of the others, and so many of the calls count as tried.
+    Anew(Vec<PendingOp>, Table<S>, usize),
+}
+
+/// Nothing is prepared any more.
+pub fn drop_change<S: Ord + Drop>(change: &mut Change<S>)
+    ensures { change.new ≡ Change.Nothing }
+{
+    *change = Change::Nothing;
+}
+
+/// The same operation, if there is one.
+pub fn copied_fresh(fresh: &Option<Fresh>) -> Result<Option<Fresh>, AllocError>
+    ensures { IfOk result (λ copy. copy ≡ fresh.now) }
+{
+    match fresh {
+        None => Ok(None),
+        Some(fresh) => Ok(Some(Fresh {
+            id: fresh.id,
+            op: fresh.op.copy()?,
+        })),
+    }
+}
