@@ -1,6 +1,5 @@
 -- how a key stands with one more event
-use Rattle.std.proofs.Common.{◌≡◌, ◌≢◌, ℕ, ◌⊎◌, inl, inr, ⊎_elim, cond, nat_eq, Option, Some, None, List, [], ◌∷◌, ◌++◌, refl, sym, ap, ◌∙◌, subst}
-use Rattle.std.proofs.lemmas.Bool.{cases_eq}
+use Rattle.std.proofs.Common.{◌≡◌, ◌≢◌, ℕ, ◌⊎◌, inl, inr, ⊎_elim, Option, Some, None, List, [], ◌∷◌, ◌++◌, refl, sym, ap, ◌∙◌, subst}
 use Rattle.std.proofs.lemmas.List.{append-nil}
 use Rattle.std.specs.Ordering.{nat_cmp}
 use Rattle.std.specs.BTreeMap.{get}
@@ -23,7 +22,7 @@ use Rattle.linspec.specs.Ends.{HasMoreThan}
 use Rattle.linspec.specs.Orders.{IsLinearizable}
 use Rattle.linspec.specs.Verdicts.{IsKeyStatus, IsRising}
 use Rattle.linspec.proofs.Fronts.{marks-append}
-use Rattle.linspec.proofs.Histories.{cond_same, cond_other, of_history}
+use Rattle.linspec.proofs.Histories.{of_history}
 use Rattle.frontier.specs.declared.frontier.Step.{Step}
 use Rattle.frontier.specs.declared.frontier.Step.TheVariants as steps
 use Rattle.frontier.specs.Meaning.{mark_by, Blows, IsStep, IsAnswer, Answers, TakesUnlessOver}

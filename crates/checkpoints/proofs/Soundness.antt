@@ -59,13 +59,6 @@ module _ (kind : ModelKind) (budget : ℕ) (events : List (ℕ × Event)) (state
   pub all_stand : (k : ℕ) → length events ≤ k → IsKeyState kind budget (take k events) state
   all_stand k le = subst (λ l. IsKeyState kind budget l state) (sym (take_all k events le)) now.stands
 
--- another kind and budget judge the same events
-pub rebuilt_brought : (kind : ModelKind) (budget : ℕ) (events read : List (ℕ × Event)) → read ≡ events → IsHistory events → (now state : KeyState) (saved : List KeyState) → (IsHistory read → IsKeyState kind budget read state) → (IsHistory read → AreSaved kind budget read saved)
-    → (k : ℕ) → length events ≤ k → IsBrought kind budget (take k events) now (Becomes state) saved
-rebuilt_brought kind budget events read same history now state saved stands are k le =
-    let whole : IsHistory read = subst IsHistory (sym same) history in
-    subst (λ l. IsBrought kind budget l now (Becomes state) saved) (same ∙ sym (take_all k events le)) (record { history = whole; stands = stands whole; saved_are = are whole })
-
 -- what was found of the events, read from their place
 pub read_stands : (kind : ModelKind) (budget : ℕ) (events read : List (ℕ × Event)) → read ≡ events → IsHistory events → (state : KeyState) → (IsHistory read → IsKeyState kind budget read state) → IsKeyState kind budget events state
 read_stands kind budget events read same history state stands = subst (λ l. IsKeyState kind budget l state) same (stands (subst IsHistory (sym same) history))

@@ -39,8 +39,8 @@ pub record IsLiveKey (kind : ModelKind) (budget : ℕ) (events : List (ℕ × Ev
   pub budget_is : any_budget_of live.frontier ≡ budget
   pub knows : KnowsOpen events live
 
--- so it will be of these events, once what is prepared is carried out: the process that is closed
--- then has no open operation after them
+-- once what is prepared is carried out, the frontier will stand for the events, and what is open after
+-- them is known. The process that is closed then has no open operation
 pub record WillBeLive (kind : ModelKind) (budget : ℕ) (events : List (ℕ × Event)) (live : LiveKey)
     : Type 0 where
   pub stands : AnyWillStandFor live.frontier (marks (entries_of events))

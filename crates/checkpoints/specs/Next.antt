@@ -10,20 +10,21 @@ use Rattle.checkpoints.specs.declared.next.Next.{Next}
 use Rattle.checkpoints.specs.declared.next.Next.TheVariants.{Stays, Goes, Becomes}
 use Rattle.checkpoints.specs.KeyState.{status_of, IsAlive, IsKeyState}
 
--- the key is alive after the events, and what it has prepared are these events
+-- the key will be alive after the events, once it carries out what it has prepared. A key that is dead
+-- or over has nothing to carry out
 abbrev pub GoesOn : ModelKind → ℕ → List (ℕ × Event) → KeyState → Type 0
 GoesOn kind budget events (Alive live) =
     IsAlive kind budget events × WillBeLive kind budget events live
 GoesOn kind budget events (Dead i) = ⊥
 GoesOn kind budget events (Over i) = ⊥
 
--- where this becomes of a key that stands so now, it stands for the events then
+-- where this becomes of a key whose state is this one now, its state then is right for the events
 abbrev pub IsNext : ModelKind → ℕ → List (ℕ × Event) → KeyState → Next → Type 0
 IsNext kind budget events state Stays = IsKeyState kind budget events state
 IsNext kind budget events state Goes = GoesOn kind budget events state
 IsNext kind budget events state (Becomes other) = IsKeyState kind budget events other
 
--- what is known of it then: a key that goes on is alive now and then
+-- what is known of the key then. A key that goes on is alive now and then
 abbrev pub status_by : KeyState → Next → KeyStatus
 status_by state Stays = status_of state
 status_by state Goes = status_of state

@@ -42,15 +42,14 @@ pub record IsJudged (kind : ModelKind) (budget : ℕ) (events : List (ℕ × Eve
   pub stands : IsKeyState kind budget events state
   pub saved_are : AreSaved kind budget events saved
 
--- where a key that stands so now becomes this, they are a history then, and the key and what is
--- saved of it stand so
+-- the events are a history, what becomes of the key is right for them, and its state was as is saved
 pub record IsBrought (kind : ModelKind) (budget : ℕ) (events : List (ℕ × Event)) (state : KeyState)
     (next : Next) (saved : List KeyState) : Type 0 where
   pub history : IsHistory events
   pub stands : IsNext kind budget events state next
   pub saved_are : AreSaved kind budget events saved
 
--- what a prepared change brings is so, and carrying it out needs no memory
+-- what a prepared change brings is right, and carrying it out needs no memory
 pub record IsReady (events : List (ℕ × Event)) (state : KeyState) (saved : List KeyState)
     (room saves_room : ℕ) (p : Prepared) : Type 0 where
   pub brings : IsBrought p.kind p.budget (kept_and_added p.kept p.added events) state p.next

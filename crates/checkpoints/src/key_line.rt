@@ -41,7 +41,7 @@ struct Prepared {
 /// once for each 64 events: at 2^20 events 16,384 times, which is 1 GiB where a copy takes 64 KiB.
 ///
 /// Each change is prepared, which may fail and changes nothing but what is prepared, and then committed. What was prepared
-/// before is dropped.
+/// before is dropped. An event is prepared on the ends themselves, so no copy of them is made for it, but for each 64th.
 #[derive(Drop)]
 pub struct KeyLine {
     alloc: Global,
@@ -98,9 +98,9 @@ impl KeyLine {
     }
 
     /// Prepares to append this event, and gives the status that [`commit`](Self::commit) will bring. The index is the
-    /// event's place in the whole history. It takes the time of what the event does to the ends of the events so far: see
-    /// [`Frontier`](frontier::Frontier)'s `prepare`. It copies no end, but where the event is a 64th one: then it takes the
-    /// time of two copies of the ends, and the event is given to one of them. It is one replay.
+    /// event's place in the whole history. It takes the time of what the event does to the ends of the events so far, which
+    /// [`AnyFrontier::prepare`](frontier::AnyFrontier::prepare) tells, and copies none of them. Only a 64th event is given to
+    /// a copy of the ends, and another copy is saved. It is one replay.
     ///
     /// # Errors
     ///

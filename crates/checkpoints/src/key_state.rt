@@ -55,8 +55,8 @@ impl KeyState {
         }
     }
 
-    /// Prepares one more event, and says what becomes of the key. It stands as it stood until [`commit`](Self::commit), also
-    /// on `AllocError`. No end is copied.
+    /// Prepares one more event, and says what becomes of the key. It stands as it stood until [`commit`](Self::commit), also on
+    /// `AllocError`, and what was prepared before is dropped. The ends are not copied.
     pub(crate) fn prepare(&mut self, index: u32, event: &Event) -> Result<Next, AllocError>
         ensures now { (kind : ModelKind) (budget : ℕ) (events : List (ℕ × Event))
             → IsKeyState kind budget events self.old

@@ -19,8 +19,8 @@ use models::ModelKind;
 use std::alloc::{AllocError, Global};
 use std::collections::BTreeMap;
 
-/// The ends of the events so far, and for each process with an open operation the index of its invocation. One more event
-/// may be prepared: in the ends, and by the process that it leaves with no open operation.
+/// The ends of the events so far, and for each process with an open operation the index of its invocation. Where one more
+/// event is prepared, the frontier has it, and `closes` is the process that it leaves with no open operation, if it does.
 #[derive(Drop)]
 pub(crate) struct LiveKey {
     frontier: AnyFrontier,
@@ -81,8 +81,8 @@ impl LiveKey {
         }
     }
 
-    /// Prepares one more event, and says what becomes of the key. It stands as it stood until [`commit`](Self::commit), and
-    /// what was prepared before is dropped. No end is copied.
+    /// Prepares one more event, and says what becomes of the key. It stands as it stood until [`commit`](Self::commit), also on
+    /// `AllocError`, and what was prepared before is dropped. The ends are not copied.
     pub(crate) fn prepare(&mut self, index: u32, event: &Event) -> Result<Next, AllocError>
         ensures now { (kind : ModelKind) (budget : ℕ) (events : List (ℕ × Event))
             → IsLiveKey kind budget events self.old → IsAlive kind budget events

@@ -8,7 +8,7 @@ use linspec::KeyStatus;
 /// What becomes of a key's state where the change is carried out.
 #[derive(Drop)]
 pub(crate) enum Next {
-    /// The key stands as it did: it is dead or over, or it loses no event, or the event is of no operation.
+    /// The key stands as it stood: it is dead or over, the event is of no operation, or a cut takes no event away.
     Stays,
     /// The key is alive, and carries out what it has prepared.
     Goes,

@@ -43,8 +43,8 @@ pub(crate) fn keep_and_save(saved: &mut Vec<KeyState>, kept: usize, saves: Saves
 }
 
 /// Prepares one more event of a key that has so many, and says what becomes of the key and of what is saved of it. A 64th
-/// event is given to a copy of the key, of which a copy is saved, and there is room for it. Any other event is prepared in
-/// place, and no end is copied.
+/// event is given to a copy of the key, of which a copy is to be saved, and there is room for it. Any other event is prepared
+/// on the key itself, and no copy is made.
 pub(crate) fn prepare_event(
     state: &mut KeyState,
     saved: &mut Vec<KeyState>,

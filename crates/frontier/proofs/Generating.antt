@@ -17,12 +17,12 @@ use Rattle.linspec.proofs.Filters.{from_filter, from_map, to_filter, to_map}
 use Rattle.linspec.proofs.Completions.{fail_after, fail_before, info_after, info_before}
 use Rattle.linspec.proofs.Reach.{Reaches, invoke_after, invoke_before}
 use Rattle.linspec.proofs.Fronts.{IsLinearizable-end}
-use Rattle.frontier.specs.declared.pending_op.PendingOp.{PendingOp}
-use Rattle.frontier.specs.KeptEnds.{ArePending}
-use Rattle.frontier.specs.EndSteps.{Crashes, after_crash, is_in, Along, Adds, Grows, IsReached}
+use Rattle.ends.specs.declared.pending_op.PendingOp.{PendingOp}
+use Rattle.ends.specs.KeptEnds.{ArePending}
+use Rattle.ends.specs.EndSteps.{Crashes, after_crash, is_in, Along, Adds, Grows, IsReached}
 use Rattle.frontier.proofs.TheEnds.{AreTheEnds}
-use Rattle.frontier.proofs.Reaching.{end_further, calls_of, reaches_of, reached_itself}
-use Rattle.frontier.proofs.JustInTime.{Reaches-append, Reaches-new, Reaches-failed, Reaches-crashed, none_before}
+use Rattle.ends.proofs.Reaching.{end_further, calls_of, reaches_of, reached_itself}
+use Rattle.ends.proofs.JustInTime.{Reaches-append, Reaches-new, Reaches-failed, Reaches-crashed, none_before}
 use Rattle.frontier.proofs.AfterEvents.{none_from, not_true}
 
 -- each of them is an end, and each end is reached from one of them

@@ -16,13 +16,13 @@ use Rattle.linspec.specs.Ends.{End}
 use Rattle.linspec.proofs.FinLaws.{get-remove_same, get-remove_other, contains-insert_other}
 use Rattle.linspec.proofs.Filters.{from_filter, to_filter, to_map}
 use Rattle.linspec.proofs.Lists.{Contains-nil, Contains-cons_cases}
-use Rattle.frontier.specs.declared.pending_op.PendingOp.{PendingOp}
-use Rattle.frontier.specs.declared.kept_end.KeptEnd.{KeptEnd}
-use Rattle.frontier.specs.KeptEnds.{ArePending, AreIncluded, IsIncluded, crashed_in, end_kept, pending_in}
-use Rattle.frontier.specs.EndSteps.{TakesLast, Next, ReachesIn, IsReached, Settles, settled, Crashes, crashed_if, is_in, is_other, crash_call, Along, Adds}
-use Rattle.frontier.proofs.CallsInTurn.{crash_call-same, crash_call-other}
-use Rattle.frontier.proofs.Changes.{same_parts}
-use Rattle.frontier.proofs.Rows.{clash, included_with}
+use Rattle.ends.specs.declared.pending_op.PendingOp.{PendingOp}
+use Rattle.ends.specs.declared.kept_end.KeptEnd.{KeptEnd}
+use Rattle.ends.specs.KeptEnds.{ArePending, AreIncluded, IsIncluded, crashed_in, end_kept, pending_in}
+use Rattle.ends.specs.EndSteps.{TakesLast, Next, ReachesIn, IsReached, Settles, settled, Crashes, crashed_if, is_in, is_other, crash_call, Along, Adds}
+use Rattle.ends.proofs.CallsInTurn.{crash_call-same, crash_call-other}
+use Rattle.ends.proofs.Changes.{same_parts}
+use Rattle.ends.proofs.Rows.{clash, included_with}
 
 stays : (calls : List PendingOp) (id : ℕ) (c : PendingOp) (q : ℕ) → Contains calls c → c.id ≡ q → q ≢ id → Contains (filter (is_other id) calls) c
 stays calls id c q h is ne = to_filter (is_other id) calls c h (ap not (ne_eqb c.id id (λ k. ne (sym is ∙ k))))

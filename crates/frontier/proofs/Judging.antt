@@ -8,17 +8,17 @@ use Rattle.history.specs.Events.Mark.{Returned}
 use Rattle.linspec.specs.Operations.{IsOpen}
 use Rattle.linspec.specs.Ends.{End, HasMoreThan}
 use Rattle.linspec.proofs.Counts.{more_ends}
-use Rattle.frontier.specs.declared.pending_op.PendingOp.{PendingOp}
+use Rattle.ends.specs.declared.pending_op.PendingOp.{PendingOp}
 use Rattle.frontier.specs.declared.frontier.Frontier.{Frontier}
-use Rattle.frontier.specs.declared.table.Table.{Table}
-use Rattle.frontier.specs.declared.kept_end.KeptEnd.{KeptEnd}
-use Rattle.frontier.specs.KeptEnds.{AreIncluded, ArePending, end_kept}
-use Rattle.frontier.specs.EndSteps.{AreClosed, Grows, is_other}
+use Rattle.ends.specs.declared.table.Table.{Table}
+use Rattle.ends.specs.declared.kept_end.KeptEnd.{KeptEnd}
+use Rattle.ends.specs.KeptEnds.{AreIncluded, ArePending, end_kept}
+use Rattle.ends.specs.EndSteps.{AreClosed, Grows, is_other}
 use Rattle.frontier.specs.Meaning.{Lists}
-use Rattle.frontier.specs.Tables.{AreShown, HasEachOnce, IsAdvanced}
+use Rattle.ends.specs.Tables.{AreShown, HasEachOnce, IsAdvanced}
 use Rattle.std.proofs.lemmas.List.{take_all}
 use Rattle.frontier.proofs.AfterEvents.{ends_after_ok}
-use Rattle.frontier.proofs.Closing.{closed_after_ok}
+use Rattle.ends.proofs.Closing.{closed_after_ok}
 use Rattle.frontier.proofs.Generating.{Generates, all_found, generates_all, more_found}
 use Rattle.frontier.proofs.Including.{included_after_ok, included_all}
 use Rattle.frontier.proofs.Pending.{AreOnce, calls_after_ok, once_without}

@@ -9,13 +9,13 @@ use Rattle.frontier.specs.declared.change.Change.{Change}
 use Rattle.frontier.specs.declared.change.Change.TheVariants.{Nothing, Invoked as ToInvoked}
 use Rattle.frontier.specs.declared.change.Fresh.{Fresh}
 use Rattle.frontier.specs.declared.frontier.Frontier.{Frontier}
-use Rattle.frontier.specs.declared.pending_op.PendingOp.{PendingOp}
-use Rattle.frontier.specs.declared.table.Table.{Table}
+use Rattle.ends.specs.declared.pending_op.PendingOp.{PendingOp}
+use Rattle.ends.specs.declared.table.Table.{Table}
 use Rattle.frontier.specs.declared.frontier.Step.{Step}
 use Rattle.frontier.specs.Meaning.{Answers, CostsAtMost, Keeps, TakesUnlessOver}
 use Rattle.frontier.specs.Meaning.{IsIdle, IsListed, IsOf, Lists, ListsBut, Makes, StandsFor, StandsWith, WillStandFor}
-use Rattle.frontier.specs.Tables.{AreShown, Widens, rows_of}
-use Rattle.frontier.proofs.Showing.{shown_more}
+use Rattle.ends.specs.Tables.{AreShown, Widens, rows_of}
+use Rattle.ends.proofs.Showing.{shown_more}
 use Rattle.frontier.proofs.Standing.{stands_too}
 
 module _ {M : Type 0} (o : Object) (f g : Frontier M o.State) where
@@ -67,7 +67,7 @@ module _ {M : Type 0} (o : Object) (f : Frontier M o.State) (marks : List Mark) 
     will = λ g makes.
         let made = subst (λ n. Makes n f g) is makes in record {
           stands = subst (λ x. StandsWith o g x (marks ++ Invoked fresh.id fresh.op ∷ [])) (sym made.3)
-          (record { before = marks; is = refl; may = may; lists = lists_like o f g made.0 made.1 made.2 marks l });
+              (record { before = marks; is = refl; may = may; lists = lists_like o f g made.0 made.1 made.2 marks l });
         };
   }
 

@@ -8,16 +8,16 @@ use Rattle.history.specs.Events.Mark.{Failed}
 use Rattle.linspec.specs.Operations.{IsOpen}
 use Rattle.linspec.specs.Orders.{Pairwise}
 use Rattle.linspec.proofs.Filters.{filter-yes, filter-no}
-use Rattle.frontier.specs.declared.pending_op.PendingOp.{PendingOp}
-use Rattle.frontier.specs.declared.kept_end.KeptEnd.{KeptEnd}
+use Rattle.ends.specs.declared.pending_op.PendingOp.{PendingOp}
+use Rattle.ends.specs.declared.kept_end.KeptEnd.{KeptEnd}
 use Rattle.frontier.specs.declared.frontier.Frontier.{Frontier}
 use Rattle.frontier.specs.declared.frontier.Step.{Step}
 use Rattle.frontier.specs.declared.frontier.Step.TheVariants.{Alive, Dead, Over}
-use Rattle.frontier.specs.KeptEnds.{AreIncluded, ArePending, IsIncluded, IsWellKept, end_kept}
-use Rattle.frontier.specs.Tables.{AreShown, IsSameTable, IsSlot, IsThat, Says, Shows, ShownWith, found_by, rows_of, with_rows}
-use Rattle.frontier.specs.declared.table.Table.{Table}
-use Rattle.frontier.proofs.Showing.{included_shown, shown_more, widens_rows}
-use Rattle.frontier.proofs.Rows.{get_last, get_push, has_place, one_of, some_at}
+use Rattle.ends.specs.KeptEnds.{AreIncluded, ArePending, IsIncluded, IsWellKept, end_kept}
+use Rattle.ends.specs.Tables.{AreShown, IsSameTable, IsSlot, IsThat, Says, Shows, ShownWith, found_by, rows_of, with_rows}
+use Rattle.ends.specs.declared.table.Table.{Table}
+use Rattle.ends.proofs.Showing.{included_shown, shown_more, widens_rows}
+use Rattle.ends.proofs.Rows.{get_last, get_push, has_place, one_of, some_at}
 use Rattle.std.specs.FinMap as finmap
 use Rattle.std.specs.declared.alloc.AllocError.{AllocError}
 use Rattle.std.specs.List.{Contains}
@@ -27,10 +27,10 @@ use Rattle.models.specs.declared.operation.Op.{Op}
 use Rattle.models.specs.declared.finding.Found.{Found}
 use Rattle.linspec.specs.MarkRule.{IsNew}
 use Rattle.linspec.specs.Ends.{End, IsEnd}
-use Rattle.frontier.proofs.Starting.{back, to}
-use Rattle.frontier.proofs.Closing.{closed_after_fail, closed_again, one_fewer}
+use Rattle.ends.proofs.Starting.{back, to}
+use Rattle.ends.proofs.Closing.{closed_after_fail, closed_again, one_fewer}
 use Rattle.frontier.specs.Meaning.{Lists, Blows, IsStep, Keeps, Takes}
-use Rattle.frontier.specs.EndSteps.{Adds, Along, AreClosed, IsReached, is_in, is_other}
+use Rattle.ends.specs.EndSteps.{Adds, Along, AreClosed, IsReached, is_in, is_other}
 use Rattle.frontier.proofs.Including.{included_after_fail, included_more}
 use Rattle.frontier.proofs.Generating.{Generates, generates_by, reached_by, generates_after_fail, none_left, some_left}
 

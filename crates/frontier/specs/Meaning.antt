@@ -11,17 +11,17 @@ use Rattle.linspec.specs.MarkRule.{MayFollow}
 use Rattle.linspec.specs.Operations.{IsOpen}
 use Rattle.linspec.specs.Orders.{IsLinearizable}
 use Rattle.linspec.specs.Ends.{End, IsEnd, HasMoreThan}
-use Rattle.frontier.specs.declared.pending_op.PendingOp.{PendingOp}
-use Rattle.frontier.specs.declared.table.Table.{Table}
+use Rattle.ends.specs.declared.pending_op.PendingOp.{PendingOp}
+use Rattle.ends.specs.declared.table.Table.{Table}
 use Rattle.frontier.specs.declared.change.Fresh.{Fresh}
 use Rattle.frontier.specs.declared.change.Change.{Change}
 use Rattle.frontier.specs.declared.change.Change.TheVariants.{Nothing, Anew, Invoked as ToInvoked, Returned as ToReturned}
 use Rattle.frontier.specs.declared.frontier.Frontier.{Frontier}
 use Rattle.frontier.specs.declared.frontier.Step.{Step}
 use Rattle.frontier.specs.declared.frontier.Step.TheVariants.{Alive, Dead, Over}
-use Rattle.frontier.specs.KeptEnds.{IsWellKept}
-use Rattle.frontier.specs.Tables.{AreShown, with_rows}
-use Rattle.frontier.specs.EndSteps.{AreClosed, IsReached, is_other}
+use Rattle.ends.specs.KeptEnds.{IsWellKept}
+use Rattle.ends.specs.Tables.{AreShown, with_rows}
+use Rattle.ends.specs.EndSteps.{AreClosed, IsReached, is_other}
 
 -- a frontier that keeps these ends represents the end: operations that may still take place lead to
 -- it, one after another, from an end that is kept (Lowe 2017)

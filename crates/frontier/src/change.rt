@@ -1,8 +1,8 @@
 //! Changes of a frontier that are prepared.
 ghost use Rattle.std.specs.Prelude.{◌≡◌, IfOk};
 
-use crate::pending_op::PendingOp;
-use crate::table::Table;
+use ends::pending_op::PendingOp;
+use ends::table::Table;
 use models::Op;
 use std::alloc::AllocError;
 

@@ -8,11 +8,11 @@ ghost use Rattle.frontier.specs.Meaning.{Answers, Keeps, Takes, TakesUnlessOver}
 ghost use Rattle.frontier.specs.Meaning.{CostsAtMost, applied_of, budget_of, mark_by};
 
 use crate::change::{self, Change, Fresh};
-use crate::ends;
-use crate::extend::{self, Room};
-use crate::kept_end::KeptEnd;
-use crate::pending_op::{self, PendingOp};
-use crate::table::{self, Table};
+use ends::after;
+use ends::extend::{self, Room};
+use ends::kept_end::KeptEnd;
+use ends::pending_op::{self, PendingOp};
+use ends::table::{self, Table};
 use history::EventKind;
 use models::{Answer, Op, SeqObject};
 use std::alloc::{AllocError, Global};
@@ -398,7 +398,7 @@ impl<M: SeqObject> Frontier<M> {
     {
         self.list_fresh()?;
         let ends = table::ends_of::<M>(self.alloc, &self.table, &self.calls)?;
-        let after = ends::crashed_ends::<M>(self.alloc, &ends, id)?;
+        let after = after::crashed_ends::<M>(self.alloc, &ends, id)?;
         let mut calls = pending_op::copy_calls(self.alloc, &self.calls)?;
         pending_op::mark_crashed(&mut calls, id);
         let table = table::of_ends::<M>(self.alloc, &after, &calls)?;

@@ -3,14 +3,7 @@
 
 pub mod any_frontier;
 mod change;
-mod ends;
-mod extend;
 pub mod frontier;
-mod kept_end;
-mod moves;
-mod pending_op;
-mod states;
-mod table;
 
 pub use any_frontier::AnyFrontier;
 pub use frontier::{Frontier, Step};

@@ -1,11 +1,11 @@
 use Rattle.std.proofs.Common.{◌∷◌, ◌≡◌, ◌≤◌, ◌+◌, ◌++◌, [], false, ap, length, length-append, map, refl, sym, take, ◌∙◌, subst, arith}
 use Rattle.models.specs.Objects.{of_table}
 use Rattle.history.specs.Events.Mark.{Invoked}
-use Rattle.frontier.specs.declared.pending_op.PendingOp.{PendingOp}
-use Rattle.frontier.specs.KeptEnds.{AreIncluded, end_kept}
+use Rattle.ends.specs.declared.pending_op.PendingOp.{PendingOp}
+use Rattle.ends.specs.KeptEnds.{AreIncluded, end_kept}
 use Rattle.frontier.proofs.Standing.{generates_of, shown_of, stands_shown}
-use Rattle.frontier.specs.EndSteps.{AreClosed}
-use Rattle.frontier.proofs.Closing.{tried_still}
+use Rattle.ends.specs.EndSteps.{AreClosed}
+use Rattle.ends.proofs.Closing.{tried_still}
 use Rattle.frontier.proofs.Judging.{kept_ends}
 use Rattle.frontier.proofs.Generating.{Generates, generates_after_invoke}
 use Rattle.frontier.proofs.Including.{included_more}
@@ -25,7 +25,7 @@ returns-clause-listed g c marks idle =
     let call : PendingOp = record { id = id; op = op; crashed = false } in
     let are = kept_ends o f before stands c.deref-2.result.now c.deref-2.ensures.value c.in_ok-ends.ends.items c.in_ok-ends.ensures in
     let calls = c.in_ok-push.ensures.items ∙ ap (λ l. l ++ record { id = id; op = c.in_ok-copy.field-0; crashed = false } ∷ []) (c.in_ok-calls.ensures ∙ c.deref.ensures.value)
-        ∙ (λ i. f.calls.items ++ record { id = id; op = c.in_ok-copy.ensures i; crashed = false } ∷ []) in
+    ∙ (λ i. f.calls.items ++ record { id = id; op = c.in_ok-copy.ensures i; crashed = false } ∷ []) in
     let included = included_more f.calls.items (call ∷ []) (map end_kept c.in_ok-ends.ends.items) (subst (AreIncluded f.calls.items) (sym are) stands.well_kept.included) in
     let le = stands.tried in
     let long : length (f.calls.items ++ call ∷ []) ≡ length f.calls.items + 1 = length-append f.calls.items (call ∷ []) in

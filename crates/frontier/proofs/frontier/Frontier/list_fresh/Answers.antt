@@ -2,12 +2,12 @@ use Rattle.std.proofs.Common.{◌∷◌, ◌≡◌, ◌≤◌, ◌+◌, ◌++◌
 use Rattle.std.proofs.lemmas.Result.{err_from_is_err_and}
 use Rattle.models.specs.Objects.{of_table}
 use Rattle.history.specs.Events.Mark.{Invoked}
-use Rattle.frontier.specs.declared.pending_op.PendingOp.{PendingOp}
+use Rattle.ends.specs.declared.pending_op.PendingOp.{PendingOp}
 use Rattle.frontier.specs.Meaning.{IsIdle, IsListed, StandsFor}
-use Rattle.frontier.specs.KeptEnds.{AreIncluded, ArePending}
-use Rattle.frontier.specs.Tables.{AreShown, with_rows}
-use Rattle.frontier.specs.EndSteps.{AreClosed}
-use Rattle.frontier.proofs.Closing.{tried_still}
+use Rattle.ends.specs.KeptEnds.{AreIncluded, ArePending}
+use Rattle.ends.specs.Tables.{AreShown, with_rows}
+use Rattle.ends.specs.EndSteps.{AreClosed}
+use Rattle.ends.proofs.Closing.{tried_still}
 use Rattle.frontier.proofs.Standing.{generates_of, longer_shown, stands_by}
 use Rattle.frontier.proofs.Generating.{generates_after_invoke}
 use Rattle.frontier.proofs.Including.{included_more}

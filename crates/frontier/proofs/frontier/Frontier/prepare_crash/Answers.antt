@@ -6,10 +6,10 @@ use Rattle.history.specs.Events.Mark.{Crashed}
 use Rattle.linspec.specs.Ends.{End}
 use Rattle.frontier.specs.declared.change.Change.TheVariants.{Anew}
 use Rattle.frontier.specs.declared.frontier.Frontier.{Frontier}
-use Rattle.frontier.specs.KeptEnds.{end_kept}
-use Rattle.frontier.specs.EndSteps.{after_crash, crash_call}
+use Rattle.ends.specs.KeptEnds.{end_kept}
+use Rattle.ends.specs.EndSteps.{after_crash, crash_call}
 use Rattle.frontier.proofs.Standing.{generates_of, shown_of, stands_shown}
-use Rattle.frontier.proofs.Closing.{closed_none}
+use Rattle.ends.proofs.Closing.{closed_none}
 use Rattle.frontier.proofs.Judging.{kept_ends}
 use Rattle.frontier.proofs.Generating.{crash_each, generates_after_crash}
 use Rattle.frontier.proofs.Including.{included_after_crash}
@@ -40,21 +40,21 @@ returns-clause-next g c marks given is_open =
     let included = included_after_crash f.calls.items id stands.kept (map end_kept c.in_ok-after.after.items) stands.well_kept.included each in
     let none : 0 ≤ length (map (crash_call id) f.calls.items) = omega arith in
     let h : Frontier g.row.M.Denot g.row.M-State.Denot = record {
-        alloc = f.alloc;
-        budget = f.budget;
-        applied = f.applied;
-        calls = with_items c.in_ok-calls.calls c.mark_crashed.new.calls;
-        fresh = f.fresh;
-        tried = 0;
-        table = c.in_ok-table.table;
-        room = f.room;
-        next = f.next;
+      alloc = f.alloc;
+      budget = f.budget;
+      applied = f.applied;
+      calls = with_items c.in_ok-calls.calls c.mark_crashed.new.calls;
+      fresh = f.fresh;
+      tried = 0;
+      table = c.in_ok-table.table;
+      room = f.room;
+      next = f.next;
     } in
     let lists =
-        stands_shown o h (marks ++ Crashed id ∷ []) (map end_kept c.in_ok-after.after.items) (map (crash_call id) f.calls.items) calls
-        (shown_of c.in_ok-table.table c.deref-5.result.now (map (crash_call id) f.calls.items) c.deref-4.result.now c.in_ok-after.after.items (c.deref-5.ensures.value ∙ calls) c.deref-4.ensures.value c.in_ok-table.ensures included)
-        (generates_after_crash o stands.kept marks id is_open (generates_of o f marks stands) (map end_kept c.in_ok-after.after.items) each)
-        (calls_after_crash f.calls.items marks stands.well_kept.pending id is_open)
-        (once_after_crash f.calls.items id stands.well_kept.calls_once) included none (closed_none o (map end_kept c.in_ok-after.after.items)) in
+    stands_shown o h (marks ++ Crashed id ∷ []) (map end_kept c.in_ok-after.after.items) (map (crash_call id) f.calls.items) calls
+    (shown_of c.in_ok-table.table c.deref-5.result.now (map (crash_call id) f.calls.items) c.deref-4.result.now c.in_ok-after.after.items (c.deref-5.ensures.value ∙ calls) c.deref-4.ensures.value c.in_ok-table.ensures included)
+    (generates_after_crash o stands.kept marks id is_open (generates_of o f marks stands) (map end_kept c.in_ok-after.after.items) each)
+    (calls_after_crash f.calls.items marks stands.well_kept.pending id is_open)
+    (once_after_crash f.calls.items id stands.well_kept.calls_once) included none (closed_none o (map end_kept c.in_ok-after.after.items)) in
     will_by o _ (marks ++ Crashed id ∷ []) (Anew h.calls h.table h.tried) refl l.none h.table h.calls.items h.tried (λ g made. made)
     (λ g table calls tried. lists_like o h g table calls tried (marks ++ Crashed id ∷ []) lists)

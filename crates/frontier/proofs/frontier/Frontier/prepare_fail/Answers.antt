@@ -5,8 +5,8 @@ use Rattle.models.specs.Objects.{of_table}
 use Rattle.history.specs.Events.Mark.{Failed}
 use Rattle.frontier.specs.declared.change.Change.TheVariants.{Anew}
 use Rattle.frontier.specs.declared.frontier.Frontier.{Frontier}
-use Rattle.frontier.specs.KeptEnds.{end_kept}
-use Rattle.frontier.specs.EndSteps.{is_other}
+use Rattle.ends.specs.KeptEnds.{end_kept}
+use Rattle.ends.specs.EndSteps.{is_other}
 use Rattle.frontier.specs.Meaning.{Answers, StandsFor}
 use Rattle.frontier.proofs.Standing.{failed_closed, failed_generates, failed_included, failed_tried, generates_again, shown_of, stands_shown, step_by}
 use Rattle.frontier.proofs.Judging.{kept_ends}
@@ -71,10 +71,10 @@ returns-clause-next g c =
             next = f.next;
           } in
           let lists =
-              stands_shown o h (marks ++ Failed id ∷ []) (map end_kept c.retain.new.self.items) (filter (is_other id) f.calls.items) calls s gen
-              (calls_after_fail f.calls.items marks stands.well_kept.pending id) (once_without f.calls.items id stands.well_kept.calls_once) included
-              (failed_tried o f marks stands id is_open c.in_ok-ends.ends.items c.retain.new.self.items are is c.saturating_sub.result c.saturating_sub.ensures)
-              (failed_closed o f marks stands id is_open c.in_ok-ends.ends.items c.retain.new.self.items are is c.saturating_sub.result c.saturating_sub.ensures) in
+          stands_shown o h (marks ++ Failed id ∷ []) (map end_kept c.retain.new.self.items) (filter (is_other id) f.calls.items) calls s gen
+          (calls_after_fail f.calls.items marks stands.well_kept.pending id) (once_without f.calls.items id stands.well_kept.calls_once) included
+          (failed_tried o f marks stands id is_open c.in_ok-ends.ends.items c.retain.new.self.items are is c.saturating_sub.result c.saturating_sub.ensures)
+          (failed_closed o f marks stands id is_open c.in_ok-ends.ends.items c.retain.new.self.items are is c.saturating_sub.result c.saturating_sub.ensures) in
           will_by o _ (marks ++ Failed id ∷ []) (Anew h.calls h.table h.tried) refl l.none h.table h.calls.items h.tried (λ g made. made)
           (λ g table calls tried. lists_like o h g table calls tried (marks ++ Failed id ∷ []) lists);
     }

@@ -4,11 +4,11 @@ use Rattle.models.specs.Objects.{of_table}
 use Rattle.history.specs.Events.Mark.{Returned}
 use Rattle.frontier.specs.declared.change.Change.TheVariants.{Returned as ToReturned}
 use Rattle.frontier.specs.declared.frontier.Step.TheVariants.{Over}
-use Rattle.frontier.specs.EndSteps.{is_other}
+use Rattle.ends.specs.EndSteps.{is_other}
 use Rattle.frontier.specs.Meaning.{Answers, StandsFor}
-use Rattle.frontier.specs.Tables.{with_rows}
+use Rattle.ends.specs.Tables.{with_rows}
 use Rattle.frontier.proofs.Standing.{step_by}
-use Rattle.frontier.proofs.Growing.{cost_within}
+use Rattle.ends.proofs.Growing.{cost_within}
 use Rattle.frontier.proofs.Judging.{advanced, generates_left, stands_after, too_many_by, within}
 use Rattle.frontier.proofs.Pending.{no_more_calls}
 use Rattle.frontier.proofs.Preparing.{idle_will, lists_like, lists_more, listed_stands, will_by}
@@ -28,9 +28,9 @@ returns-in_err-all-clause-cost g c marks given n most =
     let l = c.in_ok-list_fresh.ensures.listed marks given in
     let calls = f.calls.items in
     let within =
-        cost_within f.applied c.advance.new.applied f.budget (length calls) n
-        (subst (λ l. c.advance.new.applied ≤ f.applied + (f.budget + 1) * length l) c.deref.ensures.value c.advance.ensures.cost)
-        (no_more_calls calls marks l.lists.well_kept.pending l.lists.well_kept.calls_once n most) in
+    cost_within f.applied c.advance.new.applied f.budget (length calls) n
+    (subst (λ l. c.advance.new.applied ≤ f.applied + (f.budget + 1) * length l) c.deref.ensures.value c.advance.ensures.cost)
+    (no_more_calls calls marks l.lists.well_kept.pending l.lists.well_kept.calls_once n most) in
     subst (λ a. c.advance.new.applied ≤ a + (c.args.self.now.budget + 1) * n) c.in_ok-list_fresh.ensures.cost
     (subst (λ b. c.advance.new.applied ≤ f.applied + (b + 1) * n) c.in_ok-list_fresh.ensures.budget within)
 
@@ -71,9 +71,9 @@ returns-then-not-all-clause-cost g c marks given n most =
     let l = c.in_ok-list_fresh.ensures.listed marks given in
     let calls = f.calls.items in
     let within =
-        cost_within f.applied c.advance.new.applied f.budget (length calls) n
-        (subst (λ l. c.advance.new.applied ≤ f.applied + (f.budget + 1) * length l) c.deref.ensures.value c.advance.ensures.cost)
-        (no_more_calls calls marks l.lists.well_kept.pending l.lists.well_kept.calls_once n most) in
+    cost_within f.applied c.advance.new.applied f.budget (length calls) n
+    (subst (λ l. c.advance.new.applied ≤ f.applied + (f.budget + 1) * length l) c.deref.ensures.value c.advance.ensures.cost)
+    (no_more_calls calls marks l.lists.well_kept.pending l.lists.well_kept.calls_once n most) in
     subst (λ a. c.advance.new.applied ≤ a + (c.args.self.now.budget + 1) * n) c.in_ok-list_fresh.ensures.cost
     (subst (λ b. c.advance.new.applied ≤ f.applied + (b + 1) * n) c.in_ok-list_fresh.ensures.budget within)
 
@@ -125,8 +125,8 @@ returns-clause-cost g c marks given n most =
     let l = c.in_ok-list_fresh.ensures.listed marks given in
     let calls = f.calls.items in
     let within =
-        cost_within f.applied c.advance.new.applied f.budget (length calls) n
-        (subst (λ l. c.advance.new.applied ≤ f.applied + (f.budget + 1) * length l) c.deref.ensures.value c.advance.ensures.cost)
-        (no_more_calls calls marks l.lists.well_kept.pending l.lists.well_kept.calls_once n most) in
+    cost_within f.applied c.advance.new.applied f.budget (length calls) n
+    (subst (λ l. c.advance.new.applied ≤ f.applied + (f.budget + 1) * length l) c.deref.ensures.value c.advance.ensures.cost)
+    (no_more_calls calls marks l.lists.well_kept.pending l.lists.well_kept.calls_once n most) in
     subst (λ a. c.advance.new.applied ≤ a + (c.args.self.now.budget + 1) * n) c.in_ok-list_fresh.ensures.cost
     (subst (λ b. c.advance.new.applied ≤ f.applied + (b + 1) * n) c.in_ok-list_fresh.ensures.budget within)

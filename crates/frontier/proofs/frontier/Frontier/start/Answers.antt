@@ -1,11 +1,11 @@
 use Rattle.std.proofs.Common.{◌≤◌, ap, refl, map, ◌∙◌, ◌∷◌, ◌++◌, [], arith}
 use Rattle.models.specs.Objects.{of_table}
-use Rattle.frontier.specs.declared.kept_end.KeptEnd.{KeptEnd}
-use Rattle.frontier.specs.KeptEnds.{end_kept}
+use Rattle.ends.specs.declared.kept_end.KeptEnd.{KeptEnd}
+use Rattle.ends.specs.KeptEnds.{end_kept}
 use Rattle.frontier.proofs.Standing.{shown_of, stands_shown}
 use Rattle.frontier.proofs.Preparing.{listed_stands}
 use Rattle.frontier.proofs.Generating.{generates_all}
-use Rattle.frontier.proofs.Closing.{closed_none}
+use Rattle.ends.proofs.Closing.{closed_none}
 use Rattle.frontier.proofs.AfterEvents.{kept_at_start, calls_at_start}
 use Rattle.frontier.proofs.Including.{included_of_start}
 use Rattle.frontier.proofs.frontier.Frontier.start.Goals as goal

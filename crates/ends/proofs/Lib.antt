@@ -1,0 +1,16 @@
+pub mod Included
+pub mod Adding
+pub mod Changes
+pub mod CallsInTurn
+pub mod JustInTime
+pub mod Reaching
+pub mod Starting
+pub mod Closing
+pub mod Growing
+pub mod Rows
+pub mod Leading
+pub mod Showing
+pub mod Telling
+pub mod Stating
+pub mod Moving
+pub mod Settling

@@ -1,0 +1,168 @@
+-- ends after an ok, by rows
+use Rattle.std.proofs.Common.{◌≡◌, ◌≢◌, ℕ, zero, suc, ◌+◌, ◌<◌, ◌≤◌, ⊎_elim, Bool, true, false, not, Some, None, List, [], ◌∷◌, length, slice_get, get_or, set, take, refl, sym, ap, ◌∙◌, subst, arith}
+use Rattle.std.specs.FinMap as finmap
+use Rattle.std.proofs.lemmas.Bool.{cases_eq, cases_lt, eq-eqb, ne_eqb, true≢false}
+use Rattle.std.specs.List.{Contains, filter, remove}
+use Rattle.std.proofs.lemmas.List.{get_or-set_same, get_or-set_other, length-set}
+use Rattle.std.proofs.lemmas.List.Edits.{get_or-remove_above, get_or-remove_below, length-remove}
+use Rattle.std.proofs.lemmas.Option.{slice_get_read, slice_get_within, get_or_from_slice_get}
+use Rattle.models.specs.declared.finding.Answer.{Answer}
+use Rattle.models.specs.declared.finding.Found.{Found}
+use Rattle.linspec.specs.Ends.{End}
+use Rattle.linspec.proofs.Filters.{filter-no, filter-yes, from_filter, to_filter}
+use Rattle.linspec.proofs.Lists.{Contains-head, Contains-tail}
+use Rattle.linspec.proofs.FinLaws.{get-remove_same, get-remove_other}
+use Rattle.ends.specs.declared.pending_op.PendingOp.{PendingOp}
+use Rattle.ends.specs.declared.table.Table.{Table}
+use Rattle.ends.specs.EndSteps.{Adds, Along, FitsAt, Settles, is_other, settled}
+use Rattle.ends.specs.KeptEnds.{IsIncluded}
+use Rattle.ends.specs.Tables.{AreShown, HasEachOnce, IsOpenAt, IsSlot, Says, ShownWith, found_by, found_in_end}
+use Rattle.ends.proofs.Adding.{Adds-none, Adds-skip}
+use Rattle.ends.proofs.Rows.{clash, has_place, one_of, other_ids, place_of, told_pending}
+use Rattle.ends.proofs.Showing.{end_here}
+
+module _ {S : Type 0} (calls : List PendingOp) where
+  -- what an open call found in the end
+  pub told_open : (at id : ℕ) (e : End S) (h : IsOpenAt calls at id) → found_by e h.call ≡ finmap.get e.pending id
+  told_open at id e h = told_pending e h.call id h.same h.not_crashed
+
+  module _ (t : Table S) (ends : List (End S)) (shown : AreShown t calls ends) (id : ℕ) (answer : Answer) where
+    not_open : ((at : ℕ) → ¬ IsOpenAt calls at id) → (e : End S) → IsIncluded calls e → ¬ FitsAt e id answer
+    not_open none e included fits =
+        let c = included.pending id fits.0 fits.1 in
+        let p = place_of calls c.0 c.1 in
+        none p.0 (record { call = c.0; there = p.1; same = c.2; not_crashed = c.3 })
+
+    -- where no open call is of the operation, no end includes it
+    pub none_settles : ((at : ℕ) → ¬ IsOpenAt calls at id) → Adds (Along (Settles id answer) ends) [] []
+    none_settles none = Adds-none (Along (Settles id answer) ends) [] (λ y s. let p = place_of ends s.0 s.1 in not_open none s.0 (end_here calls t ends shown p.0 s.0 p.1).included s.2.0)
+
+  -- the row without an open call
+  module _ (states : List S) (founds : List Found) (once : HasEachOnce calls) (at id : ℕ) (h : IsOpenAt calls at id) (e : End S) where
+    told_gone : (d : PendingOp) → d.id ≡ id → d.crashed ≡ false → found_by (settled e id) d ≡ None
+    told_gone d same here = told_pending (settled e id) d id same here ∙ get-remove_same e.pending id
+
+    told_other : (q : ℕ) (b : Bool) → q ≢ id → found_in_end (settled e id) q b ≡ found_in_end e q b
+    told_other q true ne = refl
+    told_other q false ne = get-remove_other e.pending id q ne
+
+    pub included_settled : IsIncluded calls e → IsIncluded calls (settled e id)
+    included_settled a = record {
+      pending = λ q x k.
+          ⊎_elim
+          (λ same. absurd (clash x _ (get-remove_same e.pending id) (subst (λ i. finmap.get (finmap.remove e.pending id) i ≡ Some x) same k)))
+          (λ ne. a.pending q x (sym (get-remove_other e.pending id q ne) ∙ k))
+          (cases_eq q id);
+      crashed = a.crashed;
+    }
+
+    pub says_settled : (row next : List ℕ) → Says states founds calls row e → next ≡ set row (at + 1) 0 → Says states founds calls next (settled e id)
+    says_settled row next a is = record {
+      long = ap length is ∙ length-set row (at + 1) 0 ∙ a.long;
+      state = ap (slice_get states) (ap (λ l. get_or l 0 0) is ∙ get_or-set_other row (at + 1) 0 0 0 (λ q. omega (arith, q))) ∙ a.state;
+      slots = λ j d k.
+          ⊎_elim
+          (λ q.
+          let same : h.call ≡ d = one_of h.call d (sym h.there ∙ ap (slice_get calls) (sym q) ∙ k) in
+          let lt = slice_get_within calls at h.call h.there in
+          let long = a.long in
+          let zero' : get_or next (j + 1) 0 ≡ 0 = ap (λ l. get_or l (j + 1) 0) is ∙ ap (λ m. get_or (set row (at + 1) 0) (m + 1) 0) q ∙ get_or-set_same row (at + 1) 0 0 (omega (arith, lt, long)) in
+          subst (IsSlot founds (get_or next (j + 1) 0)) (sym (told_gone d (ap (λ (x : PendingOp). x.id) (sym same) ∙ h.same) (ap (λ (x : PendingOp). x.crashed) (sym same) ∙ h.not_crashed))) zero')
+          (λ ne.
+          let apart : d.id ≢ id = λ q. other_ids calls once j at d h.call k h.there ne (q ∙ sym h.same) in
+          let stays : get_or next (j + 1) 0 ≡ get_or row (j + 1) 0 = ap (λ l. get_or l (j + 1) 0) is ∙ get_or-set_other row (at + 1) (j + 1) 0 0 (λ q. ne (omega (arith, q))) in
+          subst (λ m. IsSlot founds m (found_by (settled e id) d)) (sym stays) (subst (IsSlot founds (get_or row (j + 1) 0)) (sym (told_other d.id d.crashed apart)) (a.slots j d k)))
+          (cases_eq j at);
+      included = included_settled a.included;
+    }
+
+-- one end more, which does not fit
+pub settles_less : {S : Type 0} (calls : List PendingOp) (t : Table S) (ends : List (End S)) (id : ℕ) (answer : Answer) (i : ℕ) (e : End S) → slice_get ends i ≡ Some e → ¬ FitsAt e id answer
+    → ShownWith t calls [] (Along (Settles id answer) (take i ends)) → ShownWith t calls [] (Along (Settles id answer) (take (i + 1) ends))
+settles_less calls t ends id answer i e here none s = record {
+  more = s.more;
+  shown = s.shown;
+  front = s.front;
+  adds = Adds-skip (Settles id answer) ends [] s.more i e (slice_get_within ends i e here) (sym (get_or_from_slice_get ends i e e here)) s.adds (λ f r. none r.0);
+}
+
+-- the calls without one
+pub without_call : (calls : List PendingOp) → HasEachOnce calls → (at id : ℕ) (c : PendingOp) → slice_get calls at ≡ Some c → c.id ≡ id → filter (is_other id) calls ≡ remove calls at
+without_call [] once at id c h same = absurd (clash c _ refl h)
+without_call (x ∷ calls) once zero id c h same =
+    let is : x.id ≡ id = ap (λ (y : PendingOp). y.id) (one_of x c h) ∙ same in
+    filter-no (is_other id) x calls (ap not (eq-eqb x.id id is))
+    ∙ all_stay calls (λ d k. λ e. once.0 d k (is ∙ sym e))
+  where
+    all_stay : (rest : List PendingOp) → ((d : PendingOp) → Contains rest d → d.id ≢ id) → filter (is_other id) rest ≡ rest
+    all_stay [] apart = refl
+    all_stay (y ∷ rest) apart =
+        filter-yes (is_other id) y rest (ap not (ne_eqb y.id id (apart y (Contains-head y rest))))
+        ∙ ap (λ l. y ∷ l) (all_stay rest (λ d k. apart d (Contains-tail y rest d k)))
+without_call (x ∷ calls) once (suc at) id c h same =
+    filter-yes (is_other id) x calls (ap not (ne_eqb x.id id (λ e. once.0 c (has_place calls at c h) (e ∙ sym same))))
+    ∙ ap (λ l. x ∷ l) (without_call calls once.1 at id c h same)
+
+get_removed : {X : Type 0} (xs : List X) (at j : ℕ) (x : X) → at < length xs → slice_get (remove xs at) j ≡ Some x → (j < at → slice_get xs j ≡ Some x) × (at ≤ j → slice_get xs (j + 1) ≡ Some x)
+get_removed xs at j x within h =
+    let lt = slice_get_within (remove xs at) j x h in
+    let long = length-remove xs at within in
+    let is : get_or (remove xs at) j x ≡ x = get_or_from_slice_get (remove xs at) j x x h in (
+      (λ less. slice_get_read xs (length xs) j x refl (omega (arith, less, within)) (sym is ∙ get_or-remove_below xs at x j less within)),
+      (λ le. slice_get_read xs (length xs) (j + 1) x refl (omega (arith, lt, long)) (sym is ∙ get_or-remove_above xs at x j le within)),
+    )
+
+-- the row without an open call
+module _ {S : Type 0} (states : List S) (founds : List Found) (calls : List PendingOp) (once : HasEachOnce calls) (at id : ℕ) (h : IsOpenAt calls at id) (e : End S) where
+  apart_id : (c : PendingOp) → Contains calls c → c.crashed ≡ true → c.id ≢ id
+  apart_id c k crashed q =
+      let p = place_of calls c k in
+      ⊎_elim
+      (λ here. true≢false (sym crashed ∙ ap (λ (x : PendingOp). x.crashed) (one_of c h.call (sym p.1 ∙ ap (slice_get calls) here ∙ h.there)) ∙ h.not_crashed))
+      (λ ne. other_ids calls once p.0 at c h.call p.1 h.there ne (q ∙ sym h.same))
+      (cases_eq p.0 at)
+
+  others : (c : PendingOp) → Contains calls c → c.id ≢ id → Contains (filter (is_other id) calls) c
+  others c k ne = to_filter (is_other id) calls c k (ap not (ne_eqb c.id id ne))
+
+  included_others : IsIncluded calls e → IsIncluded (filter (is_other id) calls) (settled e id)
+  included_others a = record {
+    pending = λ q x k.
+        ⊎_elim
+        (λ same. absurd (clash x _ (get-remove_same e.pending id) (subst (λ i. finmap.get (finmap.remove e.pending id) i ≡ Some x) same k)))
+        (λ ne. let c = a.pending q x (sym (get-remove_other e.pending id q ne) ∙ k) in (c.0, others c.0 c.1 (λ z. ne (sym c.2 ∙ z)), c.2, c.3))
+        (cases_eq q id);
+    crashed = λ q k. let c = a.crashed q k in (c.0, others c.0 c.1 (apart_id c.0 c.1 c.3), c.2, c.3);
+  }
+
+  pub says_without : (row next : List ℕ) → Says states founds calls row e → next ≡ remove row (at + 1) → Says states founds (filter (is_other id) calls) next (settled e id)
+  says_without row next a is =
+      let lt = slice_get_within calls at h.call h.there in
+      let long = a.long in
+      let within : at + 1 < length row = omega (arith, lt, long) in
+      let left : filter (is_other id) calls ≡ remove calls at = without_call calls once at id h.call h.there h.same in
+      record {
+        long =
+            (let m : length (remove row (at + 1)) + 1 ≡ length row = length-remove row (at + 1) within in
+            let n : length (remove calls at) + 1 ≡ length calls = length-remove calls at lt in
+            let l = ap length left in
+            let k = ap length is in
+            omega (arith, m, n, l, k, long));
+        state = ap (slice_get states) (ap (λ l. get_or l 0 0) is ∙ get_or-remove_below row (at + 1) 0 0 (omega arith) within) ∙ a.state;
+        slots = λ j d k.
+            let r = get_removed calls at j d lt (ap (λ l. slice_get l j) (sym left) ∙ k) in
+            let ne : d.id ≢ id = is_other_id d (from_filter (is_other id) calls d (has_place (filter (is_other id) calls) j d k)).1 in
+            let told = told_other calls states founds once at id h e d.id d.crashed ne in
+            ⊎_elim
+            (λ less.
+            let stays : get_or next (j + 1) 0 ≡ get_or row (j + 1) 0 = ap (λ l. get_or l (j + 1) 0) is ∙ get_or-remove_below row (at + 1) 0 (j + 1) (omega (arith, less)) within in
+            subst (λ m. IsSlot founds m (found_by (settled e id) d)) (sym stays) (subst (IsSlot founds (get_or row (j + 1) 0)) (sym told) (a.slots j d (r.0 less))))
+            (λ le.
+            let moved : get_or next (j + 1) 0 ≡ get_or row (j + 1 + 1) 0 = ap (λ l. get_or l (j + 1) 0) is ∙ get_or-remove_above row (at + 1) 0 (j + 1) (omega (arith, le)) within in
+            subst (λ m. IsSlot founds m (found_by (settled e id) d)) (sym moved) (subst (IsSlot founds (get_or row (j + 1 + 1) 0)) (sym told) (a.slots (j + 1) d (r.1 le))))
+            (cases_lt j at);
+        included = included_others a.included;
+      }
+    where
+      is_other_id : (d : PendingOp) → is_other id d ≡ true → d.id ≢ id
+      is_other_id d e q = true≢false (sym e ∙ ap not (eq-eqb d.id id q))

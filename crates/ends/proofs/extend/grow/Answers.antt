@@ -1,0 +1,61 @@
+use Rattle.std.proofs.Common.{rules, ◌≤◌, [], get_or, length, ◌∙◌, arith}
+use Rattle.std.proofs.lemmas.Option.{slice_get-get_or}
+use Rattle.models.specs.Objects.{of_table}
+use Rattle.linspec.proofs.Lists.{Contains-nil}
+use Rattle.ends.specs.Tables.{rows_of}
+use Rattle.ends.proofs.Growing.{Grows-itself, cost_more}
+use Rattle.ends.proofs.Closing.{all_tried}
+use Rattle.ends.proofs.Moving.{moves_none}
+use Rattle.ends.proofs.Showing.{all_done, done_on, end_at, grows_on, widens_itself, widens_on}
+use Rattle.ends.proofs.Adding.{IsFront-itself, IsFront-trans}
+use Rattle.ends.proofs.extend.grow.Goals as goal
+
+pub loop-at-init : goal.loop-at-init
+loop-at-init g c =
+    let o = of_table g.row.M-State.Denot g.M.SeqObject.start_state g.M.SeqObject.apply_to in
+    record {
+      moves = moves_none g.M.SeqObject.apply_to c.args.calls.now c.args.table.now c.forget.new.moves.items c.forget.ensures;
+      widens = widens_itself c.args.table.now;
+      front = IsFront-itself (rows_of c.args.table.now);
+      grown = λ once ends shown closed. (ends, shown, Grows-itself o c.args.calls.now ends, (λ e f h n. absurd (Contains-nil e h)), IsFront-itself ends);
+      cost = omega arith;
+    }
+
+pub loop-at-preserved : goal.loop-at-preserved
+loop-at-preserved g c =
+    let o = of_table g.row.M-State.Denot g.M.SeqObject.start_state g.M.SeqObject.apply_to in
+    record {
+      moves = c.in_ok-grow_from.ensures.moves c.loop-at.invariant.moves;
+      widens = widens_on c.args.table.now c.loop-at.table c.grow_from.new.table c.loop-at.invariant.widens c.in_ok-grow_from.ensures.widens;
+      front = IsFront-trans (rows_of c.args.table.now) (rows_of c.loop-at.table) (rows_of c.grow_from.new.table) c.loop-at.invariant.front c.in_ok-grow_from.ensures.front;
+      grown = λ once ends shown closed.
+          let s = c.loop-at.invariant.grown once ends shown closed in
+          let p = end_at c.args.calls.now c.loop-at.table s.0 s.1 c.loop-at.at (get_or (rows_of c.loop-at.table) c.loop-at.at []) (slice_get-get_or (rows_of c.loop-at.table) c.loop-at.at [] (omega arith)) in
+          let long = c.len-kept.ensures ∙ shown.long in
+          let v = c.in_ok-grow_from.ensures.adds c.loop-at.invariant.moves once p.0 s.0 p.2 s.1 in
+          let w = all_tried o c.args.calls.now ends s.0 c.args.tried c.first_for-first.result c.loop-at.at p.0 p.1 s.4 closed (λ lt. c.first_for-first.ensures.old (omega (arith, long, lt))) (λ le. c.first_for-first.ensures.new (omega (arith, long, le))) c.grow_from.new.table v in
+          (w.more, w.shown, grows_on o c.args.calls.now ends s.0 c.loop-at.at p.0 p.1 c.grow_from.new.table w s.2, done_on o c.args.calls.now ends s.0 c.loop-at.at p.0 p.1 c.grow_from.new.table w s.3, IsFront-trans ends s.0 w.more s.4 w.front);
+      cost = cost_more c.args.applied.now c.loop-at.applied c.grow_from.new.applied c.loop-at.at (length c.args.calls.now) c.loop-at.invariant.cost c.in_ok-grow_from.ensures.cost;
+    }
+
+pub returns-then-at-len-clause-grows : goal.returns-then-at-len-clause-grows
+returns-then-at-len-clause-grows g c once ends shown closed =
+    let o = of_table g.row.M-State.Denot g.M.SeqObject.start_state g.M.SeqObject.apply_to in
+    let s = c.loop-at.invariant.grown once ends shown closed in
+    let long = s.1.long in
+    record { more = s.0; shown = s.1; grows = s.2; closed = λ is. all_done o c.args.calls.now s.0 c.loop-at.at (omega (arith, long)) s.3 }
+
+pub returns-clause-grows : goal.returns-clause-grows
+returns-clause-grows g c once ends shown closed =
+    let o = of_table g.row.M-State.Denot g.M.SeqObject.start_state g.M.SeqObject.apply_to in
+    let s = c.loop-at.invariant.grown once ends shown closed in
+    let long = s.1.long in
+    record {
+      more = s.0;
+      shown = s.1;
+      grows = s.2;
+      closed = λ is. all_done o c.args.calls.now s.0 c.loop-at.at (let all : length (rows_of c.loop-at.table) ≤ c.args.budget = search rules in omega (arith, long, all)) s.3;
+    }
+
+pub returns-in_err-grow_from-clause-widens : goal.returns-in_err-grow_from-clause-widens
+returns-in_err-grow_from-clause-widens g c = widens_on c.args.table.now c.loop-at.table c.grow_from.new.table c.loop-at.invariant.widens c.in_err-grow_from.ensures.widens

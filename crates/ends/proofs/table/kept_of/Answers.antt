@@ -1,0 +1,18 @@
+use Rattle.std.proofs.Common.{ap, ◌∙◌, arith}
+use Rattle.std.specs.FinMap as finmap
+use Rattle.std.specs.FinSet as finset
+use Rattle.ends.specs.KeptEnds.{crashed_in, end_kept, pending_in}
+use Rattle.ends.proofs.Changes.{same_parts}
+use Rattle.ends.proofs.Telling.{told_all, told_first}
+use Rattle.ends.proofs.table.kept_of.Goals as goal
+
+pub loop-at-init : goal.loop-at-init
+loop-at-init g c once e shows =
+    told_first c.args.calls.now e (end_kept {S = g.row.M-State.Denot} (record { state = c.in_ok-copy.field-0; pending = c.new.result; crashed = c.new-2.result }))
+    (same_parts (end_kept {S = g.row.M-State.Denot} (record { state = c.in_ok-copy.field-0; pending = c.new.result; crashed = c.new-2.result }))
+    (record { state = e.state; pending = finmap.empty; crashed = finset.empty })
+    (c.in_ok-copy.ensures ∙ c.in-Some.ensures c.args.calls.now e shows) (ap pending_in c.new.ensures.items) (ap crashed_in c.new-2.ensures.items))
+
+pub returns : goal.returns
+returns g c once e shows =
+    told_all c.args.calls.now e (end_kept c.loop-at.kept) c.loop-at.at (c.loop-at.invariant once e shows) (omega arith) shows.included

@@ -1,0 +1,15 @@
+use Rattle.std.proofs.Common.{◌≡◌, ◌<◌, ◌+◌, ℕ, Some, slice_get, get_or, length}
+use Rattle.ends.specs.declared.pending_op.PendingOp.{PendingOp}
+use Rattle.ends.specs.KeptEnds.{end_kept}
+use Rattle.ends.specs.Tables.{IsSlot, Widens, found_by, rows_of}
+use Rattle.ends.proofs.table.row_of.Given as goal
+
+abbrev pub invariant-loop-call : goal.invariant-loop-call
+invariant-loop-call g l =
+    record {
+      long : length l.row.items ≡ l.call-index + 1;
+      state : slice_get l.table.states (get_or l.row.items 0 0) ≡ Some l.kept.state;
+      slots : (i : ℕ) (c : PendingOp) → i < l.call-index → slice_get l.calls i ≡ Some c → IsSlot l.table.founds.items (get_or l.row.items (i + 1) 0) (found_by (end_kept l.kept) c);
+      widens : Widens l.fn.table l.table;
+      rows : rows_of l.table ≡ rows_of l.fn.table;
+    }

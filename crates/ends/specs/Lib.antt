@@ -1,0 +1,5 @@
+pub mod KeptEnds
+pub mod EndSteps
+pub mod Tables
+pub mod States
+pub mod Moves

@@ -1,0 +1,145 @@
+-- Invariant: ends as rows of numbers
+use Rattle.std.specs.Prelude.{◌<◌, ◌≤◌, ◌≡◌, ◌≢◌, ◌↔◌, ℕ, ◌+◌, Bool, true, false, Option, Some, None, List, [], length, set, slice_get, get_or}
+use Rattle.std.specs.List.{Contains, filter}
+use Rattle.std.specs.FinMap as finmap
+use Rattle.std.specs.FinSet as finset
+use Rattle.models.specs.declared.finding.Answer.{Answer}
+use Rattle.models.specs.declared.finding.Found.{Found}
+use Rattle.models.specs.declared.finding.Found.TheVariants.{Unit as Nothing}
+use Rattle.models.specs.Objects.{Object}
+use Rattle.history.specs.Events.{IsFront}
+use Rattle.linspec.specs.Orders.{Pairwise}
+use Rattle.linspec.specs.Ends.{End}
+use Rattle.ends.specs.declared.pending_op.PendingOp.{PendingOp}
+use Rattle.ends.specs.declared.table.Table.{Table}
+use Rattle.ends.specs.KeptEnds.{IsIncluded}
+use Rattle.ends.specs.EndSteps.{TakesLast, Next, IsReached, Adds, Along, Grows, Settles, is_other}
+
+-- what the call found in the end, if it is in it; a crashed one tells nothing
+abbrev pub nothing_if : Bool → Option Found
+nothing_if true = Some Nothing
+nothing_if false = None
+
+-- what is told of what the call found
+abbrev pub told_by : Bool → Found → Found
+told_by true found = Nothing
+told_by false found = found
+
+abbrev pub found_in_end : {S : Type 0} → End S → ℕ → Bool → Option Found
+found_in_end e id true = nothing_if (finset.contains e.crashed id)
+found_in_end e id false = finmap.get e.pending id
+
+abbrev pub found_by : {S : Type 0} → End S → PendingOp → Option Found
+found_by e c = found_in_end e c.id c.crashed
+
+-- the number of what was found, by the place where it stands
+abbrev pub IsSlot : List Found → ℕ → Option Found → Type 0
+IsSlot founds slot None = slot ≡ 0
+IsSlot founds slot (Some found) =
+    (at : ℕ) × (slot ≡ at + 1) × (slice_get founds at ≡ Some found)
+
+-- nothing stands twice
+abbrev pub IsOnceIn : {X : Type 0} → List X → Type 0
+IsOnceIn {X} xs =
+    (i j : ℕ) (x : X) → slice_get xs i ≡ Some x → slice_get xs j ≡ Some x → i ≡ j
+
+-- each call is of another operation
+abbrev pub HasEachOnce : List PendingOp → Type 0
+HasEachOnce calls = Pairwise (λ c d. c.id ≢ d.id) calls
+
+-- the call at this place is of this operation, which is open
+pub record IsOpenAt (calls : List PendingOp) (at id : ℕ) : Type 0 where
+  pub call : PendingOp
+  pub there : slice_get calls at ≡ Some call
+  pub same : call.id ≡ id
+  pub not_crashed : call.crashed ≡ false
+
+-- the row says the end
+pub record Says {S : Type 0} (states : List S) (founds : List Found) (calls : List PendingOp)
+    (row : List ℕ) (e : End S) : Type 0 where
+  pub long : length row ≡ length calls + 1
+  pub state : slice_get states (get_or row 0 0) ≡ Some e.state
+  pub slots : (i : ℕ) (c : PendingOp) → slice_get calls i ≡ Some c →
+      IsSlot founds (get_or row (i + 1) 0) (found_by e c)
+  pub included : IsIncluded calls e
+
+abbrev pub Shows : {S : Type 0} → Table S → List PendingOp → List ℕ → End S → Type 0
+Shows t calls row e = Says t.states t.founds.items calls row e
+
+abbrev pub rows_of : {S : Type 0} → Table S → List (List ℕ)
+rows_of t = t.rows
+
+-- the rows say these ends, in order, and no number stands for two things
+pub record AreShown {S : Type 0} (t : Table S) (calls : List PendingOp) (ends : List (End S))
+    : Type 0 where
+  pub states_once : IsOnceIn t.states
+  pub founds_once : IsOnceIn t.founds.items
+  pub long : length (rows_of t) ≡ length ends
+  pub each : (i : ℕ) (row : List ℕ) (e : End S) → slice_get (rows_of t) i ≡ Some row →
+      slice_get ends i ≡ Some e → Shows t calls row e
+
+-- more stands there than before, and what stood there stays
+pub record Widens {S : Type 0} (old new : Table S) : Type 0 where
+  pub states : IsFront old.states new.states
+  pub founds : IsFront old.founds.items new.founds.items
+  pub states_once : IsOnceIn old.states → IsOnceIn new.states
+  pub founds_once : IsOnceIn old.founds.items → IsOnceIn new.founds.items
+
+-- what the call leads to from the end, as a row
+abbrev pub LeadsTo : (o : Object) → Table o.State → List PendingOp → End o.State → PendingOp
+    → Option (List ℕ) → Type 0
+LeadsTo o t calls e c None = (f : End o.State) → ¬ TakesLast o e c f
+LeadsTo o t calls e c (Some row) =
+    (f : End o.State) × Shows t calls row f × ((g : End o.State) → TakesLast o e c g ↔ (f ≡ g))
+
+-- the row with these numbers of a state and at the place of a call, if there are such
+abbrev pub row_led : List ℕ → ℕ → Option (ℕ × ℕ) → Option (List ℕ)
+row_led row at None = None
+row_led row at (Some to) = Some (set (set row 0 to.0) (at + 1) to.1)
+
+-- an end alone
+abbrev pub IsThat : {S : Type 0} → End S → End S → Type 0
+IsThat e f = e ≡ f
+
+-- the rows say these ends and after them what P says, and nothing else
+pub record ShownWith {S : Type 0} (t : Table S) (calls : List PendingOp) (ends : List (End S))
+    (P : End S → Type 0) : Type 0 where
+  pub more : List (End S)
+  pub shown : AreShown t calls more
+  pub front : IsFront ends more
+  pub adds : Adds P ends more
+
+-- the rows say these ends and more that calls lead to, all of them if so it is told
+pub record ShownGrown (o : Object) (t : Table o.State) (calls : List PendingOp)
+    (ends : List (End o.State)) (all : Bool) : Type 0 where
+  pub more : List (End o.State)
+  pub shown : AreShown t calls more
+  pub grows : Grows o calls ends more
+  pub closed : all ≡ true → (e f : End o.State) → Contains more e → Next o calls e f
+      → Contains more f
+
+-- the end k is e with the calls before this place alone
+pub record IsToldBefore {S : Type 0} (calls : List PendingOp) (e k : End S) (n : ℕ) : Type 0 where
+  pub state : k.state ≡ e.state
+  pub included : IsIncluded calls k
+  pub before : (i : ℕ) (c : PendingOp) → slice_get calls i ≡ Some c → i < n
+      → found_by k c ≡ found_by e c
+  pub after : (i : ℕ) (c : PendingOp) → slice_get calls i ≡ Some c → n ≤ i → found_by k c ≡ None
+
+-- the table with these rows
+abbrev pub with_rows : {S : Type 0} → Table S → List (List ℕ) → Table S
+with_rows t rows = record { states = t.states; founds = t.founds; rows = rows }
+
+-- both have the same states, found things and rows
+pub record IsSameTable {S : Type 0} (t u : Table S) : Type 0 where
+  pub states : u.states ≡ t.states
+  pub founds : u.founds.items ≡ t.founds.items
+  pub rows : rows_of u ≡ rows_of t
+
+-- the rows say what an ok leaves of all ends that the calls lead to from these
+pub record IsAdvanced (o : Object) (t : Table o.State) (calls : List PendingOp)
+    (ends : List (End o.State)) (budget id : ℕ) (answer : Answer) : Type 0 where
+  pub all : List (End o.State)
+  pub adds : Adds (IsReached o calls ends) ends all
+  pub within : length all ≤ budget
+  pub left : ShownWith t (filter (is_other id) calls) [] (Along (Settles id answer) all)

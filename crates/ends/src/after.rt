@@ -1,0 +1,127 @@
+//! The ends after an event, by those before it.
+ghost use Rattle.std.specs.Prelude.{◌≡◌, ◌↔◌, ◌<◌, ◌+◌, get_or, ℕ, List, [], IsTrue, false, None, map, length};
+ghost use Rattle.std.specs.Prelude.{IfOk, OnOk, IfSome};
+ghost use Rattle.linspec.specs.Ends.{End};
+ghost use Rattle.ends.specs.KeptEnds.{end_kept};
+ghost use Rattle.std.specs.List.{filter};
+ghost use Rattle.ends.specs.EndSteps.{FitsAt, Settles, Along, after_crash, is_other};
+ghost use Rattle.ends.specs.Tables.{AreShown, HasEachOnce, IsOpenAt, Shows, ShownWith, rows_of, with_rows};
+
+use crate::kept_end::{KeptEnd, copy_of};
+use crate::pending_op::PendingOp;
+use crate::table::{self, Table};
+use models::{Answer, SeqObject, finding};
+use rows::RowSet;
+use std::alloc::{AllocError, Global};
+
+// Whether the call is of this operation, which is open.
+fn is_open(call: &PendingOp, id: u32) -> bool
+    ensures { IsTrue result ↔ (call.now.id ≡ id) × (call.now.crashed ≡ false) }
+{
+    call.id == id && !call.crashed
+}
+
+// Where the open operation stands among the calls.
+fn place_of_open(calls: &[PendingOp], id: u32) -> Option<usize>
+    ensures there { IfSome result (λ at. IsOpenAt calls.now at id) }
+    ensures within { IfSome result (λ at. at < length calls.now) }
+    ensures none { result ≡ None → (at : ℕ) → ¬ IsOpenAt calls.now at id }
+{
+    for at in 0..calls.len() {
+        if is_open(&calls[at], id) {
+            return Some(at);
+        }
+    }
+    None
+}
+
+// Whether what the open operation at this place found, by the row that stands here, fits the answer.
+fn fits_in_row<S: Ord + Drop>(
+    table: &Table<S>,
+    from: usize,
+    calls: &[PendingOp],
+    at: usize,
+    answer: &Answer,
+) -> bool
+    requires { at < length calls.now }
+    ensures fits { let row = get_or (rows_of table.now) from [] in
+        (id : ℕ) (e : End S) → IsOpenAt calls.now at id
+        → Shows table.now calls.now row e → IsTrue result ↔ FitsAt e id answer.now }
+    ensures within { let row = get_or (rows_of table.now) from [] in
+        IsTrue result → at + 1 < length row }
+{
+    match table::found_in_row(table, from, calls, at) {
+        Some(found) => finding::fits(found, answer),
+        None => false,
+    }
+}
+
+// Puts the rows of those ends where what the open operation at this place found fits the answer, each without it, in place
+// of the rows that were there.
+fn settled_rows<S: Ord + Drop>(
+    alloc: Global,
+    table: &Table<S>,
+    calls: &[PendingOp],
+    call: usize,
+    answer: &Answer,
+    rows: &mut RowSet,
+) -> Result<(), AllocError>
+    requires { call < length calls.now }
+    ensures { HasEachOnce calls.now → (id : ℕ) → IsOpenAt calls.now call id
+        → (ends : List (End S)) → AreShown table.now calls.now ends → OnOk result
+        (ShownWith (with_rows table.now rows.new) (filter (is_other id) calls.now) []
+        (Along (Settles id answer.now) ends)) }
+{
+    rows.restart(calls.len());
+    let mut row = Vec::new(alloc);
+    for at in 0..table.rows.len() {
+        if fits_in_row(table, at, calls, call, answer) {
+            table.rows.read(at, &mut row)?;
+            let _slot = row.remove(call + 1);
+            rows.put(&row)?;
+        }
+    }
+    Ok(())
+}
+
+/// Puts the rows after the operation has returned with this answer, of those where it is in and what it found fits, each
+/// without it, in place of the rows that were there.
+pub fn settled<S: Ord + Drop>(
+    alloc: Global,
+    table: &Table<S>,
+    calls: &[PendingOp],
+    id: u32,
+    answer: &Answer,
+    rows: &mut RowSet,
+) -> Result<(), AllocError>
+    ensures { HasEachOnce calls.now → (ends : List (End S))
+        → AreShown table.now calls.now ends → OnOk result
+        (ShownWith (with_rows table.now rows.new) (filter (is_other id) calls.now) []
+        (Along (Settles id answer.now) ends)) }
+{
+    match place_of_open(calls, id) {
+        Some(call) => settled_rows(alloc, table, calls, call, answer, rows),
+        None => {
+            rows.restart(calls.len());
+            Ok(())
+        }
+    }
+}
+
+/// The ends after the operation has crashed, in the same order. Ends that differed before may be the same then.
+pub fn crashed_ends<M: SeqObject>(
+    alloc: Global,
+    ends: &[KeptEnd<M::State>],
+    id: u32,
+) -> Result<Vec<KeptEnd<M::State>>, AllocError>
+    ensures { let ends = map end_kept ends.now in
+        IfOk result (λ after. map end_kept after.items ≡ map (λ e. after_crash e id) ends) }
+{
+    let mut after = Vec::with_capacity(alloc, ends.len())?;
+    for kept in ends {
+        let mut crashed = copy_of::<M>(alloc, kept)?;
+        crashed.crash(id)?;
+        after.push(crashed)?;
+    }
+    Ok(after)
+}

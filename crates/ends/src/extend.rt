@@ -1,0 +1,212 @@
+//! The ends that calls lead to from others.
+ghost use Rattle.std.specs.Prelude.{◌≡◌, ◌↔◌, ◌+◌, ◌*◌, ◌<◌, ◌≤◌, true, false, take, drop};
+ghost use Rattle.std.specs.Prelude.{List, [], get_or, length, slice_get, Some, IfOk, OnOk};
+ghost use Rattle.models.specs.Objects.{of_table};
+ghost use Rattle.history.specs.Events.{IsFront};
+ghost use Rattle.linspec.specs.Ends.{End};
+ghost use Rattle.ends.specs.Moves.{AreMoves};
+ghost use Rattle.ends.specs.EndSteps.{AreClosed, TakesLast, Next, Grows};
+ghost use Rattle.ends.specs.Tables.{AreShown, HasEachOnce, Shows, Widens, rows_of};
+ghost use Rattle.ends.specs.Tables.{IsAdvanced, ShownWith, ShownGrown, with_rows};
+
+use crate::after;
+use crate::moves::{self, Move};
+use crate::pending_op::PendingOp;
+use crate::table::{self, Table};
+use models::{Answer, SeqObject};
+use rows::RowSet;
+use std::alloc::{AllocError, Global};
+
+/// Memory that an ok works in, kept for the next one: what calls do in states, and the rows that are left.
+#[derive(Drop)]
+pub struct Room {
+    moves: Vec<Move>,
+    pub rows: RowSet,
+}
+
+impl Room {
+    /// None yet.
+    pub fn new(alloc: Global) -> Room {
+        Room {
+            moves: Vec::new(alloc),
+            rows: RowSet::new(alloc, 0),
+        }
+    }
+}
+
+// Adds what the call at this place leads to from the end of the row that stands here.
+fn grow_at<M: SeqObject>(
+    alloc: Global,
+    table: &mut Table<M::State>,
+    moves: &mut Vec<Move>,
+    from: usize,
+    calls: &[PendingOp],
+    at: usize,
+    applied: &mut u64,
+) -> Result<(), AllocError>
+    requires within { at < length calls.now }
+    requires here { from < length (rows_of table.old) }
+    ensures moves { AreMoves M.apply_to table.old calls.now moves.old.items
+        → OnOk result (AreMoves M.apply_to table.new calls.now moves.new.items) }
+    ensures adds { let object = of_table M.State M.start_state M.apply_to in
+        let row = get_or (rows_of table.old) from [] in
+        AreMoves M.apply_to table.old calls.now moves.old.items → HasEachOnce calls.now
+        → (c : PendingOp) (e : End M.State) (ends : List (End M.State))
+        → slice_get calls.now at ≡ Some c → Shows table.old calls.now row e
+        → AreShown table.old calls.now ends
+        → OnOk result (ShownWith table.new calls.now ends (TakesLast object e c)) }
+    ensures widens { Widens table.old table.new }
+    ensures front { IsFront (rows_of table.old) (rows_of table.new) }
+    ensures cost { applied.new ≤ applied.old + 1 }
+{
+    if let Some((to, slot)) = table::led_to::<M>(alloc, table, moves, from, calls, at, applied)? {
+        table.rows.put_next(from, to, at + 1, slot)?;
+    }
+    Ok(())
+}
+
+// Adds what each call from that place on leads to from the end of the row that stands here.
+fn grow_from<M: SeqObject>(
+    alloc: Global,
+    table: &mut Table<M::State>,
+    moves: &mut Vec<Move>,
+    from: usize,
+    calls: &[PendingOp],
+    first: usize,
+    applied: &mut u64,
+) -> Result<(), AllocError>
+    requires { from < length (rows_of table.old) }
+    ensures moves { AreMoves M.apply_to table.old calls.now moves.old.items
+        → OnOk result (AreMoves M.apply_to table.new calls.now moves.new.items) }
+    ensures adds { let object = of_table M.State M.start_state M.apply_to in
+        let row = get_or (rows_of table.old) from [] in
+        AreMoves M.apply_to table.old calls.now moves.old.items → HasEachOnce calls.now
+        → (e : End M.State) (ends : List (End M.State))
+        → Shows table.old calls.now row e → AreShown table.old calls.now ends
+        → OnOk result (ShownWith table.new calls.now ends
+        (Next object (drop first calls.now) e)) }
+    ensures widens { Widens table.old table.new }
+    ensures front { IsFront (rows_of table.old) (rows_of table.new) }
+    ensures cost { applied.new ≤ applied.old + length calls.now }
+{
+    for at in first..calls.len() {
+        grow_at::<M>(alloc, table, moves, from, calls, at, applied)?;
+    }
+    Ok(())
+}
+
+// From which call on the calls are tried on the end at this place: on a kept one those that were not tried yet.
+fn first_for(at: usize, kept: usize, tried: usize) -> usize
+    ensures old { at < kept → result ≡ tried }
+    ensures new { kept ≤ at → result ≡ 0 }
+{
+    if at < kept { tried } else { 0 }
+}
+
+// Adds what the calls lead to, one after another: goes through the rows once while they grow at their end. The first
+// calls, which were tried already, are tried on new rows alone. False where the rows are more than the budget, and then
+// there may be more to add.
+fn grow<M: SeqObject>(
+    alloc: Global,
+    table: &mut Table<M::State>,
+    moves: &mut Vec<Move>,
+    calls: &[PendingOp],
+    tried: usize,
+    budget: u32,
+    applied: &mut u64,
+) -> Result<bool, AllocError>
+    ensures grows { let object = of_table M.State M.start_state M.apply_to in
+        HasEachOnce calls.now → (ends : List (End M.State)) → AreShown table.old calls.now ends
+        → AreClosed object (take tried calls.now) ends
+        → IfOk result (ShownGrown object table.new calls.now ends) }
+    ensures within { IfOk result (λ all. all ≡ true → length (rows_of table.new) ≤ budget) }
+    ensures beyond { IfOk result (λ all. all ≡ false → budget < length (rows_of table.new)) }
+    ensures widens { Widens table.old table.new }
+    ensures front { IsFront (rows_of table.old) (rows_of table.new) }
+    ensures cost { applied.new ≤ applied.old + (budget + 1) * length calls.now }
+{
+    moves::forget(alloc, moves);
+    let kept = table.rows.len();
+    for at in 0..budget as usize {
+        if table.rows.len() > budget as usize {
+            return Ok(false);
+        }
+        if at >= table.rows.len() {
+            return Ok(true);
+        }
+        let first = first_for(at, kept, tried);
+        grow_from::<M>(alloc, table, moves, at, calls, first, applied)?;
+    }
+    Ok(table.rows.len() <= budget as usize)
+}
+
+// Extends the rows to all ends, and puts those that are left after the operation has returned with this answer into the
+// room. False where all are more than the budget.
+fn found_rows<M: SeqObject>(
+    alloc: Global,
+    table: &mut Table<M::State>,
+    room: &mut Room,
+    calls: &[PendingOp],
+    tried: usize,
+    budget: u32,
+    applied: &mut u64,
+    id: u32,
+    answer: &Answer,
+) -> Result<bool, AllocError>
+    ensures all { let object = of_table M.State M.start_state M.apply_to in
+        HasEachOnce calls.now → (ends : List (End M.State)) → AreShown table.old calls.now ends
+        → AreClosed object (take tried calls.now) ends
+        → IfOk result (λ all. all ≡ true → IsAdvanced object
+        (with_rows table.new room.new.rows) calls.now ends budget id answer.now) }
+    ensures over { let object = of_table M.State M.start_state M.apply_to in
+        HasEachOnce calls.now → (ends : List (End M.State)) → AreShown table.old calls.now ends
+        → AreClosed object (take tried calls.now) ends
+        → IfOk result (λ all. all ≡ false
+        → (more : List (End M.State)) × Grows object calls.now ends more × (budget < length more)) }
+    ensures widens { Widens table.old table.new }
+    ensures front { IsFront (rows_of table.old) (rows_of table.new) }
+    ensures cost { applied.new ≤ applied.old + (budget + 1) * length calls.now }
+{
+    if !grow::<M>(alloc, table, &mut room.moves, calls, tried, budget, applied)? {
+        return Ok(false);
+    }
+    after::settled(alloc, table, calls, id, answer, &mut room.rows)?;
+    Ok(true)
+}
+
+/// Puts the rows of the ends that are left after the operation has returned with this answer into the room: of those where it
+/// is in and what it found fits, each without it. False where all ends, these and what the calls lead to from them one after
+/// another, are more than the budget. This is so where each call is of another operation, and the first calls, so many as
+/// were tried already, lead from the ends to no others. No more ends than the budget are extended. The rows of the table stay.
+pub fn advance<M: SeqObject>(
+    alloc: Global,
+    table: &mut Table<M::State>,
+    room: &mut Room,
+    calls: &[PendingOp],
+    tried: usize,
+    budget: u32,
+    applied: &mut u64,
+    id: u32,
+    answer: &Answer,
+) -> Result<bool, AllocError>
+    ensures all { let object = of_table M.State M.start_state M.apply_to in
+        HasEachOnce calls.now → (ends : List (End M.State)) → AreShown table.old calls.now ends
+        → AreClosed object (take tried calls.now) ends
+        → IfOk result (λ all. all ≡ true → IsAdvanced object
+        (with_rows table.new room.new.rows) calls.now ends budget id answer.now) }
+    ensures over { let object = of_table M.State M.start_state M.apply_to in
+        HasEachOnce calls.now → (ends : List (End M.State)) → AreShown table.old calls.now ends
+        → AreClosed object (take tried calls.now) ends
+        → IfOk result (λ all. all ≡ false
+        → (more : List (End M.State)) × Grows object calls.now ends more × (budget < length more)) }
+    ensures widens { Widens table.old table.new }
+    ensures rows { rows_of table.new ≡ rows_of table.old }
+    ensures cost { applied.new ≤ applied.old + (budget + 1) * length calls.now }
+{
+    let kept = table.rows.len();
+    let found = found_rows::<M>(
+        alloc, table, room, calls, tried, budget, applied, id, answer,
+    );
+    table.rows.truncate(kept);
+    found
+}

@@ -1,0 +1,105 @@
+//! Ends, as they are kept.
+ghost use Rattle.std.specs.Prelude.{◌≡◌, false, IfOk, OnOk, option_copied};
+ghost use Rattle.ends.specs.KeptEnds.{end_kept, found_at, has_crashed};
+ghost use Rattle.ends.specs.EndSteps.{settled, after_crash, is_in, with_call};
+
+use crate::pending_op::PendingOp;
+use models::{Found, SeqObject};
+use std::alloc::{AllocError, Global};
+
+/// What a legal order leaves: the state, what each open operation in it found, and the crashed operations in it.
+#[derive(Drop)]
+pub struct KeptEnd<S> {
+    pub state: S,
+    pub pending: Vec<(u32, Found)>,
+    pub crashed: Vec<u32>,
+}
+
+/// What the operation found, where it is among these.
+pub fn found_in(pending: &[(u32, Found)], id: u32) -> Option<&Found>
+    ensures { option_copied result ≡ found_at pending.now id }
+{
+    for entry in pending {
+        if entry.0 == id {
+            return Some(&entry.1);
+        }
+    }
+    None
+}
+
+/// Whether the operation is among these.
+pub fn has(ids: &[u32], id: u32) -> bool
+    ensures { result ≡ has_crashed ids.now id }
+{
+    ids.contains(&id)
+}
+
+// The same entries.
+fn copied(alloc: Global, pending: &[(u32, Found)]) -> Result<Vec<(u32, Found)>, AllocError>
+    ensures { IfOk result (λ entries. entries.items ≡ pending.now) }
+{
+    let mut entries = Vec::with_capacity(alloc, pending.len())?;
+    for entry in pending {
+        let found = entry.1.copy()?;
+        entries.push((entry.0, found))?;
+    }
+    Ok(entries)
+}
+
+/// The same end.
+pub fn copy_of<M: SeqObject>(
+    alloc: Global,
+    kept: &KeptEnd<M::State>,
+) -> Result<KeptEnd<M::State>, AllocError>
+    ensures { IfOk result (λ other. end_kept other ≡ end_kept kept.now) }
+{
+    let state = M::copy(alloc, &kept.state)?;
+    let pending = copied(alloc, &kept.pending)?;
+    let crashed = kept.crashed.clone()?;
+    Ok(KeptEnd {
+        state,
+        pending,
+        crashed,
+    })
+}
+
+impl<S> KeptEnd<S> {
+    /// Whether the open operation is in it.
+    pub fn includes(&self, id: u32) -> bool
+        ensures { result ≡ is_in (end_kept self.now) id false }
+    {
+        found_in(&self.pending, id).is_some()
+    }
+
+    /// The call takes place in it, and finds this.
+    pub fn include(&mut self, call: &PendingOp, found: Found) -> Result<(), AllocError>
+        ensures { let id = call.now.id in let crashed = call.now.crashed in
+            let old = end_kept self.old in is_in old id crashed ≡ false
+            → OnOk result (end_kept self.new ≡ with_call old id crashed found self.old.state) }
+    {
+        if call.crashed {
+            self.crashed.push(call.id)?;
+        } else {
+            self.pending.push((call.id, found))?;
+        }
+        Ok(())
+    }
+
+    /// The open operation is done now.
+    pub fn settle(&mut self, id: u32)
+        ensures { end_kept self.new ≡ settled (end_kept self.old) id }
+    {
+        self.pending.retain(|entry| entry.0 != id);
+    }
+
+    /// The open operation crashes, if it is in it.
+    pub fn crash(&mut self, id: u32) -> Result<(), AllocError>
+        ensures { OnOk result (end_kept self.new ≡ after_crash (end_kept self.old) id) }
+    {
+        if self.includes(id) {
+            self.crashed.push(id)?;
+            self.settle(id);
+        }
+        Ok(())
+    }
+}

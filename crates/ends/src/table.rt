@@ -1,0 +1,324 @@
+//! Ends as rows of numbers.
+ghost use Rattle.std.specs.Prelude.{◌≡◌, ◌+◌, ◌-◌, ◌^◌, ◌<◌, ◌≤◌, min, Some, slice_get, get_or, map, length};
+ghost use Rattle.std.specs.Prelude.{IfOk, OnOk, IsSome, IsSomeAnd, option_copied, List, [], ◌∷◌, ◌++◌};
+ghost use Rattle.std.specs.Option.{option_to_list};
+ghost use Rattle.models.specs.Objects.{of_table};
+ghost use Rattle.history.specs.Events.{IsFront};
+ghost use Rattle.linspec.specs.Ends.{End};
+ghost use Rattle.ends.specs.KeptEnds.{AreIncluded, IsIncluded, end_kept};
+ghost use Rattle.ends.specs.EndSteps.{Along};
+ghost use Rattle.ends.specs.Moves.{AreMoves};
+ghost use Rattle.ends.specs.Tables.{HasEachOnce, IsOnceIn, IsSlot};
+ghost use Rattle.ends.specs.Tables.{AreShown, IsThat, IsToldBefore, IsSameTable, ShownWith, told_by};
+ghost use Rattle.ends.specs.Tables.{LeadsTo, Shows, Widens, found_by, row_led, rows_of};
+
+use crate::kept_end::{KeptEnd, found_in, has};
+use crate::moves::{self, Move};
+use crate::pending_op::PendingOp;
+use crate::states::{self, States};
+use models::{Found, Op, SeqObject};
+use rows::RowSet;
+use std::alloc::{AllocError, Global};
+
+/// The ends that an ok finds, each a row of numbers. The first says where its state stands; then comes one for each call:
+/// zero where it is not in, and else one more than where what it found stands. States and what was found stand once, so
+/// equal ends are equal rows.
+#[derive(Drop)]
+pub struct Table<S: Ord + Drop> {
+    pub states: States<S>,
+    pub founds: Vec<Found>,
+    pub rows: RowSet,
+}
+
+/// The number of what was found: one more than where it stands. It is put there if it is new.
+pub fn slot_at(founds: &mut Vec<Found>, found: Found) -> Result<usize, AllocError>
+    ensures slot { IfOk result (λ slot. IsSlot founds.new.items slot (Some found)) }
+    ensures front { IsFront founds.old.items founds.new.items }
+    ensures once { IsOnceIn founds.old.items → IsOnceIn founds.new.items }
+{
+    for at in 0..founds.len() {
+        if founds[at].same(&found) {
+            return Ok(at + 1);
+        }
+    }
+    founds.push(found)?;
+    Ok(founds.len())
+}
+
+// The number of what was found, and zero if nothing was.
+fn slot_of(founds: &mut Vec<Found>, found: Option<Found>) -> Result<usize, AllocError>
+    ensures slot { IfOk result (λ slot. IsSlot founds.new.items slot found) }
+    ensures front { IsFront founds.old.items founds.new.items }
+    ensures once { IsOnceIn founds.old.items → IsOnceIn founds.new.items }
+{
+    match found {
+        None => Ok(0),
+        Some(found) => slot_at(founds, found),
+    }
+}
+
+// What the call found in the end, if it is in it. A crashed one tells nothing.
+fn found_by<S>(kept: &KeptEnd<S>, call: &PendingOp) -> Result<Option<Found>, AllocError>
+    ensures { IfOk result (λ found. found ≡ found_by (end_kept kept.now) call.now) }
+{
+    if call.crashed {
+        if has(&kept.crashed, call.id) {
+            Ok(Some(Found::Unit))
+        } else {
+            Ok(None)
+        }
+    } else {
+        match found_in(&kept.pending, call.id) {
+            Some(found) => Ok(Some(found.copy()?)),
+            None => Ok(None),
+        }
+    }
+}
+
+// The row of the end.
+fn row_of<M: SeqObject>(
+    alloc: Global,
+    table: &mut Table<M::State>,
+    kept: &KeptEnd<M::State>,
+    calls: &[PendingOp],
+) -> Result<Vec<usize>, AllocError>
+    ensures shows { IsIncluded calls.now (end_kept kept.now)
+        → IfOk result (λ row. Shows table.new calls.now row.items (end_kept kept.now)) }
+    ensures widens { Widens table.old table.new }
+    ensures rows { rows_of table.new ≡ rows_of table.old }
+{
+    let state = M::copy(alloc, &kept.state)?;
+    let mut row = Vec::with_capacity(alloc, calls.len().saturating_add(1))?;
+    row.push(states::number_of::<M>(alloc, &mut table.states, state)?)?;
+    for call in calls {
+        let found = found_by(kept, call)?;
+        row.push(slot_of(&mut table.founds, found)?)?;
+    }
+    Ok(row)
+}
+
+/// The outcome of the operation in the state: one step, which is counted. No other function tries an operation.
+pub fn step<M: SeqObject>(
+    alloc: Global,
+    state: &M::State,
+    op: &Op,
+    applied: &mut u64,
+) -> Result<Option<(M::State, Found)>, AllocError>
+    ensures outcome { IfOk result (λ outcome.
+        option_to_list outcome ≡ M.apply_to op.now state.now) }
+    ensures counted { applied.new ≡ min (applied.old + 1) (2 ^ 64 - 1) }
+{
+    *applied = applied.saturating_add(1);
+    M::apply(alloc, state, op)
+}
+
+// The state of the end of the row that stands here.
+fn state_of<S: Ord + Drop>(table: &Table<S>, from: usize) -> Option<&S>
+    ensures { let row = get_or (rows_of table.now) from [] in
+        (calls : List PendingOp) (e : End S) → Shows table.now calls row e
+        → IsSomeAnd result (λ s. s.now ≡ e.state) }
+{
+    table.states.get(table.rows.number(from, 0))
+}
+
+/// What is told of what the call found.
+pub fn told_by(crashed: bool, found: Found) -> Found
+    ensures { result ≡ told_by crashed found }
+{
+    if crashed { Found::Unit } else { found }
+}
+
+/// Where the call at this place leads from the end of the row that stands here, if it can take place last: the number of the
+/// state after it, and of what is told of what it found.
+pub fn led_to<M: SeqObject>(
+    alloc: Global,
+    table: &mut Table<M::State>,
+    moves: &mut Vec<Move>,
+    from: usize,
+    calls: &[PendingOp],
+    at: usize,
+    applied: &mut u64,
+) -> Result<Option<(usize, usize)>, AllocError>
+    requires within { at < length calls.now }
+    requires here { from < length (rows_of table.old) }
+    ensures moves { AreMoves M.apply_to table.old calls.now moves.old.items
+        → OnOk result (AreMoves M.apply_to table.new calls.now moves.new.items) }
+    ensures next { let object = of_table M.State M.start_state M.apply_to in
+        let row = get_or (rows_of table.old) from [] in
+        AreMoves M.apply_to table.old calls.now moves.old.items → HasEachOnce calls.now
+        → (c : PendingOp) (e : End M.State) → slice_get calls.now at ≡ Some c
+        → Shows table.old calls.now row e
+        → IfOk result (λ to. LeadsTo object table.new calls.now e c (row_led row at to)) }
+    ensures zero_there { let row = get_or (rows_of table.old) from [] in
+        IfOk result (λ to. IsSome to → slice_get row (at + 1) ≡ Some 0) }
+    ensures widens { Widens table.old table.new }
+    ensures rows { rows_of table.new ≡ rows_of table.old }
+    ensures cost { applied.new ≤ applied.old + 1 }
+{
+    if !table.rows.has_zero(from, at + 1) {
+        return Ok(None);
+    }
+    let number = table.rows.number(from, 0);
+    match moves::tried::<M>(alloc, table, moves, number, calls, at, applied)? {
+        Move::To(to, slot) => Ok(Some((to, slot))),
+        Move::Nowhere => Ok(None),
+        Move::Untried => Ok(None),
+    }
+}
+
+/// The ends as rows.
+pub fn of_ends<M: SeqObject>(
+    alloc: Global,
+    ends: &[KeptEnd<M::State>],
+    calls: &[PendingOp],
+) -> Result<Table<M::State>, AllocError>
+    ensures { AreIncluded calls.now (map end_kept ends.now)
+        → IfOk result (λ table.
+        ShownWith table calls.now [] (Along IsThat (map end_kept ends.now))) }
+{
+    let mut table = Table {
+        states: States::new(alloc),
+        founds: Vec::new(alloc),
+        rows: RowSet::new(alloc, calls.len().saturating_add(1)),
+    };
+    for kept in ends {
+        let row = row_of::<M>(alloc, &mut table, kept, calls)?;
+        table.rows.put(&row)?;
+    }
+    Ok(table)
+}
+
+/// What the call at this place found, by the row that stands here, if it is in.
+pub fn found_in_row<'a, S: Ord + Drop>(
+    table: &'a Table<S>,
+    from: usize,
+    calls: &[PendingOp],
+    at: usize,
+) -> Option<&'a Found>
+    requires { at < length calls.now }
+    ensures found { let row = get_or (rows_of table.now) from [] in
+        (c : PendingOp) (e : End S) → slice_get calls.now at ≡ Some c
+        → Shows table.now calls.now row e → option_copied result ≡ found_by e c }
+    ensures within { let row = get_or (rows_of table.now) from [] in
+        IsSome result → at + 1 < length row }
+{
+    let slot = table.rows.number(from, at + 1);
+    if slot > 0 {
+        table.founds.get(slot - 1)
+    } else {
+        None
+    }
+}
+
+// What the call at this place tells goes into the end.
+fn include_at<S: Ord + Drop>(
+    kept: &mut KeptEnd<S>,
+    table: &Table<S>,
+    from: usize,
+    calls: &[PendingOp],
+    at: usize,
+) -> Result<(), AllocError>
+    requires { at < length calls.now }
+    ensures { let row = get_or (rows_of table.now) from [] in
+        HasEachOnce calls.now → (e : End S) → Shows table.now calls.now row e
+        → IsToldBefore calls.now e (end_kept kept.old) at
+        → OnOk result (IsToldBefore calls.now e (end_kept kept.new) (at + 1)) }
+{
+    match found_in_row(table, from, calls, at) {
+        Some(found) => {
+            kept.include(&calls[at], found.copy()?)?;
+            Ok(())
+        }
+        None => Ok(()),
+    }
+}
+
+// The end that the row says that stands here.
+fn kept_of<M: SeqObject>(
+    alloc: Global,
+    table: &Table<M::State>,
+    from: usize,
+    calls: &[PendingOp],
+) -> Result<Option<KeptEnd<M::State>>, AllocError>
+    ensures { let row = get_or (rows_of table.now) from [] in
+        HasEachOnce calls.now → (e : End M.State) → Shows table.now calls.now row e
+        → IfOk result (λ kept. IsSomeAnd kept (λ k. end_kept k ≡ e)) }
+{
+    let Some(state) = state_of(table, from) else {
+        return Ok(None);
+    };
+    let mut kept = KeptEnd {
+        state: M::copy(alloc, state)?,
+        pending: Vec::new(alloc),
+        crashed: Vec::new(alloc),
+    };
+    for at in 0..calls.len() {
+        include_at(&mut kept, table, from, calls, at)?;
+    }
+    Ok(Some(kept))
+}
+
+// Puts the end that the row says that stands here after the others.
+fn push_end<M: SeqObject>(
+    alloc: Global,
+    ends: &mut Vec<KeptEnd<M::State>>,
+    table: &Table<M::State>,
+    from: usize,
+    calls: &[PendingOp],
+) -> Result<(), AllocError>
+    ensures { let row = get_or (rows_of table.now) from [] in
+        HasEachOnce calls.now → (e : End M.State) → Shows table.now calls.now row e
+        → OnOk result (map end_kept ends.new.items ≡ map end_kept ends.old.items ++ e ∷ []) }
+{
+    match kept_of::<M>(alloc, table, from, calls)? {
+        Some(kept) => {
+            ends.push(kept)?;
+            Ok(())
+        }
+        None => Ok(()),
+    }
+}
+
+/// The ends that the rows say, in order.
+pub fn ends_of<M: SeqObject>(
+    alloc: Global,
+    table: &Table<M::State>,
+    calls: &[PendingOp],
+) -> Result<Vec<KeptEnd<M::State>>, AllocError>
+    ensures { HasEachOnce calls.now → (ends : List (End M.State))
+        → AreShown table.now calls.now ends → IfOk result (λ kept. map end_kept kept.items ≡ ends) }
+{
+    let mut ends = Vec::with_capacity(alloc, table.rows.len())?;
+    for from in 0..table.rows.len() {
+        push_end::<M>(alloc, &mut ends, table, from, calls)?;
+    }
+    Ok(ends)
+}
+
+// The same things, with memory of their own.
+fn copied_founds(alloc: Global, founds: &[Found]) -> Result<Vec<Found>, AllocError>
+    ensures { IfOk result (λ copies. copies.items ≡ founds.now) }
+{
+    let mut copies = Vec::with_capacity(alloc, founds.len())?;
+    for found in founds {
+        copies.push(found.copy()?)?;
+    }
+    Ok(copies)
+}
+
+/// The same table, with memory of its own.
+pub fn copied<M: SeqObject>(
+    alloc: Global,
+    table: &Table<M::State>,
+) -> Result<Table<M::State>, AllocError>
+    ensures { IfOk result (λ other. IsSameTable table.now other) }
+{
+    let states = states::copied::<M>(alloc, &table.states)?;
+    let founds = copied_founds(alloc, &table.founds)?;
+    let rows = table.rows.copied()?;
+    Ok(Table {
+        states,
+        founds,
+        rows,
+    })
+}

@@ -1,7 +1,0 @@
-use Rattle.std.proofs.Common.{◌≡◌, map, take}
-use Rattle.frontier.specs.KeptEnds.{end_kept}
-use Rattle.frontier.specs.EndSteps.{after_crash}
-use Rattle.frontier.proofs.ends.crashed_ends.Given as goal
-
-abbrev pub invariant-loop-kept : goal.invariant-loop-kept
-invariant-loop-kept g l = map end_kept l.after.items ≡ map (λ e. after_crash e l.id) (take l.kept-index (map end_kept l.ends))

@@ -1,6 +1,0 @@
-use Rattle.std.proofs.Common.{ℕ, ◌<◌}
-use Rattle.frontier.specs.Tables.{IsOpenAt}
-use Rattle.frontier.proofs.ends.place_of_open.Given as goal
-
-abbrev pub invariant-loop-at : goal.invariant-loop-at
-invariant-loop-at l = (i : ℕ) → i < l.at → ¬ IsOpenAt l.calls i l.id

@@ -1,8 +1,0 @@
-use Rattle.std.proofs.Common.{map, take, []}
-use Rattle.frontier.specs.KeptEnds.{AreIncluded, end_kept}
-use Rattle.frontier.specs.EndSteps.{Along}
-use Rattle.frontier.specs.Tables.{IsThat, ShownWith}
-use Rattle.frontier.proofs.table.of_ends.Given as goal
-
-abbrev pub invariant-loop-kept : goal.invariant-loop-kept
-invariant-loop-kept g l = AreIncluded l.calls (map end_kept l.ends) → ShownWith l.table l.calls [] (Along IsThat (take l.kept-index (map end_kept l.ends)))
