@@ -1,10 +1,17 @@
 //! The ends of the legal orders of one key's history, as rows of small numbers, and what operations and answers make of them.
 #![tactic(auto)]
 
-pub mod after;
-pub mod extend;
-pub mod kept_end;
-pub mod moves;
-pub mod pending_op;
-pub mod states;
-pub mod table;
+mod after;
+mod extend;
+mod kept_end;
+mod moves;
+mod pending_op;
+mod states;
+mod table;
+
+pub use after::crashed_ends;
+pub use extend::{Room, advance};
+pub use kept_end::KeptEnd;
+pub use pending_op::{PendingOp, copy_calls, drop_call, mark_crashed};
+pub use states::States;
+pub use table::{Table, copied, ends_of, of_ends};

@@ -1,8 +1,7 @@
 //! Changes of a frontier that are prepared.
 ghost use Rattle.std.specs.Prelude.{◌≡◌, IfOk};
 
-use ends::pending_op::PendingOp;
-use ends::table::Table;
+use ends::{PendingOp, Table};
 use models::Op;
 use std::alloc::AllocError;
 

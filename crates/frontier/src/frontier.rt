@@ -8,11 +8,7 @@ ghost use Rattle.frontier.specs.Meaning.{Answers, Keeps, Takes, TakesUnlessOver}
 ghost use Rattle.frontier.specs.Meaning.{CostsAtMost, applied_of, budget_of, mark_by};
 
 use crate::change::{self, Change, Fresh};
-use ends::after;
-use ends::extend::{self, Room};
-use ends::kept_end::KeptEnd;
-use ends::pending_op::{self, PendingOp};
-use ends::table::{self, Table};
+use ends::{KeptEnd, PendingOp, Room, Table};
 use history::EventKind;
 use models::{Answer, Op, SeqObject};
 use std::alloc::{AllocError, Global};
@@ -74,7 +70,7 @@ impl<M: SeqObject> Frontier<M> {
             crashed: Vec::new(alloc),
         })?;
         let calls = Vec::new(alloc);
-        let table = table::of_ends::<M>(alloc, &ends, &calls)?;
+        let table = ends::of_ends::<M>(alloc, &ends, &calls)?;
         Ok(Frontier {
             alloc,
             budget,
@@ -158,7 +154,7 @@ impl<M: SeqObject> Frontier<M> {
             Change::Invoked(fresh) => self.fresh = Some(fresh),
             Change::Returned(id) => {
                 swap(&mut self.table.rows, &mut self.room.rows);
-                pending_op::drop_call(&mut self.calls, id);
+                ends::drop_call(&mut self.calls, id);
                 self.tried = self.calls.len();
             }
             Change::Anew(calls, table, tried) => {
@@ -251,14 +247,14 @@ impl<M: SeqObject> Frontier<M> {
         let Some(fresh) = &self.fresh else {
             return Ok(());
         };
-        let mut calls = pending_op::copy_calls(self.alloc, &self.calls)?;
+        let mut calls = ends::copy_calls(self.alloc, &self.calls)?;
         calls.push(PendingOp {
             id: fresh.id,
             op: fresh.op.copy()?,
             crashed: false,
         })?;
-        let ends = table::ends_of::<M>(self.alloc, &self.table, &self.calls)?;
-        self.table = table::of_ends::<M>(self.alloc, &ends, &calls)?;
+        let ends = ends::ends_of::<M>(self.alloc, &self.table, &self.calls)?;
+        self.table = ends::of_ends::<M>(self.alloc, &ends, &calls)?;
         self.calls = calls;
         self.fresh = None;
         Ok(())
@@ -305,7 +301,7 @@ impl<M: SeqObject> Frontier<M> {
             (applied_of self.old) (applied_of self.new) }
     {
         self.list_fresh()?;
-        let all = extend::advance::<M>(
+        let all = ends::advance::<M>(
             self.alloc,
             &mut self.table,
             &mut self.room,
@@ -362,11 +358,11 @@ impl<M: SeqObject> Frontier<M> {
         ensures cost { applied_of self.new ≡ applied_of self.old }
     {
         self.list_fresh()?;
-        let mut ends = table::ends_of::<M>(self.alloc, &self.table, &self.calls)?;
+        let mut ends = ends::ends_of::<M>(self.alloc, &self.table, &self.calls)?;
         ends.retain(|kept| !kept.includes(id));
-        let mut calls = pending_op::copy_calls(self.alloc, &self.calls)?;
-        pending_op::drop_call(&mut calls, id);
-        let table = table::of_ends::<M>(self.alloc, &ends, &calls)?;
+        let mut calls = ends::copy_calls(self.alloc, &self.calls)?;
+        ends::drop_call(&mut calls, id);
+        let table = ends::of_ends::<M>(self.alloc, &ends, &calls)?;
         let left = table.rows.len();
         self.next = Change::Anew(calls, table, self.tried.saturating_sub(1));
         Ok(step_of(left))
@@ -397,11 +393,11 @@ impl<M: SeqObject> Frontier<M> {
         ensures cost { applied_of self.new ≡ applied_of self.old }
     {
         self.list_fresh()?;
-        let ends = table::ends_of::<M>(self.alloc, &self.table, &self.calls)?;
-        let after = after::crashed_ends::<M>(self.alloc, &ends, id)?;
-        let mut calls = pending_op::copy_calls(self.alloc, &self.calls)?;
-        pending_op::mark_crashed(&mut calls, id);
-        let table = table::of_ends::<M>(self.alloc, &after, &calls)?;
+        let ends = ends::ends_of::<M>(self.alloc, &self.table, &self.calls)?;
+        let after = ends::crashed_ends::<M>(self.alloc, &ends, id)?;
+        let mut calls = ends::copy_calls(self.alloc, &self.calls)?;
+        ends::mark_crashed(&mut calls, id);
+        let table = ends::of_ends::<M>(self.alloc, &after, &calls)?;
         self.next = Change::Anew(calls, table, 0);
         Ok(())
     }
@@ -423,10 +419,10 @@ impl<M: SeqObject> Frontier<M> {
             alloc: self.alloc,
             budget: self.budget,
             applied: self.applied,
-            calls: pending_op::copy_calls(self.alloc, &self.calls)?,
+            calls: ends::copy_calls(self.alloc, &self.calls)?,
             fresh: change::copied_fresh(&self.fresh)?,
             tried: self.tried,
-            table: table::copied::<M>(self.alloc, &self.table)?,
+            table: ends::copied::<M>(self.alloc, &self.table)?,
             room: Room::new(self.alloc),
             next: Change::Nothing,
         })
