@@ -1,5 +1,4 @@
-//! One monitor that many threads share: a lock round the one-thread object, one tape of its calls, and a glance at what
-//! was last published that takes no lock.
+//! One monitor that many threads share: a lock round the one-thread object, one tape of its calls, glances that take no lock.
 #![tactic(auto)]
 
 mod blank;

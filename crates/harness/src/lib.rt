@@ -8,6 +8,7 @@ pub mod core_object;
 mod fitness;
 mod inner;
 pub mod judging;
+pub mod laws;
 mod parts;
 mod tickets;
 

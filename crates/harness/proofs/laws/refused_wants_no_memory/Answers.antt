@@ -11,7 +11,7 @@ use Rattle.machine.specs.declared.command.Command.TheVariants.{Append, Rewind, S
 use Rattle.machine.specs.Machine.{Machine, most_tickets, HasTicket, open_at, first_due, Refuses, MayStep}
 use Rattle.machine.proofs.OneRefusal.{same_ticket}
 use Rattle.harness.specs.CoreView.{MayWantMemory}
-use Rattle.board.proofs.laws.refused_wants_no_memory.Goals as goal
+use Rattle.harness.proofs.laws.refused_wants_no_memory.Goals as goal
 
 not_none : {X : Type 0} (o : Option X) → IsSome o → o ≡ None → ⊥
 not_none o some none = true≢false (sym some ∙ ap is_some none)
