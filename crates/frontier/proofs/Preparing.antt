@@ -11,9 +11,8 @@ use Rattle.frontier.specs.declared.change.Fresh.{Fresh}
 use Rattle.frontier.specs.declared.frontier.Frontier.{Frontier}
 use Rattle.ends.specs.declared.pending_op.PendingOp.{PendingOp}
 use Rattle.ends.specs.declared.table.Table.{Table}
-use Rattle.frontier.specs.declared.frontier.Step.{Step}
-use Rattle.frontier.specs.Meaning.{Answers, CostsAtMost, Keeps, TakesUnlessOver}
-use Rattle.frontier.specs.Meaning.{IsIdle, IsListed, IsOf, Lists, ListsBut, Makes, StandsFor, StandsWith, WillStandFor}
+use Rattle.frontier.specs.Meaning.{Keeps}
+use Rattle.frontier.specs.Meaning.{IsIdle, IsOf, Lists, ListsBut, Makes, StandsFor, StandsWith, WillStandFor}
 use Rattle.ends.specs.Tables.{AreShown, Widens, rows_of}
 use Rattle.ends.proofs.Showing.{shown_more}
 use Rattle.frontier.proofs.Standing.{stands_too}
@@ -49,17 +48,11 @@ module _ {M : Type 0} (o : Object) (f : Frontier M o.State) (marks : List Mark) 
   pub listed_stands : f.fresh ≡ None → Lists o f marks → StandsFor o f marks
   listed_stands none l = record { stands = subst (λ x. StandsWith o f x marks) (sym none) l }
 
-  pub listed_of : f.fresh ≡ None → StandsFor o f marks → Lists o f marks
-  listed_of none s = subst (λ x. StandsWith o f x marks) none s.stands
-
   pub but_of : (fresh : Fresh) → f.fresh ≡ Some fresh → StandsFor o f marks → ListsBut o f fresh marks
   but_of fresh some s = subst (λ x. StandsWith o f x marks) some s.stands
 
   pub idle_will : IsIdle o f marks → WillStandFor o f marks
   idle_will idle = record { will = λ g makes. stands_like o f g (subst (λ n. Makes n f g) idle.nothing makes) marks idle.stands }
-
-  pub listed_idle : IsListed o f marks → IsIdle o f marks
-  listed_idle l = record { nothing = l.nothing; stands = listed_stands l.none l.lists }
 
   -- an invocation is prepared
   pub will_invoke : (fresh : Fresh) → f.next ≡ ToInvoked fresh → MayFollow marks (Invoked fresh.id fresh.op) → Lists o f marks → WillStandFor o f (marks ++ Invoked fresh.id fresh.op ∷ [])
@@ -95,18 +88,3 @@ ok_keeps old mid new (Err e) to on = tt
 pub err_keeps : (old mid new : List Mark → Type 0) (r : Result (Unit {0}) AllocError) → Keeps old mid → OnErr r (Keeps mid new) → OnErr r (Keeps old new)
 err_keeps old mid new (Ok x) to on = tt
 err_keeps old mid new (Err e) to on = λ marks stands. on marks (to marks stands)
-
--- what is said by way of a frontier that stands for the same
-module _ (old mid : List Mark → Type 0) (keeps : Keeps old mid) where
-  pub answers_from : (o : Object) (budget : ℕ) (mark : Mark) (step : Step) → Answers o budget mid mark step → Answers o budget old mark step
-  answers_from o budget mark step a = record { right = λ marks stands may. a.right marks (keeps marks stands) may; over_at_ok = a.over_at_ok }
-
-  pub taken_from : (next : List Mark → Type 0) (mark : Mark) (step : Step) → TakesUnlessOver mid next mark step → TakesUnlessOver old next mark step
-  taken_from next mark step t = record { over = λ e marks stands. t.over e marks (keeps marks stands); taken = λ ne marks stands may. t.taken ne marks (keeps marks stands) may }
-
-  pub costs_from : (budget : ℕ) (mark : Mark) (before after : ℕ) → CostsAtMost budget mid mark before after → CostsAtMost budget old mark before after
-  costs_from budget mark before after costs marks stands n most = costs marks (keeps marks stands) n most
-
--- and by carrying it out
-pub taken_on : (old next new : List Mark → Type 0) (mark : Mark) (step : Step) → TakesUnlessOver old next mark step → Keeps next new → TakesUnlessOver old new mark step
-taken_on old next new mark step t on = record { over = λ e marks stands. on marks (t.over e marks stands); taken = λ ne marks stands may. on _ (t.taken ne marks stands may) }

@@ -1,5 +1,5 @@
 -- frontiers, by the ends that they keep, and the answers by how many are left
-use Rattle.std.proofs.Common.{◌≡◌, ◌≢◌, ◌↔◌, ℕ, ◌+◌, ◌-◌, ◌≤◌, take, ⊎_elim, Bool, false, not, Option, Some, None, Result, Ok, Err, MatchResult, option_map, List, [], ◌∷◌, ◌++◌, map, length, slice_get, get_or, refl, sym, ap, ◌∙◌, subst, arith, length-append}
+use Rattle.std.proofs.Common.{◌≡◌, ◌≢◌, ◌↔◌, ℕ, ◌+◌, ◌-◌, ◌≤◌, take, ⊎_elim, Bool, false, not, Option, Some, None, option_map, List, [], ◌∷◌, ◌++◌, map, length, slice_get, get_or, refl, sym, ap, ◌∙◌, subst, arith, length-append}
 use Rattle.std.specs.List.{filter}
 use Rattle.std.proofs.lemmas.Bool.{cases_Bool}
 use Rattle.models.specs.Objects.{Object}
@@ -19,7 +19,6 @@ use Rattle.ends.specs.declared.table.Table.{Table}
 use Rattle.ends.proofs.Showing.{included_shown, shown_more, widens_rows}
 use Rattle.ends.proofs.Rows.{get_last, get_push, has_place, one_of, some_at}
 use Rattle.std.specs.FinMap as finmap
-use Rattle.std.specs.declared.alloc.AllocError.{AllocError}
 use Rattle.std.specs.List.{Contains}
 use Rattle.std.proofs.lemmas.List.{get_or_append_left, length-map}
 use Rattle.std.proofs.lemmas.Option.{get_or_from_slice_get, slice_get-map, slice_get_within}
@@ -29,7 +28,7 @@ use Rattle.linspec.specs.MarkRule.{IsNew}
 use Rattle.linspec.specs.Ends.{End, IsEnd}
 use Rattle.ends.proofs.Starting.{back, to}
 use Rattle.ends.proofs.Closing.{closed_after_fail, closed_again, one_fewer}
-use Rattle.frontier.specs.Meaning.{Lists, Blows, IsStep, Keeps, Takes}
+use Rattle.frontier.specs.Meaning.{Lists, Blows, IsStep}
 use Rattle.ends.specs.EndSteps.{Adds, Along, AreClosed, IsReached, is_in, is_other}
 use Rattle.frontier.proofs.Including.{included_after_fail, included_more}
 use Rattle.frontier.proofs.Generating.{Generates, generates_by, reached_by, generates_after_fail, none_left, some_left}
@@ -156,11 +155,6 @@ module _ {S : Type 0} (t : Table S) (calls : List PendingOp) (marks : List Mark)
         let same : r.0 ++ 0 ∷ [] ≡ row = one_of _ _ (sym (ap (λ l. slice_get l i) is ∙ slice_get-map (λ (x : List ℕ). x ++ 0 ∷ []) (rows_of t) i ∙ ap (option_map (λ (x : List ℕ). x ++ 0 ∷ [])) r.1) ∙ h) in
         subst (λ x. Says t.states t.founds.items (calls ++ the_call ∷ []) x e) same (says_longer r.0 e (has_place ends i e k) (shown.each i r.0 e r.1 k));
   }
-
--- what an event makes of the histories, by way of a frontier that stands for the same
-pub takes_from : (old mid new : List Mark → Type 0) (mark : Mark) (r : Result (Unit {0}) AllocError) → Keeps old mid → MatchResult r (λ _. Takes mid new mark) (λ _. Keeps mid new) → MatchResult r (λ _. Takes old new mark) (λ _. Keeps old new)
-takes_from old mid new mark (Ok x) keeps h = λ marks stands may. h marks (keeps marks stands) may
-takes_from old mid new mark (Err e) keeps h = λ marks stands. h marks (keeps marks stands)
 
 -- rows of ends, in the words of the code, which reads calls and ends as slices
 pub shown_of : {S : Type 0} (t : Table S) (calls now : List PendingOp) (ends kept : List (KeptEnd S)) → calls ≡ now → ends ≡ kept → (AreIncluded calls (map end_kept ends) → ShownWith t calls [] (Along IsThat (map end_kept ends)))

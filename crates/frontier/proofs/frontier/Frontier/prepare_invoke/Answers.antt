@@ -1,6 +1,6 @@
 use Rattle.std.proofs.Common.{refl}
 use Rattle.models.specs.Objects.{of_table}
-use Rattle.frontier.proofs.Preparing.{idle_will, lists_like, listed_stands, stands_like, will_invoke}
+use Rattle.frontier.proofs.Preparing.{lists_like, listed_stands, stands_like, will_invoke}
 use Rattle.frontier.proofs.frontier.Frontier.prepare_invoke.Goals as goal
 
 pub returns-clause-now : goal.returns-clause-now

@@ -1,4 +1,4 @@
-use Rattle.std.proofs.Common.{◌≡◌, ◌≤◌, ◌+◌, ◌*◌, ◌∷◌, ◌++◌, [], length, ap, refl, sym, ◌∙◌, subst}
+use Rattle.std.proofs.Common.{◌≤◌, ◌+◌, ◌*◌, ◌∷◌, ◌++◌, [], length, ap, refl, sym, ◌∙◌, subst}
 use Rattle.std.specs.List.{filter}
 use Rattle.models.specs.Objects.{of_table}
 use Rattle.history.specs.Events.Mark.{Returned}
@@ -11,7 +11,7 @@ use Rattle.frontier.proofs.Standing.{step_by}
 use Rattle.ends.proofs.Growing.{cost_within}
 use Rattle.frontier.proofs.Judging.{advanced, generates_left, stands_after, too_many_by, within}
 use Rattle.frontier.proofs.Pending.{no_more_calls}
-use Rattle.frontier.proofs.Preparing.{idle_will, lists_like, lists_more, listed_stands, will_by}
+use Rattle.frontier.proofs.Preparing.{idle_will, lists_more, listed_stands, will_by}
 use Rattle.frontier.proofs.frontier.Frontier.prepare_ok.Goals as goal
 
 pub returns-in_err-all-clause-now : goal.returns-in_err-all-clause-now
