@@ -138,6 +138,46 @@ fn open_cas_may_take_place(rt: HostRuntime) -> Result<(), Fail> {
     Ok(())
 }
 
+// A crashed read decides nothing: two ends stand before the second read returns, it is in or not.
+#[test]
+fn crashed_reads_are_set_aside(rt: HostRuntime) -> Result<(), Fail> {
+    let rows = vec![in rt.alloc();
+        lives(0, Invoke, Name::Write, Part::Int(5)),
+        lives(0, Done, Name::Write, Part::Int(5)),
+        lives(2, Invoke, Name::Read, Part::Nil),
+        lives(2, Info, Name::Read, Part::Nil),
+        lives(4, Invoke, Name::Read, Part::Nil),
+        lives(4, Done, Name::Read, Part::Int(5)),
+    ]?;
+    assert!(rt; answers(rt.alloc(), ModelKind::Register, 2, rows)?);
+    Ok(())
+}
+
+// Before the first ok there are five ends: nothing, the write, the read of nil, and both in either order. Three are left, which
+// differ by the read alone; once it has crashed they are one, and two more writes make five again.
+#[test]
+fn ends_that_a_crashed_read_told_apart(rt: HostRuntime) -> Result<(), Fail> {
+    for (budget, want) in [(5, Step::Alive), (4, Step::Over)] {
+        let rows = vec![in rt.alloc();
+            lives(0, Invoke, Name::Write, Part::Int(1)),
+            lives(1, Invoke, Name::Read, Part::Nil),
+            gets(0, Done, Name::Write, Part::Int(1), want),
+        ]?;
+        assert!(rt; answers(rt.alloc(), ModelKind::Register, budget, rows)?);
+    }
+    let rows = vec![in rt.alloc();
+        lives(0, Invoke, Name::Write, Part::Int(1)),
+        lives(1, Invoke, Name::Read, Part::Nil),
+        lives(0, Done, Name::Write, Part::Int(1)),
+        lives(1, Info, Name::Read, Part::Nil),
+        lives(4, Invoke, Name::Write, Part::Int(2)),
+        lives(5, Invoke, Name::Write, Part::Int(3)),
+        lives(4, Done, Name::Write, Part::Int(2)),
+    ]?;
+    assert!(rt; answers(rt.alloc(), ModelKind::Register, 5, rows)?);
+    Ok(())
+}
+
 // An acquire that failed did not take place, and the mutex is free. One that crashed may hold the mutex or not, until a
 // release shows that it did.
 #[test]

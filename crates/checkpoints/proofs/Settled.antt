@@ -6,7 +6,7 @@ use Rattle.history.specs.Events.{entries_of}
 use Rattle.history.specs.ProcessRule.{IsHistory}
 use Rattle.linspec.specs.declared.verdict.KeyStatus.{KeyStatus}
 use Rattle.linspec.specs.declared.verdict.KeyStatus.TheVariants.{Alive, Dead, Over}
-use Rattle.linspec.specs.Ends.{every}
+use Rattle.linspec.specs.Ends.{is_no_read}
 use Rattle.linspec.proofs.OneAnswer.{one_status}
 use Rattle.checkpoints.specs.KeyLineView.{KeyHistory, IsStatusOf, with_pushed}
 use Rattle.checkpoints.proofs.Judging.{dead_after, over_after}
@@ -19,5 +19,5 @@ over_settled h index i event history over = over_after (object_of h.kind) h.budg
 
 pub settled : (h : KeyHistory) (index : ℕ) (event : Event) (s t : KeyStatus) → IsHistory (h.events ++ (index, event) ∷ []) → IsStatusOf h s → IsStatusOf (with_pushed index event h) t → (s ≡ Alive) ⊎ (t ≡ s)
 settled h index event Alive t history is then = inl refl
-settled h index event (Dead i) t history is then = inr (one_status every (object_of h.kind) h.budget (entries_of (h.events ++ (index, event) ∷ [])) t (Dead i) then (dead_settled h index i event history is))
-settled h index event (Over i) t history is then = inr (one_status every (object_of h.kind) h.budget (entries_of (h.events ++ (index, event) ∷ [])) t (Over i) then (over_settled h index i event history is))
+settled h index event (Dead i) t history is then = inr (one_status is_no_read (object_of h.kind) h.budget (entries_of (h.events ++ (index, event) ∷ [])) t (Dead i) then (dead_settled h index i event history is))
+settled h index event (Over i) t history is then = inr (one_status is_no_read (object_of h.kind) h.budget (entries_of (h.events ++ (index, event) ∷ [])) t (Over i) then (over_settled h index i event history is))

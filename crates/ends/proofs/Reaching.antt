@@ -26,6 +26,7 @@ module _ (o : Object) (calls : List PendingOp) (marks : List Mark) (are : ArePen
     invoked = p.invoked;
     not_returned = p.not_returned;
     not_failed = p.not_failed;
+    counted = p.counted;
     step = step;
     made = inr (is.0 refl, not_in, made);
   }
@@ -33,6 +34,7 @@ module _ (o : Object) (calls : List PendingOp) (marks : List Mark) (are : ArePen
     invoked = p.invoked;
     not_returned = p.not_returned;
     not_failed = p.not_failed;
+    counted = p.counted;
     step = step;
     made = inl ((λ k. true≢false (sym (is.1 k))), none_from (finmap.get e.pending x.id) not_in, made);
   }
@@ -47,7 +49,7 @@ module _ (o : Object) (calls : List PendingOp) (marks : List Mark) (are : ArePen
 
   call_of : (e f : End o.State) (x : Taken) → Extends o marks e x f → (c : PendingOp) × Contains calls c × TakesLast o e c f × (c.id ≡ x.id)
   call_of e f x h =
-      let p : IsPending marks x.id x.op = record { invoked = h.invoked; not_returned = h.not_returned; not_failed = h.not_failed } in
+      let p : IsPending marks x.id x.op = record { invoked = h.invoked; not_returned = h.not_returned; not_failed = h.not_failed; counted = h.counted } in
       ⊎_elim
       (λ m.
       let c : PendingOp = record { id = x.id; op = x.op; crashed = false } in (

@@ -1,8 +1,9 @@
 -- Invariant: what the events do to an end, and to lists of ends
-use Rattle.std.specs.Prelude.{◌≡◌, ◌≢◌, ◌↔◌, ℕ, zero, suc, ◌⊎◌, Bool, true, false, not, nat_eq, if◌then◌else◌, Option, Some, None, List}
-use Rattle.std.specs.List.{Contains}
+use Rattle.std.specs.Prelude.{◌≡◌, ◌≢◌, ◌↔◌, ℕ, zero, suc, ◌⊎◌, Bool, true, false, not, nat_eq, if◌then◌else◌, Option, Some, None, List, map}
+use Rattle.std.specs.List.{Contains, filter}
 use Rattle.std.specs.FinMap as finmap
 use Rattle.std.specs.FinSet as finset
+use Rattle.models.specs.declared.operation.Name.TheVariants.{Read}
 use Rattle.models.specs.declared.finding.Answer.{Answer}
 use Rattle.models.specs.declared.finding.Found.{Found}
 use Rattle.models.specs.Objects.{Object, Fits}
@@ -18,7 +19,7 @@ settled e id = record { state = e.state; pending = finmap.remove e.pending id; c
 abbrev pub FitsAt : {S : Type 0} → End S → ℕ → Answer → Type 0
 FitsAt e id answer = (found : Found) × (finmap.get e.pending id ≡ Some found) × Fits found answer
 
--- the end where the open operation has crashed, if it is in it
+-- the end where the open operation has crashed, and is among the crashed ones if it is in it
 abbrev pub crashed_if : {S : Type 0} → Option Found → End S → ℕ → End S
 crashed_if None e id = e
 crashed_if (Some found) e id = record {
@@ -27,15 +28,17 @@ crashed_if (Some found) e id = record {
   crashed = finset.insert e.crashed id;
 }
 
-abbrev pub after_crash : {S : Type 0} → End S → ℕ → End S
-after_crash e id = crashed_if (finmap.get e.pending id) e id
+-- the end where the open operation has crashed: it is among the crashed ones if it counts, and else in it no longer
+abbrev pub after_crash : {S : Type 0} → Bool → End S → ℕ → End S
+after_crash true e id = crashed_if (finmap.get e.pending id) e id
+after_crash false e id = settled e id
 
 -- f is what the end becomes where the operation returns with this answer, and where it crashes
 abbrev pub Settles : {S : Type 0} → ℕ → Answer → End S → End S → Type 0
 Settles id answer e f = FitsAt e id answer × (settled e id ≡ f)
 
-abbrev pub Crashes : {S : Type 0} → ℕ → End S → End S → Type 0
-Crashes id e f = after_crash e id ≡ f
+abbrev pub Crashes : {S : Type 0} → Bool → ℕ → End S → End S → Type 0
+Crashes counts id e f = after_crash counts e id ≡ f
 
 -- the operation is in the end, among the crashed ones or the open ones
 abbrev pub is_in : {S : Type 0} → End S → ℕ → Bool → Bool
@@ -105,3 +108,12 @@ is_other id call = not (nat_eq call.id id)
 abbrev pub crash_call : ℕ → PendingOp → PendingOp
 crash_call id call =
     if nat_eq call.id id then record { id = call.id; op = call.op; crashed = true } else call
+
+-- the calls after the operation has crashed: it is told as a crashed one if it counts, and else is no longer there
+abbrev pub calls_after_crash : Bool → ℕ → List PendingOp → List PendingOp
+calls_after_crash true id calls = map (crash_call id) calls
+calls_after_crash false id calls = filter (is_other id) calls
+
+-- a read with this id is among the calls
+abbrev pub HasRead : List PendingOp → ℕ → Type 0
+HasRead calls id = (c : PendingOp) × Contains calls c × (c.id ≡ id) × (c.op.name ≡ Read)

@@ -10,7 +10,7 @@ use Rattle.history.specs.Events.{Mark}
 use Rattle.history.specs.Events.Mark.{Invoked, Failed, Crashed}
 use Rattle.linspec.specs.Operations.{HasReturned}
 use Rattle.linspec.specs.Orders.{Pairwise}
-use Rattle.linspec.specs.Ends.{End}
+use Rattle.linspec.specs.Ends.{End, CountsIn, is_no_read}
 use Rattle.ends.specs.declared.pending_op.PendingOp.{PendingOp}
 use Rattle.ends.specs.declared.kept_end.KeptEnd.{KeptEnd}
 
@@ -36,11 +36,13 @@ end_kept kept = record {
   crashed = crashed_in kept.crashed.items;
 }
 
--- the operation may still take place: it is invoked, and has neither returned nor failed
+-- the operation may still take place and change something: it is invoked, has neither returned nor failed, and where it has
+-- crashed it is no read
 pub record IsPending (marks : List Mark) (id : ℕ) (op : Op) : Type 0 where
   pub invoked : Contains marks (Invoked id op)
   pub not_returned : ¬ HasReturned marks id
   pub not_failed : ¬ Contains marks (Failed id)
+  pub counted : Contains marks (Crashed id) → CountsIn is_no_read marks id
 
 -- the list has each operation that may still take place, and whether it has crashed
 abbrev pub ArePending : List PendingOp → List Mark → Type 0

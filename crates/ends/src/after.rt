@@ -108,20 +108,38 @@ pub fn settled<S: Ord + Drop>(
     }
 }
 
-/// The ends after the operation has crashed, in the same order. Ends that differed before may be the same then.
+// The end after the operation has crashed.
+fn crashed_end<M: SeqObject>(
+    alloc: Global,
+    kept: &KeptEnd<M::State>,
+    id: u32,
+    counts: bool,
+) -> Result<KeptEnd<M::State>, AllocError>
+    ensures { IfOk result (λ after. end_kept after ≡ after_crash counts (end_kept kept.now) id) }
+{
+    let mut after = copy_of::<M>(alloc, kept)?;
+    if counts {
+        after.crash(id)?;
+        return Ok(after);
+    }
+    after.settle(id);
+    Ok(after)
+}
+
+/// The ends after the operation has crashed, in the same order. If it counts it is among the crashed ones of an end that it is
+/// in, and else it is in no end any more. Ends that differed before may be the same then.
 pub fn crashed_ends<M: SeqObject>(
     alloc: Global,
     ends: &[KeptEnd<M::State>],
     id: u32,
+    counts: bool,
 ) -> Result<Vec<KeptEnd<M::State>>, AllocError>
     ensures { let ends = map end_kept ends.now in
-        IfOk result (λ after. map end_kept after.items ≡ map (λ e. after_crash e id) ends) }
+        IfOk result (λ after. map end_kept after.items ≡ map (λ e. after_crash counts e id) ends) }
 {
     let mut after = Vec::with_capacity(alloc, ends.len())?;
     for kept in ends {
-        let mut crashed = copy_of::<M>(alloc, kept)?;
-        crashed.crash(id)?;
-        after.push(crashed)?;
+        after.push(crashed_end::<M>(alloc, kept, id, counts)?)?;
     }
     Ok(after)
 }

@@ -1,5 +1,5 @@
 //! Ends, as they are kept.
-ghost use Rattle.std.specs.Prelude.{◌≡◌, false, IfOk, OnOk, option_copied};
+ghost use Rattle.std.specs.Prelude.{◌≡◌, true, false, IfOk, OnOk, option_copied};
 ghost use Rattle.ends.specs.KeptEnds.{end_kept, found_at, has_crashed};
 ghost use Rattle.ends.specs.EndSteps.{settled, after_crash, is_in, with_call};
 
@@ -92,9 +92,9 @@ impl<S> KeptEnd<S> {
         self.pending.retain(|entry| entry.0 != id);
     }
 
-    /// The open operation crashes, if it is in it.
+    /// The open operation crashes, and is among the crashed ones if it is in it.
     pub fn crash(&mut self, id: u32) -> Result<(), AllocError>
-        ensures { OnOk result (end_kept self.new ≡ after_crash (end_kept self.old) id) }
+        ensures { OnOk result (end_kept self.new ≡ after_crash true (end_kept self.old) id) }
     {
         if self.includes(id) {
             self.crashed.push(id)?;

@@ -12,6 +12,6 @@ mod table;
 pub use after::crashed_ends;
 pub use extend::{Room, advance};
 pub use kept_end::KeptEnd;
-pub use pending_op::{PendingOp, copy_calls, drop_call, mark_crashed};
+pub use pending_op::{PendingOp, copy_calls, crash_call, drop_call, is_read};
 pub use states::States;
 pub use table::{Table, copied, ends_of, of_ends};

@@ -1,12 +1,13 @@
 //! The operations that may still take place.
-ghost use Rattle.std.specs.Prelude.{◌≡◌, IfOk, map};
+ghost use Rattle.std.specs.Prelude.{◌≡◌, ◌↔◌, IsTrue, IfOk, map};
 ghost use Rattle.std.specs.List.{filter};
-ghost use Rattle.ends.specs.EndSteps.{is_other, crash_call};
+ghost use Rattle.models.specs.declared.operation.Name.{Name};
+ghost use Rattle.ends.specs.EndSteps.{HasRead, is_other, crash_call, calls_after_crash};
 
-use models::Op;
+use models::{Name, Op};
 use std::alloc::{AllocError, Global};
 
-/// An operation that may still take place: it is open, or it has crashed.
+/// An operation that may still take place and change something: it is open, or it has crashed and is no read.
 #[derive(Drop)]
 pub struct PendingOp {
     pub id: u32,
@@ -37,8 +38,38 @@ pub fn drop_call(calls: &mut Vec<PendingOp>, id: u32)
     calls.retain(|call| call.id != id);
 }
 
-/// Tells the operation as a crashed one.
-pub fn mark_crashed(calls: &mut [PendingOp], id: u32)
+// Whether the call is of this operation, which is a read.
+fn is_read_of(call: &PendingOp, id: u32) -> bool
+    ensures { IsTrue result ↔ (call.now.id ≡ id) × (call.now.op.name ≡ Name.Read) }
+{
+    call.id == id && call.op.name == Name::Read
+}
+
+/// Whether the operation is a read.
+pub fn is_read(calls: &[PendingOp], id: u32) -> bool
+    ensures { IsTrue result ↔ HasRead calls.now id }
+{
+    for call in calls {
+        if is_read_of(call, id) {
+            return true;
+        }
+    }
+    false
+}
+
+/// The operation has crashed: it is told as a crashed one if it counts, and else taken out.
+pub fn crash_call(calls: &mut Vec<PendingOp>, id: u32, counts: bool)
+    ensures { calls.new.items ≡ calls_after_crash counts id calls.old.items }
+{
+    if counts {
+        mark_crashed(calls, id);
+    } else {
+        drop_call(calls, id);
+    }
+}
+
+// Tells the operation as a crashed one.
+fn mark_crashed(calls: &mut [PendingOp], id: u32)
     ensures { calls.new ≡ map (crash_call id) calls.old }
 {
     for call in calls.iter_mut() {

@@ -1,20 +1,21 @@
 -- ends from which pending operations lead to all ends of the history, after each event
-use Rattle.std.proofs.Common.{◌≡◌, ◌≢◌, ◌↔◌, ◌+◌, ◌<◌, inr, ⊎_elim, false, not, ℕ, List, [], ◌∷◌, ◌++◌, length, map, take, drop, is_some, refl, sym, ap, subst, arith}
+use Rattle.std.proofs.Common.{◌≡◌, ◌≢◌, ◌↔◌, ◌+◌, ◌<◌, inr, ⊎_elim, Bool, true, false, not, IsTrue, ℕ, List, [], ◌∷◌, ◌++◌, length, map, take, drop, is_some, refl, sym, ap, ◌∙◌, subst, arith}
 use Rattle.std.specs.List.{filter, Contains}
 use Rattle.std.specs.FinMap as finmap
+use Rattle.std.proofs.lemmas.Bool.{true≢false}
 use Rattle.models.specs.declared.operation.Op.{Op}
-use Rattle.models.specs.Objects.{Object}
+use Rattle.models.specs.Objects.{Object, ReadsLeave}
 use Rattle.history.specs.Events.{Mark}
 use Rattle.history.specs.Events.Mark.{Invoked, Failed, Crashed}
 use Rattle.linspec.specs.Operations.{IsOpen}
 use Rattle.linspec.specs.MarkRule.{IsNew}
 use Rattle.linspec.specs.Orders.{Taken, IsLinearizable, Pairwise}
-use Rattle.linspec.specs.Ends.{End, IsEnd, HasMoreThan}
+use Rattle.linspec.specs.Ends.{End, CountsIn, is_no_read, IsEnd, HasMoreThan}
 use Rattle.linspec.proofs.Lists.{Contains-nil, Contains-head, Pairwise-left}
 use Rattle.std.proofs.lemmas.List.{length-take-le, take-append-drop}
 use Rattle.std.proofs.lemmas.List.Elements.{Contains-append_left}
 use Rattle.linspec.proofs.Filters.{from_filter, from_map, to_filter, to_map}
-use Rattle.linspec.proofs.Completions.{fail_after, fail_before, info_after, info_before}
+use Rattle.linspec.proofs.Completions.{fail_after, fail_before, info_after_by, info_before_by}
 use Rattle.linspec.proofs.Reach.{Reaches, invoke_after, invoke_before}
 use Rattle.linspec.proofs.Fronts.{IsLinearizable-end}
 use Rattle.ends.specs.declared.pending_op.PendingOp.{PendingOp}
@@ -22,7 +23,7 @@ use Rattle.ends.specs.KeptEnds.{ArePending}
 use Rattle.ends.specs.EndSteps.{Crashes, after_crash, is_in, Along, Adds, Grows, IsReached}
 use Rattle.frontier.proofs.TheEnds.{AreTheEnds}
 use Rattle.ends.proofs.Reaching.{end_further, calls_of, reaches_of, reached_itself}
-use Rattle.ends.proofs.JustInTime.{Reaches-append, Reaches-new, Reaches-failed, Reaches-crashed, none_before}
+use Rattle.ends.proofs.JustInTime.{Reaches-append, Reaches-new, Reaches-failed, Reaches-crashed, Reaches-aside, aside, none_before}
 use Rattle.frontier.proofs.AfterEvents.{none_from, not_true}
 
 -- each of them is an end, and each end is reached from one of them
@@ -73,11 +74,11 @@ module _ (o : Object) (ends : List (End o.State)) (marks : List Mark) (gen : Gen
       by_first (x ∷ xs) sound some = (IsLinearizable-end o marks).1 (x, sound x (Contains-head x xs))
 
 -- an invocation adds none
-pub generates_after_invoke : (o : Object) (ends : List (End o.State)) (marks : List Mark) (id : ℕ) (op : Op) → IsNew marks id → Generates o ends marks → Generates o ends (marks ++ Invoked id op ∷ [])
-generates_after_invoke o ends marks id op new gen = record {
+pub generates_after_invoke : (o : Object) → ReadsLeave o → (ends : List (End o.State)) (marks : List Mark) (id : ℕ) (op : Op) → IsNew marks id → Generates o ends marks → Generates o ends (marks ++ Invoked id op ∷ [])
+generates_after_invoke o reads ends marks id op new gen = record {
   sound = λ e h. invoke_after o marks id op new e [] e (gen.sound e h) refl;
   enough = λ f end.
-      let b = invoke_before o marks id op new f end in
+      let b = invoke_before o marks id op new reads f end in
       let c = gen.enough b.0 b.2 in
       (c.0, c.1, (c.2.0 ++ b.1, Reaches-append o (marks ++ Invoked id op ∷ []) c.2.0 b.1 c.0 b.0 f (Reaches-new o marks id op new c.2.0 c.0 b.0 c.2.1) b.3));
 }
@@ -98,24 +99,44 @@ module _ (o : Object) (ends : List (End o.State)) (marks : List Mark) (id : ℕ)
         );
   }
 
-  pub generates_after_crash : (after : List (End o.State)) → ((f : End o.State) → Contains after f ↔ Along (Crashes id) ends f) → Generates o after (marks ++ Crashed id ∷ [])
-  generates_after_crash after each = record {
+  crash_told : (tells : IsTrue true ↔ CountsIn is_no_read marks id) (after : List (End o.State)) → ((f : End o.State) → Contains after f ↔ Along (Crashes true id) ends f) → Generates o after (marks ++ Crashed id ∷ [])
+  crash_told tells after each = record {
     sound = λ f h.
         let s = (each f).0 h in
-        subst (IsEnd o (marks ++ Crashed id ∷ [])) s.2 (info_after o marks id is_open s.0 (gen.sound s.0 s.1));
+        subst (IsEnd o (marks ++ Crashed id ∷ [])) s.2 (info_after_by is_no_read o marks id is_open true tells s.0 (gen.sound s.0 s.1));
     enough = λ f end.
-        let b = info_before o marks id is_open f end in
+        let b = info_before_by is_no_read o marks id is_open true tells f end in
         let c = gen.enough b.0 b.1 in (
-          after_crash c.0 id,
-          (each (after_crash c.0 id)).1 (c.0, c.1, refl),
-          (c.2.0, subst (Reaches o (marks ++ Crashed id ∷ []) (after_crash c.0 id) c.2.0) (sym b.2) (Reaches-crashed o marks id is_open c.2.0 c.0 b.0 (gen.sound c.0 c.1) c.2.1)),
+          after_crash true c.0 id,
+          (each (after_crash true c.0 id)).1 (c.0, c.1, refl),
+          (c.2.0, subst (Reaches o (marks ++ Crashed id ∷ []) (after_crash true c.0 id) c.2.0) (sym b.2) (Reaches-crashed o marks id is_open (tells.0 refl) c.2.0 c.0 b.0 (gen.sound c.0 c.1) c.2.1)),
         );
   }
 
-pub crash_each : (o : Object) (ends : List (End o.State)) (id : ℕ) (after : List (End o.State)) → after ≡ map (λ e. after_crash e id) ends → (f : End o.State) → Contains after f ↔ Along (Crashes id) ends f
-crash_each o ends id after is f = (
-  (λ h. from_map (λ e. after_crash e id) ends f (subst (λ l. Contains l f) is h)),
-  (λ s. subst (λ l. Contains l f) (sym is) (subst (Contains (map (λ e. after_crash e id) ends)) s.2 (to_map (λ e. after_crash e id) ends s.0 s.1))),
+  crash_aside : ReadsLeave o → (tells : IsTrue false ↔ CountsIn is_no_read marks id) (after : List (End o.State)) → ((f : End o.State) → Contains after f ↔ Along (Crashes false id) ends f) → Generates o after (marks ++ Crashed id ∷ [])
+  crash_aside reads tells after each = record {
+    sound = λ f h.
+        let s = (each f).0 h in
+        subst (IsEnd o (marks ++ Crashed id ∷ [])) (aside s.0 id ∙ s.2) (info_after_by is_no_read o marks id is_open false tells s.0 (gen.sound s.0 s.1));
+    enough = λ f end.
+        let b = info_before_by is_no_read o marks id is_open false tells f end in
+        let c = gen.enough b.0 b.1 in
+        let r = Reaches-aside o reads marks id is_open (λ k. true≢false (sym (tells.1 k))) c.2.0 c.0 b.0 c.2.1 in (
+          after_crash false c.0 id,
+          (each (after_crash false c.0 id)).1 (c.0, c.1, refl),
+          (r.0, subst (Reaches o (marks ++ Crashed id ∷ []) (after_crash false c.0 id) r.0) (sym (b.2 ∙ aside b.0 id)) r.1),
+        );
+  }
+
+  pub generates_after_crash : ReadsLeave o → (counted : Bool) → (IsTrue counted ↔ CountsIn is_no_read marks id) → (after : List (End o.State)) → ((f : End o.State) → Contains after f ↔ Along (Crashes counted id) ends f)
+      → Generates o after (marks ++ Crashed id ∷ [])
+  generates_after_crash reads true tells after each = crash_told tells after each
+  generates_after_crash reads false tells after each = crash_aside reads tells after each
+
+pub crash_each : (o : Object) (counted : Bool) (ends : List (End o.State)) (id : ℕ) (after : List (End o.State)) → after ≡ map (λ e. after_crash counted e id) ends → (f : End o.State) → Contains after f ↔ Along (Crashes counted id) ends f
+crash_each o counted ends id after is f = (
+  (λ h. from_map (λ e. after_crash counted e id) ends f (subst (λ l. Contains l f) is h)),
+  (λ s. subst (λ l. Contains l f) (sym is) (subst (Contains (map (λ e. after_crash counted e id) ends)) s.2 (to_map (λ e. after_crash counted e id) ends s.0 s.1))),
 )
 
 more_than : (o : Object) (marks : List Mark) (ends : List (End o.State)) (budget : ℕ) → Pairwise (λ d e. d ≢ e) ends → ((e : End o.State) → Contains ends e → IsEnd o marks e) → budget < length ends → HasMoreThan o marks budget

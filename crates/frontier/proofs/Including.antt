@@ -1,5 +1,5 @@
 -- the operations that ends include are among the calls, after each event
-use Rattle.std.proofs.Common.{◌≡◌, ◌≢◌, ◌↔◌, IsTrue, ℕ, zero, suc, ⊎_elim, true, false, not, Option, Some, None, is_some, List, [], ◌∷◌, ◌++◌, map, refl, sym, ap, ◌∙◌, subst}
+use Rattle.std.proofs.Common.{◌≡◌, ◌≢◌, ◌↔◌, IsTrue, ℕ, zero, suc, ⊎_elim, Bool, true, false, not, Option, Some, None, is_some, List, [], ◌∷◌, ◌++◌, map, refl, sym, ap, ◌∙◌, subst}
 use Rattle.std.specs.List.{filter, Contains}
 use Rattle.std.specs.Ordering.{nat_cmp}
 use Rattle.std.specs.FinMap as finmap
@@ -19,7 +19,7 @@ use Rattle.linspec.proofs.Lists.{Contains-nil, Contains-cons_cases}
 use Rattle.ends.specs.declared.pending_op.PendingOp.{PendingOp}
 use Rattle.ends.specs.declared.kept_end.KeptEnd.{KeptEnd}
 use Rattle.ends.specs.KeptEnds.{ArePending, AreIncluded, IsIncluded, crashed_in, end_kept, pending_in}
-use Rattle.ends.specs.EndSteps.{TakesLast, Next, ReachesIn, IsReached, Settles, settled, Crashes, crashed_if, is_in, is_other, crash_call, Along, Adds}
+use Rattle.ends.specs.EndSteps.{TakesLast, Next, ReachesIn, IsReached, Settles, settled, Crashes, crashed_if, is_in, is_other, crash_call, calls_after_crash, Along, Adds}
 use Rattle.ends.proofs.CallsInTurn.{crash_call-same, crash_call-other}
 use Rattle.ends.proofs.Changes.{same_parts}
 use Rattle.ends.proofs.Rows.{clash, included_with}
@@ -110,6 +110,14 @@ module _ {S : Type 0} (calls : List PendingOp) where
         (ne, sym (get-remove_other s.0.pending id q ne) ∙ k))))
         ((adds.each f).0 h)
 
+    aside_included : (ends after : List (End S)) → AreIncluded calls ends → ((f : End S) → Contains after f ↔ Along (Crashes false id) ends f) → AreIncluded (filter (is_other id) calls) after
+    aside_included ends after a each f h =
+        let s = (each f).0 h in
+        subst (IsIncluded (filter (is_other id) calls)) s.2
+        (included_without s.0 (settled s.0 id) (a s.0 s.1) refl (λ q x k.
+        let ne : q ≢ id = none_here id (finmap.remove s.0.pending id) q x (get-remove_same s.0.pending id) k in
+        (ne, sym (get-remove_other s.0.pending id q ne) ∙ k)))
+
   -- an operation crashes
   module _ (id : ℕ) where
     included_crashed : (e : End S) (r : Option Found) → finmap.get e.pending id ≡ r → IsIncluded calls e → IsIncluded (map (crash_call id) calls) (crashed_if r e id)
@@ -137,10 +145,15 @@ module _ {S : Type 0} (calls : List PendingOp) where
           (cases_eq q id);
     }
 
-    pub included_after_crash : (ends after : List (End S)) → AreIncluded calls ends → ((f : End S) → Contains after f ↔ Along (Crashes id) ends f) → AreIncluded (map (crash_call id) calls) after
-    included_after_crash ends after a each f h =
+    told_included : (ends after : List (End S)) → AreIncluded calls ends → ((f : End S) → Contains after f ↔ Along (Crashes true id) ends f) → AreIncluded (map (crash_call id) calls) after
+    told_included ends after a each f h =
         let s = (each f).0 h in
         subst (IsIncluded (map (crash_call id) calls)) s.2 (included_crashed s.0 (finmap.get s.0.pending id) refl (a s.0 s.1))
+
+pub included_after_crash : {S : Type 0} (calls : List PendingOp) (marks : List Mark) → ArePending calls marks → (id : ℕ) → IsOpen marks id → (counted : Bool) (ends after : List (End S)) → AreIncluded calls ends
+    → ((f : End S) → Contains after f ↔ Along (Crashes counted id) ends f) → AreIncluded (calls_after_crash counted id calls) after
+included_after_crash calls marks are id is_open true ends after a each = told_included calls id ends after a each
+included_after_crash calls marks are id is_open false ends after a each = aside_included calls marks are id is_open ends after a each
 
 -- what calls lead to includes calls alone
 module _ (o : Object) (calls : List PendingOp) where

@@ -10,7 +10,7 @@ use Rattle.history.specs.Events.Mark.{Invoked, Returned, Failed, Crashed}
 use Rattle.linspec.specs.MarkRule.{MayFollow}
 use Rattle.linspec.specs.Operations.{IsOpen}
 use Rattle.linspec.specs.Orders.{IsLinearizable}
-use Rattle.linspec.specs.Ends.{End, IsEnd, HasMoreThan}
+use Rattle.linspec.specs.Ends.{End, HasCrashedBy, is_no_read, IsEnd, HasMoreThan}
 use Rattle.ends.specs.declared.pending_op.PendingOp.{PendingOp}
 use Rattle.ends.specs.declared.table.Table.{Table}
 use Rattle.frontier.specs.declared.change.Fresh.{Fresh}
@@ -138,13 +138,14 @@ IsReturn (Invoked id op) = ⊥
 IsReturn (Failed id) = ⊥
 IsReturn (Crashed id) = ⊥
 
--- no more than n operations may still take place: those that are open or have crashed
+-- no more than n operations may still take place and change something: those that are open, and those
+-- that have crashed and are no reads
 pub record HasAtMostPending (marks : List Mark) (n : ℕ) : Type 0 where
   pub ids : List ℕ
   pub many : length ids ≤ n
-  pub each : (id : ℕ) → IsOpen marks id ⊎ Contains marks (Crashed id) → Contains ids id
+  pub each : (id : ℕ) → IsOpen marks id ⊎ HasCrashedBy is_no_read marks id → Contains ids id
 
--- the most steps that the mark may cost where n operations may still take place just before it: an
+-- the most steps that the mark may cost where n such operations are there just before it: an
 -- ok costs one for each of these on each end of the budget and on one more, and another mark none
 abbrev pub most_steps : ℕ → ℕ → Mark → ℕ
 most_steps budget n (Returned id answer) = (budget + 1) * n

@@ -368,8 +368,9 @@ impl<M: SeqObject> Frontier<M> {
         Ok(step_of(left))
     }
 
-    /// An open operation has crashed: it may take place at any later moment, or never. On `AllocError` the frontier is
-    /// unchanged. Makes its rows anew.
+    /// An open operation has crashed: it may take place at any later moment, or never. A read is set aside, since it decides
+    /// nothing any more: ends that differed by it alone are one then. On `AllocError` the frontier is unchanged. Makes its rows
+    /// anew.
     pub fn crash(&mut self, id: u32) -> Result<(), AllocError>
         ensures kept { let object = of_table M.State M.start_state M.apply_to in
             let old = StandsFor object self.old in let new = StandsFor object self.new in
@@ -393,10 +394,11 @@ impl<M: SeqObject> Frontier<M> {
         ensures cost { applied_of self.new ≡ applied_of self.old }
     {
         self.list_fresh()?;
+        let counts = !ends::is_read(&self.calls, id);
         let ends = ends::ends_of::<M>(self.alloc, &self.table, &self.calls)?;
-        let after = ends::crashed_ends::<M>(self.alloc, &ends, id)?;
+        let after = ends::crashed_ends::<M>(self.alloc, &ends, id, counts)?;
         let mut calls = ends::copy_calls(self.alloc, &self.calls)?;
-        ends::mark_crashed(&mut calls, id);
+        ends::crash_call(&mut calls, id, counts);
         let table = ends::of_ends::<M>(self.alloc, &after, &calls)?;
         self.next = Change::Anew(calls, table, 0);
         Ok(())

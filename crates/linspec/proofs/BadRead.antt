@@ -115,14 +115,14 @@ none_of k not_one not_two =
 not_blown : (k : ℕ) → k ≢ 1 → ¬ IsBlown (object_of (queue_at_one k)) 4 (of_key k entries)
 not_blown k not_one b =
     ⊎_elim
-    (λ two. (let c : IsBlown register 4 (asks ∷ answers ∷ []) = subst (λ (n : ℕ). IsBlown (object_of (queue_at_one n)) 4 (of_key n entries)) two b in within c.0 c.1.blown))
-    (λ not_two. none_blown (object_of (queue_at_one k)) 4 (of_key k entries) (none_of k not_one not_two) b.0 b.1.blown)
+    (λ two. (let c : IsBlown register 4 (asks ∷ answers ∷ []) = subst (λ (n : ℕ). IsBlown (object_of (queue_at_one n)) 4 (of_key n entries)) two b in within c.0 c.1))
+    (λ not_two. none_blown (object_of (queue_at_one k)) 4 (of_key k entries) (none_of k not_one not_two) b.0 b.1)
     (cases_eq k 2)
 
 blown_is : (k : ℕ) → IsTrue (nat_eq k 1) ↔ IsBlown (object_of (queue_at_one k)) 4 (of_key k entries)
 blown_is k =
     ⊎_elim
-    (λ e. ((λ t. subst (λ (n : ℕ). IsBlown (object_of (queue_at_one n)) 4 (of_key n entries)) (sym e) (2, blown_at_four)), (λ b. eq-eqb k 1 e)))
+    (λ e. ((λ t. subst (λ (n : ℕ). IsBlown (object_of (queue_at_one n)) 4 (of_key n entries)) (sym e) (2, blown_at_four.blown)), (λ b. eq-eqb k 1 e)))
     (λ ne. ((λ t. absurd (ne (eqb-true k 1 t))), (λ b. absurd (not_blown k ne b))))
     (cases_eq k 1)
 

@@ -52,8 +52,8 @@ none_of k ne = filter-none (λ (e : Entry). nat_eq e.key k) entries (λ x h. ne_
 blown_is : (k : ℕ) → IsTrue (nat_eq k 1) ↔ IsBlown fifo_queue 4 (of_key k entries)
 blown_is k =
     ⊎_elim
-    (λ e. ((λ t. subst (λ (n : ℕ). IsBlown fifo_queue 4 (of_key n entries)) (sym e) (2, blown_at_four)), (λ b. eq-eqb k 1 e)))
-    (λ ne. ((λ t. absurd (ne (eqb-true k 1 t))), (λ b. absurd (none_blown fifo_queue 4 (of_key k entries) (none_of k ne) b.0 b.1.blown))))
+    (λ e. ((λ t. subst (λ (n : ℕ). IsBlown fifo_queue 4 (of_key n entries)) (sym e) (2, blown_at_four.blown)), (λ b. eq-eqb k 1 e)))
+    (λ ne. ((λ t. absurd (ne (eqb-true k 1 t))), (λ b. absurd (none_blown fifo_queue 4 (of_key k entries) (none_of k ne) b.0 b.1))))
     (cases_eq k 1)
 
 least : (k i : ℕ) → IsBlownIndex fifo_queue 4 (of_key k entries) i → 2 ≤ i

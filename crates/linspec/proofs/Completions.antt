@@ -14,13 +14,13 @@ use Rattle.history.specs.Events.{Mark}
 use Rattle.history.specs.Events.Mark.{Returned, Failed, Crashed}
 use Rattle.linspec.specs.Operations.{IsOpen}
 use Rattle.linspec.specs.Orders.{Taken, Pairwise, Includes, IsLegalOrder}
-use Rattle.linspec.specs.Ends.{End, HasFound, HasCrashedBy, LeavesBy, IsEndBy, every, IsEnd}
+use Rattle.linspec.specs.Ends.{End, HasFound, CountsIn, HasCrashedBy, LeavesBy, IsEndBy}
 use Rattle.linspec.proofs.Lists.{Contains-nil, Contains-cons_cases}
 use Rattle.linspec.proofs.Marks.{IsLegalOrder-fewer, IsLegalOrder-more}
 use Rattle.linspec.specs.MarkRule.{id_of}
 use Rattle.linspec.proofs.Open.{IsCompletion, no_invocation, was_open, stays_open}
 use Rattle.linspec.proofs.Parts.{Records, Marks, Records-remove, Records-change, Marks-change, Marks-insert}
-use Rattle.linspec.proofs.Fates.{CountsIn, end_of_by, end_is}
+use Rattle.linspec.proofs.Fates.{end_of_by, end_is}
 
 -- the end without what an open operation found: it is done now
 abbrev pub settled : {S : Type 0} → End S → ℕ → End S
@@ -38,9 +38,6 @@ crashed_if counted (Some found) e id = crashed_end counted e id
 
 abbrev pub after_crash_by : {S : Type 0} → Bool → End S → ℕ → End S
 after_crash_by counted e id = crashed_if counted (map.get e.pending id) e id
-
-abbrev pub after_crash : {S : Type 0} → End S → ℕ → End S
-after_crash = after_crash_by true
 
 -- which crashed operations count, after one more mark
 pub crashed_more : (counts : Op → Bool) (marks : List Mark) (m : Mark) (id : ℕ) → HasCrashedBy counts marks id → HasCrashedBy counts (marks ++ m ∷ []) id
@@ -215,14 +212,3 @@ module _ (counts : Op → Bool) (o : Object) (marks : List Mark) (id : ℕ) (is_
       same_state None b e = refl
       same_state (Some g) true e = refl
       same_state (Some g) false e = refl
-
--- where each operation counts
-counts_every : (marks : List Mark) (id : ℕ) → IsOpen marks id → IsTrue true ↔ CountsIn every marks id
-counts_every marks id is_open = ((λ t. (is_open.invoked.0, is_open.invoked.1, refl)), (λ k. refl))
-
-module _ (o : Object) (marks : List Mark) (id : ℕ) (is_open : IsOpen marks id) where
-  pub info_after : (e : End o.State) → IsEnd o marks e → IsEnd o (marks ++ Crashed id ∷ []) (after_crash e id)
-  info_after = info_after_by every o marks id is_open true (counts_every marks id is_open)
-
-  pub info_before : (f : End o.State) → IsEnd o (marks ++ Crashed id ∷ []) f → (e : End o.State) × IsEnd o marks e × (f ≡ after_crash e id)
-  info_before = info_before_by every o marks id is_open true (counts_every marks id is_open)

@@ -14,7 +14,7 @@ use Rattle.history.specs.Events.{Mark}
 use Rattle.history.specs.Events.Mark.{Invoked, Returned, Failed, Crashed}
 use Rattle.linspec.specs.Operations.{IsInvoked, HasReturned, IsOpen}
 use Rattle.linspec.specs.Orders.{Taken, Pairwise, Includes, IsLegalOrder}
-use Rattle.linspec.specs.Ends.{End, HasFound, HasCrashedBy, LeavesBy, every, Leaves}
+use Rattle.linspec.specs.Ends.{End, CountsIn, HasCrashedBy, LeavesBy, every, is_no_read, Leaves}
 use Rattle.linspec.proofs.Lists.{Contains-nil, Contains-head, Contains-tail, Contains-cons_cases, Pairwise-across}
 use Rattle.linspec.proofs.Parts.{Records, Marks, Records-add, Records-skip, Records-unique, Marks-add, Marks-skip, Marks-unique}
 
@@ -65,10 +65,6 @@ failed_or_not marks id = ⊎_elim (λ h. inl (subst (Contains marks) h.2 h.1)) (
 
 pub crashed_or_not : (marks : List Mark) (id : ℕ) → Contains marks (Crashed id) ⊎ (¬ Contains marks (Crashed id))
 crashed_or_not marks id = ⊎_elim (λ h. inl (subst (Contains marks) h.2 h.1)) (λ none. inr (λ r. none _ r refl)) (some_mark _ (is_crash id) marks)
-
--- the operation counts
-abbrev pub CountsIn : (Op → Bool) → List Mark → ℕ → Type 0
-CountsIn counts marks id = (op : Op) × Contains marks (Invoked id op) × IsTrue (counts op)
 
 is_counted : (counts : Op → Bool) (id : ℕ) (m : Mark) → ((op : Op) × (m ≡ Invoked id op) × IsTrue (counts op)) ⊎ (¬ ((op : Op) × (m ≡ Invoked id op) × IsTrue (counts op)))
 is_counted counts id (Invoked i op) =
@@ -154,7 +150,7 @@ end_of_by counts o marks order s l =
     (record { state = s; pending = p.0; crashed = c.0 }, record { legal = l; pending = p.1; crashed = c.1 }, refl)
 
 pub end_of : (o : Object) (marks : List Mark) (order : List Taken) (s : o.State) → IsLegalOrder o marks order s → (e : End o.State) × Leaves o marks order e × (e.state ≡ s)
-end_of = end_of_by every
+end_of = end_of_by is_no_read
 
 -- and one only
 pub end_is : {counts : Op → Bool} (o : Object) (marks : List Mark) (order : List Taken) (e f : End o.State) → e.state ≡ f.state → LeavesBy counts o marks order e → LeavesBy counts o marks order f → e ≡ f
@@ -164,23 +160,8 @@ end_is {counts} o marks order e f s l k =
     λ i. record { state = s i; pending = p i; crashed = c i }
 
 -- where each operation counts, the crashed part has just the crashed operations of the order
-pub has_crashed : (o : Object) (marks : List Mark) (order : List Taken) (s : o.State) → IsLegalOrder o marks order s → (id : ℕ) → Includes order id → Contains marks (Crashed id) → HasCrashedBy every marks id
-has_crashed o marks order s l id i c = (c, (i.0.op, subst (λ j. Contains marks (Invoked j i.0.op)) i.2 (l.invoked i.0 i.1), refl))
-
-pub crashed_part : (o : Object) (marks : List Mark) (order : List Taken) (e : End o.State) → Leaves o marks order e → (id : ℕ) → IsTrue (set.contains e.crashed id) ↔ (Includes order id × Contains marks (Crashed id))
+pub crashed_part : (o : Object) (marks : List Mark) (order : List Taken) (e : End o.State) → LeavesBy every o marks order e → (id : ℕ) → IsTrue (set.contains e.crashed id) ↔ (Includes order id × Contains marks (Crashed id))
 crashed_part o marks order e v id = (
   (λ h. (let r : Includes order id × HasCrashedBy every marks id = (v.crashed id).0 h in (r.0, r.1.0))),
-  (λ h. (v.crashed id).1 (h.0, has_crashed o marks order e.state v.legal id h.0 h.1)),
+  (λ h. (v.crashed id).1 (h.0, (h.1, (h.0.0.op, subst (λ j. Contains marks (Invoked j h.0.0.op)) h.0.2 (v.legal.invoked h.0.0 h.0.1), refl)))),
 )
-
-pub leaves_by_parts : (o : Object) (marks : List Mark) (order : List Taken) (e : End o.State) → IsLegalOrder o marks order e.state
-    → ((id : ℕ) (found : Found) → (map.get e.pending id ≡ Some found) ↔ (HasFound order id found × IsOpen marks id))
-    → ((id : ℕ) → IsTrue (set.contains e.crashed id) ↔ (Includes order id × Contains marks (Crashed id))) → Leaves o marks order e
-leaves_by_parts o marks order e l pending crashed = record {
-  legal = l;
-  pending = pending;
-  crashed = λ id. (
-    (λ h. (let r : Includes order id × Contains marks (Crashed id) = (crashed id).0 h in (r.0, has_crashed o marks order e.state l id r.0 r.1))),
-    (λ h. (crashed id).1 (h.0, h.1.0)),
-  );
-}

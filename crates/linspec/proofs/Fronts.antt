@@ -1,16 +1,16 @@
 -- linearizable is closed under fronts
-use Rattle.std.proofs.Common.{◌≡◌, ◌↔◌, Bool, List, [], ◌∷◌, ◌++◌, refl, sym, ap, ◌∙◌, subst, append_assoc}
+use Rattle.std.proofs.Common.{◌≡◌, ◌↔◌, ⊎_elim, Bool, List, [], ◌∷◌, ◌++◌, refl, sym, ap, ◌∙◌, subst, append_assoc}
 use Rattle.std.proofs.lemmas.List.{append-nil}
 use Rattle.models.specs.declared.operation.Op.{Op}
 use Rattle.models.specs.Objects.{Object}
 use Rattle.history.specs.Events.{Mark, Entry, marks, IsFront}
 use Rattle.history.specs.Events.Mark.{Invoked, Returned, Failed, Crashed}
 use Rattle.linspec.specs.MarkRule.{MayFollow, AreWellFormed}
-use Rattle.linspec.specs.Orders.{Taken, IsLinearizable}
-use Rattle.linspec.specs.Ends.{End, LeavesBy, IsEndBy, every, IsEnd}
-use Rattle.linspec.proofs.Marks.{IsLegalOrder-fewer}
-use Rattle.linspec.proofs.Fates.{end_of_by}
-use Rattle.linspec.proofs.Reach.{Reaches, invoke_before}
+use Rattle.linspec.specs.Orders.{Includes, Run, IsLegalOrder, IsLinearizable}
+use Rattle.linspec.specs.Ends.{End, LeavesBy, IsEndBy, is_no_read, IsEnd}
+use Rattle.linspec.proofs.Marks.{IsLegalOrder-fewer, IsLegalOrder-cut}
+use Rattle.linspec.proofs.Invocations.{Around, around, IsLegalOrder-before, pending_from}
+use Rattle.linspec.proofs.Fates.{end_of_by, not_before}
 
 -- a history is linearizable where it has an end, whatever counts
 pub IsLinearizable-end_by : (counts : Op → Bool) (o : Object) (marks : List Mark) → IsLinearizable o marks ↔ ((e : End o.State) × IsEndBy counts o marks e)
@@ -20,14 +20,20 @@ IsLinearizable-end_by counts o marks = (
 )
 
 pub IsLinearizable-end : (o : Object) (marks : List Mark) → IsLinearizable o marks ↔ ((e : End o.State) × IsEnd o marks e)
-IsLinearizable-end = IsLinearizable-end_by every
+IsLinearizable-end = IsLinearizable-end_by is_no_read
 
 -- one mark fewer
 IsLinearizable-fewer : (o : Object) (marks : List Mark) (m : Mark) → MayFollow marks m → IsLinearizable o (marks ++ m ∷ []) → IsLinearizable o marks
 IsLinearizable-fewer o marks (Invoked id op) new h =
-    let f : (e : End o.State) × IsEnd o (marks ++ Invoked id op ∷ []) e = (IsLinearizable-end o (marks ++ Invoked id op ∷ [])).0 h in
-    let e : (e : End o.State) × (xs : List Taken) × IsEnd o marks e × Reaches o (marks ++ Invoked id op ∷ []) e xs f.0 = invoke_before o marks id op new f.0 f.1 in
-    (IsLinearizable-end o marks).1 (e.0, e.2)
+    ⊎_elim
+    (λ (a : Around h.0 id).
+    let w : IsLegalOrder o (marks ++ Invoked id op ∷ []) (a.before ++ a.here ∷ a.after) h.1 = subst (λ l. IsLegalOrder o (marks ++ Invoked id op ∷ []) l h.1) a.whole h.2 in
+    let c : (s : o.State) × IsLegalOrder o (marks ++ Invoked id op ∷ []) a.before s × Run o s (a.here ∷ a.after) h.1 =
+    IsLegalOrder-cut o (marks ++ Invoked id op ∷ []) a.before (a.here ∷ a.after) h.1 w (pending_from o marks id op new a.before a.after a.here h.1 a.is w) in
+    let not_in : ¬ Includes a.before id = λ i. not_before a.before a.after a.here w.once (i.0, i.1, i.2 ∙ sym a.is) in
+    (a.before, c.0, IsLegalOrder-before o marks id op new a.before c.0 not_in c.1))
+    (λ not_in. (h.0, h.1, IsLegalOrder-before o marks id op new h.0 h.1 not_in h.2))
+    (around h.0 id)
 IsLinearizable-fewer o marks (Returned id a) is_open h = (h.0, h.1, IsLegalOrder-fewer o marks (Returned id a) h.0 h.1 (λ x k e. cc) h.2)
 IsLinearizable-fewer o marks (Failed id) is_open h = (h.0, h.1, IsLegalOrder-fewer o marks (Failed id) h.0 h.1 (λ x k e. cc) h.2)
 IsLinearizable-fewer o marks (Crashed id) is_open h = (h.0, h.1, IsLegalOrder-fewer o marks (Crashed id) h.0 h.1 (λ x k e. cc) h.2)

@@ -7,6 +7,7 @@ pub mod Parts
 pub mod Fates
 pub mod Open
 pub mod Completions
+pub mod WithoutReads
 pub mod Reach
 pub mod Fronts
 pub mod Filters
@@ -31,3 +32,4 @@ pub mod LastOk
 pub mod BlownQueue
 pub mod BadRead
 pub mod WhatCounts
+pub mod CrashedReads

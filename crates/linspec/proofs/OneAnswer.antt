@@ -9,7 +9,7 @@ use Rattle.models.specs.declared.operation.Op.{Op}
 use Rattle.models.specs.Objects.{Object, object_of}
 use Rattle.history.specs.Events.{Entry, of_key}
 use Rattle.linspec.specs.Orders.{product}
-use Rattle.linspec.specs.Ends.{IsBlownAtBy, IsBlownIndexBy, every}
+use Rattle.linspec.specs.Ends.{IsBlownAtBy, IsBlownIndexBy, is_no_read}
 use Rattle.linspec.specs.Verdicts.{EndsShortestBadFront, EveryFrontIsLinearizable, IsKeyStatusBy, IsBlownKeyAtBy, set_aside, IsVerdictWithBy, IsVerdictBy, IsRising, IsVerdict}
 use Rattle.linspec.specs.declared.verdict.KeyStatus.{KeyStatus}
 use Rattle.linspec.specs.declared.verdict.KeyStatus.TheVariants.{Alive, Dead, Over}
@@ -127,9 +127,9 @@ module _ (counts : Op → Bool) (kinds : ℕ → ModelKind) (budgets : ℕ → �
       let indices : i ≡ j = omega arith in
       let keys : k ≡ l = one_blown_key k l i h.1 (subst (IsBlownKeyAtBy counts kinds budgets entries l) (sym indices) g.1) in
       cc
-  one_with blown (Unknown k i) Legal h g = absurd (g.1 k (i, h.1))
+  one_with blown (Unknown k i) Legal h g = absurd (g.1 k (i, h.1.blown))
   one_with blown Legal (Illegal l j) h g = absurd (every_not_bad blown g.0 g.1 h.0)
-  one_with blown Legal (Unknown l j) h g = absurd (h.1 l (j, g.1))
+  one_with blown Legal (Unknown l j) h g = absurd (h.1 l (j, g.1.blown))
   one_with blown Legal Legal h g = refl
 
   pub one_verdict_by : (v w : Verdict) → IsVerdictBy counts kinds budgets entries v → IsVerdictBy counts kinds budgets entries w → v ≡ w
@@ -138,4 +138,4 @@ module _ (counts : Op → Bool) (kinds : ℕ → ModelKind) (budgets : ℕ → �
       one_with h.0 v w h.2 (subst (λ (blown : ℕ → Bool). IsVerdictWithBy counts kinds budgets entries blown w) same g.2)
 
 pub one_verdict : (kinds : ℕ → ModelKind) (budgets : ℕ → ℕ) (entries : List Entry) → IsRising entries → (v w : Verdict) → IsVerdict kinds budgets entries v → IsVerdict kinds budgets entries w → v ≡ w
-one_verdict = one_verdict_by every
+one_verdict = one_verdict_by is_no_read

@@ -1,5 +1,5 @@
 -- a crashed read: two ends where it counts, and one where it doesn't
-use Rattle.std.proofs.Common.{◌≡◌, ◌≢◌, ℕ, ◌+◌, ◌≤◌, ℤ, inl, ⊎_elim, Bool, false, IsTrue, Option, None, List, [], ◌∷◌, length, refl, sym, ap, ◌∙◌, subst, arith}
+use Rattle.std.proofs.Common.{◌≡◌, ◌≢◌, ℕ, ◌+◌, ◌≤◌, ℤ, inl, ⊎_elim, IsTrue, Option, None, List, [], ◌∷◌, length, refl, sym, ap, ◌∙◌, subst, arith}
 use Rattle.std.specs.List.{Contains}
 use Rattle.std.specs.FinSet as set
 use Rattle.std.proofs.lemmas.Bool.{true≢false}
@@ -12,7 +12,7 @@ use Rattle.history.specs.Events.{Mark}
 use Rattle.history.specs.Events.Mark.{Invoked, Crashed}
 use Rattle.linspec.specs.Operations.{IsOpen}
 use Rattle.linspec.specs.Orders.{Taken, Run, IsLegalOrder}
-use Rattle.linspec.specs.Ends.{End, HasCrashedBy, LeavesBy, IsEndBy, HasMoreThanBy, Leaves, IsEnd, HasMoreThan}
+use Rattle.linspec.specs.Ends.{End, HasCrashedBy, LeavesBy, every, is_no_read, Leaves, IsEnd, HasMoreThan, IsEndWithReads, HasMoreThanWithReads}
 use Rattle.linspec.specs.Examples.{read, key_marks, crashed_read}
 use Rattle.linspec.proofs.Lists.{Contains-nil, Contains-head, Contains-tail, Contains-cons_cases}
 use Rattle.linspec.proofs.Parts.{Records-unique, Marks-unique}
@@ -33,25 +33,25 @@ with_it : IsLegalOrder register H (taken ∷ []) None
 with_it = legal_by register H (taken ∷ []) None refl refl refl ((0, omega arith, refl), tt) tt (None, inl refl, refl)
 
 abbrev E0 : End (Option ℤ)
-E0 = (end_of register H [] None without).0
+E0 = (end_of_by every register H [] None without).0
 
 abbrev E1 : End (Option ℤ)
-E1 = (end_of register H (taken ∷ []) None with_it).0
+E1 = (end_of_by every register H (taken ∷ []) None with_it).0
 
 differ : E0 ≢ E1
 differ e =
-    let in_one : IsTrue (set.contains E1.crashed 0) = (crashed_part register H (taken ∷ []) E1 (end_of register H (taken ∷ []) None with_it).1 0).1 ((taken, Contains-head taken [], refl), (1, omega arith, refl)) in
+    let in_one : IsTrue (set.contains E1.crashed 0) = (crashed_part register H (taken ∷ []) E1 (end_of_by every register H (taken ∷ []) None with_it).1 0).1 ((taken, Contains-head taken [], refl), (1, omega arith, refl)) in
     let in_none : IsTrue (set.contains E0.crashed 0) = subst (λ (f : End (Option ℤ)). IsTrue (set.contains f.crashed 0)) (sym e) in_one in
-    Contains-nil _ ((crashed_part register H [] E0 (end_of register H [] None without).1 0).0 in_none).0.1
+    Contains-nil _ ((crashed_part register H [] E0 (end_of_by every register H [] None without).1 0).0 in_none).0.1
 
-pub two_ends : HasMoreThan register H 1
+pub two_ends : HasMoreThanWithReads register H 1
 two_ends = record {
   ends = E0 ∷ E1 ∷ [];
   many = refl;
   distinct = ((λ y h. ⊎_elim (λ e. subst (λ z. E0 ≢ z) e differ) (λ n. absurd (Contains-nil y n)) (Contains-cons_cases E1 [] y h)), ((λ y h. absurd (Contains-nil y h)), tt));
   each = λ e h. ⊎_elim
-      (λ q. subst (IsEnd register H) q ([], (end_of register H [] None without).1))
-      (λ h. ⊎_elim (λ q. subst (IsEnd register H) q (taken ∷ [], (end_of register H (taken ∷ []) None with_it).1)) (λ n. absurd (Contains-nil e n)) (Contains-cons_cases E1 [] e h))
+      (λ q. subst (IsEndWithReads register H) q ([], (end_of_by every register H [] None without).1))
+      (λ h. ⊎_elim (λ q. subst (IsEndWithReads register H) q (taken ∷ [], (end_of_by every register H (taken ∷ []) None with_it).1)) (λ n. absurd (Contains-nil e n)) (Contains-cons_cases E1 [] e h))
       (Contains-cons_cases E0 (E1 ∷ []) e h);
 }
 
@@ -62,12 +62,12 @@ the_read id op h =
     (λ h. ⊎_elim (λ (e : Crashed 0 ≡ Invoked id op). cc) (λ n. absurd (Contains-nil _ n)) (Contains-cons_cases (Crashed 0) [] _ h))
     (Contains-cons_cases (Invoked 0 (read 7 Nil)) (Crashed 0 ∷ []) _ h)
 
-same_end : (order : List Taken) (l : IsLegalOrder register H order None) (e : End (Option ℤ)) (other : List Taken) → other ≡ order → e.state ≡ None → Leaves register H other e → (end_of register H order None l).0 ≡ e
+same_end : (order : List Taken) (l : IsLegalOrder register H order None) (e : End (Option ℤ)) (other : List Taken) → other ≡ order → e.state ≡ None → LeavesBy every register H other e → (end_of_by every register H order None l).0 ≡ e
 same_end order l e other is st v =
-    let own = end_of register H order None l in
-    end_is register H order own.0 e (own.2 ∙ sym st) own.1 (subst (λ o. Leaves register H o e) is v)
+    let own = end_of_by every register H order None l in
+    end_is register H order own.0 e (own.2 ∙ sym st) own.1 (subst (λ o. LeavesBy every register H o e) is v)
 
-among : (order : List Taken) (e : End (Option ℤ)) → Leaves register H order e → Contains (E0 ∷ E1 ∷ []) e
+among : (order : List Taken) (e : End (Option ℤ)) → LeavesBy every register H order e → Contains (E0 ∷ E1 ∷ []) e
 among [] e v = subst (Contains (E0 ∷ E1 ∷ [])) (same_end [] without e [] refl (sym v.legal.run) v) (0, omega arith, refl)
 among (x ∷ []) e v =
     let run : (mid : Option ℤ) × register.Steps None x.op x.found mid × (mid ≡ e.state) = v.legal.run in
@@ -80,18 +80,14 @@ among (x ∷ y ∷ order) e v =
     let b = the_read y.id y.op (v.legal.invoked y (Contains-tail x (y ∷ order) y (Contains-head y order))) in
     absurd (v.legal.once.0 y (Contains-head y order) (a.0 ∙ sym b.0))
 
-pub not_three : ¬ HasMoreThan register H 2
+pub not_three : ¬ HasMoreThanWithReads register H 2
 not_three h =
     let l : length h.ends ≤ length (E0 ∷ E1 ∷ []) = no_longer_than h.ends (E0 ∷ E1 ∷ []) h.distinct (λ e k. (let i = h.each e k in among i.0 e i.1)) in
     let m : length h.ends ≡ 2 + 1 = h.many in
     omega arith
 
--- nothing counts
-abbrev pub none : Op → Bool
-none op = false
-
 abbrev E : End (Option ℤ)
-E = (end_of_by none register H [] None without).0
+E = (end_of register H [] None without).0
 
 crashed_here : Contains H (Crashed 0)
 crashed_here = (1, omega arith, refl)
@@ -99,8 +95,8 @@ crashed_here = (1, omega arith, refl)
 not_open : (id : ℕ) → ¬ IsOpen H id
 not_open id is_open = is_open.not_crashed (subst (λ i. Contains H (Crashed i)) (sym (the_read id is_open.invoked.0 is_open.invoked.1).0) crashed_here)
 
-not_counted : (id : ℕ) → ¬ HasCrashedBy none H id
-not_counted id h = true≢false (sym h.1.2)
+not_counted : (id : ℕ) → ¬ HasCrashedBy is_no_read H id
+not_counted id h = true≢false (sym h.1.2 ∙ ap is_no_read (the_read id h.1.0 h.1.1).1)
 
 state_stays : (order : List Taken) (s t : Option ℤ) → ((x : Taken) → Contains order x → Contains H (Invoked x.id x.op)) → Run register s order t → s ≡ t
 state_stays [] s t invoked run = run
@@ -112,25 +108,25 @@ state_stays (x ∷ order) s t invoked run =
     later : (y : Taken) → Contains order y → Contains (x ∷ order) y
     later y h = Contains-tail x order y h
 
-only : (order : List Taken) (e : End (Option ℤ)) → LeavesBy none register H order e → E ≡ e
+only : (order : List Taken) (e : End (Option ℤ)) → Leaves register H order e → E ≡ e
 only order e v =
-    let start : LeavesBy none register H [] E = (end_of_by none register H [] None without).1 in
-    let s : E.state ≡ e.state = (end_of_by none register H [] None without).2 ∙ state_stays order None e.state v.legal.invoked v.legal.run in
+    let start : Leaves register H [] E = (end_of register H [] None without).1 in
+    let s : E.state ≡ e.state = (end_of register H [] None without).2 ∙ state_stays order None e.state v.legal.invoked v.legal.run in
     let p : E.pending ≡ e.pending = Records-unique (IsOpen H) [] E.pending e.pending start.pending
     (λ id found. ((λ h. absurd (not_open id ((v.pending id found).0 h).1)), (λ h. absurd (not_open id h.1)))) in
-    let c : E.crashed ≡ e.crashed = Marks-unique (HasCrashedBy none H) [] E.crashed e.crashed start.crashed
+    let c : E.crashed ≡ e.crashed = Marks-unique (HasCrashedBy is_no_read H) [] E.crashed e.crashed start.crashed
     (λ id. ((λ h. absurd (not_counted id ((v.crashed id).0 h).1)), (λ h. absurd (not_counted id h.1)))) in
     λ i. record { state = s i; pending = p i; crashed = c i }
 
-pub one_end : HasMoreThanBy none register H 0
+pub one_end : HasMoreThan register H 0
 one_end = record {
   ends = E ∷ [];
   many = refl;
   distinct = ((λ y h. absurd (Contains-nil y h)), tt);
-  each = λ e h. ⊎_elim (λ q. subst (IsEndBy none register H) q ([], (end_of_by none register H [] None without).1)) (λ n. absurd (Contains-nil e n)) (Contains-cons_cases E [] e h);
+  each = λ e h. ⊎_elim (λ q. subst (IsEnd register H) q ([], (end_of register H [] None without).1)) (λ n. absurd (Contains-nil e n)) (Contains-cons_cases E [] e h);
 }
 
-pub not_two : ¬ HasMoreThanBy none register H 1
+pub not_two : ¬ HasMoreThan register H 1
 not_two h =
     let l : length h.ends ≤ length (E ∷ []) = no_longer_than h.ends (E ∷ []) h.distinct (λ e k. (let i = h.each e k in subst (Contains (E ∷ [])) (only i.0 e i.1) (Contains-head E []))) in
     let m : length h.ends ≡ 1 + 1 = h.many in

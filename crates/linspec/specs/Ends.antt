@@ -1,9 +1,11 @@
 -- Promise: what the legal orders of a key leave, and a key with too many of them (this project's own)
-use Rattle.std.specs.Prelude.{◌≡◌, ◌≢◌, ◌↔◌, ℕ, ◌+◌, ◌≤◌, Bool, true, List, ◌∷◌, ◌++◌, length, Some, IsTrue}
+use Rattle.std.specs.Prelude.{◌≡◌, ◌≢◌, ◌↔◌, ℕ, ◌+◌, ◌≤◌, Bool, true, false, List, ◌∷◌, ◌++◌, length, Some, IsTrue}
 use Rattle.std.specs.List.{Contains}
 use Rattle.std.specs.Ordering.{nat_cmp}
 use Rattle.std.specs.FinMap as map
 use Rattle.std.specs.FinSet as set
+use Rattle.models.specs.declared.operation.Name.{Name}
+use Rattle.models.specs.declared.operation.Name.TheVariants.{Read}
 use Rattle.models.specs.declared.operation.Op.{Op}
 use Rattle.models.specs.declared.finding.Found.{Found}
 use Rattle.models.specs.declared.finding.Answer.{Answer}
@@ -23,10 +25,13 @@ pub record End (S : Type 0) : Type 0 where
 abbrev pub HasFound : List Taken → ℕ → Found → Type 0
 HasFound order id found = (x : Taken) × Contains order x × (x.id ≡ id) × (x.found ≡ found)
 
+-- the operation counts
+abbrev pub CountsIn : (Op → Bool) → List Mark → ℕ → Type 0
+CountsIn counts marks id = (op : Op) × Contains marks (Invoked id op) × IsTrue (counts op)
+
 -- the operation has crashed, and it counts
 abbrev pub HasCrashedBy : (Op → Bool) → List Mark → ℕ → Type 0
-HasCrashedBy counts marks id =
-    Contains marks (Crashed id) × ((op : Op) × Contains marks (Invoked id op) × IsTrue (counts op))
+HasCrashedBy counts marks id = Contains marks (Crashed id) × CountsIn counts marks id
 
 -- the order leaves this end, where counts says which crashed operations count
 pub record LeavesBy (counts : Op → Bool) (o : Object) (marks : List Mark) (order : List Taken)
@@ -66,34 +71,57 @@ pub record IsBlownIndexBy (counts : Op → Bool) (o : Object) (budget : ℕ) (en
   pub blown : IsBlownAtBy counts o budget entries i
   pub least : (j : ℕ) → IsBlownAtBy counts o budget entries j → i ≤ j
 
+-- the budget is blown where some ok event does so
 abbrev pub IsBlownBy : (Op → Bool) → Object → ℕ → List Entry → Type 0
-IsBlownBy counts o budget entries = (i : ℕ) × IsBlownIndexBy counts o budget entries i
+IsBlownBy counts o budget entries = (i : ℕ) × IsBlownAtBy counts o budget entries i
 
 abbrev pub IsWithinBudgetBy : (Op → Bool) → Object → ℕ → List Entry → Type 0
 IsWithinBudgetBy counts o budget entries = (i : ℕ) → ¬ IsBlownAtBy counts o budget entries i
 
--- each operation counts
+-- a crashed read decides nothing: it leaves the state as it was, and has no answer. Each other crashed operation counts
+abbrev pub is_no_read_name : Name → Bool
+is_no_read_name Read = false
+is_no_read_name name = true
+
+abbrev pub is_no_read : Op → Bool
+is_no_read op = is_no_read_name op.name
+
+abbrev pub Leaves : (o : Object) → List Mark → List Taken → End o.State → Type 0
+Leaves = LeavesBy is_no_read
+
+abbrev pub IsEnd : (o : Object) → List Mark → End o.State → Type 0
+IsEnd = IsEndBy is_no_read
+
+abbrev pub HasMoreThan : Object → List Mark → ℕ → Type 0
+HasMoreThan = HasMoreThanBy is_no_read
+
+abbrev pub IsBlownAt : Object → ℕ → List Entry → ℕ → Type 0
+IsBlownAt = IsBlownAtBy is_no_read
+
+abbrev pub IsBlownIndex : Object → ℕ → List Entry → ℕ → Type 0
+IsBlownIndex = IsBlownIndexBy is_no_read
+
+abbrev pub IsBlown : Object → ℕ → List Entry → Type 0
+IsBlown = IsBlownBy is_no_read
+
+abbrev pub IsWithinBudget : Object → ℕ → List Entry → Type 0
+IsWithinBudget = IsWithinBudgetBy is_no_read
+
+-- the same words with reads, where each crashed operation counts
 abbrev pub every : Op → Bool
 every op = true
 
--- the same words, where each crashed operation counts
-abbrev pub Leaves : (o : Object) → List Mark → List Taken → End o.State → Type 0
-Leaves = LeavesBy every
+abbrev pub IsEndWithReads : (o : Object) → List Mark → End o.State → Type 0
+IsEndWithReads = IsEndBy every
 
-abbrev pub IsEnd : (o : Object) → List Mark → End o.State → Type 0
-IsEnd = IsEndBy every
+abbrev pub HasMoreThanWithReads : Object → List Mark → ℕ → Type 0
+HasMoreThanWithReads = HasMoreThanBy every
 
-abbrev pub HasMoreThan : Object → List Mark → ℕ → Type 0
-HasMoreThan = HasMoreThanBy every
+abbrev pub IsBlownAtWithReads : Object → ℕ → List Entry → ℕ → Type 0
+IsBlownAtWithReads = IsBlownAtBy every
 
-abbrev pub IsBlownAt : Object → ℕ → List Entry → ℕ → Type 0
-IsBlownAt = IsBlownAtBy every
+abbrev pub IsBlownIndexWithReads : Object → ℕ → List Entry → ℕ → Type 0
+IsBlownIndexWithReads = IsBlownIndexBy every
 
-abbrev pub IsBlownIndex : Object → ℕ → List Entry → ℕ → Type 0
-IsBlownIndex = IsBlownIndexBy every
-
-abbrev pub IsBlown : Object → ℕ → List Entry → Type 0
-IsBlown = IsBlownBy every
-
-abbrev pub IsWithinBudget : Object → ℕ → List Entry → Type 0
-IsWithinBudget = IsWithinBudgetBy every
+abbrev pub IsBlownWithReads : Object → ℕ → List Entry → Type 0
+IsBlownWithReads = IsBlownBy every

@@ -6,7 +6,7 @@ use Rattle.models.specs.declared.operation.Op.{Op}
 use Rattle.models.specs.Objects.{Object, object_of}
 use Rattle.history.specs.Events.{Entry, marks, of_key, IsFront}
 use Rattle.linspec.specs.Orders.{Pairwise, IsLinearizable, product}
-use Rattle.linspec.specs.Ends.{every, IsBlownBy, IsBlownIndexBy, IsWithinBudgetBy}
+use Rattle.linspec.specs.Ends.{every, is_no_read, IsBlownBy, IsBlownIndexBy, IsWithinBudgetBy}
 use Rattle.linspec.specs.declared.verdict.KeyStatus.{KeyStatus}
 use Rattle.linspec.specs.declared.verdict.KeyStatus.TheVariants.{Alive, Dead, Over}
 use Rattle.linspec.specs.declared.verdict.Verdict.{Verdict}
@@ -74,15 +74,22 @@ pub record AreStatusesBy (counts : Op → Bool) (kinds : ℕ → ModelKind) (bud
   pub all : (e : Entry) → Contains entries e
       → (status : KeyStatus) × Contains statuses (e.key, status)
 
--- the same words, where each crashed operation counts
+-- crashed reads are set aside
 abbrev pub IsKeyStatus : Object → ℕ → List Entry → KeyStatus → Type 0
-IsKeyStatus = IsKeyStatusBy every
+IsKeyStatus = IsKeyStatusBy is_no_read
 
 abbrev pub IsVerdict : (ℕ → ModelKind) → (ℕ → ℕ) → List Entry → Verdict → Type 0
-IsVerdict = IsVerdictBy every
+IsVerdict = IsVerdictBy is_no_read
 
 abbrev pub AreStatuses : (ℕ → ModelKind) → (ℕ → ℕ) → List Entry → List (ℕ × KeyStatus) → Type 0
-AreStatuses = AreStatusesBy every
+AreStatuses = AreStatusesBy is_no_read
+
+-- the same words with reads, where each crashed operation counts
+abbrev pub IsBlownKeyWithReads : (ℕ → ModelKind) → (ℕ → ℕ) → List Entry → ℕ → Type 0
+IsBlownKeyWithReads = IsBlownKeyBy every
+
+abbrev pub IsVerdictWithReads : (ℕ → ModelKind) → (ℕ → ℕ) → List Entry → Verdict → Type 0
+IsVerdictWithReads = IsVerdictBy every
 
 -- what join promises: a pair of the list with the least Dead index, else one with the least Over index, else Legal
 abbrev pub IsJoin : List (ℕ × KeyStatus) → Verdict → Type 0

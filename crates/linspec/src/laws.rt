@@ -1,5 +1,5 @@
 //! Laws that show that the definitions say what they should.
-ghost use Rattle.std.specs.Prelude.{◌≡◌, ◌≢◌, ◌↔◌, ℕ, ℤ, pos, Bool, false, List, [], ◌∷◌, ◌++◌};
+ghost use Rattle.std.specs.Prelude.{◌≡◌, ◌≢◌, ◌↔◌, ◌≤◌, ℕ, ℤ, pos, Bool, List, [], ◌∷◌, ◌++◌};
 ghost use Rattle.models.specs.declared.model_kind.ModelKind.{ModelKind};
 ghost use Rattle.models.specs.declared.operation.Op.{Op};
 ghost use Rattle.models.specs.Objects.{object_of, register, cas_register, mutex, fifo_queue};
@@ -9,8 +9,11 @@ ghost use Rattle.history.specs.Events.Mark.{Invoked, Crashed};
 ghost use Rattle.history.specs.ProcessRule.{IsHistory};
 ghost use Rattle.linspec.specs.MarkRule.{IsNew, IsKeyed, AreWellFormed};
 ghost use Rattle.linspec.specs.Orders.{IsLinearizable, product};
-ghost use Rattle.linspec.specs.Ends.{HasMoreThan, HasMoreThanBy, IsBlownIndex, IsWithinBudget};
+ghost use Rattle.linspec.specs.Ends.{HasMoreThan, IsBlown, IsBlownAt, IsBlownIndex, IsWithinBudget};
+ghost use Rattle.linspec.specs.Ends.{HasMoreThanWithReads, IsBlownWithReads, IsBlownAtWithReads};
+ghost use Rattle.linspec.specs.Ends.{IsBlownIndexWithReads};
 ghost use Rattle.linspec.specs.Verdicts.{IsKeyStatusBy, IsVerdict, IsVerdictBy, IsRising};
+ghost use Rattle.linspec.specs.Verdicts.{IsBlownKeyWithReads, IsVerdictWithReads};
 ghost use Rattle.linspec.specs.Examples.{all_entries, key_entries, key_marks, queue_at_one};
 ghost use Rattle.linspec.specs.Examples.{write_then_open_read, write_then_read, read_of_pending_write, read_of_failed_write, reads_after_crashed_write, crashed_read, two_enqueues, two_enqueues_then_ok, bad_read_beside_blown, write_then_cas, acquire_while_held, mutex_held_twice};
 ghost use Rattle.linspec.specs.declared.verdict.KeyStatus.{KeyStatus};
@@ -141,13 +144,32 @@ pub fn illegal_before_unknown_law()
         (all_entries bad_read_beside_blown) (Verdict.Unknown key index) }
 {}
 
-/// What counts in an end: a crashed read has two ends, without it and with it; and one, where no crashed operation
+/// What counts in an end: a crashed read has one end; and two, without it and with it, where each crashed operation
 /// counts.
 pub fn what_counts_law()
-    ensures two { HasMoreThan register (key_marks 7 crashed_read) 1 }
-    ensures not_three { ¬ HasMoreThan register (key_marks 7 crashed_read) 2 }
-    ensures one { HasMoreThanBy (λ op. false) register (key_marks 7 crashed_read) 0 }
-    ensures not_two { ¬ HasMoreThanBy (λ op. false) register (key_marks 7 crashed_read) 1 }
+    ensures one { HasMoreThan register (key_marks 7 crashed_read) 0 }
+    ensures not_two { ¬ HasMoreThan register (key_marks 7 crashed_read) 1 }
+    ensures two { HasMoreThanWithReads register (key_marks 7 crashed_read) 1 }
+    ensures not_three { ¬ HasMoreThanWithReads register (key_marks 7 crashed_read) 2 }
+{}
+
+/// What it changes that crashed reads are set aside: there are never more ends than with them; a key that is blown would be
+/// blown with them, at the same index or earlier; and where no key would be, the verdict is the same.
+pub fn crashed_reads_law()
+    ensures fewer { (kind : ModelKind) (marks : List Mark) (n : ℕ) →
+        HasMoreThan (object_of kind) marks n → HasMoreThanWithReads (object_of kind) marks n }
+    ensures blown { (kind : ModelKind) (budget : ℕ) (entries : List Entry) →
+        IsBlown (object_of kind) budget entries → IsBlownWithReads (object_of kind) budget entries }
+    ensures blown_at { (kind : ModelKind) (budget : ℕ) (entries : List Entry) (i : ℕ) →
+        IsBlownAt (object_of kind) budget entries i
+        → IsBlownAtWithReads (object_of kind) budget entries i }
+    ensures no_later { (kind : ModelKind) (budget : ℕ) (entries : List Entry) (i j : ℕ) →
+        IsBlownIndex (object_of kind) budget entries i
+        → IsBlownIndexWithReads (object_of kind) budget entries j → j ≤ i }
+    ensures verdict { (kinds : ℕ → ModelKind) (budgets : ℕ → ℕ) (entries : List Entry) →
+        ((key : ℕ) → ¬ IsBlownKeyWithReads kinds budgets entries key)
+        → (v : Verdict)
+        → IsVerdict kinds budgets entries v ↔ IsVerdictWithReads kinds budgets entries v }
 {}
 
 /// A cas takes place on a cas-register, and never on a plain register.

@@ -7,4 +7,5 @@ pub mod laws;
 pub mod verdict;
 
 pub use brute_force::brute;
+pub use laws::crashed_reads_law;
 pub use verdict::{KeyStatus, Verdict};

@@ -123,10 +123,10 @@ module _ (counts : Op → Bool) (kinds : ℕ → ModelKind) (budgets : ℕ → �
   blown_is k = by_case (case_of k)
     where
       by_case : CaseOf k → IsTrue (blown k) ↔ IsBlownKeyBy counts kinds budgets entries k
-      by_case (over i h e) = ((λ _. (i, are.each k (Over i) h)), (λ _. e))
-      by_case (dead i h e) = ((λ t. absurd (true≢false (sym t ∙ e))), (λ b. absurd ((are.each k (Dead i) h).0 b.0 b.1.blown)))
-      by_case (alive h e) = ((λ t. absurd (true≢false (sym t ∙ e))), (λ b. absurd ((are.each k Alive h).0 b.0 b.1.blown)))
-      by_case (without none e) = ((λ t. absurd (true≢false (sym t ∙ e))), (λ b. absurd (none_blown k b.0 none b.1.blown)))
+      by_case (over i h e) = ((λ _. (i, (are.each k (Over i) h).blown)), (λ _. e))
+      by_case (dead i h e) = ((λ t. absurd (true≢false (sym t ∙ e))), (λ b. absurd ((are.each k (Dead i) h).0 b.0 b.1)))
+      by_case (alive h e) = ((λ t. absurd (true≢false (sym t ∙ e))), (λ b. absurd ((are.each k Alive h).0 b.0 b.1)))
+      by_case (without none e) = ((λ t. absurd (true≢false (sym t ∙ e))), (λ b. absurd (none_blown k b.0 none b.1)))
 
   abbrev rest : List Entry
   rest = set_aside blown entries
@@ -171,9 +171,9 @@ module _ (counts : Op → Bool) (kinds : ℕ → ModelKind) (budgets : ℕ → �
     where
       by_case : (k : ℕ) → CaseOf k → ¬ IsBlownKeyBy counts kinds budgets entries k
       by_case k (over i h e) b = j.1 k i h
-      by_case k (dead i h e) b = (are.each k (Dead i) h).0 b.0 b.1.blown
-      by_case k (alive h e) b = (are.each k Alive h).0 b.0 b.1.blown
-      by_case k (without none e) b = none_blown k b.0 none b.1.blown
+      by_case k (dead i h e) b = (are.each k (Dead i) h).0 b.0 b.1
+      by_case k (alive h e) b = (are.each k Alive h).0 b.0 b.1
+      by_case k (without none e) b = none_blown k b.0 none b.1
 
   unknown : (key index : ℕ) → IsJoin statuses (Unknown key index) → IsVerdictWithBy counts kinds budgets entries blown (Unknown key index)
   unknown key index j = (no_dead_lin j.0, are.each key (Over index) j.1, λ k i b. by_case k i (case_of k) b)

@@ -45,6 +45,11 @@ of_table S start apply = record {
 abbrev pub object_by : Table → Object
 object_by table = of_table table.State table.start table.apply
 
+-- a read leaves the state as it was
+abbrev pub ReadsLeave : Object → Type 0
+ReadsLeave o =
+    (op : Op) (s t : o.State) (found : Found) → op.name ≡ Read → o.Steps s op found t → s ≡ t
+
 -- a register: write v leaves v, read finds the state
 abbrev pub register_apply : Name → Part → Option ℤ → List (Option ℤ × Found)
 register_apply Write (Int v) s = (Some v, Done) ∷ []

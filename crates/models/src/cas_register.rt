@@ -1,6 +1,7 @@
 //! The register with compare and set.
 ghost use Rattle.std.specs.Prelude.{None};
 ghost use Rattle.models.specs.Comparisons.{option_eq-exact};
+ghost use Rattle.models.specs.Reads.{cas_register_reads};
 
 use crate::finding::Found;
 use crate::object::SeqObject;
@@ -47,4 +48,6 @@ impl SeqObject for CasRegister {
     }
 
     ghost exact = { option_eq-exact };
+
+    ghost reads = { cas_register_reads };
 }

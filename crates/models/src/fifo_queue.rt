@@ -1,6 +1,7 @@
 //! The queue.
 ghost use Rattle.std.specs.Prelude.{[]};
 ghost use Rattle.models.specs.Comparisons.{ints_eq-exact};
+ghost use Rattle.models.specs.Reads.{queue_reads};
 
 use crate::finding::Found;
 use crate::items::Items;
@@ -46,4 +47,6 @@ impl SeqObject for FifoQueue {
     }
 
     ghost exact = { ints_eq-exact };
+
+    ghost reads = { queue_reads };
 }

@@ -1,6 +1,7 @@
 //! The mutex.
 ghost use Rattle.std.specs.Prelude.{false};
 ghost use Rattle.models.specs.Comparisons.{bool_eq-exact};
+ghost use Rattle.models.specs.Reads.{mutex_reads};
 
 use crate::finding::Found;
 use crate::object::SeqObject;
@@ -37,4 +38,6 @@ impl SeqObject for Mutex {
     }
 
     ghost exact = { bool_eq-exact };
+
+    ghost reads = { mutex_reads };
 }

@@ -3,6 +3,7 @@ ghost use Rattle.std.specs.Prelude.{true, ◌≡◌, ◌↔◌, IsTrue, IfOk, Li
 ghost use Rattle.std.specs.Option.{option_to_list};
 ghost use Rattle.models.specs.declared.operation.Op.{Op};
 ghost use Rattle.models.specs.declared.finding.Found.{Found};
+ghost use Rattle.models.specs.Objects.{ReadsLeave, of_table};
 
 use crate::finding::Found;
 use crate::operation::Op;
@@ -39,6 +40,9 @@ pub trait SeqObject {
 
     /// States that compare equal are the same state.
     ghost exact: { (a b : Self.State) → Self.State.eq a b ≡ true → a ≡ b };
+
+    /// A read leaves the state as it was.
+    ghost reads: { ReadsLeave (of_table Self.State start_state apply_to) };
 
     /// Whether both are the same state. Takes no memory.
     final fn same(a: &Self::State, b: &Self::State) -> bool

@@ -1,6 +1,7 @@
 //! The register.
 ghost use Rattle.std.specs.Prelude.{None};
 ghost use Rattle.models.specs.Comparisons.{option_eq-exact};
+ghost use Rattle.models.specs.Reads.{register_reads};
 
 use crate::finding::Found;
 use crate::object::SeqObject;
@@ -40,4 +41,6 @@ impl SeqObject for Register {
     }
 
     ghost exact = { option_eq-exact };
+
+    ghost reads = { register_reads };
 }

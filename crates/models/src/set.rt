@@ -1,6 +1,7 @@
 //! The set.
 ghost use Rattle.std.specs.Prelude.{[]};
 ghost use Rattle.models.specs.Comparisons.{ints_eq-exact};
+ghost use Rattle.models.specs.Reads.{set_reads};
 
 use crate::finding::Found;
 use crate::members::Members;
@@ -48,4 +49,6 @@ impl SeqObject for Set {
     }
 
     ghost exact = { ints_eq-exact };
+
+    ghost reads = { set_reads };
 }

@@ -68,7 +68,7 @@ returns-in-Ok-clause-listed g c marks given =
           (stands_by o _ (before ++ Invoked id op ∷ []) stands.kept
           (subst (λ l. AreShown (with_rows f.table c.lengthen.new.self) l stands.kept) (sym calls)
           (longer_shown f.table f.calls.items before pending id op but.may stands.kept stands.shown c.lengthen.new.self (c.lengthen.ensures.longer c.if-not-lengthen.false)))
-          (generates_after_invoke o stands.kept before id op but.may (generates_of o f before stands))
+          (generates_after_invoke o g.met.M.SeqObject.reads stands.kept before id op but.may (generates_of o f before stands))
           stands.well_kept.once
           (subst (λ l. ArePending l (before ++ Invoked id op ∷ [])) (sym calls) (calls_after_invoke f.calls.items before pending id op but.may))
           (subst AreOnce (sym calls) (once_after_invoke f.calls.items before pending id op but.may stands.well_kept.calls_once))
