@@ -68,8 +68,8 @@ impl Request {
             ModelKind::Register | ModelKind::CasRegister => Name::Read,
             ModelKind::Mutex if first => Name::Acquire,
             ModelKind::Mutex => Name::Release,
-            ModelKind::FifoQueue if first => Name::Enqueue,
-            ModelKind::FifoQueue => Name::Dequeue,
+            ModelKind::FifoQueue | ModelKind::UnorderedQueue if first => Name::Enqueue,
+            ModelKind::FifoQueue | ModelKind::UnorderedQueue => Name::Dequeue,
             ModelKind::Set if first => Name::Add,
             ModelKind::Set => Name::Read,
         };

@@ -1,36 +1,32 @@
 -- what a call leads to from an end that a row says
-use Rattle.std.proofs.Common.{◌≡◌, ◌↔◌, inl, ⊎_elim, false, Option, None, List, [], ◌∷◌, sym, ap, ◌∙◌, subst}
-use Rattle.std.specs.Option.{option_to_list}
+use Rattle.std.proofs.Common.{◌≡◌, ◌+◌, ℕ, false, refl, List, sym, ap, subst, slice_get, Some}
 use Rattle.models.specs.declared.operation.Op.{Op}
 use Rattle.models.specs.declared.finding.Found.{Found}
 use Rattle.models.specs.Objects.{IsOneOf, of_table}
 use Rattle.linspec.specs.Ends.{End}
 use Rattle.ends.specs.declared.pending_op.PendingOp.{PendingOp}
+use Rattle.ends.specs.declared.table.Table.{Table}
 use Rattle.ends.specs.EndSteps.{TakesLast, is_in, with_call}
-use Rattle.ends.proofs.Rows.{with_state}
+use Rattle.ends.specs.Moves.{AreTo}
+use Rattle.ends.specs.Tables.{AreLed, HasEachOnce, Shows, row_led}
+use Rattle.ends.proofs.Rows.{says_with, with_state}
 
-module _ (S : Type 0) (start : S) (apply : Op → S → List (S × Found)) (e : End S) (c : PendingOp) where
-  pub leads_nowhere : (s : S) (outcome : Option (S × Found)) → outcome ≡ None → e.state ≡ s → option_to_list outcome ≡ apply c.op s → (f : End S) → ¬ TakesLast (of_table S start apply) e c f
-  leads_nowhere s outcome none is says f t =
-      let nothing : apply c.op e.state ≡ [] = ap (apply c.op) is ∙ sym says ∙ ap option_to_list none in
-      subst (λ l. IsOneOf l (f.state, t.found)) nothing t.step
+module _ (S : Type 0) (start : S) (apply : Op → S → List (S × Found)) (e : End S) (c : PendingOp) (not_in : is_in e c.id c.crashed ≡ false) where
+  takes : (s : S) (found : Found) → IsOneOf {X = S × Found} (apply c.op e.state) (s, found) → TakesLast (of_table S start apply) e c (with_call e c.id c.crashed found s)
+  takes s found listed = record {
+    not_in = not_in;
+    found = found;
+    step = subst (λ t. IsOneOf {X = S × Found} (apply c.op e.state) (t, found)) (sym (with_state e c.id c.crashed found s)) listed;
+    made = ap (with_call e c.id c.crashed found) (sym (with_state e c.id c.crashed found s));
+  }
 
-  module _ (not_in : is_in e c.id c.crashed ≡ false) (s : S) (found : Found) (only : apply c.op e.state ≡ (s, found) ∷ []) where
-    takes : TakesLast (of_table S start apply) e c (with_call e c.id c.crashed found s)
-    takes = record {
-      not_in = not_in;
-      found = found;
-      step = subst (λ l. IsOneOf l ((with_call e c.id c.crashed found s).state, found)) (sym only) (inl (ap (λ t. (t, found)) (sym (with_state e c.id c.crashed found s))));
-      made = ap (with_call e c.id c.crashed found) (sym (with_state e c.id c.crashed found s));
-    }
-
-    only_that : (g : End S) → TakesLast (of_table S start apply) e c g → with_call e c.id c.crashed found s ≡ g
-    only_that g t =
-        ⊎_elim
-        (λ q.
-        (λ i. with_call e c.id c.crashed ((q i).1) ((q i).0)) ∙ sym t.made)
-        (λ none. absurd none)
-        (subst (λ l. IsOneOf l (g.state, t.found)) only t.step)
-
-    pub leads_there : (g : End S) → TakesLast (of_table S start apply) e c g ↔ (with_call e c.id c.crashed found s ≡ g)
-    leads_there g = (only_that g, (λ q. subst (TakesLast (of_table S start apply) e c) q takes))
+  pub are_led : (t : Table S) (calls : List PendingOp) (row : List ℕ) (at : ℕ) (targets : List (ℕ × ℕ)) → HasEachOnce calls → slice_get calls at ≡ Some c → Shows t calls row e
+      → AreTo t c.crashed (apply c.op e.state) targets → AreLed (of_table S start apply) t calls row at e c targets
+  are_led t calls row at targets once here shows are = record {
+    each = λ to h.
+        let o = are.each to h in
+        (with_call e c.id c.crashed o.0.1 o.0.0, takes o.0.0 o.0.1 o.1, says_with t.states t.founds.items calls once at c here e row shows to.0 to.1 o.0.0 o.0.1 (row_led row (at + 1) to) o.2.0 o.2.1 refl);
+    all = λ f last.
+        let x = are.all (f.state, last.found) last.step in
+        (x.0, x.1, subst (λ g. Shows t calls (row_led row (at + 1) x.0) g) (sym last.made) (says_with t.states t.founds.items calls once at c here e row shows x.0.0 x.0.1 f.state last.found (row_led row (at + 1) x.0) x.2.0 x.2.1 refl));
+  }

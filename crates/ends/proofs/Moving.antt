@@ -1,7 +1,10 @@
 -- what is known of calls in states, by numbers
-use Rattle.std.proofs.Common.{◌≡◌, ◌≢◌, ℕ, ◌+◌, ◌*◌, ◌<◌, ◌≤◌, ◌⊎◌, inl, inr, ⊎_elim, Bool, Some, List, [], ◌∷◌, ◌++◌, zero, suc, set, length, slice_get, get_or, refl, sym, ap, ◌∙◌, subst, arith}
+use Rattle.std.proofs.Common.{◌≡◌, ℕ, ◌+◌, ◌-◌, ◌*◌, ◌<◌, ◌≤◌, ◌⊎◌, inl, inr, ⊎_elim, Bool, Some, Ok, Err, Result, OnOk, List, [], ◌∷◌, ◌++◌, zero, suc, set, length, take, drop, append-nil, slice_get, slice_range, get_or, refl, sym, ap, ◌∙◌, subst, arith}
 use Rattle.std.proofs.lemmas.Bool.{cases_eq, cases_order}
-use Rattle.std.proofs.lemmas.List.{get_or-set_same, get_or-set_other}
+use Rattle.std.proofs.lemmas.List.{get_or-set_same, get_or-set_other, drop-append-le, length-append, length-drop, take-append-le, take_all}
+use Rattle.std.proofs.lemmas.List.Elements.{Contains-append_left, Contains-push, Contains-push_cases}
+use Rattle.std.proofs.Math.Seq.{drop-append_seam}
+use Rattle.linspec.proofs.Lists.{Contains-nil}
 use Rattle.std.proofs.lemmas.Option.{slice_get_within}
 use Rattle.std.proofs.Math.Nat.{mul-le-mul_right}
 use Rattle.models.specs.declared.operation.Op.{Op}
@@ -9,8 +12,8 @@ use Rattle.models.specs.declared.finding.Found.{Found}
 use Rattle.ends.specs.declared.pending_op.PendingOp.{PendingOp}
 use Rattle.ends.specs.declared.table.Table.{Table}
 use Rattle.ends.specs.declared.moves.Move.{Move}
-use Rattle.ends.specs.declared.moves.Move.TheVariants.{Untried, Nowhere, To}
-use Rattle.ends.specs.Moves.{AreMoves, IsTo, known_at}
+use Rattle.ends.specs.declared.moves.Move.TheVariants.{Untried, Tried}
+use Rattle.ends.specs.Moves.{AreMoves, AreTo, IsTo, LeadsTo, known_at}
 use Rattle.ends.specs.Tables.{Widens, told_by}
 use Rattle.ends.proofs.Rows.{get_front, one_of, slot_more}
 
@@ -43,44 +46,97 @@ set_there xs now place to d lt is p =
     (λ ne. inl (ap (λ l. get_or l p d) is ∙ get_or-set_other xs place p to d ne))
     (cases_eq p place)
 
+-- what holds anyway
+pub on_ok : {T E P : Type 0} (r : Result T E) → P → OnOk r P
+on_ok (Ok x) p = p
+on_ok (Err e) p = tt
+
+-- a part of a list that becomes longer
+pub range_stays : {X : Type 0} (xs more : List X) (first end : ℕ) → first ≤ end → end ≤ length xs → slice_range (xs ++ more) first end ≡ slice_range xs first end
+range_stays xs more first end low high =
+    ap (take (end - first)) (drop-append-le first xs more (omega arith))
+    ∙ take-append-le (end - first) (drop first xs) more (let long = length-drop first xs in omega arith)
+
+pub range_new : {X : Type 0} (xs more new : List X) → new ≡ xs ++ more → slice_range new (length xs) (length new) ≡ more
+range_new xs more new is =
+    let long : length new ≡ length xs + length more = ap length is ∙ length-append xs more in
+    ap (λ l. take (length new - length xs) (drop (length xs) l)) is ∙ ap (take (length new - length xs)) (drop-append_seam xs more) ∙ take_all (length new - length xs) more (omega arith)
+
 module _ {S : Type 0} where
-  pub to_more : (t u : Table S) (crashed : Bool) (outcomes : List (S × Found)) (m : Move) → Widens t u → IsTo t crashed outcomes m → IsTo u crashed outcomes m
-  to_more t u crashed outcomes Untried w h = absurd h
-  to_more t u crashed outcomes Nowhere w h = h
-  to_more t u crashed outcomes (To n slot) w h = (h.0, h.1, h.2, get_front t.states u.states n h.0 w.states h.3, slot_more t.founds.items u.founds.items slot (Some (told_by crashed h.1)) w.founds h.4)
+  pub to_more : (t u : Table S) (crashed : Bool) (outcome : S × Found) (target : ℕ × ℕ) → Widens t u → IsTo t crashed outcome target → IsTo u crashed outcome target
+  to_more t u crashed outcome target w h = (get_front t.states u.states target.0 outcome.0 w.states h.0, slot_more t.founds.items u.founds.items target.1 (Some (told_by crashed outcome.1)) w.founds h.1)
+
+  pub are_to_more : (t u : Table S) (crashed : Bool) (outcomes : List (S × Found)) (targets : List (ℕ × ℕ)) → Widens t u → AreTo t crashed outcomes targets → AreTo u crashed outcomes targets
+  are_to_more t u crashed outcomes targets w are = record {
+    each = λ x h. let o = are.each x h in (o.0, o.1, to_more t u crashed o.0 x w o.2);
+    all = λ o h. let x = are.all o h in (x.0, x.1, to_more t u crashed o x.0 w x.2);
+  }
+
+  pub are_to_none : (t : Table S) (crashed : Bool) → AreTo t crashed [] []
+  are_to_none t crashed = record { each = λ x h. absurd (Contains-nil x h); all = λ o h. absurd h }
+
+  pub are_to_with : (t : Table S) (crashed : Bool) (outcome : S × Found) (outcomes : List (S × Found)) (targets : List (ℕ × ℕ)) (target : ℕ × ℕ) → IsTo t crashed outcome target → AreTo t crashed outcomes targets
+      → AreTo t crashed (outcome ∷ outcomes) (targets ++ target ∷ [])
+  are_to_with t crashed outcome outcomes targets target is are = record {
+    each = λ x h.
+        ⊎_elim
+        (λ k. let o = are.each x k in (o.0, inr o.1, o.2))
+        (λ e. (outcome, inl refl, subst (IsTo t crashed outcome) e is))
+        (Contains-push_cases targets target x h);
+    all = λ o h.
+        ⊎_elim
+        (λ e. (target, Contains-push targets target, subst (λ p. IsTo t crashed p target) e is))
+        (λ k. let x = are.all o k in (x.0, Contains-append_left targets (target ∷ []) x.0 x.1, x.2))
+        h;
+  }
+
+  leads_more : (t u : Table S) (crashed : Bool) (outcomes : List (S × Found)) (targets more : List (ℕ × ℕ)) (m : Move) → Widens t u → LeadsTo t crashed outcomes targets m → LeadsTo u crashed outcomes (targets ++ more) m
+  leads_more t u crashed outcomes targets more Untried w h = absurd h
+  leads_more t u crashed outcomes targets more (Tried first end) w h =
+      let long = length-append targets more in
+      let low : first ≤ end = h.0.0 in
+      let high : end ≤ length targets = h.0.1 in (
+        (low, omega arith),
+        subst (AreTo u crashed outcomes) (sym (range_stays targets more first end low high)) (are_to_more t u crashed outcomes (slice_range targets first end) w h.1),
+      )
 
   module _ (apply : Op → S → List (S × Found)) (calls : List PendingOp) where
-    pub moves_none : (t : Table S) (moves : List Move) → moves ≡ [] → AreMoves apply t calls moves
-    moves_none t moves none n at c here = inl (ap (λ l. known_at l (length calls) n at) none)
+    pub moves_none : (t : Table S) (moves : List Move) (targets : List (ℕ × ℕ)) → moves ≡ [] → AreMoves apply t calls moves targets
+    moves_none t moves targets none n at c here = inl (ap (λ l. known_at l (length calls) n at) none)
 
-    pub moves_more : (t u : Table S) (moves : List Move) → Widens t u → AreMoves apply t calls moves → AreMoves apply u calls moves
-    moves_more t u moves w a n at c here =
+    pub moves_more : (t u : Table S) (moves : List Move) (targets more new : List (ℕ × ℕ)) → Widens t u → new ≡ targets ++ more → AreMoves apply t calls moves targets → AreMoves apply u calls moves new
+    moves_more t u moves targets more new w is a n at c here =
         ⊎_elim
         (λ h. inl h)
-        (λ h. inr (h.0, get_front t.states u.states n h.0 w.states h.1, to_more t u c.crashed (apply c.op h.0) (known_at moves (length calls) n at) w h.2))
+        (λ h. inr (
+          h.0,
+          get_front t.states u.states n h.0 w.states h.1,
+          subst (λ l. LeadsTo u c.crashed (apply c.op h.0) l (known_at moves (length calls) n at)) (sym is) (leads_more t u c.crashed (apply c.op h.0) targets more (known_at moves (length calls) n at) w h.2),
+        ))
         (a n at c here)
+
+    pub moves_wider : (t u : Table S) (moves : List Move) (targets : List (ℕ × ℕ)) → Widens t u → AreMoves apply t calls moves targets → AreMoves apply u calls moves targets
+    moves_wider t u moves targets w a = moves_more t u moves targets [] targets w (sym (append-nil targets)) a
 
     module _ (t : Table S) (number at : ℕ) (call : PendingOp) (is_call : slice_get calls at ≡ Some call) (s : S) (is_state : slice_get t.states number ≡ Some s) where
       -- one that is known
-      pub known_does : (moves : List Move) (m : Move) → AreMoves apply t calls moves → (m ≡ Untried) ⊎ (m ≡ known_at moves (length calls) number at) → m ≢ Untried → IsTo t call.crashed (apply call.op s) m
-      known_does moves m a told tried =
+      pub known_does : (moves : List Move) (targets : List (ℕ × ℕ)) (first end : ℕ) → AreMoves apply t calls moves targets → Tried first end ≡ known_at moves (length calls) number at
+          → AreTo t call.crashed (apply call.op s) (slice_range targets first end)
+      known_does moves targets first end a told =
           ⊎_elim
-          (λ q. absurd (tried q))
-          (λ q. ⊎_elim
-          (λ h. absurd (tried (q ∙ h)))
-          (λ h. subst (λ x. IsTo t call.crashed (apply call.op x) m) (one_of h.0 s (sym h.1 ∙ is_state)) (subst (IsTo t call.crashed (apply call.op h.0)) (sym q) h.2))
-          (a number at call is_call))
-          told
+          (λ q. let no : Tried first end ≡ Untried = told ∙ q in cc)
+          (λ h. subst (λ x. AreTo t call.crashed (apply call.op x) (slice_range targets first end)) (one_of h.0 s (sym h.1 ∙ is_state)) (subst (LeadsTo t call.crashed (apply call.op h.0) targets) (sym told) h.2).1)
+          (a number at call is_call)
 
       -- one more
-      pub moves_with : (old new : List Move) (to : Move) → IsTo t call.crashed (apply call.op s) to
+      pub moves_with : (old new : List Move) (targets : List (ℕ × ℕ)) (to : Move) → LeadsTo t call.crashed (apply call.op s) targets to
           → ((p : ℕ) → (get_or new p Untried ≡ get_or old p Untried) ⊎ ((p ≡ number * length calls + at) × (get_or new p Untried ≡ to)))
-          → AreMoves apply t calls old → AreMoves apply t calls new
-      moves_with old new to is each a n b c here =
+          → AreMoves apply t calls old targets → AreMoves apply t calls new targets
+      moves_with old new targets to is each a n b c here =
           ⊎_elim
-          (λ same. ⊎_elim (λ h. inl (same ∙ h)) (λ h. inr (h.0, h.1, subst (IsTo t c.crashed (apply c.op h.0)) (sym same) h.2)) (a n b c here))
+          (λ same. ⊎_elim (λ h. inl (same ∙ h)) (λ h. inr (h.0, h.1, subst (LeadsTo t c.crashed (apply c.op h.0) targets) (sym same) h.2)) (a n b c here))
           (λ q.
           let p = same_place n number (length calls) b at (slice_get_within calls b c here) (slice_get_within calls at call is_call) q.0 in
           let same : call ≡ c = one_of call c (sym is_call ∙ ap (slice_get calls) (sym p.1) ∙ here) in
-          inr (s, subst (λ k. slice_get t.states k ≡ Some s) (sym p.0) is_state, subst (λ (x : PendingOp). IsTo t x.crashed (apply x.op s) (get_or new (n * length calls + b) Untried)) same (subst (IsTo t call.crashed (apply call.op s)) (sym q.1) is)))
+          inr (s, subst (λ k. slice_get t.states k ≡ Some s) (sym p.0) is_state, subst (λ (x : PendingOp). LeadsTo t x.crashed (apply x.op s) targets (get_or new (n * length calls + b) Untried)) same (subst (LeadsTo t call.crashed (apply call.op s) targets) (sym q.1) is)))
           (each (n * length calls + b))

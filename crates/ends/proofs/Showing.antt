@@ -12,9 +12,9 @@ use Rattle.ends.specs.declared.table.Table.{Table}
 use Rattle.ends.specs.EndSteps.{Adds, TakesLast, Next, Along, Grows}
 use Rattle.models.specs.declared.finding.Found.{Found}
 use Rattle.ends.specs.KeptEnds.{AreIncluded}
-use Rattle.ends.specs.Tables.{AreShown, IsOnceIn, LeadsTo, Says, Shows, ShownWith, Widens, rows_of, with_rows}
+use Rattle.ends.specs.Tables.{AreLed, AreShown, IsOnceIn, Says, Shows, ShownWith, Widens, row_led, rows_of, with_rows}
 use Rattle.rows.specs.RowSets.{IsPut}
-use Rattle.ends.proofs.Adding.{IsFront-itself, IsFront-push, IsFront-trans, Adds-old, Adds-new, Adds-change, Adds-more, Adds-more_from, Adds-none, Adds-start, one_more}
+use Rattle.ends.proofs.Adding.{IsFront-itself, IsFront-push, IsFront-trans, Adds-old, Adds-new, Adds-change, Adds-more, Adds-more_from, Adds-start, one_more}
 use Rattle.ends.proofs.Reaching.{reached_next}
 use Rattle.ends.proofs.Rows.{clash, one_end, one_row, says_more, place_of, has_place, some_at, get_push}
 
@@ -181,25 +181,6 @@ module _ (o : Object) (calls : List PendingOp) (e : End o.State) (ends : List (E
   is_here : c ≡ get_or calls i c
   is_here = sym (get_or_from_slice_get calls i c c here)
 
-  pub none_there : (t u : Table o.State) → Widens t u → rows_of u ≡ rows_of t → ((f : End o.State) → ¬ TakesLast o e c f) → AreShown t calls ends → ShownWith u calls ends (TakesLast o e c)
-  none_there t u w same none a = record {
-    more = ends;
-    shown = shown_more calls t u ends w same a;
-    front = IsFront-itself ends;
-    adds = Adds-none (TakesLast o e c) ends none;
-  }
-
-  pub some_there : (t u v : Table o.State) (row : List ℕ) → Widens t u → rows_of u ≡ rows_of t → Widens u v → IsPut row (rows_of u) (rows_of v) → LeadsTo o u calls e c (Some row) → AreShown t calls ends
-      → ShownWith v calls ends (TakesLast o e c)
-  some_there t u v row w same x put leads a =
-      let p = shown_put calls u v ends row leads.0 x (shown_more calls t u ends w same a) leads.1 put in
-      record {
-        more = p.more;
-        shown = p.shown;
-        front = p.front;
-        adds = Adds-change (λ y. leads.0 ≡ y) (TakesLast o e c) ends p.more (λ y q. (leads.2 y).1 q) (λ y k. (leads.2 y).0 k) p.adds;
-      }
-
   pub next_there : (from : ℕ) → from ≤ i → (t u : Table o.State) → (s : ShownWith t calls ends (Next o (drop from (take i calls)) e)) → ShownWith u calls s.more (TakesLast o e c)
       → ShownWith u calls ends (Next o (drop from (take (i + 1) calls)) e)
   next_there from low t u s p = record {
@@ -208,6 +189,35 @@ module _ (o : Object) (calls : List PendingOp) (e : End o.State) (ends : List (E
     front = IsFront-trans ends s.more p.more s.front p.front;
     adds = Adds-more_from (TakesLast o e) calls ends s.more p.more from i c low within is_here s.adds p.adds;
   }
+
+-- rows by targets, put one after another
+pub led_more : {S : Type 0} (calls : List PendingOp) (first t u : Table S) (row : List ℕ) (at : ℕ) (targets : List (ℕ × ℕ)) (place : ℕ) (to : ℕ × ℕ) (ends : List (End S)) → slice_get targets place ≡ Some to
+    → t.states ≡ first.states → t.founds.items ≡ first.founds.items → u.states ≡ t.states → u.founds.items ≡ t.founds.items → (f : End S) → Shows first calls (row_led row at to) f
+    → IsPut (row_led row at to) (rows_of t) (rows_of u) → ShownWith t calls ends (Along (λ x g. Shows first calls (row_led row at x) g) (take place targets))
+    → ShownWith u calls ends (Along (λ x g. Shows first calls (row_led row at x) g) (take (place + 1) targets))
+led_more {S} calls first t u row at targets place to ends here states founds same_states same_founds f shows put s =
+    let R : ℕ × ℕ → End S → Type 0 = (λ x g. Shows first calls (row_led row at x) g) in
+    let now : Shows t calls (row_led row at to) f = shows_more calls first t (row_led row at to) f (widens_rows first t states founds) shows in
+    let p = shown_put calls t u s.more (row_led row at to) f (widens_rows t u same_states same_founds) s.shown now put in
+    record {
+      more = p.more;
+      shown = p.shown;
+      front = IsFront-trans ends s.more p.more s.front p.front;
+      adds = Adds-more R targets ends s.more p.more place to (slice_get_within targets place to here) (sym (get_or_from_slice_get targets place to to here)) s.adds
+          (Adds-change (λ g. f ≡ g) (R to) s.more p.more (λ g e. subst (Shows first calls (row_led row at to)) e shows) (λ g k. one_end first.states first.founds.items calls (row_led row at to) f g shows k) p.adds);
+    }
+
+-- which are those that the call leads to
+pub all_led : (o : Object) (calls : List PendingOp) (t u : Table o.State) (row : List ℕ) (at : ℕ) (e : End o.State) (c : PendingOp) (targets : List (ℕ × ℕ)) (ends : List (End o.State)) → AreLed o t calls row at e c targets
+    → ShownWith u calls ends (Along (λ x g. Shows t calls (row_led row (at + 1) x) g) targets) → ShownWith u calls ends (TakesLast o e c)
+all_led o calls t u row at e c targets ends led s = record {
+  more = s.more;
+  shown = s.shown;
+  front = s.front;
+  adds = Adds-change (Along (λ x g. Shows t calls (row_led row (at + 1) x) g) targets) (TakesLast o e c) ends s.more
+      (λ g h. let f = led.each h.0 h.1 in subst (TakesLast o e c) (one_end t.states t.founds.items calls (row_led row (at + 1) h.0) f.0 g f.2 h.2) f.1)
+      (λ g last. led.all g last) s.adds;
+}
 
 none_between : {X : Type 0} (n : ℕ) (xs : List X) → drop n (take n xs) ≡ []
 none_between zero xs = refl

@@ -1,20 +1,38 @@
 -- Invariant: what calls do in states, by numbers
-use Rattle.std.specs.Prelude.{◌≡◌, ℕ, ◌+◌, ◌*◌, ◌⊎◌, Bool, Some, List, [], ◌∷◌, length, slice_get, get_or}
+use Rattle.std.specs.Prelude.{◌≡◌, ◌≤◌, ℕ, ◌+◌, ◌*◌, ◌⊎◌, Bool, Some, List, [], length, slice_get, slice_range, get_or}
+use Rattle.std.specs.List.{Contains}
 use Rattle.models.specs.declared.operation.Op.{Op}
 use Rattle.models.specs.declared.finding.Found.{Found}
+use Rattle.models.specs.Objects.{IsOneOf}
 use Rattle.ends.specs.declared.pending_op.PendingOp.{PendingOp}
 use Rattle.ends.specs.declared.table.Table.{Table}
 use Rattle.ends.specs.declared.moves.Move.{Move}
-use Rattle.ends.specs.declared.moves.Move.TheVariants.{Untried, Nowhere, To}
+use Rattle.ends.specs.declared.moves.Move.TheVariants.{Untried, Tried}
 use Rattle.ends.specs.Tables.{IsSlot, told_by}
 
--- the move is to the only one of the outcomes, if there is one
-abbrev pub IsTo : {S : Type 0} → Table S → Bool → List (S × Found) → Move → Type 0
-IsTo t crashed outcomes Untried = ⊥
-IsTo t crashed outcomes Nowhere = outcomes ≡ []
-IsTo {S} t crashed outcomes (To n slot) =
-    (s : S) × (found : Found) × (outcomes ≡ (s, found) ∷ []) × (slice_get t.states n ≡ Some s)
-    × IsSlot t.founds.items slot (Some (told_by crashed found))
+-- the target is this outcome: the state with the first number, and what is told of what was found by the second
+abbrev pub IsTo : {S : Type 0} → Table S → Bool → S × Found → ℕ × ℕ → Type 0
+IsTo t crashed outcome target =
+    (slice_get t.states target.0 ≡ Some outcome.0)
+    × IsSlot t.founds.items target.1 (Some (told_by crashed outcome.1))
+
+-- the targets are these outcomes
+pub record AreTo {S : Type 0} (t : Table S) (crashed : Bool) (outcomes : List (S × Found))
+    (targets : List (ℕ × ℕ)) : Type 0 where
+  pub each : (target : ℕ × ℕ) → Contains targets target →
+      (outcome : S × Found) × IsOneOf outcomes outcome × IsTo t crashed outcome target
+  pub all : (outcome : S × Found) → IsOneOf outcomes outcome →
+      (target : ℕ × ℕ) × Contains targets target × IsTo t crashed outcome target
+
+-- these places of the list are there
+abbrev pub AreWithin : ℕ → ℕ → List (ℕ × ℕ) → Type 0
+AreWithin first end targets = (first ≤ end) × (end ≤ length targets)
+
+-- the move is to these outcomes
+abbrev pub LeadsTo : {S : Type 0} → Table S → Bool → List (S × Found) → List (ℕ × ℕ) → Move → Type 0
+LeadsTo t crashed outcomes targets Untried = ⊥
+LeadsTo t crashed outcomes targets (Tried first end) =
+    AreWithin first end targets × AreTo t crashed outcomes (slice_range targets first end)
 
 -- what is known of a call in the state with this number
 abbrev pub known_at : List Move → ℕ → ℕ → ℕ → Move
@@ -22,8 +40,8 @@ known_at moves calls n at = get_or moves (n * calls + at) Untried
 
 -- what is known of each call in each state is so
 abbrev pub AreMoves : {S : Type 0} → (Op → S → List (S × Found)) → Table S → List PendingOp
-    → List Move → Type 0
-AreMoves {S} apply t calls moves = (n at : ℕ) (c : PendingOp) → slice_get calls at ≡ Some c →
+    → List Move → List (ℕ × ℕ) → Type 0
+AreMoves {S} apply t calls moves targets = (n at : ℕ) (c : PendingOp) → slice_get calls at ≡ Some c →
     (known_at moves (length calls) n at ≡ Untried)
     ⊎ ((s : S) × (slice_get t.states n ≡ Some s)
-    × IsTo t c.crashed (apply c.op s) (known_at moves (length calls) n at))
+    × LeadsTo t c.crashed (apply c.op s) targets (known_at moves (length calls) n at))

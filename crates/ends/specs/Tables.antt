@@ -85,17 +85,17 @@ pub record Widens {S : Type 0} (old new : Table S) : Type 0 where
   pub states_once : IsOnceIn old.states → IsOnceIn new.states
   pub founds_once : IsOnceIn old.founds.items → IsOnceIn new.founds.items
 
--- what the call leads to from the end, as a row
-abbrev pub LeadsTo : (o : Object) → Table o.State → List PendingOp → End o.State → PendingOp
-    → Option (List ℕ) → Type 0
-LeadsTo o t calls e c None = (f : End o.State) → ¬ TakesLast o e c f
-LeadsTo o t calls e c (Some row) =
-    (f : End o.State) × Shows t calls row f × ((g : End o.State) → TakesLast o e c g ↔ (f ≡ g))
+-- the row with these numbers of a state and at this place
+abbrev pub row_led : List ℕ → ℕ → ℕ × ℕ → List ℕ
+row_led row place to = set (set row 0 to.0) place to.1
 
--- the row with these numbers of a state and at the place of a call, if there are such
-abbrev pub row_led : List ℕ → ℕ → Option (ℕ × ℕ) → Option (List ℕ)
-row_led row at None = None
-row_led row at (Some to) = Some (set (set row 0 to.0) (at + 1) to.1)
+-- the rows with these numbers say what the call leads to from the end
+pub record AreLed (o : Object) (t : Table o.State) (calls : List PendingOp) (row : List ℕ) (at : ℕ)
+    (e : End o.State) (c : PendingOp) (targets : List (ℕ × ℕ)) : Type 0 where
+  pub each : (to : ℕ × ℕ) → Contains targets to →
+      (f : End o.State) × TakesLast o e c f × Shows t calls (row_led row (at + 1) to) f
+  pub all : (f : End o.State) → TakesLast o e c f →
+      (to : ℕ × ℕ) × Contains targets to × Shows t calls (row_led row (at + 1) to) f
 
 -- an end alone
 abbrev pub IsThat : {S : Type 0} → End S → End S → Type 0

@@ -1,16 +1,17 @@
 //! The ends that calls lead to from others.
-ghost use Rattle.std.specs.Prelude.{◌≡◌, ◌↔◌, ◌+◌, ◌*◌, ◌<◌, ◌≤◌, true, false, take, drop};
+ghost use Rattle.std.specs.Prelude.{◌≡◌, ℕ, ◌+◌, ◌*◌, ◌<◌, ◌≤◌, true, false, take, drop};
 ghost use Rattle.std.specs.Prelude.{List, [], get_or, length, slice_get, Some, IfOk, OnOk};
+ghost use Rattle.std.specs.List.{Contains};
 ghost use Rattle.models.specs.Objects.{of_table};
 ghost use Rattle.history.specs.Events.{IsFront};
 ghost use Rattle.linspec.specs.Ends.{End};
 ghost use Rattle.ends.specs.Moves.{AreMoves};
-ghost use Rattle.ends.specs.EndSteps.{AreClosed, TakesLast, Next, Grows};
-ghost use Rattle.ends.specs.Tables.{AreShown, HasEachOnce, Shows, Widens, rows_of};
+ghost use Rattle.ends.specs.EndSteps.{Along, AreClosed, TakesLast, Next, Grows};
+ghost use Rattle.ends.specs.Tables.{AreShown, HasEachOnce, Shows, Widens, row_led, rows_of};
 ghost use Rattle.ends.specs.Tables.{IsAdvanced, ShownWith, ShownGrown, with_rows};
 
 use crate::after;
-use crate::moves::{self, Move};
+use crate::moves::{self, Moves};
 use crate::pending_op::PendingOp;
 use crate::table::{self, Table};
 use models::{Answer, SeqObject};
@@ -19,26 +20,54 @@ use std::alloc::{AllocError, Global};
 
 /// Memory that an ok works in, kept for the next one: what calls do in states, and the rows that are left.
 #[derive(Drop)]
-pub struct Room {
-    moves: Vec<Move>,
+pub struct Room<S> {
+    moves: Moves<S>,
     pub rows: RowSet,
 }
 
-impl Room {
+impl<S> Room<S> {
     /// None yet.
-    pub fn new(alloc: Global) -> Room {
+    pub fn new(alloc: Global) -> Room<S> {
         Room {
-            moves: Vec::new(alloc),
+            moves: Moves::new(alloc),
             rows: RowSet::new(alloc, 0),
         }
     }
+}
+
+// Puts the row that stands here, with each of these numbers of a state and at the place, behind the others.
+fn put_each<S: Ord + Drop>(
+    table: &mut Table<S>,
+    from: usize,
+    place: usize,
+    targets: &[(usize, usize)],
+) -> Result<(), AllocError>
+    requires here { from < length (rows_of table.old) }
+    requires after { 0 < place }
+    requires zero_there { 0 < length targets.now
+        → slice_get (get_or (rows_of table.old) from []) place ≡ Some 0 }
+    ensures puts { let row = get_or (rows_of table.old) from [] in
+        (calls : List PendingOp) (ends : List (End S)) → AreShown table.old calls ends
+        → ((to : ℕ × ℕ) → Contains targets.now to
+        → (f : End S) × Shows table.old calls (row_led row place to) f)
+        → OnOk result (ShownWith table.new calls ends
+        (Along (λ to f. Shows table.old calls (row_led row place to) f) targets.now)) }
+    ensures states { table.new.states ≡ table.old.states }
+    ensures founds { table.new.founds ≡ table.old.founds }
+    ensures front { IsFront (rows_of table.old) (rows_of table.new) }
+{
+    for at in 0..targets.len() {
+        let (to, slot) = targets[at];
+        table.rows.put_next(from, to, place, slot)?;
+    }
+    Ok(())
 }
 
 // Adds what the call at this place leads to from the end of the row that stands here.
 fn grow_at<M: SeqObject>(
     alloc: Global,
     table: &mut Table<M::State>,
-    moves: &mut Vec<Move>,
+    moves: &mut Moves<M::State>,
     from: usize,
     calls: &[PendingOp],
     at: usize,
@@ -46,11 +75,11 @@ fn grow_at<M: SeqObject>(
 ) -> Result<(), AllocError>
     requires within { at < length calls.now }
     requires here { from < length (rows_of table.old) }
-    ensures moves { AreMoves M.apply_to table.old calls.now moves.old.items
-        → OnOk result (AreMoves M.apply_to table.new calls.now moves.new.items) }
+    ensures moves { AreMoves M.apply_to table.old calls.now moves.old.known.items moves.old.targets.items
+        → OnOk result (AreMoves M.apply_to table.new calls.now moves.new.known.items moves.new.targets.items) }
     ensures adds { let object = of_table M.State M.start_state M.apply_to in
         let row = get_or (rows_of table.old) from [] in
-        AreMoves M.apply_to table.old calls.now moves.old.items → HasEachOnce calls.now
+        AreMoves M.apply_to table.old calls.now moves.old.known.items moves.old.targets.items → HasEachOnce calls.now
         → (c : PendingOp) (e : End M.State) (ends : List (End M.State))
         → slice_get calls.now at ≡ Some c → Shows table.old calls.now row e
         → AreShown table.old calls.now ends
@@ -59,28 +88,26 @@ fn grow_at<M: SeqObject>(
     ensures front { IsFront (rows_of table.old) (rows_of table.new) }
     ensures cost { applied.new ≤ applied.old + 1 }
 {
-    if let Some((to, slot)) = table::led_to::<M>(alloc, table, moves, from, calls, at, applied)? {
-        table.rows.put_next(from, to, at + 1, slot)?;
-    }
-    Ok(())
+    let (first, end) = table::led_to::<M>(alloc, table, moves, from, calls, at, applied)?;
+    put_each(table, from, at + 1, &moves.targets[first..end])
 }
 
 // Adds what each call from that place on leads to from the end of the row that stands here.
 fn grow_from<M: SeqObject>(
     alloc: Global,
     table: &mut Table<M::State>,
-    moves: &mut Vec<Move>,
+    moves: &mut Moves<M::State>,
     from: usize,
     calls: &[PendingOp],
     first: usize,
     applied: &mut u64,
 ) -> Result<(), AllocError>
     requires { from < length (rows_of table.old) }
-    ensures moves { AreMoves M.apply_to table.old calls.now moves.old.items
-        → OnOk result (AreMoves M.apply_to table.new calls.now moves.new.items) }
+    ensures moves { AreMoves M.apply_to table.old calls.now moves.old.known.items moves.old.targets.items
+        → OnOk result (AreMoves M.apply_to table.new calls.now moves.new.known.items moves.new.targets.items) }
     ensures adds { let object = of_table M.State M.start_state M.apply_to in
         let row = get_or (rows_of table.old) from [] in
-        AreMoves M.apply_to table.old calls.now moves.old.items → HasEachOnce calls.now
+        AreMoves M.apply_to table.old calls.now moves.old.known.items moves.old.targets.items → HasEachOnce calls.now
         → (e : End M.State) (ends : List (End M.State))
         → Shows table.old calls.now row e → AreShown table.old calls.now ends
         → OnOk result (ShownWith table.new calls.now ends
@@ -109,7 +136,7 @@ fn first_for(at: usize, kept: usize, tried: usize) -> usize
 fn grow<M: SeqObject>(
     alloc: Global,
     table: &mut Table<M::State>,
-    moves: &mut Vec<Move>,
+    moves: &mut Moves<M::State>,
     calls: &[PendingOp],
     tried: usize,
     budget: u32,
@@ -145,7 +172,7 @@ fn grow<M: SeqObject>(
 fn found_rows<M: SeqObject>(
     alloc: Global,
     table: &mut Table<M::State>,
-    room: &mut Room,
+    room: &mut Room<M::State>,
     calls: &[PendingOp],
     tried: usize,
     budget: u32,
@@ -181,7 +208,7 @@ fn found_rows<M: SeqObject>(
 pub fn advance<M: SeqObject>(
     alloc: Global,
     table: &mut Table<M::State>,
-    room: &mut Room,
+    room: &mut Room<M::State>,
     calls: &[PendingOp],
     tried: usize,
     budget: u32,

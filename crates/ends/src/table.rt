@@ -1,19 +1,18 @@
 //! Ends as rows of numbers.
-ghost use Rattle.std.specs.Prelude.{◌≡◌, ◌+◌, ◌-◌, ◌^◌, ◌<◌, ◌≤◌, min, Some, slice_get, get_or, map, length};
+ghost use Rattle.std.specs.Prelude.{◌≡◌, ◌+◌, ◌-◌, ◌^◌, ◌<◌, ◌≤◌, min, Some, slice_get, slice_range, get_or, map, length};
 ghost use Rattle.std.specs.Prelude.{IfOk, OnOk, IsSome, IsSomeAnd, option_copied, List, [], ◌∷◌, ◌++◌};
-ghost use Rattle.std.specs.Option.{option_to_list};
 ghost use Rattle.models.specs.Objects.{of_table};
 ghost use Rattle.history.specs.Events.{IsFront};
 ghost use Rattle.linspec.specs.Ends.{End};
 ghost use Rattle.ends.specs.KeptEnds.{AreIncluded, IsIncluded, end_kept};
 ghost use Rattle.ends.specs.EndSteps.{Along};
-ghost use Rattle.ends.specs.Moves.{AreMoves};
+ghost use Rattle.ends.specs.Moves.{AreMoves, AreWithin};
 ghost use Rattle.ends.specs.Tables.{HasEachOnce, IsOnceIn, IsSlot};
 ghost use Rattle.ends.specs.Tables.{AreShown, IsThat, IsToldBefore, IsSameTable, ShownWith, told_by};
-ghost use Rattle.ends.specs.Tables.{LeadsTo, Shows, Widens, found_by, row_led, rows_of};
+ghost use Rattle.ends.specs.Tables.{AreLed, Shows, Widens, found_by, rows_of};
 
 use crate::kept_end::{KeptEnd, found_in, has};
-use crate::moves::{self, Move};
+use crate::moves::{self, Moves};
 use crate::pending_op::PendingOp;
 use crate::states::{self, States};
 use models::{Found, Op, SeqObject};
@@ -97,19 +96,20 @@ fn row_of<M: SeqObject>(
     Ok(row)
 }
 
-/// The outcome of the operation in the state: one step, which is counted. No other function tries an operation.
+/// Writes the outcomes of the operation in the state: one step, which is counted. No other function tries an operation.
 pub fn step<M: SeqObject>(
     alloc: Global,
     state: &M::State,
     op: &Op,
+    outcomes: &mut Vec<(M::State, Found)>,
     applied: &mut u64,
-) -> Result<Option<(M::State, Found)>, AllocError>
-    ensures outcome { IfOk result (λ outcome.
-        option_to_list outcome ≡ M.apply_to op.now state.now) }
+) -> Result<(), AllocError>
+    ensures outcomes { OnOk result (outcomes.new.items ≡ M.apply_to op.now state.now) }
     ensures counted { applied.new ≡ min (applied.old + 1) (2 ^ 64 - 1) }
 {
     *applied = applied.saturating_add(1);
-    M::apply(alloc, state, op)
+    outcomes.clear();
+    M::append_outcomes(alloc, state, op, outcomes)
 }
 
 // The state of the end of the row that stands here.
@@ -128,42 +128,41 @@ pub fn told_by(crashed: bool, found: Found) -> Found
     if crashed { Found::Unit } else { found }
 }
 
-/// Where the call at this place leads from the end of the row that stands here, if it can take place last: the number of the
-/// state after it, and of what is told of what it found.
+/// Where the call at this place leads from the end of the row that stands here: the places of its targets. There are none where
+/// it is in that end.
 pub fn led_to<M: SeqObject>(
     alloc: Global,
     table: &mut Table<M::State>,
-    moves: &mut Vec<Move>,
+    moves: &mut Moves<M::State>,
     from: usize,
     calls: &[PendingOp],
     at: usize,
     applied: &mut u64,
-) -> Result<Option<(usize, usize)>, AllocError>
+) -> Result<(usize, usize), AllocError>
     requires within { at < length calls.now }
     requires here { from < length (rows_of table.old) }
-    ensures moves { AreMoves M.apply_to table.old calls.now moves.old.items
-        → OnOk result (AreMoves M.apply_to table.new calls.now moves.new.items) }
+    ensures moves { AreMoves M.apply_to table.old calls.now moves.old.known.items moves.old.targets.items
+        → OnOk result (AreMoves M.apply_to table.new calls.now moves.new.known.items moves.new.targets.items) }
     ensures next { let object = of_table M.State M.start_state M.apply_to in
         let row = get_or (rows_of table.old) from [] in
-        AreMoves M.apply_to table.old calls.now moves.old.items → HasEachOnce calls.now
+        AreMoves M.apply_to table.old calls.now moves.old.known.items moves.old.targets.items
+        → HasEachOnce calls.now
         → (c : PendingOp) (e : End M.State) → slice_get calls.now at ≡ Some c
         → Shows table.old calls.now row e
-        → IfOk result (λ to. LeadsTo object table.new calls.now e c (row_led row at to)) }
+        → IfOk result (λ places. AreLed object table.new calls.now row at e c
+        (slice_range moves.new.targets.items places.0 places.1)) }
+    ensures within { IfOk result (λ places. AreWithin places.0 places.1 moves.new.targets.items) }
     ensures zero_there { let row = get_or (rows_of table.old) from [] in
-        IfOk result (λ to. IsSome to → slice_get row (at + 1) ≡ Some 0) }
+        IfOk result (λ places. places.0 < places.1 → slice_get row (at + 1) ≡ Some 0) }
     ensures widens { Widens table.old table.new }
     ensures rows { rows_of table.new ≡ rows_of table.old }
     ensures cost { applied.new ≤ applied.old + 1 }
 {
     if !table.rows.has_zero(from, at + 1) {
-        return Ok(None);
+        return Ok((0, 0));
     }
     let number = table.rows.number(from, 0);
-    match moves::tried::<M>(alloc, table, moves, number, calls, at, applied)? {
-        Move::To(to, slot) => Ok(Some((to, slot))),
-        Move::Nowhere => Ok(None),
-        Move::Untried => Ok(None),
-    }
+    moves::tried::<M>(alloc, table, moves, number, calls, at, applied)
 }
 
 /// The ends as rows.

@@ -8,7 +8,9 @@ ghost use Rattle.frontier.specs.AnyFrontier.{kind_of_frontier};
 
 use crate::frontier::{Frontier, Step};
 use history::EventKind;
-use models::{CasRegister, FifoQueue, ModelKind, Mutex, Op, Register, Set, each_kind};
+use models::{
+    CasRegister, FifoQueue, ModelKind, Mutex, Op, Register, Set, UnorderedQueue, each_kind,
+};
 use std::alloc::{AllocError, Global};
 
 /// The ends of the legal orders of one key's history, for a key whose kind of object is known only as the program runs: a
@@ -25,6 +27,8 @@ pub enum AnyFrontier {
     FifoQueue(Box<Frontier<FifoQueue>>),
     /// Of a set.
     Set(Box<Frontier<Set>>),
+    /// Of a queue without an order.
+    UnorderedQueue(Box<Frontier<UnorderedQueue>>),
 }
 
 // The bodies below, for each kind of the list.

@@ -41,7 +41,7 @@ pub struct Frontier<M: SeqObject> {
     fresh: Option<Fresh>,
     tried: usize,
     table: Table<M::State>,
-    room: Room,
+    room: Room<M::State>,
     next: Change<M::State>,
 }
 

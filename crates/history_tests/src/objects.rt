@@ -1,7 +1,7 @@
 //! Each table on a few values, by its own object and as a state of any kind; and copies, comparisons and names.
 use models::{
     Answer, AnyState, CasRegister, FifoQueue, Found, Items, Members, ModelKind, Mutex, Name, Op,
-    Part, Register, SeqObject, Set, fits,
+    Part, Register, SeqObject, Set, UnorderedQueue, fits,
 };
 use std::alloc::{AllocError, Global};
 use std::test::Fail;
@@ -21,7 +21,11 @@ fn goes<M: SeqObject>(alloc: Global, steps: &[Step]) -> Result<bool, AllocError>
         if !M::same(&copy, &state) {
             return Ok(false);
         }
-        match (M::apply(alloc, &copy, op)?, want) {
+        let mut outcomes = M::apply(alloc, &copy, op)?;
+        if outcomes.len() > 1 {
+            return Ok(false);
+        }
+        match (outcomes.pop(), want) {
             (None, None) => {}
             (Some((next, found)), Some(want)) => {
                 if !found.same(want) {
@@ -43,7 +47,11 @@ fn goes_by(kind: ModelKind, alloc: Global, steps: &[Step]) -> Result<bool, Alloc
         if !copy.same(&state) || copy.kind() != kind {
             return Ok(false);
         }
-        match (copy.apply(alloc, op)?, want) {
+        let mut outcomes = copy.apply(alloc, op)?;
+        if outcomes.len() > 1 {
+            return Ok(false);
+        }
+        match (outcomes.pop(), want) {
             (None, None) => {}
             (Some((next, found)), Some(want)) => {
                 if !found.same(want) {
@@ -97,6 +105,39 @@ fn mutex_is_held_once(rt: HostRuntime) -> Result<(), Fail> {
     ];
     assert!(rt; goes::<Mutex>(rt.alloc(), &steps)?);
     assert!(rt; goes_by(ModelKind::Mutex, rt.alloc(), &steps)?);
+    Ok(())
+}
+
+// The values that a dequeue may find, as its outcomes list them.
+fn found_by_dequeue(alloc: Global, values: &[i64]) -> Result<Vec<i64>, Fail> {
+    let mut state = UnorderedQueue::start(alloc);
+    for value in values {
+        let enqueue = op(Name::Enqueue, Part::Int(*value));
+        let Some((next, _)) = UnorderedQueue::apply(alloc, &state, &enqueue)?.pop() else {
+            return Err("an enqueue has no outcome".into());
+        };
+        state = next;
+    }
+    let mut found = Vec::new(alloc);
+    for (_, item) in UnorderedQueue::apply(alloc, &state, &op(Name::Dequeue, Part::Nil))? {
+        if let Found::Item(value) = item {
+            found.push(value)?;
+        }
+    }
+    Ok(found)
+}
+
+#[test]
+fn unordered_queue_finds_each_value_once(rt: HostRuntime) -> Result<(), Fail> {
+    assert_eq!(rt; found_by_dequeue(rt.alloc(), &[])?.len(), 0);
+    assert_eq!(rt;
+        found_by_dequeue(rt.alloc(), &[6, 5])?.as_slice(),
+        [5, 6].as_slice()
+    );
+    assert_eq!(rt;
+        found_by_dequeue(rt.alloc(), &[5, 6, 5])?.as_slice(),
+        [5, 6].as_slice()
+    );
     Ok(())
 }
 
@@ -208,6 +249,7 @@ fn kinds_have_names(rt: HostRuntime) -> Result<(), Fail> {
         (ModelKind::Mutex, "mutex"),
         (ModelKind::FifoQueue, "fifo-queue"),
         (ModelKind::Set, "set"),
+        (ModelKind::UnorderedQueue, "unordered-queue"),
     ];
     for (kind, name) in kinds {
         assert_eq!(rt; kind.name(), name);

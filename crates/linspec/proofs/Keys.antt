@@ -3,11 +3,11 @@ use Rattle.std.proofs.Common.{◌≡◌, ◌≢◌, ◌↔◌, ℕ, ◌⊎◌, i
 use Rattle.std.specs.List.{Contains}
 use Rattle.std.proofs.lemmas.Bool.{cases_eq, eq-eqb, ne_eqb}
 use Rattle.models.specs.declared.model_kind.ModelKind.{ModelKind}
-use Rattle.models.specs.declared.model_kind.ModelKind.TheVariants.{Register, CasRegister, Mutex, FifoQueue, Set}
+use Rattle.models.specs.declared.model_kind.ModelKind.TheVariants.{Register, CasRegister, Mutex, FifoQueue, Set, UnorderedQueue}
 use Rattle.models.specs.declared.operation.Op.{Op}
 use Rattle.models.specs.declared.finding.Found.{Found}
 use Rattle.models.specs.declared.any_state.AnyState.{AnyState}
-use Rattle.models.specs.declared.any_state.AnyState.TheVariants.{Register as OfRegister, CasRegister as OfCasRegister, Mutex as OfMutex, FifoQueue as OfFifoQueue, Set as OfSet}
+use Rattle.models.specs.declared.any_state.AnyState.TheVariants.{Register as OfRegister, CasRegister as OfCasRegister, Mutex as OfMutex, FifoQueue as OfFifoQueue, Set as OfSet, UnorderedQueue as OfUnorderedQueue}
 use Rattle.models.specs.AnyState.{any}
 use Rattle.models.specs.Objects.{object_of}
 use Rattle.history.specs.Events.{Mark}
@@ -74,6 +74,7 @@ any_step CasRegister CasRegister s u e op found v st = (v, same_steps (object_of
 any_step Mutex Mutex s u e op found v st = (v, same_steps (object_of Mutex).State (object_of Mutex).Steps s u op found v (let q : s ≡ u = cc in q) st, refl)
 any_step FifoQueue FifoQueue s u e op found v st = (v, same_steps (object_of FifoQueue).State (object_of FifoQueue).Steps s u op found v (let q : s ≡ u = cc in q) st, refl)
 any_step Set Set s u e op found v st = (v, same_steps (object_of Set).State (object_of Set).Steps s u op found v (let q : s ≡ u = cc in q) st, refl)
+any_step UnorderedQueue UnorderedQueue s u e op found v st = (v, same_steps (object_of UnorderedQueue).State (object_of UnorderedQueue).Steps s u op found v (let q : s ≡ u = cc in q) st, refl)
 any_step _ _ s u e op found v st = cc
 
 pub any_kind : (a : AnyState) → (kind : ModelKind) × (s : (object_of kind).State) × (a ≡ any kind s)
@@ -82,6 +83,7 @@ any_kind (OfCasRegister s) = (CasRegister, s, refl)
 any_kind (OfMutex s) = (Mutex, s, refl)
 any_kind (OfFifoQueue s) = (FifoQueue, s, refl)
 any_kind (OfSet s) = (Set, s, refl)
+any_kind (OfUnorderedQueue s) = (UnorderedQueue, s, refl)
 
 module _ (kinds : ℕ → ModelKind) where
   -- each state that is kept is that of its key

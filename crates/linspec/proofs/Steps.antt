@@ -1,40 +1,62 @@
 -- the steps of the states that the search keeps
-use Rattle.std.proofs.Common.{◌≡◌, ◌↔◌, ℕ, Some, None, Bool, true, false, not, IsTrue, List, refl, sym, ap, ◌∙◌, subst}
+use Rattle.std.proofs.Common.{◌≡◌, ◌↔◌, inl, inr, ⊎_elim, ℕ, Some, None, Ok, Err, Result, IfOk, Vec, Global, Bool, true, false, not, IsTrue, List, [], ◌∷◌, refl, sym, ap, ◌∙◌, subst}
 use Rattle.std.specs.List.{Contains}
 use Rattle.models.specs.declared.model_kind.ModelKind.{ModelKind}
 use Rattle.models.specs.declared.operation.Op.{Op}
 use Rattle.models.specs.declared.finding.Found.{Found}
 use Rattle.models.specs.declared.any_state.AnyState.{AnyState}
-use Rattle.models.specs.AnyState.{any, IsOutcome}
-use Rattle.models.specs.Objects.{object_of}
-use Rattle.models.proofs.AnyStates.{no_outcome, one_outcome}
-use Rattle.linspec.specs.Attempts.{Keyed, state_at, with_state, StepsBy, Steps, PrecedesSome}
+use Rattle.models.specs.AnyState.{any, outcomes_of}
+use Rattle.models.specs.Objects.{IsOneOf, object_of}
+use Rattle.models.proofs.AnyStates.{outcome_of, step_of}
+use Rattle.linspec.specs.Attempts.{Keyed, LeadTo, state_at, with_state, StepsBy, Steps, PrecedesSome}
 use Rattle.history.specs.Events.{Mark}
 use Rattle.history.specs.Events.Mark.{Failed}
 use Rattle.linspec.specs.Finishing.{MayStandAfter}
 use Rattle.linspec.proofs.Keys.{any_kind}
+use Rattle.linspec.proofs.Lists.{Contains-nil, Contains-head, Contains-tail, Contains-cons_cases}
+use Rattle.std.specs.declared.alloc.AllocError.{AllocError}
 
 -- the key's state is a
 module _ (states : List Keyed) (op : Op) (a : AnyState) (is : state_at states op.key ≡ Some a) where
   the_step : (found : Found) (after : List Keyed) (s : Steps states op found after) → StepsBy a op found s.1
   the_step found after s = let same : s.0 ≡ a = (let q : state_at states op.key ≡ Some s.0 = s.2 in cc) in subst (λ b. StepsBy b op found s.1) same s.3
 
-  pub no_step : ((kind : ModelKind) (s : (object_of kind).State) → a ≡ any kind s → IsOutcome kind s op None) → (found : Found) (after : List Keyed) → ¬ Steps states op found after
-  no_step none found after s = let by : StepsBy a op found s.1 = the_step found after s in no_outcome by.0 by.1.0 op (none by.0 by.1.0 by.1.2) found by.1.1 by.1.3
-
-  pub one_step : (next : AnyState) (found : Found) → ((kind : ModelKind) (s : (object_of kind).State) → a ≡ any kind s → IsOutcome kind s op (Some (next, found)))
-      → (f : Found) (after : List Keyed) → Steps states op f after ↔ ((with_state states op.key next ≡ after) × (found ≡ f))
-  one_step next found some f after = (
+  pub steps_are : (outcomes : List (AnyState × Found)) → ((kind : ModelKind) (s : (object_of kind).State) → a ≡ any kind s → outcomes ≡ outcomes_of kind s op)
+      → (found : Found) (after : List Keyed) → Steps states op found after ↔ LeadTo states op.key outcomes found after
+  steps_are outcomes listed found after = (
     (λ s.
-        let by : StepsBy a op f s.1 = the_step f after s in
-        let o = one_outcome by.0 by.1.0 op next found (some by.0 by.1.0 by.1.2) in
-        let only = o.3 f by.1.1 by.1.3 in
-        (ap (with_state states op.key) (o.1 ∙ ap (any by.0) (sym only.1) ∙ sym by.1.4) ∙ s.4, sym only.0)),
-    (λ e.
+        let by : StepsBy a op found s.1 = the_step found after s in (
+          s.1,
+          subst (λ l. IsOneOf {X = AnyState × Found} l (s.1, found)) (sym (listed by.0 by.1.0 by.1.2))
+              (subst (λ b. IsOneOf {X = AnyState × Found} (outcomes_of by.0 by.1.0 op) (b, found)) (sym by.1.4) (outcome_of by.0 op by.1.0 by.1.1 found by.1.3)),
+          s.4,
+        )),
+    (λ h.
         let k : (kind : ModelKind) × (s : (object_of kind).State) × (a ≡ any kind s) = any_kind a in
-        let o = one_outcome k.0 k.1 op next found (some k.0 k.1 k.2) in
-        (a, next, is, (k.0, (k.1, o.0, k.2, subst (λ g. (object_of k.0).Steps k.1 op g o.0) e.1 o.2, o.1)), e.0)),
+        let o = step_of k.0 op k.1 h.0 found (subst (λ l. IsOneOf {X = AnyState × Found} l (h.0, found)) (listed k.0 k.1 k.2) h.1) in
+        (a, h.0, is, (k.0, (k.1, o.0, k.2, o.2, o.1)), h.2)),
   )
+
+  pub outcomes_are : (r : Result (Vec (AnyState × Found) Global) AllocError) → ((kind : ModelKind) (s : (object_of kind).State) → a ≡ any kind s → IfOk r (λ outcomes. outcomes.items ≡ outcomes_of kind s op))
+      → IfOk r (λ outcomes. (found : Found) (after : List Keyed) → Steps states op found after ↔ LeadTo states op.key outcomes.items found after)
+  outcomes_are (Ok outcomes) h = steps_are outcomes.items h
+  outcomes_are (Err e) h = tt
+
+-- there is no such state
+pub no_outcomes : (states : List Keyed) (op : Op) (outcomes : List (AnyState × Found)) → state_at states op.key ≡ None → outcomes ≡ [] → (found : Found) (after : List Keyed) → Steps states op found after ↔ LeadTo states op.key outcomes found after
+no_outcomes states op outcomes none empty found after = (
+  (λ s. let no : None ≡ Some s.0 = sym none ∙ s.2 in cc),
+  (λ h. absurd (subst (λ l. IsOneOf {X = AnyState × Found} l (h.0, found)) empty h.1)),
+)
+
+-- one of a list stands in it
+pub listed_in : {X : Type 0} (xs : List X) (y : X) → IsOneOf xs y → Contains xs y
+listed_in [] y h = absurd h
+listed_in (x ∷ xs) y h = ⊎_elim (λ e. subst (Contains (x ∷ xs)) e (Contains-head x xs)) (λ k. Contains-tail x xs y (listed_in xs y k)) h
+
+pub in_listed : {X : Type 0} (xs : List X) (y : X) → Contains xs y → IsOneOf xs y
+in_listed [] y h = absurd (Contains-nil y h)
+in_listed (x ∷ xs) y h = ⊎_elim inl (λ k. inr (in_listed xs y k)) (Contains-cons_cases x xs y h)
 
 not_true : (b : Bool) → not b ≡ true → b ≡ true → ⊥
 not_true true e h = cc

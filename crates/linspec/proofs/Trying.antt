@@ -1,5 +1,5 @@
 -- the search over the fronts of orders
-use Rattle.std.proofs.Common.{◌≡◌, ◌↔◌, IsSomeAnd, ℕ, ◌+◌, ◌<◌, ◌≤◌, ⊎_elim, Option, Some, None, Bool, true, false, ◌||◌, nat_eq, List, [], ◌∷◌, ◌++◌, length, take, get_or, refl, sym, ap, ◌∙◌, subst, arith}
+use Rattle.std.proofs.Common.{◌≡◌, ◌↔◌, ◌⊎◌, inl, inr, ℕ, ◌+◌, ◌<◌, ◌≤◌, ⊎_elim, Bool, true, false, ◌||◌, nat_eq, List, [], ◌∷◌, ◌++◌, length, take, get_or, refl, sym, ap, ◌∙◌, subst, arith}
 use Rattle.std.specs.List.{Contains}
 use Rattle.std.proofs.lemmas.Bool.{cases_Bool, cases_eq, eq-eqb, ne_eqb, true≢false}
 use Rattle.std.proofs.lemmas.List.{take_more, map-append}
@@ -15,7 +15,9 @@ use Rattle.linspec.specs.Operations.{HasReturned}
 use Rattle.linspec.specs.Orders.{Taken}
 use Rattle.linspec.specs.KeptMarks.{mark_of, marks_of_kept}
 use Rattle.linspec.specs.Finishing.{MayStandAfter, Finishes, CanFinish}
-use Rattle.linspec.specs.Attempts.{Keyed, Steps, AttemptView, FollowsBy, Follows}
+use Rattle.linspec.specs.Attempts.{Keyed, LeadTo, Steps, AttemptView, FollowsBy, Follows, FollowsSome, Makes, MakesSome, with_state}
+use Rattle.models.specs.declared.any_state.AnyState.{AnyState}
+use Rattle.linspec.proofs.Steps.{in_listed, listed_in}
 use Rattle.linspec.proofs.Lists.{Contains-nil, Contains-head, Contains-tail, Contains-cons_cases}
 use Rattle.linspec.proofs.Filters.{to_map}
 
@@ -132,62 +134,61 @@ module _ (marks : List Mark) (front : AttemptView) where
           (record { stands = f.0.stands; found = x.found; step = f.1.1; fits = f.0.fits; taken = refl })
           (rest, f.1.2)
 
--- no mark of these leads to an end
-abbrev pub Tried : List Mark → AttemptView → List Mark → Type 0
-Tried marks front these = (m : Mark) → Contains these m → (after : AttemptView) → Follows marks front m after → ¬ CanFinish Steps marks after.taken after.states
-
 module _ (marks : List kept.KeptMark) (front : AttemptView) (at : ℕ) (m : kept.KeptMark) (l : at < length marks) (is : m ≡ get_or marks at m) where
   pub here_in : Contains (marks_of_kept marks) (mark_of m)
   here_in = to_map mark_of marks m (subst (Contains marks) (sym is) (Contains-get_or marks at m l))
 
-  pub tried_more : Tried (marks_of_kept marks) front (marks_of_kept (take at marks)) → ((after : AttemptView) → Follows (marks_of_kept marks) front (mark_of m) after → ¬ CanFinish Steps (marks_of_kept marks) after.taken after.states)
-      → Tried (marks_of_kept marks) front (marks_of_kept (take (at + 1) marks))
-  tried_more before here n h after f =
-      ⊎_elim
-      (λ k. before n k after f)
-      (λ e. here after (subst (λ w. Follows (marks_of_kept marks) front w after) (sym e) f))
-      (Contains-push_cases (marks_of_kept (take at marks)) (mark_of m) n
-      (subst (λ xs. Contains xs n) (ap marks_of_kept (take_more marks at m l ∙ ap (λ x. take at marks ++ x ∷ []) (sym is)) ∙ map-append mark_of (take at marks) (m ∷ [])) h))
+  -- what follows by one mark more
+  pub follows_more : (after : AttemptView) → FollowsSome (marks_of_kept marks) front (marks_of_kept (take (at + 1) marks)) after ↔ (FollowsSome (marks_of_kept marks) front (marks_of_kept (take at marks)) after ⊎ Follows (marks_of_kept marks) front (mark_of m) after)
+  follows_more after =
+      let more : marks_of_kept (take (at + 1) marks) ≡ marks_of_kept (take at marks) ++ mark_of m ∷ [] = ap marks_of_kept (take_more marks at m l ∙ ap (λ x. take at marks ++ x ∷ []) (sym is)) ∙ map-append mark_of (take at marks) (m ∷ []) in (
+        (λ h. ⊎_elim
+            (λ k. inl (h.0, k, h.2))
+            (λ e. inr (subst (λ w. Follows (marks_of_kept marks) front w after) (sym e) h.2))
+            (Contains-push_cases (marks_of_kept (take at marks)) (mark_of m) h.0 (subst (λ xs. Contains xs h.0) more h.1))),
+        (λ h. ⊎_elim
+            (λ k. (k.0, subst (λ xs. Contains xs k.0) (sym more) (Contains-append_left (marks_of_kept (take at marks)) (mark_of m ∷ []) k.0 k.1), k.2))
+            (λ f. (mark_of m, subst (λ xs. Contains xs (mark_of m)) (sym more) (Contains-push (marks_of_kept (take at marks)) (mark_of m)), f))
+            h),
+      )
 
-  -- the search went on from the front with this operation, if it may come next
-  pub tried_next : (next : Option AttemptView) → ((after : AttemptView) → Follows (marks_of_kept marks) front (mark_of m) after ↔ IsSomeAnd next (λ n. n ≡ after))
-      → ((n : AttemptView) → next ≡ Some n → ¬ CanFinish Steps (marks_of_kept marks) n.taken n.states)
-      → (after : AttemptView) → Follows (marks_of_kept marks) front (mark_of m) after → ¬ CanFinish Steps (marks_of_kept marks) after.taken after.states
-  tried_next None e none after f = absurd ((e after).0 f)
-  tried_next (Some n) e none after f = let same : n ≡ after = (e after).0 f in subst (λ (k : AttemptView). ¬ CanFinish Steps (marks_of_kept marks) k.taken k.states) same (none n refl)
+-- the ways in which an operation may come next
+module _ (marks : List Mark) (front : AttemptView) (id : ℕ) where
+  pub makes_none : (key : ℕ) (after : AttemptView) → ¬ MakesSome marks front id key [] after
+  makes_none key after h = Contains-nil h.0 h.1
 
--- what became of the front that followed, if any
-pub not_that_one : (marks : List Mark) (next : Option AttemptView) (n : AttemptView) → next ≡ Some n → ¬ CanFinish Steps marks n.taken n.states → (k : AttemptView) → next ≡ Some k → ¬ CanFinish Steps marks k.taken k.states
-not_that_one marks next n is none k e = let same : n ≡ k = (let q : Some n ≡ Some k = sym is ∙ e in cc) in subst (λ (f : AttemptView). ¬ CanFinish Steps marks f.taken f.states) same none
+  pub makes_more : (key : ℕ) (outcomes : List (AnyState × Found)) (at : ℕ) (outcome : AnyState × Found) → at < length outcomes → outcome ≡ get_or outcomes at outcome → (after : AttemptView)
+      → MakesSome marks front id key (take (at + 1) outcomes) after ↔ (MakesSome marks front id key (take at outcomes) after ⊎ Makes marks front id key outcome after)
+  makes_more key outcomes at outcome lt is after =
+      let more : take (at + 1) outcomes ≡ take at outcomes ++ outcome ∷ [] = take_more outcomes at outcome lt ∙ ap (λ x. take at outcomes ++ x ∷ []) (sym is) in (
+        (λ h. ⊎_elim
+            (λ k. inl (h.0, k, h.2))
+            (λ e. inr (subst (λ o. Makes marks front id key o after) (sym e) h.2))
+            (Contains-push_cases (take at outcomes) outcome h.0 (subst (λ xs. Contains xs h.0) more h.1))),
+        (λ h. ⊎_elim
+            (λ k. (k.0, subst (λ xs. Contains xs k.0) (sym more) (Contains-append_left (take at outcomes) (outcome ∷ []) k.0 k.1), k.2))
+            (λ f. (outcome, subst (λ xs. Contains xs outcome) (sym more) (Contains-push (take at outcomes) outcome), f))
+            h),
+      )
 
-pub not_one : (marks : List Mark) (next : Option AttemptView) → next ≡ None → (k : AttemptView) → next ≡ Some k → ¬ CanFinish Steps marks k.taken k.states
-not_one marks next is k e = cc
+  pub makes_that : (key : ℕ) (outcome : AnyState × Found) (made : AttemptView) → ((answer : Answer) → Contains marks (Returned id answer) → Fits outcome.1 answer) → made.taken ≡ front.taken ++ id ∷ [] → made.states ≡ with_state front.states key outcome.0
+      → (after : AttemptView) → Makes marks front id key outcome after ↔ (made ≡ after)
+  makes_that key outcome made fits taken states after = (
+    (λ h. let p : made.taken ≡ after.taken = taken ∙ h.taken in let q : made.states ≡ after.states = states ∙ h.states in λ i. record { taken = p i; states = q i }),
+    (λ e. subst (Makes marks front id key outcome) e (record { fits = fits; states = sym states; taken = sym taken })),
+  )
 
--- an operation at the front, where the states are these
-module _ (marks : List Mark) (front : AttemptView) (id : ℕ) (op : Op) (states : List Keyed) (same : front.states ≡ states) where
-  pub no_operation : ((found : Found) (after : List Keyed) → ¬ Steps states op found after) → (after : AttemptView) → FollowsBy marks front id op after ↔ ⊥
-  no_operation none after = ((λ f. none f.found after.states (subst (λ s. Steps s op f.found after.states) same f.step)), (λ h. absurd h))
-
-  module _ (next : List Keyed) (found : Found) (one : (f : Found) (after : List Keyed) → Steps states op f after ↔ ((next ≡ after) × (found ≡ f))) where
-    pub no_fit : ¬ ((answer : Answer) → Contains marks (Returned id answer) → Fits found answer) → (after : AttemptView) → FollowsBy marks front id op after ↔ ⊥
-    no_fit unfit after = (
-      (λ f. unfit (subst (λ g. (answer : Answer) → Contains marks (Returned id answer) → Fits g answer)
-          (sym ((one f.found after.states).0 (subst (λ s. Steps s op f.found after.states) same f.step)).1) f.fits)),
-      (λ h. absurd h),
-    )
-
-    pub one_operation : (taken now : List ℕ) → front.taken ≡ taken → now ≡ taken ++ id ∷ [] → MayStandAfter marks taken id → ((answer : Answer) → Contains marks (Returned id answer) → Fits found answer)
-        → (r : AttemptView) → r.taken ≡ now → r.states ≡ next → (after : AttemptView) → FollowsBy marks front id op after ↔ (r ≡ after)
-    one_operation taken now is longer stands fits r r_taken r_states after = (
-      (λ f.
-          let p : r.taken ≡ after.taken = r_taken ∙ longer ∙ ap (λ l. l ++ id ∷ []) (sym is) ∙ f.taken in
-          let q : r.states ≡ after.states = r_states ∙ ((one f.found after.states).0 (subst (λ s. Steps s op f.found after.states) same f.step)).0 in
-          λ i. record { taken = p i; states = q i }),
-      (λ e. subst (λ (k : AttemptView). FollowsBy marks front id op k) e (record {
-        stands = subst (λ l. MayStandAfter marks l id) (sym is) stands;
-        found = found;
-        step = subst (λ s. Steps s op found r.states) (sym same) ((one found r.states).1 (sym r_states, refl));
-        fits = fits;
-        taken = ap (λ l. l ++ id ∷ []) is ∙ sym longer ∙ sym r_taken;
-      })),
-    )
+  pub follows_by : (op : Op) (outcomes : List (AnyState × Found)) → ((found : Found) (after : List Keyed) → Steps front.states op found after ↔ LeadTo front.states op.key outcomes found after) → MayStandAfter marks front.taken id
+      → (after : AttemptView) → FollowsBy marks front id op after ↔ MakesSome marks front id op.key outcomes after
+  follows_by op outcomes steps stands after = (
+    (λ f.
+        let b = (steps f.found after.states).0 f.step in
+        ((b.0, f.found), listed_in outcomes (b.0, f.found) b.1, record { fits = f.fits; states = b.2; taken = f.taken })),
+    (λ h. record {
+      stands = stands;
+      found = h.0.1;
+      step = (steps h.0.1 after.states).1 (h.0.0, in_listed outcomes h.0 h.1, h.2.states);
+      fits = h.2.fits;
+      taken = h.2.taken;
+    }),
+  )

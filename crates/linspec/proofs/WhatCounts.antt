@@ -7,7 +7,7 @@ use Rattle.models.specs.declared.operation.Op.{Op}
 use Rattle.models.specs.declared.operation.Part.TheVariants.{Nil}
 use Rattle.models.specs.declared.finding.Found.TheVariants.{Reg}
 use Rattle.models.specs.Objects.{register}
-use Rattle.models.proofs.Tables.{same_outcome}
+use Rattle.models.proofs.Steps.{same_outcome}
 use Rattle.history.specs.Events.{Mark}
 use Rattle.history.specs.Events.Mark.{Invoked, Crashed}
 use Rattle.linspec.specs.Operations.{IsOpen}

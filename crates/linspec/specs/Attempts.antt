@@ -7,7 +7,7 @@ use Rattle.models.specs.declared.finding.Found.{Found}
 use Rattle.models.specs.declared.finding.Answer.{Answer}
 use Rattle.models.specs.declared.any_state.AnyState.{AnyState}
 use Rattle.models.specs.AnyState.{any}
-use Rattle.models.specs.Objects.{object_of, Fits}
+use Rattle.models.specs.Objects.{IsOneOf, object_of, Fits}
 use Rattle.history.specs.Events.{Mark}
 use Rattle.history.specs.Events.Mark.{Invoked, Returned, Failed, Crashed}
 use Rattle.linspec.specs.Operations.{Precedes}
@@ -44,6 +44,11 @@ Steps states op found after =
     (a b : AnyState) × (state_at states op.key ≡ Some a) × StepsBy a op found b
     × (with_state states op.key b ≡ after)
 
+-- one of the outcomes, each a state of the key and what was found, leaves these states
+abbrev pub LeadTo : List Keyed → ℕ → List (AnyState × Found) → Found → List Keyed → Type 0
+LeadTo states key outcomes found after =
+    (b : AnyState) × IsOneOf outcomes (b, found) × (with_state states key b ≡ after)
+
 -- the front of an order: the operations that are taken, and the states that they leave
 pub record AttemptView : Type 0 where
   pub taken : List ℕ
@@ -62,9 +67,25 @@ pub record FollowsBy (marks : List Mark) (front : AttemptView) (id : ℕ) (op : 
   pub fits : (answer : Answer) → Contains marks (Returned id answer) → Fits found answer
   pub taken : front.taken ++ id ∷ [] ≡ after.taken
 
+-- the front with the operation, by this outcome of it, and by one of these
+pub record Makes (marks : List Mark) (front : AttemptView) (id key : ℕ)
+    (outcome : AnyState × Found) (after : AttemptView) : Type 0 where
+  pub fits : (answer : Answer) → Contains marks (Returned id answer) → Fits outcome.1 answer
+  pub states : with_state front.states key outcome.0 ≡ after.states
+  pub taken : front.taken ++ id ∷ [] ≡ after.taken
+
+abbrev pub MakesSome : List Mark → AttemptView → ℕ → ℕ → List (AnyState × Found) → AttemptView
+    → Type 0
+MakesSome marks front id key outcomes after =
+    (outcome : AnyState × Found) × Contains outcomes outcome × Makes marks front id key outcome after
+
 -- the front with the operation that the mark invokes
 abbrev pub Follows : List Mark → AttemptView → Mark → AttemptView → Type 0
 Follows marks front (Invoked id op) after = FollowsBy marks front id op after
 Follows marks front (Returned id answer) after = ⊥
 Follows marks front (Failed id) after = ⊥
 Follows marks front (Crashed id) after = ⊥
+
+-- the front with an operation that one of these marks invokes
+abbrev pub FollowsSome : List Mark → AttemptView → List Mark → AttemptView → Type 0
+FollowsSome marks front these after = (m : Mark) × Contains these m × Follows marks front m after

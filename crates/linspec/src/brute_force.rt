@@ -1,5 +1,5 @@
 //! Whether a history is linearizable, found by trying orders.
-ghost use Rattle.std.specs.Prelude.{◌≡◌, ◌↔◌, ℕ, [], ◌∷◌, ◌++◌, List, IsTrue, IfOk, IsSomeAnd, option_copied, map};
+ghost use Rattle.std.specs.Prelude.{◌≡◌, ◌↔◌, ◌⊎◌, ℕ, [], ◌∷◌, ◌++◌, List, IsTrue, IfOk, OnOk, option_copied, map};
 ghost use Rattle.std.specs.List.{Contains};
 ghost use Rattle.models.specs.declared.model_kind.ModelKind.{ModelKind};
 ghost use Rattle.models.specs.declared.finding.Found.{Found};
@@ -8,7 +8,9 @@ ghost use Rattle.linspec.specs.Orders.{IsLinearizable, product};
 ghost use Rattle.linspec.specs.KindsOf.{AgreeWith, HaveKinds};
 ghost use Rattle.linspec.specs.KeptMarks.{mark_of, marks_of_kept};
 ghost use Rattle.linspec.specs.Finishing.{MayStandAfter, CanFinish};
-ghost use Rattle.linspec.specs.Attempts.{Keyed, state_at, state_beside, with_state, start_of, Steps, AttemptView, Follows, FollowsBy, PrecedesSome};
+ghost use Rattle.linspec.specs.Attempts.{Keyed, state_at, state_beside, with_state, start_of, Steps, AttemptView};
+ghost use Rattle.linspec.specs.Attempts.{Follows, FollowsBy, FollowsSome, LeadTo, Makes, MakesSome};
+ghost use Rattle.linspec.specs.Attempts.{PrecedesSome};
 
 use crate::kept_marks::{
     KeptMark, all_done, fits_answer, has_failed, is_among, marks_of, precedes,
@@ -76,25 +78,20 @@ fn states_with(
     Ok(after)
 }
 
-/// The states after the operation, and what it finds; `None` where it cannot take place.
-fn step(
+/// What the operation comes to in the state of its key: each state after it, and what it finds there. Nothing where it cannot
+/// take place.
+fn outcomes_in(
     alloc: Global,
     states: &[(Key, AnyState)],
     op: &Op,
-) -> Result<Option<(Vec<(Key, AnyState)>, Found)>, AllocError>
-    ensures { IfOk result (λ outcome. (found : Found) (after : List Keyed) →
+) -> Result<Vec<(AnyState, Found)>, AllocError>
+    ensures { IfOk result (λ outcomes. (found : Found) (after : List Keyed) →
         Steps states.now op.now found after
-        ↔ IsSomeAnd outcome (λ r. (r.0.items ≡ after) × (r.1 ≡ found))) }
+        ↔ LeadTo states.now op.now.key outcomes.items found after) }
 {
-    let Some(state) = state_of(states, op.key) else {
-        return Ok(None);
-    };
-    match state.apply(alloc, op)? {
-        None => Ok(None),
-        Some((next, found)) => {
-            let after = states_with(alloc, states, op.key, &next)?;
-            Ok(Some((after, found)))
-        }
+    match state_of(states, op.key) {
+        Some(state) => state.apply(alloc, op),
+        None => Ok(Vec::new(alloc)),
     }
 }
 
@@ -112,47 +109,117 @@ fn may_stand_after(marks: &[KeptMark], taken: &[usize], id: usize) -> bool
     !is_among(taken, id) && !has_failed(marks, id) && !precedes_some(marks, id, taken)
 }
 
-/// The order with the operation, if it may come next.
-fn with_operation(
+/// The order with the operation behind it, where the state of its key is now this one.
+fn with_outcome(
+    alloc: Global,
+    order: &Attempt,
+    id: usize,
+    key: Key,
+    state: &AnyState,
+) -> Result<Attempt, AllocError>
+    ensures taken { IfOk result (λ after. after.taken ≡ order.now.taken ++ id ∷ []) }
+    ensures states { IfOk result (λ after. after.states ≡ with_state order.now.states key state.now) }
+{
+    let states = states_with(alloc, &order.states, key, state)?;
+    let mut taken = order.taken.clone()?;
+    taken.push(id)?;
+    Ok(Attempt { taken, states })
+}
+
+/// Puts the order with the operation behind the others, if what it finds by this outcome fits its answer.
+fn push_outcome(
+    alloc: Global,
+    marks: &[KeptMark],
+    order: &Attempt,
+    id: usize,
+    key: Key,
+    outcome: &(AnyState, Found),
+    attempts: &mut Vec<Attempt>,
+) -> Result<(), AllocError>
+    ensures { OnOk result ((after : AttemptView) → Contains attempts.new.items after
+        ↔ (Contains attempts.old.items after
+        ⊎ Makes (marks_of_kept marks.now) order.now id key outcome.now after)) }
+{
+    if !fits_answer(marks, id, &outcome.1) {
+        return Ok(());
+    }
+    let next = with_outcome(alloc, order, id, key, &outcome.0)?;
+    attempts.push(next)?;
+    Ok(())
+}
+
+/// The same for each of these outcomes.
+fn push_outcomes(
+    alloc: Global,
+    marks: &[KeptMark],
+    order: &Attempt,
+    id: usize,
+    key: Key,
+    outcomes: &[(AnyState, Found)],
+    attempts: &mut Vec<Attempt>,
+) -> Result<(), AllocError>
+    ensures { OnOk result ((after : AttemptView) → Contains attempts.new.items after
+        ↔ (Contains attempts.old.items after
+        ⊎ MakesSome (marks_of_kept marks.now) order.now id key outcomes.now after)) }
+{
+    for outcome in outcomes {
+        push_outcome(alloc, marks, order, id, key, outcome, attempts)?;
+    }
+    Ok(())
+}
+
+/// Puts the order with the operation, in each way in which it may come next, behind the others.
+fn push_operation(
     alloc: Global,
     marks: &[KeptMark],
     order: &Attempt,
     id: usize,
     op: &Op,
-) -> Result<Option<Attempt>, AllocError>
-    ensures { IfOk result (λ next. (after : AttemptView) →
-        FollowsBy (marks_of_kept marks.now) order.now id op.now after
-        ↔ IsSomeAnd next (λ n. n ≡ after)) }
+    attempts: &mut Vec<Attempt>,
+) -> Result<(), AllocError>
+    ensures { OnOk result ((after : AttemptView) → Contains attempts.new.items after
+        ↔ (Contains attempts.old.items after
+        ⊎ FollowsBy (marks_of_kept marks.now) order.now id op.now after)) }
 {
     if !may_stand_after(marks, &order.taken, id) {
-        return Ok(None);
+        return Ok(());
     }
-    let Some((states, found)) = step(alloc, &order.states, op)? else {
-        return Ok(None);
-    };
-    if !fits_answer(marks, id, &found) {
-        return Ok(None);
-    }
-    let mut taken = order.taken.clone()?;
-    taken.push(id)?;
-    Ok(Some(Attempt { taken, states }))
+    let outcomes = outcomes_in(alloc, &order.states, op)?;
+    push_outcomes(alloc, marks, order, id, op.key, &outcomes, attempts)
 }
 
-/// The order with the operation that the mark invokes, if it may come next.
-fn with_invoked(
+/// Puts the order with the operation that the mark invokes, in each way in which it may come next, behind the others.
+fn push_invoked(
     alloc: Global,
     marks: &[KeptMark],
     order: &Attempt,
     mark: &KeptMark,
-) -> Result<Option<Attempt>, AllocError>
-    ensures { IfOk result (λ next. (after : AttemptView) →
-        Follows (marks_of_kept marks.now) order.now (mark_of mark.now) after
-        ↔ IsSomeAnd next (λ n. n ≡ after)) }
+    attempts: &mut Vec<Attempt>,
+) -> Result<(), AllocError>
+    ensures { OnOk result ((after : AttemptView) → Contains attempts.new.items after
+        ↔ (Contains attempts.old.items after
+        ⊎ Follows (marks_of_kept marks.now) order.now (mark_of mark.now) after)) }
 {
     match mark {
-        KeptMark::Invoked(id, op) => with_operation(alloc, marks, order, *id, op),
-        _ => Ok(None),
+        KeptMark::Invoked(id, op) => push_operation(alloc, marks, order, *id, op, attempts),
+        _ => Ok(()),
     }
+}
+
+/// The orders that are this one with one operation more.
+fn next_orders(
+    alloc: Global,
+    marks: &[KeptMark],
+    order: &Attempt,
+) -> Result<Vec<Attempt>, AllocError>
+    ensures { IfOk result (λ attempts. (after : AttemptView) → Contains attempts.items after
+        ↔ FollowsSome (marks_of_kept marks.now) order.now (marks_of_kept marks.now) after) }
+{
+    let mut attempts = Vec::new(alloc);
+    for mark in marks {
+        push_invoked(alloc, marks, order, mark, &mut attempts)?;
+    }
+    Ok(attempts)
 }
 
 /// Whether the operations that are left may follow, until every one that has returned is taken.
@@ -163,11 +230,10 @@ fn can_finish(alloc: Global, marks: &[KeptMark], order: &Attempt) -> Result<bool
     if all_done(marks, &order.taken) {
         return Ok(true);
     }
-    for mark in marks {
-        if let Some(next) = with_invoked(alloc, marks, order, mark)? {
-            if can_finish(alloc, marks, &next)? {
-                return Ok(true);
-            }
+    let attempts = next_orders(alloc, marks, order)?;
+    for next in &attempts {
+        if can_finish(alloc, marks, next)? {
+            return Ok(true);
         }
     }
     Ok(false)

@@ -26,10 +26,10 @@ later_member x xs y h = Contains-append_right (x ∷ []) xs y h
 pub member_cases : {X : Type 0} (x : X) (xs : List X) (y : X) → Contains (x ∷ xs) y → (x ≡ y) ⊎ Contains xs y
 member_cases x xs y h = ⊎_elim (λ k. inl (⊎_elim (λ n. absurd (no_member y n)) (λ e. e) (Contains-push_cases [] x y k))) inr (Contains-append_cases (x ∷ []) xs y h)
 
-is_below : (a b : ℤ) → int_lt a b ≡ true → a <ℤ b
+pub is_below : (a b : ℤ) → int_lt a b ≡ true → a <ℤ b
 is_below a b e = int_ranked a b Less (sym (ap (λ t. cond t Less (cond (int_lt b a) Greater Equal)) e))
 
-is_same : (a b : ℤ) → int_lt a b ≡ false → int_lt b a ≡ false → a ≡ b
+pub is_same : (a b : ℤ) → int_lt a b ≡ false → int_lt b a ≡ false → a ≡ b
 is_same a b e f = int_ranked a b Equal (sym (ap (λ t. cond t Less (cond (int_lt b a) Greater Equal)) e ∙ ap (λ t. cond t Greater Equal) f))
 
 pub below_all : (a b c : ℤ) → a <ℤ b → b <ℤ c → a <ℤ c
@@ -38,14 +38,14 @@ below_all a b c h k = omega (arith, ints)
 pub not_below : (a : ℤ) → a <ℤ a → ⊥
 not_below a h = omega (arith, ints)
 
-is_lower : (a b : ℤ) → a <ℤ b → int_lt a b ≡ true
+pub is_lower : (a b : ℤ) → a <ℤ b → int_lt a b ≡ true
 is_lower a b h =
     ⊎_elim
     (λ e. e)
     (λ e. ⊎_elim (λ f. absurd (not_below a (below_all a b a h (is_below b a f)))) (λ f. absurd (not_below b (subst (λ z. z <ℤ b) (is_same a b e f) h))) (cases_Bool (int_lt b a)))
     (cases_Bool (int_lt a b))
 
-not_lower : (a b : ℤ) → b <ℤ a → int_lt a b ≡ false
+pub not_lower : (a b : ℤ) → b <ℤ a → int_lt a b ≡ false
 not_lower a b h = ⊎_elim (λ e. absurd (not_below b (below_all b a b h (is_below a b e)))) (λ e. e) (cases_Bool (int_lt a b))
 
 -- put_in by its three cases

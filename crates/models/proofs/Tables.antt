@@ -1,7 +1,6 @@
 -- what the tables of the objects come to
 use Rattle.std.proofs.Common.{◌≡◌, ◌≢◌, ◌↔◌, ◌≤◌, ℕ, ℤ, inl, ⊎_elim, Bool, true, false, if◌then◌else◌, Option, Some, None, List, [], ◌∷◌, ◌++◌, length, map, refl, sym, ap, subst, arith}
 use Rattle.std.specs.List.{AllPairs}
-use Rattle.std.specs.Option.{option_to_list}
 use Rattle.std.specs.Ordering.{int_eq}
 use Rattle.std.proofs.lemmas.List.{append-nil, append_assoc}
 use Rattle.std.proofs.lemmas.Bool.Decides.{Decides-int_eq}
@@ -13,18 +12,11 @@ use Rattle.models.specs.declared.operation.Op.{Op}
 use Rattle.models.specs.declared.finding.Found.{Found}
 use Rattle.models.specs.declared.finding.Found.TheVariants.{Unit as Done}
 use Rattle.models.specs.declared.model_kind.ModelKind.{ModelKind}
-use Rattle.models.specs.declared.model_kind.ModelKind.TheVariants.{Register, CasRegister, Mutex, FifoQueue, Set as SetOfNumbers}
+use Rattle.models.specs.declared.model_kind.ModelKind.TheVariants.{Register, CasRegister, Mutex, FifoQueue, Set as SetOfNumbers, UnorderedQueue}
 use Rattle.models.specs.Objects.{Object, IsOneOf, register_apply, cas_register_apply, mutex_apply, queue_apply, set_apply, table_of, fifo_queue}
 use Rattle.models.specs.Runs.{Runs, enqueued, dequeued}
-
--- a list of one, or of none
-pub only_one : {X : Type 0} (x y : X) → IsOneOf (x ∷ []) y → x ≡ y
-only_one x y h = ⊎_elim (λ e. e) (λ n. absurd n) h
-
-pub same_outcome : {A B : Type 0} (p q : A × B) → IsOneOf (p ∷ []) q → (p.0 ≡ q.0) × (p.1 ≡ q.1)
-same_outcome {A} {B} p q h =
-    let same : p ≡ q = only_one p q h in
-    (ap (λ (r : A × B). r.0) same, ap (λ (r : A × B). r.1) same)
+use Rattle.models.proofs.Steps.{same_outcome, Runs-append}
+use Rattle.models.proofs.Unordered.{unordered_differ}
 
 -- what a cas comes to, by whether the state is its first value
 abbrev by_test : ℤ → Bool → List (Option ℤ × Found)
@@ -89,25 +81,16 @@ set_at_most_one Add (Int v) s = omega arith
 set_at_most_one Read Nil s = omega arith
 set_at_most_one _ _ s = omega arith
 
-at_most_one : (kind : ModelKind) (op : Op) (s : (table_of kind).State) → length ((table_of kind).apply op s) ≤ 1
-at_most_one Register op s = register_at_most_one op.name op.part s
-at_most_one CasRegister op s = cas_register_at_most_one op.name op.part s
-at_most_one Mutex op s = mutex_at_most_one op.name op.part s
-at_most_one FifoQueue op s = queue_at_most_one op.name op.part s
-at_most_one SetOfNumbers op s = set_at_most_one op.name op.part s
+differ_alone : {X : Type 0} (xs : List X) → length xs ≤ 1 → AllPairs (λ x y. x ≢ y) xs
+differ_alone xs l i j d lt fits = absurd (omega arith)
 
 pub none_listed_twice : (kind : ModelKind) (op : Op) (s : (table_of kind).State) → AllPairs (λ x y. x ≢ y) ((table_of kind).apply op s)
-none_listed_twice kind op s i j d lt fits = let l : length ((table_of kind).apply op s) ≤ 1 = at_most_one kind op s in absurd (omega arith)
-
--- one of an option's items is its value
-pub IsOneOf-option : {X : Type 0} (o : Option X) (y : X) → IsOneOf (option_to_list o) y ↔ (o ≡ Some y)
-IsOneOf-option None y = ((λ h. absurd h), (λ e. cc))
-IsOneOf-option (Some x) y = ((λ h. ap Some (only_one x y h)), (λ e. inl cc))
-
--- runs that follow each other
-Runs-append : (o : Object) (s mid t : o.State) (front back : List (Op × Found)) → Runs o s front mid → Runs o mid back t → Runs o s (front ++ back) t
-Runs-append o s mid t [] back h k = subst (λ x. Runs o x back t) (sym h) k
-Runs-append o s mid t (step ∷ front) back h k = (h.0, h.1, Runs-append o h.0 mid t front back h.2 k)
+none_listed_twice Register op s = differ_alone (register_apply op.name op.part s) (register_at_most_one op.name op.part s)
+none_listed_twice CasRegister op s = differ_alone (cas_register_apply op.name op.part s) (cas_register_at_most_one op.name op.part s)
+none_listed_twice Mutex op s = differ_alone (mutex_apply op.name op.part s) (mutex_at_most_one op.name op.part s)
+none_listed_twice FifoQueue op s = differ_alone (queue_apply op.name op.part s) (queue_at_most_one op.name op.part s)
+none_listed_twice SetOfNumbers op s = differ_alone (set_apply op.name op.part s) (set_at_most_one op.name op.part s)
+none_listed_twice UnorderedQueue op s = unordered_differ op.name op.part s
 
 all_enqueued : (key : ℕ) (s values : List ℤ) → Runs fifo_queue s (map (enqueued key) values) (s ++ values)
 all_enqueued key s [] = sym (append-nil s)

@@ -1,12 +1,11 @@
 -- Promise: states of objects of any kind, and what operations come to in them
-use Rattle.std.specs.Prelude.{◌≡◌, Option, List, map}
-use Rattle.std.specs.Option.{option_to_list}
+use Rattle.std.specs.Prelude.{◌≡◌, List, map}
 use Rattle.models.specs.declared.operation.Op.{Op}
 use Rattle.models.specs.declared.finding.Found.{Found}
 use Rattle.models.specs.declared.model_kind.ModelKind.{ModelKind}
-use Rattle.models.specs.declared.model_kind.ModelKind.TheVariants.{Register, CasRegister, Mutex, FifoQueue, Set}
+use Rattle.models.specs.declared.model_kind.ModelKind.TheVariants.{Register, CasRegister, Mutex, FifoQueue, Set, UnorderedQueue}
 use Rattle.models.specs.declared.any_state.AnyState.{AnyState}
-use Rattle.models.specs.declared.any_state.AnyState.TheVariants.{Register as OfRegister, CasRegister as OfCasRegister, Mutex as OfMutex, FifoQueue as OfFifoQueue, Set as OfSet}
+use Rattle.models.specs.declared.any_state.AnyState.TheVariants.{Register as OfRegister, CasRegister as OfCasRegister, Mutex as OfMutex, FifoQueue as OfFifoQueue, Set as OfSet, UnorderedQueue as OfUnorderedQueue}
 use Rattle.models.specs.Objects.{table_of, object_of}
 
 -- the state of the object of this kind
@@ -16,6 +15,7 @@ any CasRegister s = OfCasRegister s
 any Mutex s = OfMutex s
 any FifoQueue s = OfFifoQueue s
 any Set s = OfSet s
+any UnorderedQueue s = OfUnorderedQueue s
 
 abbrev pub kind_of_state : AnyState → ModelKind
 kind_of_state (OfRegister s) = Register
@@ -23,21 +23,18 @@ kind_of_state (OfCasRegister s) = CasRegister
 kind_of_state (OfMutex s) = Mutex
 kind_of_state (OfFifoQueue s) = FifoQueue
 kind_of_state (OfSet s) = Set
+kind_of_state (OfUnorderedQueue s) = UnorderedQueue
 
 -- the outcomes of the operation in the state, as the kind's table lists them, each state as one of any kind
 abbrev pub outcomes_of : (kind : ModelKind) → (object_of kind).State → Op → List (AnyState × Found)
 outcomes_of kind s op =
     map (λ outcome. (any kind outcome.0, outcome.1)) ((table_of kind).apply op s)
 
--- the only outcome there is, or nothing, where there is none
-abbrev pub IsOutcome : (kind : ModelKind) → (object_of kind).State → Op
-    → Option (AnyState × Found) → Type 0
-IsOutcome kind s op outcome = option_to_list outcome ≡ outcomes_of kind s op
-
--- the same, by the state's own kind
-abbrev pub IsOwnOutcome : AnyState → Op → Option (AnyState × Found) → Type 0
-IsOwnOutcome (OfRegister s) = IsOutcome Register s
-IsOwnOutcome (OfCasRegister s) = IsOutcome CasRegister s
-IsOwnOutcome (OfMutex s) = IsOutcome Mutex s
-IsOwnOutcome (OfFifoQueue s) = IsOutcome FifoQueue s
-IsOwnOutcome (OfSet s) = IsOutcome Set s
+-- these are they, by the state's own kind
+abbrev pub AreOwnOutcomes : AnyState → Op → List (AnyState × Found) → Type 0
+AreOwnOutcomes (OfRegister s) op outcomes = outcomes ≡ outcomes_of Register s op
+AreOwnOutcomes (OfCasRegister s) op outcomes = outcomes ≡ outcomes_of CasRegister s op
+AreOwnOutcomes (OfMutex s) op outcomes = outcomes ≡ outcomes_of Mutex s op
+AreOwnOutcomes (OfFifoQueue s) op outcomes = outcomes ≡ outcomes_of FifoQueue s op
+AreOwnOutcomes (OfSet s) op outcomes = outcomes ≡ outcomes_of Set s op
+AreOwnOutcomes (OfUnorderedQueue s) op outcomes = outcomes ≡ outcomes_of UnorderedQueue s op

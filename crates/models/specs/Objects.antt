@@ -1,6 +1,6 @@
 -- Promise: sequential objects (sequential specifications; Herlihy and Wing 1990, section 2). The tables are this
 -- project's own, under the names of Knossos
-use Rattle.std.specs.Prelude.{◌≡◌, ℤ, ◌⊎◌, Option, Some, None, List, [], ◌∷◌, ◌++◌, Bool, true, false, if◌then◌else◌}
+use Rattle.std.specs.Prelude.{◌≡◌, ℤ, ◌⊎◌, Option, Some, None, List, [], ◌∷◌, ◌++◌, map, Bool, true, false, if◌then◌else◌}
 use Rattle.std.specs.Ordering.{int_eq}
 use Rattle.models.specs.declared.operation.Name.{Name}
 use Rattle.models.specs.declared.operation.Name.TheVariants.{Read, Write, Cas, Acquire, Release, Enqueue, Dequeue, Add}
@@ -12,8 +12,9 @@ use Rattle.models.specs.declared.finding.Found.TheVariants.{Unit as Done, Reg, I
 use Rattle.models.specs.declared.finding.Answer.{Answer}
 use Rattle.models.specs.declared.finding.Answer.TheVariants.{Nothing, Number, Numbers, Many}
 use Rattle.models.specs.declared.model_kind.ModelKind.{ModelKind}
-use Rattle.models.specs.declared.model_kind.ModelKind.TheVariants.{Register, CasRegister, Mutex, FifoQueue, Set as SetOfNumbers}
+use Rattle.models.specs.declared.model_kind.ModelKind.TheVariants.{Register, CasRegister, Mutex, FifoQueue, Set as SetOfNumbers, UnorderedQueue}
 use Rattle.models.specs.Members.{put_in}
+use Rattle.models.specs.Multisets.{with_one, without_one, values_of}
 
 -- an object: its states, the one it starts in, and its steps. Steps s op found t: in state s the operation can take
 -- place, finds this, and leaves t
@@ -79,7 +80,18 @@ set_apply Add (Int v) s = (put_in v s, Done) ∷ []
 set_apply Read Nil s = (s, Elements s) ∷ []
 set_apply _ _ s = []
 
--- the table of each kind. A register is nil at first, a mutex free, a queue and a set are empty
+-- for each of these values one outcome: one of it is taken out, and found
+abbrev pub taken_from : List ℤ → List ℤ → List (List ℤ × Found)
+taken_from s values = map (λ v. (without_one v s, Item v)) values
+
+-- a queue without an order, its values ascending: enqueue v puts one v in; dequeue takes one of any value out and finds it,
+-- so it has one outcome for each of the values, by ascending value
+abbrev pub unordered_apply : Name → Part → List ℤ → List (List ℤ × Found)
+unordered_apply Enqueue (Int v) s = (with_one v s, Done) ∷ []
+unordered_apply Dequeue Nil s = taken_from s (values_of s)
+unordered_apply _ _ s = []
+
+-- the table of each kind. A register is nil at first, a mutex free, the queues and the set are empty
 abbrev pub table_of : ModelKind → Table
 table_of Register = record {
   State = Option ℤ;
@@ -106,6 +118,11 @@ table_of SetOfNumbers = record {
   start = [];
   apply = λ op s. set_apply op.name op.part s;
 }
+table_of UnorderedQueue = record {
+  State = List ℤ;
+  start = [];
+  apply = λ op s. unordered_apply op.name op.part s;
+}
 
 -- the object of each kind is that of its table
 abbrev pub object_of : ModelKind → Object
@@ -126,8 +143,11 @@ fifo_queue = object_of FifoQueue
 abbrev pub set_of_numbers : Object
 set_of_numbers = object_of SetOfNumbers
 
--- what was found agrees with the answer. A register answers its state, or nil, which says nothing; a queue its front
--- alone, a set its members alone; what finds nothing agrees with every answer
+abbrev pub unordered_queue : Object
+unordered_queue = object_of UnorderedQueue
+
+-- what was found agrees with the answer. A register answers its state, or nil, which says nothing; a queue the item that
+-- was taken out alone, a set its members alone; what finds nothing agrees with every answer
 abbrev pub Fits : Found → Answer → Type 0
 Fits Done answer = Unit {0}
 Fits (Reg s) Nothing = Unit {0}

@@ -7,7 +7,7 @@ use Rattle.models.specs.declared.operation.Part.{Part}
 use Rattle.models.specs.declared.operation.Part.TheVariants.{Nil, Int, Pair, Set}
 use Rattle.models.specs.declared.finding.Found.{Found}
 use Rattle.models.specs.declared.finding.Found.TheVariants.{Reg, Elements}
-use Rattle.models.specs.Objects.{IsOneOf, ReadsLeave, register_apply, cas_register_apply, mutex_apply, queue_apply, set_apply, register, cas_register, mutex, fifo_queue, set_of_numbers}
+use Rattle.models.specs.Objects.{IsOneOf, ReadsLeave, register_apply, cas_register_apply, mutex_apply, queue_apply, set_apply, unordered_apply, register, cas_register, mutex, fifo_queue, set_of_numbers, unordered_queue}
 
 -- the only outcome leaves the state
 pub stays : {S : Type 0} (s t : S) (f g : Found) → IsOneOf {X = S × Found} ((s, f) ∷ []) (t, g) → s ≡ t
@@ -45,3 +45,6 @@ pub set_reads : ReadsLeave set_of_numbers
 set_reads op s t found e h =
     set_stays op.part s t found
     (subst (λ name. IsOneOf (set_apply name op.part s) (t, found)) e h)
+
+pub unordered_reads : ReadsLeave unordered_queue
+unordered_reads op s t found e h = absurd (subst (λ name. IsOneOf (unordered_apply name op.part s) (t, found)) e h)

@@ -2,7 +2,7 @@
 ghost use Rattle.std.specs.Prelude.{◌≡◌, ◌↔◌, IsTrue, IfOk};
 ghost use Rattle.models.specs.declared.model_kind.ModelKind.{ModelKind};
 ghost use Rattle.models.specs.Objects.{object_of};
-ghost use Rattle.models.specs.AnyState.{any, kind_of_state, IsOutcome, IsOwnOutcome};
+ghost use Rattle.models.specs.AnyState.{any, kind_of_state, outcomes_of, AreOwnOutcomes};
 
 use crate::cas_register::CasRegister;
 use crate::each_kind;
@@ -11,11 +11,13 @@ use crate::finding::Found;
 use crate::items::Items;
 use crate::members::Members;
 use crate::model_kind::ModelKind;
+use crate::multiset::Multiset;
 use crate::mutex::Mutex;
 use crate::object::SeqObject;
 use crate::operation::Op;
 use crate::register::Register;
 use crate::set::Set;
+use crate::unordered_queue::UnorderedQueue;
 use std::alloc::{AllocError, Global};
 
 /// A state of an object of some kind, where the kind is known only as the program runs.
@@ -26,6 +28,7 @@ pub enum AnyState {
     Mutex(bool),
     FifoQueue(Items),
     Set(Members),
+    UnorderedQueue(Multiset),
 }
 
 macro_rules! start_of {
@@ -61,13 +64,16 @@ macro_rules! same_state {
     };
 }
 
-macro_rules! outcome_of {
+macro_rules! outcomes_in {
     ($state:expr, $alloc:expr, $op:expr; $($K:ident $name:literal),*) => {
         match $state {
-            $(AnyState::$K(state) => match $K::apply($alloc, state, $op)? {
-                None => Ok(None),
-                Some((after, found)) => Ok(Some((AnyState::$K(after), found))),
-            },)*
+            $(AnyState::$K(state) => {
+                let outcomes = $K::apply($alloc, state, $op)?;
+                outcomes
+                    .into_iter()
+                    .map(|outcome| (AnyState::$K(outcome.0), outcome.1))
+                    .collect($alloc)
+            })*
         }
     };
 }
@@ -101,20 +107,20 @@ impl AnyState {
         each_kind!(same_state; self, other)
     }
 
-    /// The only outcome of the operation in the state, which is the state after it and what it finds, or `None` where
-    /// it can't take place; `AllocError` where there is no memory for the new state. Leaves the state as it was. Takes
-    /// the time of the items or members.
-    pub fn apply(&self, alloc: Global, op: &Op) -> Result<Option<(AnyState, Found)>, AllocError>
+    /// The outcomes of the operation in the state, each once and in the order of the kind's table: the state after it and
+    /// what it finds. None where it can't take place; `AllocError` where there is no memory for a new state or for the
+    /// list. Leaves the state as it was. Takes the time of the items or members, for each outcome.
+    pub fn apply(&self, alloc: Global, op: &Op) -> Result<Vec<(AnyState, Found)>, AllocError>
         ensures { (kind : ModelKind) (s : (object_of kind).State) → self.now ≡ any kind s
-            → IfOk result (IsOutcome kind s op.now) }
+            → IfOk result (λ outcomes. outcomes.items ≡ outcomes_of kind s op.now) }
     {
-        self.outcome(alloc, op)
+        self.outcomes(alloc, op)
     }
 
     // The same, by the state's own kind.
-    fn outcome(&self, alloc: Global, op: &Op) -> Result<Option<(AnyState, Found)>, AllocError>
-        ensures { IfOk result (IsOwnOutcome self.now op.now) }
+    fn outcomes(&self, alloc: Global, op: &Op) -> Result<Vec<(AnyState, Found)>, AllocError>
+        ensures { IfOk result (λ outcomes. AreOwnOutcomes self.now op.now outcomes.items) }
     {
-        each_kind!(outcome_of; self, alloc, op)
+        each_kind!(outcomes_in; self, alloc, op)
     }
 }

@@ -30,20 +30,20 @@ impl SeqObject for CasRegister {
         Ok(*state)
     }
 
-    fn apply(
+    fn append_outcomes(
         alloc: Global,
         state: &Option<i64>,
         op: &Op,
-    ) -> Result<Option<(Option<i64>, Found)>, AllocError> {
+        outcomes: &mut Vec<(Option<i64>, Found)>,
+    ) -> Result<(), AllocError> {
         match (op.name, &op.part, *state) {
             (Name::Cas, Part::Pair(from, to), Some(value)) => {
                 if value == *from {
-                    Ok(Some((Some(*to), Found::Unit)))
-                } else {
-                    Ok(None)
+                    outcomes.push((Some(*to), Found::Unit))?;
                 }
+                Ok(())
             }
-            _ => Register::apply(alloc, state, op),
+            _ => Register::append_outcomes(alloc, state, op, outcomes),
         }
     }
 

@@ -29,20 +29,27 @@ impl SeqObject for FifoQueue {
         state.copy()
     }
 
-    fn apply(alloc: Global, state: &Items, op: &Op) -> Result<Option<(Items, Found)>, AllocError> {
+    fn append_outcomes(
+        alloc: Global,
+        state: &Items,
+        op: &Op,
+        outcomes: &mut Vec<(Items, Found)>,
+    ) -> Result<(), AllocError> {
         match (op.name, &op.part) {
             (Name::Enqueue, Part::Int(value)) => {
                 let longer = state.with(*value)?;
-                Ok(Some((longer, Found::Unit)))
+                outcomes.push((longer, Found::Unit))?;
+                Ok(())
             }
             (Name::Dequeue, Part::Nil) => match state.as_slice().split_first() {
                 Some((front, others)) => {
                     let others = Items::of_slice(alloc, others)?;
-                    Ok(Some((others, Found::Item(*front))))
+                    outcomes.push((others, Found::Item(*front)))?;
+                    Ok(())
                 }
-                None => Ok(None),
+                None => Ok(()),
             },
-            _ => Ok(None),
+            _ => Ok(()),
         }
     }
 

@@ -1,17 +1,20 @@
 //! Laws that show that the tables say what they should.
-ghost use Rattle.std.specs.Prelude.{◌≡◌, ◌≢◌, ◌↔◌, ◌⊎◌, ℕ, ℤ, Bool, Some, Option, List, [], ◌++◌, map};
+ghost use Rattle.std.specs.Prelude.{◌≡◌, ◌≢◌, ◌↔◌, ◌+◌, ◌⊎◌, ℕ, ℤ, Bool, Some, Option, List, [], ◌++◌, map};
 ghost use Rattle.std.specs.List.{AllPairs, Contains};
-ghost use Rattle.models.specs.declared.operation.Name.TheVariants.{Acquire, Cas};
+ghost use Rattle.std.specs.List.Sorted.{IsPermutation};
+ghost use Rattle.models.specs.declared.operation.Name.TheVariants.{Acquire, Cas, Dequeue};
 ghost use Rattle.models.specs.declared.operation.Op.{Op};
 ghost use Rattle.models.specs.declared.operation.Part.TheVariants.{Nil, Pair};
 ghost use Rattle.models.specs.declared.finding.Found.{Found};
-ghost use Rattle.models.specs.declared.finding.Found.TheVariants.{Unit as Done};
+ghost use Rattle.models.specs.declared.finding.Found.TheVariants.{Unit as Done, Item};
 ghost use Rattle.models.specs.declared.model_kind.ModelKind.{ModelKind};
 ghost use Rattle.models.specs.declared.any_state.AnyState.{AnyState};
 ghost use Rattle.models.specs.AnyState.{any, kind_of_state};
 ghost use Rattle.models.specs.Members.{IsAscending, put_in};
-ghost use Rattle.models.specs.Objects.{IsOneOf, cas_register_apply, mutex_apply, fifo_queue, object_of, table_of};
-ghost use Rattle.models.specs.Runs.{Runs, enqueued, dequeued};
+ghost use Rattle.models.specs.Multisets.{without_one};
+ghost use Rattle.models.specs.Objects.{IsOneOf, cas_register_apply, mutex_apply, unordered_apply};
+ghost use Rattle.models.specs.Objects.{fifo_queue, unordered_queue, object_of, table_of};
+ghost use Rattle.models.specs.Runs.{Runs, enqueued, dequeued, times_enqueued, times_dequeued, times_in};
 
 /// No table lists an outcome twice.
 pub fn table_law()
@@ -36,6 +39,20 @@ pub fn mutex_law()
 pub fn queue_law()
     ensures { (key : ℕ) (values : List ℤ) →
         Runs fifo_queue [] (map (enqueued key) values ++ map (dequeued key) values) [] }
+{}
+
+/// A queue without an order gives each value back as often as it was put in, and no more often: at every moment what was
+/// enqueued is what dequeues have found and what is still in. In which order it was enqueued does not matter: dequeues may find
+/// the values in any order. And a dequeue finds any value that is in, and takes one of it out.
+pub fn unordered_queue_law()
+    ensures each_once { (steps : List (Op × Found)) (t : List ℤ) (v : ℤ) →
+        Runs unordered_queue [] steps t
+        → times_enqueued v steps ≡ times_dequeued v steps + times_in v t }
+    ensures any_order { (key : ℕ) (values others : List ℤ) → IsPermutation values others →
+        Runs unordered_queue [] (map (enqueued key) values ++ map (dequeued key) others) [] }
+    ensures any_value { (s t : List ℤ) (found : Found) →
+        IsOneOf (unordered_apply Dequeue Nil s) (t, found)
+        ↔ ((v : ℤ) × Contains s v × (t ≡ without_one v s) × (found ≡ Item v)) }
 {}
 
 /// A set with a value put in has that value and its members before, and no other; and it stays ascending.

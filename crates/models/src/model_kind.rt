@@ -16,6 +16,8 @@ pub enum ModelKind {
     FifoQueue,
     /// Empty at first: add, and a read of all members.
     Set,
+    /// Empty at first: enqueue, dequeue, in any order.
+    UnorderedQueue,
 }
 
 /// The list of the kinds: `each_kind!(callback; args)` is `callback!(args; KIND "name", ..)`. KIND is the kind's variant in
@@ -32,7 +34,8 @@ macro_rules! each_kind {
             CasRegister "cas-register",
             Mutex "mutex",
             FifoQueue "fifo-queue",
-            Set "set"
+            Set "set",
+            UnorderedQueue "unordered-queue"
         }
     };
 }

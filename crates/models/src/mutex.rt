@@ -29,12 +29,18 @@ impl SeqObject for Mutex {
         Ok(*state)
     }
 
-    fn apply(_alloc: Global, state: &bool, op: &Op) -> Result<Option<(bool, Found)>, AllocError> {
+    fn append_outcomes(
+        _alloc: Global,
+        state: &bool,
+        op: &Op,
+        outcomes: &mut Vec<(bool, Found)>,
+    ) -> Result<(), AllocError> {
         match (op.name, &op.part, *state) {
-            (Name::Acquire, Part::Nil, false) => Ok(Some((true, Found::Unit))),
-            (Name::Release, Part::Nil, true) => Ok(Some((false, Found::Unit))),
-            _ => Ok(None),
+            (Name::Acquire, Part::Nil, false) => outcomes.push((true, Found::Unit))?,
+            (Name::Release, Part::Nil, true) => outcomes.push((false, Found::Unit))?,
+            _ => {}
         }
+        Ok(())
     }
 
     ghost exact = { bool_eq-exact };

@@ -1,6 +1,5 @@
 //! What each sequential object has: a sequential specification (Herlihy and Wing 1990, section 2).
-ghost use Rattle.std.specs.Prelude.{true, ◌≡◌, ◌↔◌, IsTrue, IfOk, List};
-ghost use Rattle.std.specs.Option.{option_to_list};
+ghost use Rattle.std.specs.Prelude.{true, ◌≡◌, ◌↔◌, ◌++◌, IsTrue, IfOk, OnOk, OnErr, List};
 ghost use Rattle.models.specs.declared.operation.Op.{Op};
 ghost use Rattle.models.specs.declared.finding.Found.{Found};
 ghost use Rattle.models.specs.Objects.{ReadsLeave, of_table};
@@ -29,20 +28,37 @@ pub trait SeqObject {
     fn copy(alloc: Global, state: &Self::State) -> Result<Self::State, AllocError>
         ensures { IfOk result (λ other. other ≡ state.now) };
 
-    /// The only outcome of the operation in the state, which is the state after it and what it finds, or `None` where
-    /// it can't take place; `AllocError` where there is no memory for the new state. Leaves the state as it was.
-    fn apply(
+    /// Puts the outcomes of the operation in the state behind those in the list, so that a caller who keeps the list has
+    /// no list made for each step; `AllocError` where there is no memory for a new state or for the list, which is then
+    /// as before. Leaves the state as it was.
+    fn append_outcomes(
         alloc: Global,
         state: &Self::State,
         op: &Op,
-    ) -> Result<Option<(Self::State, Found)>, AllocError>
-        ensures { IfOk result (λ outcome. option_to_list outcome ≡ apply_to op.now state.now) };
+        outcomes: &mut Vec<(Self::State, Found)>,
+    ) -> Result<(), AllocError>
+        ensures appended { OnOk result
+            (outcomes.new.items ≡ outcomes.old.items ++ apply_to op.now state.now) }
+        ensures kept { OnErr result (outcomes.new.items ≡ outcomes.old.items) };
 
     /// States that compare equal are the same state.
     ghost exact: { (a b : Self.State) → Self.State.eq a b ≡ true → a ≡ b };
 
     /// A read leaves the state as it was.
     ghost reads: { ReadsLeave (of_table Self.State start_state apply_to) };
+    /// The outcomes of the operation in the state, each once: the state after it and what it finds. None where it can't
+    /// take place; `AllocError` where there is no memory for a new state or for the list. Leaves the state as it was.
+    final fn apply(
+        alloc: Global,
+        state: &Self::State,
+        op: &Op,
+    ) -> Result<Vec<(Self::State, Found)>, AllocError>
+        ensures { IfOk result (λ outcomes. outcomes.items ≡ apply_to op.now state.now) }
+    {
+        let mut outcomes = Vec::new(alloc);
+        Self::append_outcomes(alloc, state, op, &mut outcomes)?;
+        Ok(outcomes)
+    }
 
     /// Whether both are the same state. Takes no memory.
     final fn same(a: &Self::State, b: &Self::State) -> bool

@@ -28,16 +28,18 @@ impl SeqObject for Register {
         Ok(*state)
     }
 
-    fn apply(
+    fn append_outcomes(
         _alloc: Global,
         state: &Option<i64>,
         op: &Op,
-    ) -> Result<Option<(Option<i64>, Found)>, AllocError> {
+        outcomes: &mut Vec<(Option<i64>, Found)>,
+    ) -> Result<(), AllocError> {
         match (op.name, &op.part) {
-            (Name::Write, Part::Int(v)) => Ok(Some((Some(*v), Found::Unit))),
-            (Name::Read, Part::Nil) => Ok(Some((*state, Found::Reg(*state)))),
-            _ => Ok(None),
+            (Name::Write, Part::Int(v)) => outcomes.push((Some(*v), Found::Unit))?,
+            (Name::Read, Part::Nil) => outcomes.push((*state, Found::Reg(*state)))?,
+            _ => {}
         }
+        Ok(())
     }
 
     ghost exact = { option_eq-exact };

@@ -29,22 +29,25 @@ impl SeqObject for Set {
         state.copy()
     }
 
-    fn apply(
+    fn append_outcomes(
         _alloc: Global,
         state: &Members,
         op: &Op,
-    ) -> Result<Option<(Members, Found)>, AllocError> {
+        outcomes: &mut Vec<(Members, Found)>,
+    ) -> Result<(), AllocError> {
         match (op.name, &op.part) {
             (Name::Add, Part::Int(value)) => {
                 let more = state.with(*value)?;
-                Ok(Some((more, Found::Unit)))
+                outcomes.push((more, Found::Unit))?;
+                Ok(())
             }
             (Name::Read, Part::Nil) => {
                 let members = state.copy()?;
                 let found = state.copy()?;
-                Ok(Some((members, Found::Elements(found))))
+                outcomes.push((members, Found::Elements(found)))?;
+                Ok(())
             }
-            _ => Ok(None),
+            _ => Ok(()),
         }
     }
 

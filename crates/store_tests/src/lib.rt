@@ -5,6 +5,8 @@
 #[cfg(test)]
 mod draws;
 #[cfg(test)]
+mod outcomes;
+#[cfg(test)]
 mod schedules;
 #[cfg(test)]
 mod stores;

@@ -2,7 +2,7 @@
 ghost use Rattle.std.specs.Prelude.{◌≡◌, ◌^◌, ◌-◌, ◌<◌, None, Some, IfOk, IfErr, IfSome, IsSome, OnOk, OnErr, MatchOption, length, if◌then◌else◌};
 ghost use Rattle.models.specs.declared.finding.Found.{Found};
 ghost use Rattle.test_store.specs.declared.held.Held.{Held};
-ghost use Rattle.test_store.specs.Store.{Cluster, opening, at_rest, row_of, row_in, may_serve, servers, is_majority, MayServe, TakesPlace, TakesNoPlace, VersionsOf, after_fault, rows_after, MayStrike, FaultRefused, IsCount, MayNotOpenStore};
+ghost use Rattle.test_store.specs.Store.{Cluster, ComesTo, opening, at_rest, row_of, row_in, may_serve, servers, is_majority, MayServe, TakesPlace, TakesNoPlace, VersionsOf, after_fault, rows_after, MayStrike, FaultRefused, IsCount, MayNotOpenStore};
 ghost use Rattle.test_store.specs.Truth.{KeepsTruth, LeavesTruth};
 ghost use Rattle.test_store.specs.StoreInvariant.{AreRows};
 ghost use Rattle.test_store.specs.declared.outcome.Outcome.{Outcome};
@@ -15,7 +15,7 @@ use crate::outcome::{Mode, Outcome};
 use crate::rows::Rows;
 use edn::Refusal;
 use history::Fault;
-use models::{Found, Key, ModelKind, Op};
+use models::{AnyState, Found, Key, ModelKind, Op};
 use std::alloc::{AllocError, Global};
 use std::marker::Model;
 
@@ -312,11 +312,24 @@ fn take(
     let Some(held) = newest(&chosen, row) else {
         return Ok(None);
     };
-    let Some((state, found)) = held.state.apply(alloc, op)? else {
+    let Some((state, found)) = first_outcome(alloc, &held.state, op)? else {
         return Ok(None);
     };
     let next = taken_over(alloc, &chosen, held.version + 1, &state, row)?;
     Ok(Some((next, found)))
+}
+
+// What the operation comes to in the state: the first of its outcomes, or nothing, where it has none.
+fn first_outcome(
+    alloc: Global,
+    state: &AnyState,
+    op: &Op,
+) -> Result<Option<(AnyState, Found)>, AllocError>
+    ensures { IfOk result (ComesTo state.now op.now) }
+{
+    let mut outcomes = state.apply(alloc, op)?;
+    outcomes.truncate(1);
+    Ok(outcomes.pop())
 }
 
 // Whether the entry may serve.

@@ -9,8 +9,9 @@ use Rattle.models.specs.declared.operation.Part.TheVariants.{Nil, Int, Pair}
 use Rattle.models.specs.declared.finding.Found.{Found}
 use Rattle.models.specs.declared.finding.Found.TheVariants.{Unit as Nothing, Reg, Item, Elements}
 use Rattle.models.specs.declared.model_kind.ModelKind.{ModelKind}
-use Rattle.models.specs.declared.model_kind.ModelKind.TheVariants.{Register, CasRegister, Mutex, FifoQueue, Set as SetOfNumbers}
-use Rattle.models.specs.Objects.{IsOneOf, object_of, register_apply, cas_register_apply, mutex_apply, queue_apply, set_apply}
+use Rattle.models.specs.declared.model_kind.ModelKind.TheVariants.{Register, CasRegister, Mutex, FifoQueue, Set as SetOfNumbers, UnorderedQueue}
+use Rattle.models.specs.Objects.{IsOneOf, object_of, register_apply, cas_register_apply, mutex_apply, queue_apply, set_apply, taken_from, unordered_apply}
+use Rattle.models.specs.Multisets.{with_one, without_one, values_of}
 use Rattle.trials.specs.Trials.{Answers}
 
 -- where one outcome alone is listed, it is what is found
@@ -49,9 +50,23 @@ set_answers Add (Int v) s t found h = subst (Answers Add (Int v)) (finds _ t Not
 set_answers Read Nil s t found h = subst (Answers Read Nil) (finds s t (Elements s) found h) (tt, tt)
 set_answers name part s t found h = absurd h
 
+taken_answers : (s values t : List ℤ) (found : Found) → IsOneOf (taken_from s values) (t, found) → Answers Dequeue Nil found
+taken_answers s [] t found h = absurd h
+taken_answers s (v ∷ values) t found h =
+    ⊎_elim
+    (λ (e : (without_one v s, Item v) ≡ (t, found)). subst (Answers Dequeue Nil) (ap (λ (x : List ℤ × Found). x.1) e) (tt, tt))
+    (λ k. taken_answers s values t found k)
+    h
+
+unordered_answers : (name : Name) (part : Part) (s t : List ℤ) (found : Found) → IsOneOf (unordered_apply name part s) (t, found) → Answers name part found
+unordered_answers Enqueue (Int v) s t found h = subst (Answers Enqueue (Int v)) (finds (with_one v s) t Nothing found h) (tt, refl)
+unordered_answers Dequeue Nil s t found h = taken_answers s (values_of s) t found h
+unordered_answers name part s t found h = absurd h
+
 pub answers : (kind : ModelKind) (s t : (object_of kind).State) (op : Op) (found : Found) → (object_of kind).Steps s op found t → Answers op.name op.part found
 answers Register s t op found h = register_answers op.name op.part s t found h
 answers CasRegister s t op found h = cas_register_answers op.name op.part s t found h
 answers Mutex s t op found h = mutex_answers op.name op.part s t found h
 answers FifoQueue s t op found h = queue_answers op.name op.part s t found h
 answers SetOfNumbers s t op found h = set_answers op.name op.part s t found h
+answers UnorderedQueue s t op found h = unordered_answers op.name op.part s t found h

@@ -14,7 +14,7 @@ pub loop-at-init : goal.loop-at-init
 loop-at-init g c =
     let o = of_table g.row.M-State.Denot g.M.SeqObject.start_state g.M.SeqObject.apply_to in
     record {
-      moves = moves_none g.M.SeqObject.apply_to c.args.calls.now c.args.table.now c.forget.new.moves.items c.forget.ensures;
+      moves = moves_none g.M.SeqObject.apply_to c.args.calls.now c.args.table.now c.forget.new.moves.known.items c.forget.new.moves.targets.items c.forget.ensures.known;
       widens = widens_itself c.args.table.now;
       front = IsFront-itself (rows_of c.args.table.now);
       grown = λ once ends shown closed. (ends, shown, Grows-itself o c.args.calls.now ends, (λ e f h n. absurd (Contains-nil e h)), IsFront-itself ends);

@@ -11,7 +11,7 @@ use Rattle.ends.proofs.extend.grow.Given as goal
 abbrev pub invariant-loop-at : goal.invariant-loop-at
 invariant-loop-at g l =
     record {
-      moves : AreMoves g.M.SeqObject.apply_to l.table l.calls l.moves.items;
+      moves : AreMoves g.M.SeqObject.apply_to l.table l.calls l.moves.known.items l.moves.targets.items;
       widens : Widens l.initial.table l.table;
       front : IsFront (rows_of l.initial.table) (rows_of l.table);
       grown : HasEachOnce l.calls → (ends : List (End g.row.M-State.Denot)) → AreShown l.initial.table l.calls ends → AreClosed (of_table g.row.M-State.Denot g.M.SeqObject.start_state g.M.SeqObject.apply_to) (take l.tried l.calls) ends

@@ -14,3 +14,6 @@ returns-in_ok-new-in-FifoQueue-clause-same c = rw c.in-FifoQueue.is (rw c.in_ok-
 
 pub returns-in_ok-new-in-Set-clause-same : goal.returns-in_ok-new-in-Set-clause-same
 returns-in_ok-new-in-Set-clause-same c = rw c.in-Set.is (rw c.in_ok-new-in-Set.ensures.ok (rw (← c.deref-in-Set-2.ensures) c.in_ok-copy-in-Set.ensures.same))
+
+pub returns-in_ok-new-in-UnorderedQueue-clause-same : goal.returns-in_ok-new-in-UnorderedQueue-clause-same
+returns-in_ok-new-in-UnorderedQueue-clause-same c = rw c.in-UnorderedQueue.is (rw c.in_ok-new-in-UnorderedQueue.ensures.ok (rw (← c.deref-in-UnorderedQueue-2.ensures) c.in_ok-copy-in-UnorderedQueue.ensures.same))

@@ -15,6 +15,9 @@ returns-in-FifoQueue-clause-kept c = rw c.in-FifoQueue.is (rw (← c.deref_mut-i
 pub returns-in-Set-clause-kept : goal.returns-in-Set-clause-kept
 returns-in-Set-clause-kept c = rw c.in-Set.is (rw (← c.deref_mut-in-Set.ensures.value) c.observe-in-Set.ensures.kept)
 
+pub returns-in-UnorderedQueue-clause-kept : goal.returns-in-UnorderedQueue-clause-kept
+returns-in-UnorderedQueue-clause-kept c = rw c.in-UnorderedQueue.is (rw (← c.deref_mut-in-UnorderedQueue.ensures.value) c.observe-in-UnorderedQueue.ensures.kept)
+
 pub returns-in-Register-clause-cost : goal.returns-in-Register-clause-cost
 returns-in-Register-clause-cost c = rw c.in-Register.is (rw (← c.deref_mut.ensures.value) c.observe.ensures.cost)
 
@@ -29,3 +32,6 @@ returns-in-FifoQueue-clause-cost c = rw c.in-FifoQueue.is (rw (← c.deref_mut-i
 
 pub returns-in-Set-clause-cost : goal.returns-in-Set-clause-cost
 returns-in-Set-clause-cost c = rw c.in-Set.is (rw (← c.deref_mut-in-Set.ensures.value) c.observe-in-Set.ensures.cost)
+
+pub returns-in-UnorderedQueue-clause-cost : goal.returns-in-UnorderedQueue-clause-cost
+returns-in-UnorderedQueue-clause-cost c = rw c.in-UnorderedQueue.is (rw (← c.deref_mut-in-UnorderedQueue.ensures.value) c.observe-in-UnorderedQueue.ensures.cost)

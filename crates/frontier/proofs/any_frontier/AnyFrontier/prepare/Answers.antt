@@ -14,3 +14,6 @@ returns-in-FifoQueue-clause-cost c = rw c.in-FifoQueue.is (rw (← c.deref_mut-i
 
 pub returns-in-Set-clause-cost : goal.returns-in-Set-clause-cost
 returns-in-Set-clause-cost c = rw c.in-Set.is (rw (← c.deref_mut-in-Set.ensures.value) c.prepare-in-Set.ensures.cost)
+
+pub returns-in-UnorderedQueue-clause-cost : goal.returns-in-UnorderedQueue-clause-cost
+returns-in-UnorderedQueue-clause-cost c = rw c.in-UnorderedQueue.is (rw (← c.deref_mut-in-UnorderedQueue.ensures.value) c.prepare-in-UnorderedQueue.ensures.cost)

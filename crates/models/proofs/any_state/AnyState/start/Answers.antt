@@ -1,4 +1,4 @@
-use Rattle.models.specs.declared.model_kind.ModelKind.TheVariants.{Register, CasRegister, Mutex, FifoQueue, Set}
+use Rattle.models.specs.declared.model_kind.ModelKind.TheVariants.{Register, CasRegister, Mutex, FifoQueue, Set, UnorderedQueue}
 use Rattle.models.proofs.AnyStates.{start_at}
 use Rattle.models.proofs.any_state.AnyState.start.Goals as goal
 
@@ -16,3 +16,6 @@ returns-in-FifoQueue c = start_at FifoQueue c.start-in-FifoQueue.result c.args.k
 
 pub returns-in-Set : goal.returns-in-Set
 returns-in-Set c = start_at Set c.start-in-Set.result c.args.kind c.start-in-Set.ensures c.in-Set.is
+
+pub returns-in-UnorderedQueue : goal.returns-in-UnorderedQueue
+returns-in-UnorderedQueue c = start_at UnorderedQueue c.start-in-UnorderedQueue.result c.args.kind c.start-in-UnorderedQueue.ensures c.in-UnorderedQueue.is

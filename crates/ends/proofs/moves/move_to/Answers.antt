@@ -1,5 +1,0 @@
-use Rattle.ends.proofs.Showing.{widens_itself, widens_states}
-use Rattle.ends.proofs.moves.move_to.Goals as goal
-
-pub returns-in_err-number-in-Some-clause-widens : goal.returns-in_err-number-in-Some-clause-widens
-returns-in_err-number-in-Some-clause-widens g c = widens_states c.args.table.now c.args.table.now c.number_of.new.states (widens_itself c.args.table.now) c.in_err-number-in-Some.ensures.front (λ _. c.in_err-number-in-Some.ensures.once)

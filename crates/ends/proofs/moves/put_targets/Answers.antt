@@ -1,0 +1,34 @@
+use Rattle.std.proofs.Common.{◌≡◌, ◌∷◌, ◌++◌, [], List, refl, sym, ap, ◌∙◌, append_assoc, append-nil}
+use Rattle.models.specs.declared.finding.Found.{Found}
+use Rattle.ends.proofs.Moving.{are_to_more, are_to_none, are_to_with}
+use Rattle.ends.proofs.Showing.{widens_itself, widens_on}
+use Rattle.ends.proofs.moves.put_targets.Goals as goal
+
+pub loop-state-init : goal.loop-state-init
+loop-state-init g c = record {
+  put = ([], [], sym (append-nil c.args.outcomes.now.items), are_to_none c.args.table.now c.args.crashed, sym (append-nil c.args.targets.now.items));
+  widens = widens_itself c.args.table.now;
+  rows = refl;
+}
+
+pub loop-state-preserved : goal.loop-state-preserved
+loop-state-preserved g c =
+    let i = c.loop-state.invariant in
+    let p = i.put in
+    let t = c.in_ok-put_target.ensures.put in
+    let x : g.row.M-State.Denot × Found = (c.in-Some.state, c.in-Some.found) in
+    let popped : c.loop-state.outcomes.items ≡ c.pop.new.self.items ++ x ∷ [] = c.in-Some.ensures.items in
+    record {
+      put = (
+        x ∷ p.0,
+        p.1 ++ t.0 ∷ [],
+        p.2 ∙ ap (λ l. l ++ p.0) popped ∙ append_assoc c.pop.new.self.items (x ∷ []) p.0,
+        are_to_with c.put_target.new.table c.args.crashed x p.0 p.1 t.0 t.1 (are_to_more c.loop-state.table c.put_target.new.table c.args.crashed p.0 p.1 c.in_ok-put_target.ensures.widens p.3),
+        t.2 ∙ ap (λ l. l ++ t.0 ∷ []) p.4 ∙ append_assoc c.args.targets.now.items p.1 (t.0 ∷ []),
+      );
+      widens = widens_on c.args.table.now c.loop-state.table c.put_target.new.table i.widens c.in_ok-put_target.ensures.widens;
+      rows = c.in_ok-put_target.ensures.rows ∙ i.rows;
+    }
+
+pub returns-in_err-put_target-clause-widens : goal.returns-in_err-put_target-clause-widens
+returns-in_err-put_target-clause-widens g c = widens_on c.args.table.now c.loop-state.table c.put_target.new.table c.loop-state.invariant.widens c.in_err-put_target.ensures.widens

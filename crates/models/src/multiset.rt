@@ -1,0 +1,127 @@
+//! Multisets of integers.
+ghost use Rattle.std.specs.Prelude.{◌≡◌, ◌≤◌, ◌<◌, ◌<ℤ◌, ◌≤ℤ◌, ℕ, ℤ, List, [], Some, IfOk, get_or, length, remove};
+ghost use Rattle.std.specs.Ordering.{int_cmp, int_eq};
+ghost use Rattle.std.specs.Cmp.Lexicographic.{pointwise, slice_cmp};
+ghost use Rattle.models.specs.Multisets.{NeverFalls, with_one};
+ghost use Rattle.models.specs.Comparisons.{ints_alike, ints_equal, ints_ordered, ints_ranked, ints_agree, ints_tie};
+
+use std::alloc::{AllocError, Global};
+use std::cmp::Ordering;
+use std::marker::Model;
+
+/// A multiset of integers: its values ascending, each as often as it is in.
+#[derive(Drop)]
+pub struct Multiset {
+    values: Vec<i64>,
+}
+
+impl Model for Multiset {
+    ghost Value = { List ℤ };
+
+    ghost view = { λ a. a.values.items };
+
+    ghost invariant = { λ a. NeverFalls a.values.items };
+}
+
+// Where the value belongs: in front of the first that is not below it.
+fn place_of(values: &[i64], value: i64) -> usize
+    ensures within { result ≤ length values.now }
+    ensures before { (k : ℕ) (d : ℤ) → k < result → get_or values.now k d <ℤ value }
+    ensures there { (d : ℤ) → result < length values.now → value ≤ℤ get_or values.now result d }
+{
+    for at in 0..values.len() {
+        if values[at] >= value {
+            return at;
+        }
+    }
+    values.len()
+}
+
+impl Multiset {
+    /// Without values. Takes no memory.
+    pub fn new(alloc: Global) -> Multiset
+        ensures { result ≡ [] }
+    {
+        Multiset {
+            values: Vec::new(alloc),
+        }
+    }
+
+    /// The values, ascending, each as often as it is in.
+    pub fn as_slice(&self) -> &[i64]
+        ensures value { result.now ≡ self.now }
+        ensures never_falls { NeverFalls self.now }
+    {
+        &self.values
+    }
+
+    /// The same multiset, with memory of its own; `AllocError` where there is none.
+    pub fn copy(&self) -> Result<Multiset, AllocError>
+        ensures { IfOk result (λ other. other ≡ self.now) }
+    {
+        let values = Vec::from_slice(*self.values.allocator(), self.values.as_slice())?;
+        Ok(Multiset { values })
+    }
+
+    /// The multiset with one more of the value, with memory of its own; `AllocError` where there is none. Takes the time
+    /// of the values.
+    pub fn with(&self, value: i64) -> Result<Multiset, AllocError>
+        ensures { IfOk result (λ more. more ≡ with_one value self.now) }
+    {
+        let old = self.as_slice();
+        let at = place_of(old, value);
+        let mut values = Vec::from_slice(*self.values.allocator(), old)?;
+        values.insert(at, value)?;
+        Ok(Multiset { values })
+    }
+
+    /// The multiset without the value at this place, with memory of its own; `AllocError` where there is none. Takes the
+    /// time of the values.
+    pub fn without(&self, at: usize) -> Result<Multiset, AllocError>
+        requires { at < length self.now }
+        ensures { IfOk result (λ rest. rest ≡ remove self.now at) }
+    {
+        let old = self.as_slice();
+        let mut values = Vec::from_slice(*self.values.allocator(), old)?;
+        let _taken = values.remove(at);
+        Ok(Multiset { values })
+    }
+}
+
+impl PartialEq for Multiset {
+    ghost eq = { pointwise int_eq };
+
+    ghost laws = { ints_alike };
+
+    fn eq(&self, other: &Multiset) -> bool {
+        self.as_slice() == other.as_slice()
+    }
+}
+
+impl Eq for Multiset {
+    ghost laws = { ints_equal };
+}
+
+impl PartialOrd for Multiset {
+    ghost partial_cmp = { λ a b. Some (slice_cmp int_cmp a b) };
+
+    ghost laws = { ints_ordered };
+
+    fn partial_cmp(&self, other: &Multiset) -> Option<Ordering> {
+        Some(self.cmp(other))
+    }
+}
+
+impl Ord for Multiset {
+    ghost cmp = { slice_cmp int_cmp };
+
+    ghost total = { ints_ranked };
+
+    ghost matches_partial_cmp = { ints_agree };
+
+    ghost matches_eq = { ints_tie };
+
+    fn cmp(&self, other: &Multiset) -> Ordering {
+        self.as_slice().cmp(other.as_slice())
+    }
+}

@@ -1,0 +1,123 @@
+//! The queue without an order.
+ghost use Rattle.std.specs.Prelude.{◌≡◌, ◌≢◌, ◌+◌, ◌<◌, ◌++◌, ℕ, ℤ, List, [], true, false, OnOk, OnErr, get_or, length, take};
+ghost use Rattle.models.specs.declared.finding.Found.{Found};
+ghost use Rattle.models.specs.Multisets.{values_of};
+ghost use Rattle.models.specs.Objects.{taken_from};
+ghost use Rattle.models.specs.Comparisons.{ints_eq-exact};
+ghost use Rattle.models.specs.Reads.{unordered_reads};
+
+use crate::finding::Found;
+use crate::multiset::Multiset;
+use crate::object::SeqObject;
+use crate::operation::{Name, Op, Part};
+use std::alloc::{AllocError, Global};
+
+/// A queue without an order, empty at first: an enqueue puts one of its value in, a dequeue takes out one of any value that
+/// is in and finds it. So a dequeue has an outcome for each of the values, and they are listed by ascending value.
+pub struct UnorderedQueue;
+
+// Whether the value at this place is another one than that before it.
+fn is_new(values: &[i64], at: usize) -> bool
+    requires { at < length values.now }
+    ensures new { result ≡ true → (p : ℕ) (d : ℤ) → p + 1 ≡ at
+        → get_or values.now p d ≢ get_or values.now at d }
+    ensures old { result ≡ false → (d : ℤ) → (p : ℕ) × (p + 1 ≡ at)
+        × (get_or values.now p d ≡ get_or values.now at d) }
+{
+    if at == 0 {
+        return true;
+    }
+    values[at - 1] != values[at]
+}
+
+// Puts the outcome that takes the value at this place out behind the others, unless it is there already, as that of an equal
+// value before this place is.
+fn append_at(
+    state: &Multiset,
+    at: usize,
+    outcomes: &mut Vec<(Multiset, Found)>,
+) -> Result<(), AllocError>
+    requires { at < length state.now }
+    ensures appended { (others : List (List ℤ × Found)) →
+        outcomes.old.items ≡ others ++ taken_from state.now (values_of (take at state.now))
+        → OnOk result (outcomes.new.items
+        ≡ others ++ taken_from state.now (values_of (take (at + 1) state.now))) }
+    ensures kept { OnErr result (outcomes.new.items ≡ outcomes.old.items) }
+{
+    let values = state.as_slice();
+    if is_new(values, at) {
+        let rest = state.without(at)?;
+        outcomes.push((rest, Found::Item(values[at])))?;
+    }
+    Ok(())
+}
+
+// Puts an outcome for each value behind the others; where there is no memory, for some of them.
+fn append_each(state: &Multiset, outcomes: &mut Vec<(Multiset, Found)>) -> Result<(), AllocError>
+    ensures appended { OnOk result
+        (outcomes.new.items ≡ outcomes.old.items ++ taken_from state.now (values_of state.now)) }
+    ensures front { (more : List (List ℤ × Found)) × (outcomes.new.items ≡ outcomes.old.items ++ more) }
+{
+    for at in 0..state.as_slice().len() {
+        append_at(state, at, outcomes)?;
+    }
+    Ok(())
+}
+
+// Puts an outcome for each value behind the others; where there is no memory, none.
+fn append_dequeues(
+    state: &Multiset,
+    outcomes: &mut Vec<(Multiset, Found)>,
+) -> Result<(), AllocError>
+    ensures appended { OnOk result
+        (outcomes.new.items ≡ outcomes.old.items ++ taken_from state.now (values_of state.now)) }
+    ensures kept { OnErr result (outcomes.new.items ≡ outcomes.old.items) }
+{
+    let others = outcomes.len();
+    match append_each(state, outcomes) {
+        Ok(()) => Ok(()),
+        Err(full) => {
+            outcomes.truncate(others);
+            Err(full)
+        }
+    }
+}
+
+impl SeqObject for UnorderedQueue {
+    type State = Multiset;
+
+    ghost use Rattle.models.specs.Objects.{unordered_apply};
+
+    ghost start_state = { [] };
+
+    ghost apply_to = { λ op s. unordered_apply op.name op.part s };
+
+    fn start(alloc: Global) -> Multiset {
+        Multiset::new(alloc)
+    }
+
+    fn copy(_alloc: Global, state: &Multiset) -> Result<Multiset, AllocError> {
+        state.copy()
+    }
+
+    fn append_outcomes(
+        _alloc: Global,
+        state: &Multiset,
+        op: &Op,
+        outcomes: &mut Vec<(Multiset, Found)>,
+    ) -> Result<(), AllocError> {
+        match (op.name, &op.part) {
+            (Name::Enqueue, Part::Int(value)) => {
+                let more = state.with(*value)?;
+                outcomes.push((more, Found::Unit))?;
+                Ok(())
+            }
+            (Name::Dequeue, Part::Nil) => append_dequeues(state, outcomes),
+            _ => Ok(()),
+        }
+    }
+
+    ghost exact = { ints_eq-exact };
+
+    ghost reads = { unordered_reads };
+}
