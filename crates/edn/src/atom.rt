@@ -1,6 +1,6 @@
 //! Atoms: `nil`, booleans, integers and keywords, which end where the next byte says so.
 
-ghost use Rattle.std.specs.Prelude.{◌≡◌, ◌↔◌, ℕ, ◌≤◌, ◌^◌, ◌++◌, List, pos, neg_ℤ, IsTrue, IfOk, IfSome, IfNone};
+ghost use Rattle.std.specs.Prelude.{◌≡◌, ◌↔◌, ℕ, ◌≤◌, ◌^◌, ◌++◌, ◌∷◌, List, pos, neg_ℤ, IsTrue, IfOk, IfSome, IfNone};
 ghost use Rattle.edn.specs.Value.{Value, keyword};
 ghost use Rattle.edn.specs.View.{value_of};
 ghost use Rattle.edn.specs.Bytes.{MayFollowAtom, IsAtom, IsKeywordText, ends_atom, is_digit, is_letter, goes_on};
@@ -142,18 +142,27 @@ pub fn is_keyword_name(bytes: &[u8]) -> bool
     }
 }
 
+// What follows this byte and these others, where they stand at the front.
+fn after_name<'a>(text: &'a [u8], first: u8, others: &[u8]) -> Option<&'a [u8]>
+    ensures found { IfSome result (λ rest. text.now ≡ first ∷ others.now ++ rest.now) }
+    ensures none { IfNone result ((t : List ℕ) → text.now ≡ first ∷ others.now ++ t → ⊥) }
+{
+    let inner = after(text, first)?;
+    inner.strip_prefix(others)
+}
+
 // `nil`, `true` or `false` at the front, and what follows it.
 fn word_at(text: &[u8]) -> Option<(Atom<'_>, &[u8])>
     ensures found { IfSome result (λ x. IsLongest IsWord text.now (atom_value x.0) x.1.now) }
     ensures none { IfNone result (HasNone IsWord text.now) }
 {
-    if let Some(rest) = text.strip_prefix(b"nil") {
+    if let Some(rest) = after_name(text, b'n', b"il") {
         return Some((Atom::Nil, rest));
     }
-    if let Some(rest) = text.strip_prefix(b"true") {
+    if let Some(rest) = after_name(text, b't', b"rue") {
         return Some((Atom::Bool(true), rest));
     }
-    let rest = text.strip_prefix(b"false")?;
+    let rest = after_name(text, b'f', b"alse")?;
     Some((Atom::Bool(false), rest))
 }
 

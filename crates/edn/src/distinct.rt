@@ -72,12 +72,18 @@ fn is_not_among<T: Keyed>(key: &Edn, items: &[T]) -> bool
     true
 }
 
+// Among so many items each key is compared with those before it, which takes no memory.
+const FEW: usize = 8;
+
 /// Whether no two of the items have the same key. The time grows with the logarithm of their number for an atom or a
-/// string, and with their number for a collection.
+/// string, and with their number for a collection. Of at most 8 items, each is compared with those before it.
 pub fn are_distinct<T: Keyed>(alloc: Global, items: &[T]) -> Result<bool, AllocError>
     ensures { IfOk result
         (λ yes. IsTrue yes ↔ AreDistinct (list_of (map T.key_value items.now))) }
 {
+    if items.len() <= FEW {
+        return Ok(all_differ(items));
+    }
     let mut scalars = BTreeSet::new(alloc);
     for (i, item) in items.iter().enumerate() {
         let key = item.key();

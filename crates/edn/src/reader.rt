@@ -20,6 +20,9 @@ use std::alloc::Global;
 /// At most so many collections are open at once, so that reading and dropping need little stack.
 pub const MAX_OPEN: u8 = 32;
 
+// Room for so many elements of a collection is made at once.
+const ROOM: usize = 10;
+
 /// Drops an element. Dropped in a larger function, an enum gives that function's goals once for each variant.
 pub fn discarded(_value: Edn) {}
 
@@ -83,7 +86,7 @@ fn inside(alloc: Global, depth: u8, text: &[u8]) -> Result<(Vec<Edn>, &[u8]), Re
     ensures closed { IfOk result (λ x. closes x.1.now ≡ true) }
     ensures unreadable { OnUnreadable result (HasNoInside depth text.now) }
 {
-    let mut found = Vec::new(alloc);
+    let mut found = Vec::with_capacity(alloc, ROOM)?;
     let mut rest = text;
     'elements: loop {
         let (next, left) = next_element(alloc, depth, rest)?;
