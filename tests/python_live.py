@@ -10,7 +10,6 @@ import random
 import subprocess
 import sys
 import threading
-from concurrent.futures import ThreadPoolExecutor
 from typing import Callable, Dict, List, Optional, Set, Type
 
 TOP = pathlib.Path(__file__).resolve().parent.parent
@@ -74,12 +73,6 @@ class ForgetfulLock:
             self.held = False
 
 
-def clients(work: Callable[[int], None], count: int = THREADS) -> None:
-    """Does the work in so many threads at once, and raises what the first of them raised."""
-    with ThreadPoolExecutor(count) as pool:
-        list(pool.map(work, range(count)))
-
-
 def reads_and_writes(monitor: Monitor, store: Store, operations: int) -> None:
     def client(thread: int) -> None:
         draws = random.Random(thread)
@@ -92,7 +85,7 @@ def reads_and_writes(monitor: Monitor, store: Store, operations: int) -> None:
                 with monitor.read(key) as op:
                     op.value = store.get(key)
 
-    clients(client)
+    monitor.run(client, THREADS)
 
 
 def raised(kind: Type[BaseException], act: Callable[[], object]) -> BaseException:
@@ -143,7 +136,7 @@ def each_thread_is_stopped() -> None:
             stopped.append(error.reply)
 
     monitor = Monitor(PROGRAM)
-    clients(client)
+    raised(Illegal, lambda: monitor.run(client, THREADS))
     assert len(stopped) == THREADS and len(set(stopped)) == 1, stopped
     raised(Illegal, lambda: monitor.__exit__(None, None, None))
 
@@ -197,7 +190,8 @@ def an_unexpected_exception_goes_on() -> None:
                 raise KeyError("of the test")
 
         raised(KeyError, fail)
-    assert kinds_told(log, "write") == ["ok", "info"]
+        raised(KeyError, lambda: monitor.run(lambda number: fail(), 1))
+    assert kinds_told(log, "write") == ["ok", "info", "info"]
 
 
 def what_failed_did_not_take_place() -> None:
@@ -234,7 +228,7 @@ def a_cas_register() -> None:
 
     with Monitor(PROGRAM, model="cas-register") as monitor:
         monitor.begin(0, 0)
-        clients(client, 3)
+        monitor.run(client, 3)
 
 
 def a_lock_that_two_hold() -> None:
@@ -250,12 +244,13 @@ def a_lock_that_two_hold() -> None:
                     lock.give()
 
     with Monitor(PROGRAM, model="mutex") as monitor:
-        clients(client, 1)
+        monitor.run(client, 1)
     monitor = Monitor(PROGRAM, model="mutex")
     with monitor.acquire():
         lock.take()
-    raised(Illegal, lambda: clients(client, 2))
+    error = raised(Illegal, lambda: monitor.run(client, 2))
     assert monitor.close().startswith("illegal key 0 index ")
+    assert ":fail" not in str(error) and len(str(error).splitlines()) in (5, 6), error  # one more may be open
 
 
 def queues_and_sets() -> None:

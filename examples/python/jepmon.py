@@ -2,11 +2,13 @@
 
     from jepmon import Monitor
 
-    with Monitor() as monitor:                       # monitor may be used by many threads
-        with monitor.write(key, 5):                  # the block is the operation
-            store.put(key, 5)
-        with monitor.read(key) as op:
-            op.value = store.get(key)                # what it answered; None where the key is missing
+    with Monitor() as monitor:
+        def client(number):
+            with monitor.write(key, number):         # the block is the operation
+                store.put(key, number)
+            with monitor.read(key) as op:
+                op.value = store.get(key)            # what it answered; None where the key is missing
+        monitor.run(client, 5)                       # client(0) to client(4), in threads; threads of your own will do as well
 
 A block that ends is an :ok. An exception in it is an :info: the operation may have taken place, or may yet. `raise Failed` in
 it, or op.fail(), is a :fail: it certainly did not take place. The first event after which the history is not linearizable
@@ -21,14 +23,14 @@ Values are integers; monitor.number(x) gives one for anything else that is hasha
 """
 import collections
 import copy
-import heapq
 import os
 import pathlib
 import shutil
 import subprocess
 import threading
+from concurrent.futures import ThreadPoolExecutor
 from types import TracebackType
-from typing import Any, Deque, Dict, Hashable, Iterable, List, NoReturn, Optional, Set, TextIO, Tuple, Type, Union
+from typing import Any, Callable, Deque, Dict, Hashable, Iterable, List, NoReturn, Optional, Set, TextIO, Tuple, Type, Union
 
 ABSENT = -(1 << 63)
 REGISTERS = ("register", "cas-register")
@@ -91,13 +93,14 @@ class Monitor:
         self.failure: Optional[NotLegal] = None
         self._verdict: Optional[str] = None
         self._lock = threading.Lock()  # one pipe: the order of its lines is the history
-        self._free = list(range(concurrency))
+        self._free = set(range(concurrency))  # threads of jepmon without an open operation
+        self._homes: Dict[int, int] = {}  # the thread of jepmon that a thread of Python has, where it is free
         self._current = list(range(concurrency))  # the process of each thread of jepmon
         self._model = model
         self._models: Dict[int, str] = {}  # of keys that have another one
         self._begun: Set[int] = set()
         self._numbers: Dict[Hashable, int] = {}
-        self._events: Dict[int, Deque[Tuple[int, str]]] = {}
+        self._events: Dict[int, Deque[Tuple[int, int, str]]] = {}  # the last ones of each key: index, process and text
         words = [_found(program), "script", "--concurrency", str(concurrency), "--model", model, "--budget", str(budget)]
         # a session of its own, so that Ctrl-C in a terminal ends the test and not the program under it
         self._child = subprocess.Popen(words, stdin=subprocess.PIPE, stdout=subprocess.PIPE, start_new_session=True)
@@ -131,6 +134,15 @@ class Monitor:
 
     def release(self, key: int = 0) -> "Operation":
         return Operation(self, "release", key)
+
+    def run(self, work: Callable[[int], object], threads: int) -> None:
+        """Does work(0) to work(threads - 1), each in a thread of its own. Raises what is not legal, else what one raised."""
+        with ThreadPoolExecutor(threads) as pool:
+            tasks = [pool.submit(work, number) for number in range(threads)]
+        if self.failure is not None:
+            raise copy.copy(self.failure)
+        for task in tasks:
+            task.result()
 
     # What is said of a key.
 
@@ -181,7 +193,7 @@ class Monitor:
             thread = self._take_thread()
             for kind in ("invoke", "ok"):
                 self._tell(kind, self._current[thread], "write", key, part)
-            heapq.heappush(self._free, thread)
+            self._free.add(thread)
 
     def _is_register(self, key: int) -> bool:
         return self._models.get(key, self._model) in REGISTERS
@@ -189,7 +201,10 @@ class Monitor:
     def _take_thread(self) -> int:
         if not self._free:
             raise ValueError(f"more than {self.concurrency} operations are open at once: raise concurrency, 64 at most")
-        return heapq.heappop(self._free)
+        home = self._homes.setdefault(threading.get_ident(), len(self._homes) % self.concurrency)
+        thread = home if home in self._free else max(self._free)
+        self._free.remove(thread)
+        return thread
 
     def _invoke(self, name: str, key: int, part: str) -> int:
         """Tells an invocation, and gives the thread of jepmon that it is on."""
@@ -204,15 +219,23 @@ class Monitor:
         process = self._current[thread]
         if kind == "info":
             self._current[thread] += self.concurrency
-        heapq.heappush(self._free, thread)
+        self._free.add(thread)
         self._tell(kind, process, name, key, part)
 
     def _tell(self, kind: str, process: int, name: str, key: int, part: str) -> None:
         self._test_running()
         line = f"{{:type :{kind}, :process {process}, :f :{name}, :value [{key} {part}]}}"
-        self._events.setdefault(key, collections.deque(maxlen=LAST_EVENTS)).append((self.length, line))
+        self._events.setdefault(key, collections.deque(maxlen=LAST_EVENTS)).append((self.length, process, line))
         self.length += 1
         self._ask(line, key)
+        if kind == "fail":
+            self._forget(key, process)
+
+    def _forget(self, key: int, process: int) -> None:
+        """Takes an operation that failed out of the events that are shown: what did not take place explains nothing."""
+        events = self._events[key]
+        for event in [event for event in events if event[1] == process][-2:]:
+            events.remove(event)
 
     def _ask(self, line: str, key: Optional[int] = None) -> None:
         """Sends a line and waits for its reply. Raises what is not legal, also where it was found before."""
@@ -255,7 +278,7 @@ class Monitor:
 
     def _last_events(self, key: Optional[int], index: int) -> Tuple[str, ...]:
         events = self._events.get(key, ()) if key is not None else ()
-        marked = (f"  {at} {'<--' if at == index else '   '} {line}" for at, line in events)
+        marked = (f"  {at} {'<--' if at == index else '   '} {line}" for at, _, line in events)
         return tuple(line.replace(str(ABSENT), "ABSENT") for line in marked)
 
     def _last_verdict(self) -> str:
