@@ -4,8 +4,9 @@
 A fenced block `console` is a session: a line that begins with `$ ` is a command, lines after it that begin with `> ` continue it,
 and what follows is what it prints, on standard output and standard error together, where a line `...` stands for any lines.
 The commands of a block run one after the other in one shell, in a folder of their own in which the repository's files and
-folders stand, with `jepmon` on the path. A block `python` must be Python. It and each other block, and each command within a
-line, is listed as not run; a command in an indented block is a fault.
+folders stand, with `jepmon` on the path. A block `python` must be Python; where it begins with a comment `# NAME.py`, it is a
+file of that name for the sessions after it, and else listed as not run. So is each other block, and each command within a line
+that no session has. A command in an indented block is a fault.
 """
 import difflib
 import os
@@ -54,8 +55,8 @@ def session(lines):
     return [("\n".join(words), shown) for words, shown in commands]
 
 
-def run(commands):
-    """The lines that each of these commands prints, run in one shell."""
+def run(commands, files):
+    """The lines that each of these commands prints, run in one shell, beside these files."""
     told = f"\ntold=$?; printf '{MARK}'; (exit $told)\n"
     script = "exec 2>&1\n" + "".join(command + told for command in commands)
     with tempfile.TemporaryDirectory() as folder:
@@ -64,6 +65,8 @@ def run(commands):
         tools.mkdir()
         for entry in TOP.iterdir():
             (room / entry.name).symlink_to(entry)
+        for name, text in files.items():
+            (room / name).write_text(text)
         (tools / "jepmon").symlink_to(PROGRAM)
         ran = subprocess.run(["bash", "-c", script], cwd=room, stdin=subprocess.DEVNULL, stdout=subprocess.PIPE, timeout=120,
                              env={**os.environ, "PATH": f"{tools}:{os.environ['PATH']}"})
@@ -77,10 +80,10 @@ def fits(shown, got):
     return re.fullmatch(pattern, "".join(line.rstrip() + "\n" for line in got)) is not None
 
 
-def faults_of(lines):
+def faults_of(lines, files):
     """What is wrong with a session, if anything."""
     commands = session(lines)
-    told = run([command for command, _ in commands])
+    told = run([command for command, _ in commands], files)
     faults = []
     for (command, shown), got in zip(commands, told + [["(it did not come to this)"]] * len(commands)):
         while shown and not shown[-1]:
@@ -90,9 +93,13 @@ def faults_of(lines):
     return faults
 
 
-def check_python(lines):
+def keep_python(lines, files):
+    """Whether the lines are a file for the sessions after them, which has it then. They must be Python."""
     compile("\n".join(lines), "block", "exec")
-    return []
+    named = re.match(r"# (\w+\.py)$", lines[0])
+    if named:
+        files[named[1]] = "\n".join(lines) + "\n"
+    return bool(named)
 
 
 def main():
@@ -104,17 +111,21 @@ def main():
             continue
         found, outside = blocks((TOP / name).read_text())
         ran = {command for _, word, lines in found if word == "console" for command, _ in session(lines)}
+        files = {}
         for number, word, lines in found:
-            check = {"console": faults_of, "python": check_python}.get(word)
-            if check is None or word == "python":
-                listed.append(f"{name}:{number}: a block {word or 'without a word'}: {lines[0][:100] if lines else ''}")
+            faults, is_run = [], word == "console"
             try:
-                faults = check(lines) if check else []
+                if word == "console":
+                    faults = faults_of(lines, files)
+                elif word == "python":
+                    is_run = keep_python(lines, files)
             except Exception as fault:  # a block that can't be run has failed
                 faults = [repr(fault)]
-            if check:
+            if is_run or faults:
                 print(f"{name}:{number}: {'ok' if not faults else 'FAILED'}")
                 good, bad = good + (not faults), bad + bool(faults)
+            else:
+                listed.append(f"{name}:{number}: a block {word or 'without a word'}: {lines[0][:100] if lines else ''}")
             for fault in faults:
                 print(f"  {fault}")
         for number, line in outside:
