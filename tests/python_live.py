@@ -368,10 +368,25 @@ def no_program() -> None:
     raised(FileNotFoundError, lambda: Monitor("/nowhere/jepmon"))
 
 
+def example(name: str, *words: str) -> "subprocess.CompletedProcess[str]":
+    return subprocess.run([sys.executable, str(TOP / "examples" / "python" / name), *words], stdout=subprocess.PIPE,
+                          stderr=subprocess.PIPE, universal_newlines=True, timeout=60, env=dict(os.environ, JEPMON=PROGRAM))
+
+
+def the_examples() -> None:
+    """The example finds the stale read; those that need a redis-server are only asked for their help."""
+    ran = example("stale_read.py")
+    assert ran.returncode == 1 and "\njepmon.Illegal: illegal key " in ran.stderr, ran
+    for name in ("redis_stale.py", "redis_lock.py"):
+        ran = example(name, "--help")
+        assert ran.returncode == 0 and "--jepmon" in ran.stdout and not ran.stderr, ran
+
+
 TESTS = [a_linearizable_store_is_legal, a_stale_read_is_illegal, each_thread_is_stopped, lost_writes_are_illegal,
          a_missing_key_is_legal, a_timeout_is_an_info, an_unexpected_exception_goes_on, what_failed_did_not_take_place,
          a_cas_register, a_lock_that_two_hold, queues_and_sets, what_is_no_integer, too_many_at_once, a_key_over_its_budget,
-         what_is_refused, the_program_ends, a_session_of_its_own, a_closed_monitor, the_log_is_judged_again, no_program]
+         what_is_refused, the_program_ends, a_session_of_its_own, a_closed_monitor, the_log_is_judged_again, no_program,
+         the_examples]
 
 
 def main(names: List[str]) -> int:
