@@ -60,7 +60,7 @@ class Times:
     def __init__(self, root):
         self.root, self.kinds, self.ticks = root, {}, {}
         self.ended = threading.Event()
-        self.watcher = threading.Thread(target=self.watch)
+        self.watcher = threading.Thread(target=self.watch, daemon=True)
         self.watcher.start()
 
     def watch(self):
