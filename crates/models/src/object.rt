@@ -1,8 +1,8 @@
 //! What each sequential object has: a sequential specification (Herlihy and Wing 1990, section 2).
-ghost use Rattle.std.specs.Prelude.{true, ◌≡◌, ◌↔◌, ◌++◌, IsTrue, IfOk, OnOk, OnErr, List};
+ghost use Rattle.std.specs.Prelude.{true, ◌≡◌, ◌↔◌, ◌≤◌, ◌<◌, ◌++◌, IsTrue, IfOk, OnOk, OnErr, List, length};
 ghost use Rattle.models.specs.declared.operation.Op.{Op};
 ghost use Rattle.models.specs.declared.finding.Found.{Found};
-ghost use Rattle.models.specs.Objects.{ReadsLeave, of_table};
+ghost use Rattle.models.specs.Objects.{AreApart, ReadsLeave, of_table};
 
 use crate::finding::Found;
 use crate::operation::Op;
@@ -28,6 +28,13 @@ pub trait SeqObject {
     fn copy(alloc: Global, state: &Self::State) -> Result<Self::State, AllocError>
         ensures { IfOk result (λ other. other ≡ state.now) };
 
+    /// Whether the operation has more outcomes in the state than so many, for a caller who will not make them all. They leave
+    /// different states. Takes no memory.
+    fn has_more_outcomes(state: &Self::State, op: &Op, most: usize) -> bool
+        requires { 1 ≤ most }
+        ensures more { IsTrue result ↔ (most < length (apply_to op.now state.now)) }
+        ensures apart { AreApart (apply_to op.now state.now) };
+
     /// Puts the outcomes of the operation in the state behind those in the list, so that a caller who keeps the list has
     /// no list made for each step; `AllocError` where there is no memory for a new state or for the list, which is then
     /// as before. Leaves the state as it was.
@@ -46,6 +53,7 @@ pub trait SeqObject {
 
     /// A read leaves the state as it was.
     ghost reads: { ReadsLeave (of_table Self.State start_state apply_to) };
+
     /// The outcomes of the operation in the state, each once: the state after it and what it finds. None where it can't
     /// take place; `AllocError` where there is no memory for a new state or for the list. Leaves the state as it was.
     final fn apply(
