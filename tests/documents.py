@@ -69,7 +69,8 @@ def run(commands, files):
             (room / name).write_text(text)
         (tools / "jepmon").symlink_to(PROGRAM)
         ran = subprocess.run(["bash", "-c", script], cwd=room, stdin=subprocess.DEVNULL, stdout=subprocess.PIPE, timeout=120,
-                             env={**os.environ, "PATH": f"{tools}:{os.environ['PATH']}"})
+                             env={**os.environ, "PATH": f"{tools}:{os.environ['PATH']}", "LC_ALL": "C.UTF-8",
+                                  "PYTHONDONTWRITEBYTECODE": "1"})
     return [text.splitlines() for text in ran.stdout.decode(errors="replace").split(MARK)[:-1]]
 
 

@@ -16,6 +16,7 @@ import time
 
 TICKS = os.sysconf("SC_CLK_TCK")
 KINDS = ("proofs", "tests", "wrong bodies")
+COUNTS = re.compile(rb"\d+ passed, \d+ failed")
 SHARE = re.compile(r"^rt: ok.*?(\d+) of the (\d+) proofs(?: .*?(\d+) of the (\d+) must-fail edits)?")
 
 
@@ -60,7 +61,7 @@ class Times:
     def __init__(self, root):
         self.root, self.kinds, self.ticks = root, {}, {}
         self.ended = threading.Event()
-        self.watcher = threading.Thread(target=self.watch)
+        self.watcher = threading.Thread(target=self.watch, daemon=True)
         self.watcher.start()
 
     def watch(self):
@@ -104,19 +105,21 @@ def share(line):
 def main(words):
     begin = time.monotonic()
     ran = subprocess.Popen(["rt", "ci", *words], stdout=subprocess.PIPE, stderr=subprocess.STDOUT)
-    times, told, last = Times(ran.pid), None, b""
+    times, told, counts = Times(ran.pid), None, b""
     for line in ran.stdout:
         told = share(line.decode(errors="replace")) or told
-        if last:
-            sys.stdout.buffer.write(last)
+        if COUNTS.match(line):
+            counts = line
+        else:
+            sys.stdout.buffer.write(line)
             sys.stdout.flush()
-        last = line
     status = ran.wait()
     minutes, used = times.end(), resource.getrusage(resource.RUSAGE_CHILDREN)
     for line in table(minutes, (used.ru_utime + used.ru_stime) / 60):
         print(line)
-    print(f"rt ci took {time.monotonic() - begin:.0f} seconds" + (f"; {told}" if told else ""))
-    print(last.decode(errors="replace"), end="", flush=True)
+    print(f"rt ci took {time.monotonic() - begin:.0f} seconds" + (f"; {told}" if told else ""), flush=True)
+    sys.stdout.buffer.write(counts or b"0 passed, 1 failed\n")
+    sys.stdout.flush()
     return status
 
 
