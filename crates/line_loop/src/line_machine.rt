@@ -28,6 +28,9 @@ pub trait LineMachine: Drop {
         ensures { OnOk result
             (may_reply (state self.old) line.now reply.new.items (state self.new)) };
 
+    /// Is told of a line over the limit, which is answered without it.
+    fn pass_over(&self) {}
+
     /// The verdict on the state as it stands.
     fn verdict(&self) -> Self::Verdict
         ensures { shows (state self.now) result };

@@ -210,6 +210,7 @@ fn make_reply<M: LineMachine>(
 {
     reply.clear();
     if line.len() > LINE_LIMIT {
+        machine.pass_over();
         append_refusal(alloc, reply, &Refusal::TooLong)?;
     } else {
         machine.answer(line, reply)?;
