@@ -8,8 +8,8 @@ use crate::finding::Found;
 use crate::operation::Op;
 use std::alloc::{AllocError, Global};
 
-/// A sequential object: its states, the one it starts in, and what each operation does in each state. The state after
-/// an operation and what it finds are functions of the state and the operation alone.
+/// A sequential object: its states, the one it starts in, and the outcomes of each operation in each state, which are a
+/// function of the state and the operation alone.
 pub trait SeqObject {
     /// Its states. They compare and are ordered lawfully, and states that compare equal are the same.
     type State: Drop + Ord;
