@@ -19,9 +19,8 @@ pub record KeyHistory : Type 0 where
 abbrev pub without_events : ModelKind → ℕ → KeyHistory
 without_events kind budget = record { kind = kind; budget = budget; events = [] }
 
--- what a line has, and what commit will bring, where a change is prepared; how many replays were made for all changes that
--- were prepared, whatever became of them, and how many of these for the one that is. A replay is one event that is given to
--- what judges the key, for the first time or again
+-- what a line has, and what commit will bring, where a change is prepared; how many replays the committed changes took, and how
+-- many the prepared one. A replay is one event that is given to what judges the key, for the first time or again
 pub record KeyLineView : Type 0 where
   pub now : KeyHistory
   pub next : Option KeyHistory
@@ -31,14 +30,10 @@ pub record KeyLineView : Type 0 where
 abbrev pub at_rest : KeyHistory → ℕ → KeyLineView
 at_rest h replayed = record { now = h; next = None; replayed = replayed; due = 0 }
 
--- a count goes on, and stops at the greatest u64
-abbrev pub count_on : ℕ → ℕ → ℕ
-count_on count more = min (count + more) (2 ^ 64 - 1)
-
 -- this is prepared, and took so many replays
 abbrev pub with_next : KeyHistory → ℕ → KeyLineView → KeyLineView
 with_next next due line =
-    record { now = line.now; next = Some next; replayed = count_on line.replayed due; due = due }
+    record { now = line.now; next = Some next; replayed = line.replayed; due = due }
 
 -- from scratch, how the key stands
 abbrev pub IsStatusOf : KeyHistory → KeyStatus → Type 0
@@ -68,3 +63,7 @@ begins_below n h = nat_lt 0 (length (events_below n h.events))
 -- the replays of a cut at n: where it takes events away, those that stay behind the last 64th one
 abbrev pub replays_at : ℕ → KeyHistory → ℕ
 replays_at n h = if loses_at n h then length (events_below n h.events) % 64 else 0
+
+-- a count goes on, and stops at the greatest u64
+abbrev pub count_on : ℕ → ℕ → ℕ
+count_on count more = min (count + more) (2 ^ 64 - 1)

@@ -126,7 +126,6 @@ impl KeyLine {
             saves,
             replays: 1,
         };
-        self.replayed = self.replayed.saturating_add(1);
         prepare(&mut self.prepared, change);
         Ok(status)
     }
@@ -171,7 +170,6 @@ impl KeyLine {
             saves: Saves::Kept,
             replays,
         };
-        self.replayed = self.replayed.saturating_add(replays);
         prepare(&mut self.prepared, change);
         Ok(status)
     }
@@ -203,16 +201,15 @@ impl KeyLine {
             saves: Saves::Anew(saved),
             replays,
         };
-        self.replayed = self.replayed.saturating_add(replays);
         prepare(&mut self.prepared, change);
         Ok(status)
     }
 
-    /// Carries out what is prepared. Judges nothing, and takes no memory.
+    /// Carries out what is prepared. Takes no memory.
     pub fn commit(&mut self)
         requires { IsSome self.old.next }
         ensures { IfSome self.old.next (λ next.
-            self.new ≡ at_rest next self.old.replayed) }
+            self.new ≡ at_rest next (count_on self.old.replayed self.old.due)) }
     {
         if let Some(change) = self.prepared.take() {
             let Prepared {
@@ -222,13 +219,14 @@ impl KeyLine {
                 added,
                 next,
                 saves,
-                ..
+                replays,
             } = change;
             keep_and_add(&mut self.events, kept, added);
             keep_and_save(&mut self.saved, kept, saves);
             self.state.commit(next);
             self.kind = kind;
             self.budget = budget;
+            self.replayed = self.replayed.saturating_add(replays);
         }
     }
 
@@ -294,9 +292,8 @@ impl KeyLine {
         self.state.status()
     }
 
-    /// How many replays were made for the changes that were prepared, whether they were then committed or dropped: one for
-    /// each event to be pushed, and one for each that a cut or a rebuild gave again to what judges the key. Those of a change
-    /// that was refused for want of memory are not among them. It stops at the greatest `u64`. Takes no memory.
+    /// How many replays the committed changes took: one for each event that was pushed, and one for each that a cut or a
+    /// rebuild gave again to what judges the key. It stops at the greatest `u64`. Takes no memory.
     pub fn replayed(&self) -> u64
         ensures { result ≡ self.now.replayed }
     {

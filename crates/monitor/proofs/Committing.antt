@@ -5,7 +5,7 @@ use Rattle.std.proofs.lemmas.List.{take-map}
 use Rattle.std.proofs.lemmas.List.Elements.{filter_passes}
 use Rattle.std.proofs.lemmas.Option.{none-some, slice_get_within, get_or_from_slice_get}
 use Rattle.indexmap.specs.Layout.{set_value_at}
-use Rattle.checkpoints.specs.KeyLineView.{KeyHistory, KeyLineView, at_rest, cut_at, begins_below}
+use Rattle.checkpoints.specs.KeyLineView.{KeyHistory, KeyLineView, at_rest, cut_at, begins_below, count_on}
 use Rattle.monitor.specs.Rows.{nows, cut_rows, each_line, cut_done, IsCutAt, AreCutAt}
 use Rattle.monitor.proofs.Changing.{first_changed, changed_at, changed-all}
 use Rattle.monitor.proofs.Places.{row_within}
@@ -62,9 +62,9 @@ module _ (n : ℕ) (left rows : List (ℕ × KeyLineView)) (place : ℕ) (so_far
   pub may_commit : IsSomeAnd (slice_get rows place) (λ row. IsSome row.1.next)
   may_commit = subst (λ (o : Option (ℕ × KeyLineView)). IsSomeAnd o (λ r. IsSome r.1.next)) (sym at) (subst IsSome (sym next) refl)
 
-  pub committed : (after : List (ℕ × KeyLineView)) → IfSome (slice_get rows place) (λ row. IfSome row.1.next (λ h. after ≡ set_value_at rows place (at_rest h row.1.replayed)))
+  pub committed : (after : List (ℕ × KeyLineView)) → IfSome (slice_get rows place) (λ row. IfSome row.1.next (λ h. after ≡ set_value_at rows place (at_rest h (count_on row.1.replayed row.1.due))))
       → IfSome (slice_get rows place) (λ row. after ≡ set_value_at rows place (cut_done n row.1))
   committed after is =
       at_row rows place row_at.0.0 row_at.0.1 (λ row. after ≡ set_value_at rows place (cut_done n row.1)) at
-      (subst (λ (o : Option KeyHistory). IfSome o (λ h. after ≡ set_value_at rows place (at_rest h row_at.0.1.replayed))) next
-      (subst (λ (o : Option (ℕ × KeyLineView)). IfSome o (λ row. IfSome row.1.next (λ h. after ≡ set_value_at rows place (at_rest h row.1.replayed)))) at is))
+      (subst (λ (o : Option KeyHistory). IfSome o (λ h. after ≡ set_value_at rows place (at_rest h (count_on row_at.0.1.replayed row_at.0.1.due)))) next
+      (subst (λ (o : Option (ℕ × KeyLineView)). IfSome o (λ row. IfSome row.1.next (λ h. after ≡ set_value_at rows place (at_rest h (count_on row.1.replayed row.1.due))))) at is))

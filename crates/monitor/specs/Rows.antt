@@ -3,7 +3,7 @@ use Rattle.std.specs.Prelude.{◌≡◌, ℕ, true, false, if◌then◌else◌, 
 use Rattle.linspec.specs.declared.verdict.KeyStatus.{KeyStatus}
 use Rattle.linspec.specs.declared.verdict.Verdict.{Verdict}
 use Rattle.linspec.specs.Verdicts.{IsJoin}
-use Rattle.checkpoints.specs.KeyLineView.{KeyHistory, KeyLineView, IsStatusOf, at_rest, with_next, cut_at, begins_below, replays_at}
+use Rattle.checkpoints.specs.KeyLineView.{KeyHistory, KeyLineView, IsStatusOf, at_rest, with_next, cut_at, begins_below, replays_at, count_on}
 
 -- a row for each key: the key and its line; and the room for more
 pub record LinesView : Type 0 where
@@ -38,7 +38,7 @@ with_cut n line =
     if begins_below n line.now then with_next (cut_at n line.now) (replays_at n line.now) line else line
 
 abbrev pub cut_done : ℕ → KeyLineView → KeyLineView
-cut_done n line = at_rest (cut_at n line.now) line.replayed
+cut_done n line = at_rest (cut_at n line.now) (count_on line.replayed line.due)
 
 abbrev pub without_next : KeyLineView → KeyLineView
 without_next line = at_rest line.now line.replayed

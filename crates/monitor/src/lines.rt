@@ -5,7 +5,7 @@ ghost use Rattle.std.specs.Map.{keys_of};
 ghost use Rattle.indexmap.specs.Layout.{set_value_at};
 ghost use Rattle.models.specs.declared.model_kind.ModelKind.{ModelKind};
 ghost use Rattle.history.specs.ProcessRule.{IsHistory};
-ghost use Rattle.checkpoints.specs.KeyLineView.{KeyHistory, IsStatusOf, at_rest, with_next, with_pushed, judged_by, cut_at, begins_below, replays_at};
+ghost use Rattle.checkpoints.specs.KeyLineView.{KeyHistory, IsStatusOf, at_rest, with_next, with_pushed, judged_by, cut_at, begins_below, replays_at, count_on};
 ghost use Rattle.monitor.specs.Rows.{nows, cut_rows, each_line, with_cut, cut_done, without_next, JoinsRows, AreCutAt, StandsAfter};
 
 use checkpoints::KeyLine;
@@ -165,7 +165,8 @@ impl Lines {
     pub fn commit(&mut self, place: usize)
         requires { IsSomeAnd (slice_get self.old.rows place) (λ row. IsSome row.1.next) }
         ensures { IfSome (slice_get self.old.rows place) (λ row. IfSome row.1.next (λ next.
-            self.new.rows ≡ set_value_at self.old.rows place (at_rest next row.1.replayed))) }
+            self.new.rows ≡ set_value_at self.old.rows place
+            (at_rest next (count_on row.1.replayed row.1.due)))) }
     {
         match self.map.get_index_mut(place) {
             Some(line) => line.commit(),
