@@ -1,7 +1,8 @@
 #!/usr/bin/env python3
-"""Prints a legal history: `workload.py EVENTS CLIENTS SEED [MODEL [KEYS]]`, of one key unless a number of keys is given.
+"""Prints a legal history: `workload.py EVENTS CLIENTS SEED [MODEL [KEYS [LOST]]]`, of one key unless a number of keys is given.
 
-Operations take place at random moments, on keys drawn at random.
+Operations take place at random moments, on keys drawn at random. Of the reads the part LOST, 0 unless it is given, is never
+answered: the client notes `:info`, and its thread goes on with its next process.
 """
 import random
 import sys
@@ -31,6 +32,13 @@ def fifo_queue(state, name, part):
     return (state[1:], state[0]) if state else None
 
 
+def unordered_queue(state, name, part):
+    if name == "enqueue":
+        return state + (part,), part
+    middle = len(state) // 2
+    return (state[:middle] + state[middle + 1:], state[middle]) if state else None
+
+
 def members(state, name, part):
     if name == "read":
         return state, "#{" + " ".join(sorted(state)) + "}"
@@ -54,12 +62,25 @@ def of_mutex(draw, state, waiting, last):
     return ("release" if last == "acquire" else "acquire"), "nil"
 
 
+def of_queue(draw, state, waiting, most, values):
+    left = len(state) + waiting.count("enqueue") - waiting.count("dequeue")
+    if left >= most or left > 0 and draw.random() < 0.5:
+        return "dequeue", "nil"
+    return "enqueue", str(draw.randrange(values))
+
+
 def of_fifo_queue(draw, state, waiting, last):
     # A short queue: the order of enqueues that were open at once is told only by the dequeues of their values.
-    left = len(state) + waiting.count("enqueue") - waiting.count("dequeue")
-    if left >= 3 or left > 0 and draw.random() < 0.5:
-        return "dequeue", "nil"
-    return "enqueue", str(draw.randrange(5))
+    return of_queue(draw, state, waiting, 3, 5)
+
+
+def of_unordered_queue(draw, state, waiting, last):
+    # A short one, of twenty values: a dequeue that is open may find each value that is in.
+    return of_queue(draw, state, waiting, 3, 20)
+
+
+def of_long_unordered_queue(draw, state, waiting, last):
+    return of_queue(draw, state, waiting, 20, 20)
 
 
 def of_set(draw, state, waiting, last):
@@ -77,19 +98,25 @@ MODELS = {
     "mutex": (False, mutex, of_mutex),
     "fifo-queue": ((), fifo_queue, of_fifo_queue),
     "set": (frozenset(), members, of_set),
+    "unordered-queue": ((), unordered_queue, of_unordered_queue),
 }
 
 # Histories whose kind of object has another name.
-LOADS = {**MODELS, "large-set": (frozenset(), members, of_large_set)}
+LOADS = {
+    **MODELS,
+    "large-set": (frozenset(), members, of_large_set),
+    "long-unordered-queue": ((), unordered_queue, of_long_unordered_queue),
+}
 
 
-def lines(events, clients, seed, model="register", keys=1):
-    """Events of a store whose keys are such objects, one a line, with operations open at once."""
+def lines(events, clients, seed, model="register", keys=1, lost=0.0):
+    """Events of a store whose keys are such objects, one a line, with operations open at once. So many of the reads are lost."""
     draw = random.Random(seed)
     start, apply, choose = LOADS[model]
     states = {}
     doing = [None] * clients
     last = [(None, None)] * clients
+    process = list(range(clients))
 
     def take(key, name, part):
         taken = apply(states.get(key, start), name, part)
@@ -98,7 +125,7 @@ def lines(events, clients, seed, model="register", keys=1):
         return taken
 
     def text(kind, thread, name, key, part):
-        return f"{{:type :{kind}, :process {thread}, :f :{name}, :value [{key} {part}]}}"
+        return f"{{:type :{kind}, :process {process[thread]}, :f :{name}, :value [{key} {part}]}}"
 
     while events > 0:
         thread = draw.randrange(clients)
@@ -113,6 +140,12 @@ def lines(events, clients, seed, model="register", keys=1):
             events -= 1
         else:
             key, name, part, done = doing[thread]
+            if lost and name == "read" and draw.random() < lost:
+                doing[thread] = None
+                yield text("info", thread, name, key, "nil")
+                process[thread] += clients
+                events -= 1
+                continue
             taken = (None, part) if done else take(key, name, part)
             if taken:
                 doing[thread] = None
@@ -127,5 +160,6 @@ def lines(events, clients, seed, model="register", keys=1):
 
 if __name__ == "__main__":
     keys = int(sys.argv[5]) if len(sys.argv) > 5 else 1
-    for line in lines(int(sys.argv[1]), int(sys.argv[2]), int(sys.argv[3]), *sys.argv[4:5], keys=keys):
+    lost = float(sys.argv[6]) if len(sys.argv) > 6 else 0.0
+    for line in lines(int(sys.argv[1]), int(sys.argv[2]), int(sys.argv[3]), *sys.argv[4:5], keys=keys, lost=lost):
         print(line)

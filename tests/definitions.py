@@ -1,6 +1,7 @@
 #!/usr/bin/env python3
 """Compares the clauses of public calls with docs/DEFINITIONS.md: each definition of this repository that such a clause cites
-must be named there, in backticks. Prints what is left out, and ends with 'N passed, M failed', one for each crate.
+must be named there, in backticks. And each wrong body that docs/PROOFS.md names, as `crate`: `name`, must be there. Prints what
+is left out, and ends with 'N passed, M failed', one for each crate and one for the wrong bodies.
 
 A call is public where its crate's root gives it: an item of a `pub mod`, or one that `pub use` names. What a clause cites
 is found by the file's `ghost use` lines; generated modules (`specs.declared`) are types of the code and no definitions.
@@ -83,6 +84,16 @@ def left_out(crate, names):
     return sorted(missing)
 
 
+def bodies_gone():
+    """The wrong bodies that docs/PROOFS.md names and that are not there, each as the path where it should be."""
+    gone = []
+    for line in (TOP / "docs" / "PROOFS.md").read_text().splitlines():
+        for crates, edits in re.findall(r"((?:`\w+`(?:, )?)+): ((?:`\w+`(?:, )?)+)", line):
+            paths = [f"crates/{crate}/must-fail/{edit}.edit" for crate in WORD.findall(crates) for edit in WORD.findall(edits)]
+            gone += [path for path in paths if not (TOP / path).exists()]
+    return gone
+
+
 def main():
     names, failed = named(), 0
     for crate in CRATES:
@@ -90,7 +101,11 @@ def main():
         failed += bool(missing)
         for path, name in missing:
             print(f"docs/DEFINITIONS.md does not name `{name}`, which a public clause of {crate}/src/{path} cites")
-    print(f"{len(CRATES) - failed} passed, {failed} failed")
+    gone = bodies_gone()
+    failed += bool(gone)
+    for path in gone:
+        print(f"docs/PROOFS.md names a wrong body that is not there: {path}")
+    print(f"{len(CRATES) + 1 - failed} passed, {failed} failed")
     return 1 if failed else 0
 
 

@@ -230,6 +230,13 @@ impl KeyLine {
         }
     }
 
+    /// Drops what is prepared, if anything is. Takes no memory.
+    pub fn drop_prepared(&mut self)
+        ensures { self.new ≡ at_rest self.old.now self.old.replayed }
+    {
+        drop_prepared(&mut self.prepared);
+    }
+
     /// Appends this event: [`prepare_push`](Self::prepare_push) and [`commit`](Self::commit) in one.
     ///
     /// # Errors

@@ -12,7 +12,7 @@ use Rattle.ends.specs.Tables.{AreLed, HasEachOnce, Shows, row_led}
 use Rattle.ends.proofs.Rows.{says_with, with_state}
 
 module _ (S : Type 0) (start : S) (apply : Op → S → List (S × Found)) (e : End S) (c : PendingOp) (not_in : is_in e c.id c.crashed ≡ false) where
-  takes : (s : S) (found : Found) → IsOneOf {X = S × Found} (apply c.op e.state) (s, found) → TakesLast (of_table S start apply) e c (with_call e c.id c.crashed found s)
+  pub takes : (s : S) (found : Found) → IsOneOf {X = S × Found} (apply c.op e.state) (s, found) → TakesLast (of_table S start apply) e c (with_call e c.id c.crashed found s)
   takes s found listed = record {
     not_in = not_in;
     found = found;

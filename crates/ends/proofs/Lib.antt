@@ -9,6 +9,7 @@ pub mod Closing
 pub mod Growing
 pub mod Rows
 pub mod Leading
+pub mod Beyond
 pub mod Showing
 pub mod Telling
 pub mod Stating

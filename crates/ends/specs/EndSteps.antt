@@ -1,5 +1,5 @@
 -- Invariant: what the events do to an end, and to lists of ends
-use Rattle.std.specs.Prelude.{◌≡◌, ◌≢◌, ◌↔◌, ℕ, zero, suc, ◌⊎◌, Bool, true, false, not, nat_eq, if◌then◌else◌, Option, Some, None, List, map}
+use Rattle.std.specs.Prelude.{◌≡◌, ◌≢◌, ◌↔◌, ◌<◌, ℕ, zero, suc, ◌⊎◌, Bool, true, false, not, nat_eq, if◌then◌else◌, Option, Some, None, List, length, map}
 use Rattle.std.specs.List.{Contains, filter}
 use Rattle.std.specs.FinMap as finmap
 use Rattle.std.specs.FinSet as finset
@@ -99,6 +99,14 @@ pub record Grows (o : Object) (calls : List PendingOp) (xs ys : List (End o.Stat
   pub kept : (e : End o.State) → Contains xs e → Contains ys e
   pub reached : (e : End o.State) → Contains ys e → IsReached o calls xs e
   pub once : Pairwise (λ d e. d ≢ e) xs → Pairwise (λ d e. d ≢ e) ys
+
+-- different ends, each reached from these, are more than the budget
+pub record ReachesMoreThan (o : Object) (calls : List PendingOp) (ends : List (End o.State))
+    (budget : ℕ) : Type 0 where
+  pub more : List (End o.State)
+  pub reached : (e : End o.State) → Contains more e → IsReached o calls ends e
+  pub once : Pairwise (λ d e. d ≢ e) more
+  pub many : budget < length more
 
 -- the calls of other operations
 abbrev pub is_other : ℕ → PendingOp → Bool

@@ -1,12 +1,13 @@
 //! The ends that calls lead to from others.
-ghost use Rattle.std.specs.Prelude.{◌≡◌, ℕ, ◌+◌, ◌*◌, ◌<◌, ◌≤◌, true, false, take, drop};
-ghost use Rattle.std.specs.Prelude.{List, [], get_or, length, slice_get, Some, IfOk, OnOk};
+ghost use Rattle.std.specs.Prelude.{◌≡◌, ◌≢◌, ℕ, ◌+◌, ◌*◌, ◌<◌, ◌≤◌, true, false, take, drop};
+ghost use Rattle.std.specs.Prelude.{List, [], ◌∷◌, get_or, length, slice_get, Some, IfOk, OnOk};
 ghost use Rattle.std.specs.List.{Contains};
 ghost use Rattle.models.specs.Objects.{of_table};
 ghost use Rattle.history.specs.Events.{IsFront};
 ghost use Rattle.linspec.specs.Ends.{End};
+ghost use Rattle.linspec.specs.Orders.{Pairwise};
 ghost use Rattle.ends.specs.Moves.{AreMoves};
-ghost use Rattle.ends.specs.EndSteps.{Along, AreClosed, TakesLast, Next, Grows};
+ghost use Rattle.ends.specs.EndSteps.{Along, AreClosed, TakesLast, Next, ReachesMoreThan, is_in};
 ghost use Rattle.ends.specs.Tables.{AreShown, HasEachOnce, Shows, Widens, row_led, rows_of};
 ghost use Rattle.ends.specs.Tables.{IsAdvanced, ShownWith, ShownGrown, with_rows};
 
@@ -130,9 +131,42 @@ fn first_for(at: usize, kept: usize, tried: usize) -> usize
     if at < kept { tried } else { 0 }
 }
 
+// Whether some call from that place on leads from the end of the row that stands here to more ends than the budget: it is not in
+// that end, and has more outcomes in its state.
+fn leads_beyond<M: SeqObject>(
+    table: &Table<M::State>,
+    from: usize,
+    calls: &[PendingOp],
+    first: usize,
+    budget: u32,
+) -> bool
+    requires here { from < length (rows_of table.now) }
+    requires some { 1 ≤ budget }
+    ensures beyond { let object = of_table M.State M.start_state M.apply_to in
+        let row = get_or (rows_of table.now) from [] in
+        result ≡ true → (e : End M.State) → Shows table.now calls.now row e
+        → ReachesMoreThan object calls.now (e ∷ []) budget }
+    ensures within { let row = get_or (rows_of table.now) from [] in
+        result ≡ false → (at : ℕ) (c : PendingOp) (e : End M.State) → first ≤ at
+        → slice_get calls.now at ≡ Some c → Shows table.now calls.now row e
+        → is_in e c.id c.crashed ≡ false → length (M.apply_to c.op e.state) ≤ budget }
+{
+    let Some(state) = table::state_of(table, from) else {
+        return false;
+    };
+    for at in first..calls.len() {
+        if M::has_more_outcomes(state, &calls[at].op, budget as usize)
+            && table.rows.has_zero(from, at + 1)
+        {
+            return true;
+        }
+    }
+    false
+}
+
 // Adds what the calls lead to, one after another: goes through the rows once while they grow at their end. The first
-// calls, which were tried already, are tried on new rows alone. False where the rows are more than the budget, and then
-// there may be more to add.
+// calls, which were tried already, are tried on new rows alone. False where all ends are more than the budget, and then
+// there may be more to add. So no call is tried that has more outcomes in a state than the budget.
 fn grow<M: SeqObject>(
     alloc: Global,
     table: &mut Table<M::State>,
@@ -147,7 +181,10 @@ fn grow<M: SeqObject>(
         → AreClosed object (take tried calls.now) ends
         → IfOk result (ShownGrown object table.new calls.now ends) }
     ensures within { IfOk result (λ all. all ≡ true → length (rows_of table.new) ≤ budget) }
-    ensures beyond { IfOk result (λ all. all ≡ false → budget < length (rows_of table.new)) }
+    ensures over { let object = of_table M.State M.start_state M.apply_to in
+        HasEachOnce calls.now → (ends : List (End M.State)) → Pairwise (λ d e. d ≢ e) ends
+        → AreShown table.old calls.now ends → AreClosed object (take tried calls.now) ends
+        → IfOk result (λ all. all ≡ false → ReachesMoreThan object calls.now ends budget) }
     ensures widens { Widens table.old table.new }
     ensures front { IsFront (rows_of table.old) (rows_of table.new) }
     ensures cost { applied.new ≤ applied.old + (budget + 1) * length calls.now }
@@ -162,6 +199,9 @@ fn grow<M: SeqObject>(
             return Ok(true);
         }
         let first = first_for(at, kept, tried);
+        if leads_beyond::<M>(table, at, calls, first, budget) {
+            return Ok(false);
+        }
         grow_from::<M>(alloc, table, moves, at, calls, first, applied)?;
     }
     Ok(table.rows.len() <= budget as usize)
@@ -186,10 +226,9 @@ fn found_rows<M: SeqObject>(
         → IfOk result (λ all. all ≡ true → IsAdvanced object
         (with_rows table.new room.new.rows) calls.now ends budget id answer.now) }
     ensures over { let object = of_table M.State M.start_state M.apply_to in
-        HasEachOnce calls.now → (ends : List (End M.State)) → AreShown table.old calls.now ends
-        → AreClosed object (take tried calls.now) ends
-        → IfOk result (λ all. all ≡ false
-        → (more : List (End M.State)) × Grows object calls.now ends more × (budget < length more)) }
+        HasEachOnce calls.now → (ends : List (End M.State)) → Pairwise (λ d e. d ≢ e) ends
+        → AreShown table.old calls.now ends → AreClosed object (take tried calls.now) ends
+        → IfOk result (λ all. all ≡ false → ReachesMoreThan object calls.now ends budget) }
     ensures widens { Widens table.old table.new }
     ensures front { IsFront (rows_of table.old) (rows_of table.new) }
     ensures cost { applied.new ≤ applied.old + (budget + 1) * length calls.now }
@@ -203,8 +242,9 @@ fn found_rows<M: SeqObject>(
 
 /// Puts the rows of the ends that are left after the operation has returned with this answer into the room: of those where it
 /// is in and what it found fits, each without it. False where all ends, these and what the calls lead to from them one after
-/// another, are more than the budget. This is so where each call is of another operation, and the first calls, so many as
-/// were tried already, lead from the ends to no others. No more ends than the budget are extended. The rows of the table stay.
+/// another, are more than the budget. This is so where each end is there once, each call is of another operation, and the first
+/// calls, so many as were tried already, lead from the ends to no others. No more ends than the budget are extended, and no call
+/// is tried that has more outcomes than the budget. The rows of the table stay.
 pub fn advance<M: SeqObject>(
     alloc: Global,
     table: &mut Table<M::State>,
@@ -222,10 +262,9 @@ pub fn advance<M: SeqObject>(
         → IfOk result (λ all. all ≡ true → IsAdvanced object
         (with_rows table.new room.new.rows) calls.now ends budget id answer.now) }
     ensures over { let object = of_table M.State M.start_state M.apply_to in
-        HasEachOnce calls.now → (ends : List (End M.State)) → AreShown table.old calls.now ends
-        → AreClosed object (take tried calls.now) ends
-        → IfOk result (λ all. all ≡ false
-        → (more : List (End M.State)) × Grows object calls.now ends more × (budget < length more)) }
+        HasEachOnce calls.now → (ends : List (End M.State)) → Pairwise (λ d e. d ≢ e) ends
+        → AreShown table.old calls.now ends → AreClosed object (take tried calls.now) ends
+        → IfOk result (λ all. all ≡ false → ReachesMoreThan object calls.now ends budget) }
     ensures widens { Widens table.old table.new }
     ensures rows { rows_of table.new ≡ rows_of table.old }
     ensures cost { applied.new ≤ applied.old + (budget + 1) * length calls.now }

@@ -112,8 +112,8 @@ pub fn step<M: SeqObject>(
     M::append_outcomes(alloc, state, op, outcomes)
 }
 
-// The state of the end of the row that stands here.
-fn state_of<S: Ord + Drop>(table: &Table<S>, from: usize) -> Option<&S>
+/// The state of the end of the row that stands here.
+pub fn state_of<S: Ord + Drop>(table: &Table<S>, from: usize) -> Option<&S>
     ensures { let row = get_or (rows_of table.now) from [] in
         (calls : List PendingOp) (e : End S) → Shows table.now calls row e
         → IsSomeAnd result (λ s. s.now ≡ e.state) }

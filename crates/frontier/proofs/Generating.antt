@@ -20,7 +20,7 @@ use Rattle.linspec.proofs.Reach.{Reaches, invoke_after, invoke_before}
 use Rattle.linspec.proofs.Fronts.{IsLinearizable-end}
 use Rattle.ends.specs.declared.pending_op.PendingOp.{PendingOp}
 use Rattle.ends.specs.KeptEnds.{ArePending}
-use Rattle.ends.specs.EndSteps.{Crashes, after_crash, is_in, Along, Adds, Grows, IsReached}
+use Rattle.ends.specs.EndSteps.{Crashes, after_crash, is_in, Along, Adds, IsReached, ReachesMoreThan}
 use Rattle.frontier.proofs.TheEnds.{AreTheEnds}
 use Rattle.ends.proofs.Reaching.{end_further, calls_of, reaches_of, reached_itself}
 use Rattle.ends.proofs.JustInTime.{Reaches-append, Reaches-new, Reaches-failed, Reaches-crashed, Reaches-aside, aside, none_before}
@@ -158,5 +158,5 @@ module _ (o : Object) (ends : List (End o.State)) (calls : List PendingOp) (mark
     once = adds.once once;
   }
 
-  pub more_found : (more : List (End o.State)) (budget : ℕ) → Pairwise (λ d e. d ≢ e) ends → Grows o calls ends more → budget < length more → HasMoreThan o marks budget
-  more_found more budget once grows lt = more_than o marks more budget (grows.once once) (λ e h. (are e).0 (grows.reached e h)) lt
+  pub more_found : (budget : ℕ) → ReachesMoreThan o calls ends budget → HasMoreThan o marks budget
+  more_found budget r = more_than o marks r.more budget r.once (λ e h. (are e).0 (r.reached e h)) r.many

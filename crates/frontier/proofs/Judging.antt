@@ -1,11 +1,12 @@
 -- an ok: all ends, what is left of them, and what the frontier stands for then
-use Rattle.std.proofs.Common.{◌≡◌, ℕ, ◌<◌, List, [], ◌∷◌, ◌++◌, map, length, take, sym, ◌∙◌, subst, arith}
+use Rattle.std.proofs.Common.{◌≡◌, ◌≢◌, ℕ, List, [], ◌∷◌, ◌++◌, map, length, take, sym, ◌∙◌, subst, arith}
 use Rattle.std.specs.List.{filter}
 use Rattle.models.specs.declared.finding.Answer.{Answer}
 use Rattle.models.specs.Objects.{Object}
 use Rattle.history.specs.Events.{Mark}
 use Rattle.history.specs.Events.Mark.{Returned}
 use Rattle.linspec.specs.Operations.{IsOpen}
+use Rattle.linspec.specs.Orders.{Pairwise}
 use Rattle.linspec.specs.Ends.{End, HasMoreThan}
 use Rattle.linspec.proofs.Counts.{more_ends}
 use Rattle.ends.specs.declared.pending_op.PendingOp.{PendingOp}
@@ -13,7 +14,7 @@ use Rattle.frontier.specs.declared.frontier.Frontier.{Frontier}
 use Rattle.ends.specs.declared.table.Table.{Table}
 use Rattle.ends.specs.declared.kept_end.KeptEnd.{KeptEnd}
 use Rattle.ends.specs.KeptEnds.{AreIncluded, ArePending, end_kept}
-use Rattle.ends.specs.EndSteps.{AreClosed, Grows, is_other}
+use Rattle.ends.specs.EndSteps.{AreClosed, ReachesMoreThan, is_other}
 use Rattle.frontier.specs.Meaning.{Lists}
 use Rattle.ends.specs.Tables.{AreShown, HasEachOnce, IsAdvanced}
 use Rattle.std.proofs.lemmas.List.{take_all}
@@ -27,8 +28,8 @@ use Rattle.frontier.proofs.TheEnds.{AreTheEnds}
 
 module _ {M : Type 0} (o : Object) (f : Frontier M o.State) (marks : List Mark) (stands : Lists o f marks) (budget : ℕ) where
   -- there are more than the budget
-  pub too_many : (more : List (End o.State)) → Grows o f.calls.items stands.kept more → budget < length more → HasMoreThan o marks budget
-  too_many more grows lt = more_found o stands.kept f.calls.items marks stands.ends more budget stands.well_kept.once grows lt
+  pub too_many : ReachesMoreThan o f.calls.items stands.kept budget → HasMoreThan o marks budget
+  too_many more = more_found o stands.kept f.calls.items marks stands.ends budget more
 
   -- all are found
   module _ (t : Table o.State) (id : ℕ) (is_open : IsOpen marks id) (answer : Answer) (found : IsAdvanced o t f.calls.items stands.kept budget id answer) where
@@ -75,10 +76,8 @@ module _ {M : Type 0} (o : Object) (f : Frontier M o.State) (marks : List Mark) 
   pub advanced : (t : Table o.State) (budget id : ℕ) (answer : Answer) → (HasEachOnce calls → (ends : List (End o.State)) → AreShown f.table calls ends → AreClosed o (take f.tried calls) ends → IsAdvanced o t calls ends budget id answer) → IsAdvanced o t f.calls.items stands.kept budget id answer
   advanced t budget id answer h = subst (λ l. IsAdvanced o t l stands.kept budget id answer) same (h calls_once stands.kept its_rows its_tried)
 
-  pub too_many_by : (budget : ℕ) → (HasEachOnce calls → (ends : List (End o.State)) → AreShown f.table calls ends → AreClosed o (take f.tried calls) ends → (more : List (End o.State)) × Grows o calls ends more × (budget < length more)) → HasMoreThan o marks budget
-  too_many_by budget h =
-      let m = h calls_once stands.kept its_rows its_tried in
-      too_many o f marks stands budget m.0 (subst (λ l. Grows o l stands.kept m.0) same m.1) m.2
+  pub too_many_by : (budget : ℕ) → (HasEachOnce calls → (ends : List (End o.State)) → Pairwise (λ d e. d ≢ e) ends → AreShown f.table calls ends → AreClosed o (take f.tried calls) ends → ReachesMoreThan o calls ends budget) → HasMoreThan o marks budget
+  too_many_by budget h = too_many o f marks stands budget (subst (λ l. ReachesMoreThan o l stands.kept budget) same (h calls_once stands.kept stands.well_kept.once its_rows its_tried))
 
   pub kept_ends : (items : List (KeptEnd o.State)) → (HasEachOnce calls → (ends : List (End o.State)) → AreShown f.table calls ends → map end_kept items ≡ ends) → map end_kept items ≡ stands.kept
   kept_ends items h = h calls_once stands.kept its_rows

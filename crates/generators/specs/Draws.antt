@@ -148,6 +148,11 @@ mutual
         → DrawsInTurn words ask gs q (declines others r)
         → DrawsInTurn words ask (more g gs) p (declines (later || others) r)
 
+-- the ask comes to an item
+abbrev pub GivesItem : (ℕ → ℕ) → Ask → Generator → ℕ → Type 0
+GivesItem words ask g p =
+    (x : Item) × (h : Generator) × (q : ℕ) × Draws words ask g p (gives x h q)
+
 -- what a draw may answer, with the generator and the place in the stream after it. Only an item moves them
 abbrev pub MayDraw : (ℕ → ℕ) → Ask → Generator → ℕ → Drawn → Generator → ℕ → Type 0
 MayDraw words ask g p (Op x) h q = Draws words ask g p (gives x h q)

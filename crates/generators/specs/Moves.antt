@@ -1,12 +1,12 @@
 -- Invariant: how a generator moves on along the path to the item that it gave. This is the code's own; callers see only
 -- what generators answer
-use Rattle.std.specs.Prelude.{◌≡◌, ℕ, zero, suc, ◌-◌, List, [], ◌∷◌, Bool, true, false, not, ◌&&◌, ◌||◌}
+use Rattle.std.specs.Prelude.{◌≡◌, ℕ, zero, suc, ◌-◌, ◌<◌, List, [], ◌∷◌, Bool, true, false, not, ◌&&◌, ◌||◌}
 use Rattle.generators.specs.declared.item.Item.{Item}
 use Rattle.generators.specs.declared.search_result.SearchResult.{SearchResult}
 use Rattle.generators.specs.declared.search_result.SearchResult.TheVariants.{Gives, Declines}
 use Rattle.generators.specs.Turns.{turned}
-use Rattle.generators.specs.Generators.{Generator, ops, mix, limit, seq, phases, each_thread, clients, nemesis, Generators, none, more, is_over, is_some}
-use Rattle.generators.specs.Draws.{Ask, Draws, DrawOutcome, gives, declines}
+use Rattle.generators.specs.Generators.{Generator, ops, mix, limit, seq, phases, each_thread, clients, nemesis, Generators, none, more, count, is_over, is_some}
+use Rattle.generators.specs.Draws.{Ask, Draws, DrawsInTurn, DrawOutcome, gives, declines}
 
 abbrev mutual
   pub moved : Generator → List ℕ → Generator
@@ -78,3 +78,19 @@ pub record DrawsFirst (words : ℕ → ℕ) (ask : Ask) (form : Generators → G
       → is_over g ≡ false
       → Draws words ask g p (declines later q)
       → Draws words ask (form (more g gs)) p (declines (later || is_some gs) q)
+
+-- there is an item on some path: in a generator; in one of those that are asked in turn; in the first that is not over
+abbrev pub FindsItem : (ℕ → ℕ) → Ask → Generator → ℕ → Type 0
+FindsItem words ask g p =
+    (x : Item) × (path : List ℕ) × (q : ℕ) × Draws words ask g p (gives x (moved g path) q)
+
+abbrev pub FindsInTurn : (ℕ → ℕ) → Ask → Generators → ℕ → Type 0
+FindsInTurn words ask gs p =
+    (x : Item) × (i : ℕ) × (path : List ℕ) × (q : ℕ)
+    × DrawsInTurn words ask gs p (gives x (moved_at gs i path) q) × (i < count gs)
+
+abbrev pub FindsFirst : (ℕ → ℕ) → Ask → Bool → Generators → ℕ → Type 0
+FindsFirst words ask passing gs p =
+    (x : Item) × (path : List ℕ) × (q : ℕ)
+    × ((form : Generators → Generator) → DrawsFirst words ask form passing
+    → Draws words ask (form gs) p (gives x (form (along_first gs path)) q))

@@ -9,6 +9,10 @@ abbrev pub under : ℕ → Bool → SearchResult → SearchResult
 under i others (Gives x path) = Gives x (i ∷ path)
 under i others (Declines later) = Declines (later || others)
 
+abbrev pub IsItem : SearchResult → Type 0
+IsItem (Gives x path) = Unit {0}
+IsItem (Declines later) = ⊥
+
 -- an item comes from one of the first n
 abbrev pub IsBelow : ℕ → ℕ → SearchResult → Type 0
 IsBelow n i (Gives x path) = i < n

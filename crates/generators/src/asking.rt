@@ -1,9 +1,9 @@
 //! The search for an item. It changes no generator, and says along which path the item lies.
-ghost use Rattle.std.specs.Prelude.{◌≡◌, ℕ, Bool, List, IfOk, length};
+ghost use Rattle.std.specs.Prelude.{◌≡◌, ℕ, Bool, List, IfOk, OnErr, length};
 ghost use Rattle.generators.specs.Generators.{Generator, Generators, generator_of, generators_of, ops, mix, each_thread};
 ghost use Rattle.generators.specs.Draws.{Draws, DrawsInTurn, ask_of, is_for, all_idle};
 ghost use Rattle.generators.specs.SearchResults.{IsBelow};
-ghost use Rattle.generators.specs.Moves.{outcome, outcome_at, outcome_first, DrawsFirst};
+ghost use Rattle.generators.specs.Moves.{outcome, outcome_at, outcome_first, DrawsFirst, FindsItem, FindsInTurn, FindsFirst};
 ghost use Rattle.generators.specs.Words.{word};
 
 use crate::cycle::Cycle;
@@ -38,8 +38,10 @@ fn all_idle(idle: &[bool]) -> bool
 }
 
 fn ask_ops(alloc: Global, items: &Cycle, asker: Asker) -> Result<SearchResult, AllocError>
-    ensures { IfOk result (λ answer. (words : ℕ → ℕ) (idle : List Bool) (p : ℕ)
+    ensures answer { IfOk result (λ answer. (words : ℕ → ℕ) (idle : List Bool) (p : ℕ)
         → Draws words (ask_of asker idle) (ops items.now) p (outcome (ops items.now) answer p)) }
+    ensures item { OnErr result ((words : ℕ → ℕ) (idle : List Bool) (p : ℕ)
+        → FindsItem words (ask_of asker idle) (ops items.now) p) }
 {
     match items.first() {
         None => Ok(SearchResult::Declines(false)),
@@ -55,7 +57,7 @@ fn ask_ops(alloc: Global, items: &Cycle, asker: Asker) -> Result<SearchResult, A
 }
 
 /// What the generator answers to the asker, where `idle` says for each thread whether it has no open operation. Takes the
-/// words that it needs. `AllocError` where there is no memory for the item and the path.
+/// words that it needs. `AllocError` where there is an item, and no memory for it and the path.
 #[cycle(ask)]
 pub fn ask(
     alloc: Global,
@@ -67,6 +69,8 @@ pub fn ask(
     ensures answer { IfOk result (λ answer. let g = generator_of generator.now in
         Draws (word words.old.seed) (ask_of asker idle.now) g words.old.place
         (outcome g answer words.new.place)) }
+    ensures item { OnErr result (FindsItem (word words.old.seed) (ask_of asker idle.now)
+        (generator_of generator.now) words.old.place) }
     ensures seed { words.new.seed ≡ words.old.seed }
 {
     match generator {
@@ -105,6 +109,8 @@ fn ask_mix(
     ensures answer { IfOk result (λ answer. let g = mix (generators_of children.now) in
         Draws (word words.old.seed) (ask_of asker idle.now) g words.old.place
         (outcome g answer words.new.place)) }
+    ensures item { OnErr result (FindsItem (word words.old.seed) (ask_of asker idle.now)
+        (mix (generators_of children.now)) words.old.place) }
     ensures seed { words.new.seed ≡ words.old.seed }
 {
     if children.is_empty() {
@@ -138,6 +144,8 @@ fn ask_in_turn(
         DrawsInTurn (word words.old.seed) (ask_of asker idle.now) gs words.old.place
         (outcome_at gs r.0 r.1 words.new.place)) }
     ensures below { IfOk result (λ r. IsBelow (length children.now) r.0 r.1) }
+    ensures item { OnErr result (FindsInTurn (word words.old.seed) (ask_of asker idle.now)
+        (generators_of children.now) words.old.place) }
     ensures seed { words.new.seed ≡ words.old.seed }
 {
     let mut later = false;
@@ -165,6 +173,8 @@ fn ask_first(
         (form : Generators → Generator) → DrawsFirst (word words.old.seed) a form passes
         → Draws (word words.old.seed) a (form gs) words.old.place
         (outcome_first form gs answer words.new.place)) }
+    ensures item { OnErr result (FindsFirst (word words.old.seed) (ask_of asker idle.now) passes
+        (generators_of children.now) words.old.place) }
     ensures seed { words.new.seed ≡ words.old.seed }
 {
     for (i, child) in children.iter().enumerate() {
@@ -192,6 +202,8 @@ fn ask_copy(
     ensures answer { IfOk result (λ answer. let g = each_thread (generators_of copies.now) in
         Draws (word words.old.seed) (ask_of asker idle.now) g words.old.place
         (outcome g answer words.new.place)) }
+    ensures item { OnErr result (FindsItem (word words.old.seed) (ask_of asker idle.now)
+        (each_thread (generators_of copies.now)) words.old.place) }
     ensures seed { words.new.seed ≡ words.old.seed }
 {
     let Asker::Thread(thread) = asker else {

@@ -1,6 +1,6 @@
 //! What a generator answers, as the search for an item finds it.
-ghost use Rattle.std.specs.Prelude.{◌≡◌, IfOk};
-ghost use Rattle.generators.specs.SearchResults.{under};
+ghost use Rattle.std.specs.Prelude.{◌≡◌, IfOk, OnErr};
+ghost use Rattle.generators.specs.SearchResults.{under, IsItem};
 
 use crate::item::Item;
 use crate::path::Path;
@@ -17,9 +17,10 @@ pub enum SearchResult {
 
 impl SearchResult {
     /// The answer of a child at a place as that of the generator above it. Where the child declines, an item may come
-    /// later also where `others` says so.
+    /// later also where `others` says so. Only the path to an item wants memory.
     pub fn under(self, place: usize, others: bool) -> Result<SearchResult, AllocError>
-        ensures { IfOk result (λ answer. answer ≡ under place others self) }
+        ensures answer { IfOk result (λ answer. answer ≡ under place others self) }
+        ensures item { OnErr result (IsItem self) }
     {
         match self {
             SearchResult::Gives(item, path) => Ok(SearchResult::Gives(item, path.under(place)?)),

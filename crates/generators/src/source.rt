@@ -45,7 +45,7 @@ impl Model for Source {
 
 impl Source {
     ghost use Rattle.generators.specs.Generators.{generator_of};
-    ghost use Rattle.generators.specs.Draws.{MayDraw, ask_of};
+    ghost use Rattle.generators.specs.Draws.{MayDraw, GivesItem, ask_of};
     ghost use Rattle.generators.specs.Words.{word};
     ghost use Rattle.generators.specs.Sources.{upcoming, committed};
 
@@ -78,7 +78,7 @@ impl Source {
     /// generator and its place in the stream.
     ///
     /// # Errors
-    /// `AllocError` where there is no memory for the item and the path to it; then all is as it was.
+    /// `AllocError` where there is an item, and no memory for it and the path to it; then all is as it was.
     ///
     /// The time is that of the generators that are asked, of the children that are over on the way, and of the item.
     pub fn draw(&mut self, idle: &[bool], asker: Asker) -> Result<Drawn, AllocError>
@@ -88,6 +88,9 @@ impl Source {
         ensures seed { self.new.seed ≡ self.old.seed }
         ensures next { self.new.next ≡ None }
         ensures err { OnErr result (self.new ≡ record self.old { next = None }) }
+        // Only an item wants memory.
+        ensures item { OnErr result (GivesItem (word self.old.seed) (ask_of asker idle.now)
+            self.old.generator self.old.place) }
     {
         let drawn = self.prepare(idle, asker)?;
         self.commit();
@@ -98,16 +101,19 @@ impl Source {
     /// or `draw` drops what is prepared.
     ///
     /// # Errors
-    /// `AllocError` where there is no memory for the item and the path to it; then nothing is prepared.
+    /// `AllocError` where there is an item, and no memory for it and the path to it; then nothing is prepared.
     pub fn prepare(&mut self, idle: &[bool], asker: Asker) -> Result<Drawn, AllocError>
         ensures answer { IfOk result (λ drawn.
             MayDraw (word self.old.seed) (ask_of asker idle.now) self.old.generator self.old.place
             drawn (upcoming self.new).0 (upcoming self.new).1) }
         ensures kept { self.new ≡ record self.old { next = self.new.next } }
         ensures err { OnErr result (self.new.next ≡ None) }
+        // Only an item wants memory.
+        ensures item { OnErr result (GivesItem (word self.old.seed) (ask_of asker idle.now)
+            self.old.generator self.old.place) }
     {
         self.prepared = None;
-        let mut words = self.words.copy()?;
+        let mut words = self.words.copy();
         match ask(self.alloc, &self.generator, &mut words, asker, idle)? {
             SearchResult::Gives(item, path) => {
                 self.prepared = Some((path, words));
@@ -134,11 +140,10 @@ impl Source {
         ensures { IfOk result (λ other. other ≡ record self.now { next = None }) }
     {
         let generator = self.generator.copy(self.alloc)?;
-        let words = self.words.copy()?;
         Ok(Source {
             alloc: self.alloc,
             generator,
-            words,
+            words: self.words.copy(),
             prepared: None,
         })
     }

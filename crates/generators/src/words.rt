@@ -1,12 +1,11 @@
 //! Random words.
-ghost use Rattle.std.specs.Prelude.{◌≡◌, ◌<◌, ◌^◌, IfOk};
+ghost use Rattle.std.specs.Prelude.{◌≡◌, ◌<◌, ◌^◌};
 ghost use Rattle.generators.specs.Draws.{next_place};
 ghost use Rattle.generators.specs.Words.{word};
 
 use rand_chacha::ChaCha8Rng;
 use rand_core::SeedableRng;
 use rand_core::utils::NextWord;
-use std::alloc::AllocError;
 use std::marker::Model;
 
 /// A place in the stream of random words of a seed: the words of 32 bits of the ChaCha8 generator that the seed gives,
@@ -55,14 +54,16 @@ impl Words {
         self.rng.next_word()
     }
 
-    /// The same place of the same stream.
-    pub fn copy(&self) -> Result<Words, AllocError>
-        ensures { IfOk result (λ other. other ≡ self.now) }
+    /// The same place of the same stream. Takes no memory.
+    pub fn copy(&self) -> Words
+        ensures { result ≡ self.now }
     {
-        let rng = self.rng.clone()?;
-        Ok(Words {
+        let Ok(rng) = self.rng.clone() else {
+            unreachable!()
+        };
+        Words {
             seed: self.seed,
             rng,
-        })
+        }
     }
 }

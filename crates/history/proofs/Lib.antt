@@ -8,6 +8,7 @@ pub mod OpenOperations
 pub mod Refusing
 pub mod Replicas
 pub mod Values
+pub mod AnySet
 pub mod OneEvent
 pub mod OneRefusal
 pub mod OpEvents

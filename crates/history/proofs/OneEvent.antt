@@ -1,5 +1,5 @@
 -- An element spells at most one event
-use Rattle.std.proofs.Common.{◌≡◌, ℕ, ℤ, ◌^◌, pos, Option, Some, None, List, codes, refl, sym, ap, ◌∙◌, subst}
+use Rattle.std.proofs.Common.{◌≡◌, ℕ, ℤ, ◌^◌, pos, Option, Some, None, option_map, List, codes, refl, sym, ap, ◌∙◌, subst}
 use Rattle.std.specs.Prelude.{IsSomeAnd, if◌then◌else◌}
 use Rattle.std.specs.Str.{bytes_eq}
 use Rattle.edn.specs.Value.{Value, int, keyword, nil, vector, none, more}
@@ -19,8 +19,11 @@ use Rattle.history.specs.declared.event.Body.TheVariants.{Op as AnOp, Fault as A
 use Rattle.history.specs.declared.event.Event.{Event}
 use Rattle.history.specs.declared.event.Fault.{Fault}
 use Rattle.history.specs.declared.fault_kind.FaultKind.{FaultKind}
-use Rattle.history.specs.Spelling.{IsNumber, SpellsIndex, text_of_kind, SpellsKind, SpellsProcess, SpellsName, set_in, SpellsPart, SpellsOp, text_of_fault, fault_by, SpellsFault, SpellsBody, SpellsHead, SpellsAbout, Spells}
-use Rattle.history.specs.WellFormed.{IsInTables}
+use Rattle.history.specs.Spelling.{two_in, IsNumber, SpellsIndex, text_of_kind, SpellsKind, SpellsProcess, SpellsName, set_in, SpellsPart, SpellsOp, text_of_fault, fault_by, groups_in, MayTell, SpellsFault, SpellsBody, SpellsHead, SpellsAbout, Spells}
+use Rattle.history.specs.declared.event.Fault.TheVariants.{Partition}
+use Rattle.history.specs.Replicas.{AreGroups}
+use Rattle.history.specs.WellFormed.{IsPartOf, IsFault, IsInTables}
+use Rattle.history.proofs.ReadEach.{some_and}
 
 one_number : (m : ℕ) (v : Value) (n k : ℕ) → IsNumber m v n → IsNumber m v k → n ≡ k
 one_number m v n k a b = (let both : int (pos n) ≡ int (pos k) = sym a.0 ∙ b.0 in cc)
@@ -160,9 +163,58 @@ one_body Nemesis f v (AFault x) (AFault y) a b = ap AFault (one_fault f v x y a 
 one_body Nemesis f v (AFault x) (AnOp y) a b = absurd b
 one_body Nemesis f v (AnOp x) y a b = absurd a
 
-pub no_fault : (p : Process) (f v : Value) → p ≡ Nemesis → ((x : Fault) → ¬ SpellsFault f v x) → (b : Body) → ¬ SpellsBody p f v b
-no_fault p f v is other (AFault x) h = other x (subst (λ q. SpellsBody q f v (AFault x)) is h)
-no_fault p f v is other (AnOp x) h = subst (λ q. SpellsBody q f v (AnOp x)) is h
+groups_told : (o : Option (List (List ℕ))) (x : Fault) → option_map Partition o ≡ Some x → IsFault x → IsSomeAnd o AreGroups
+groups_told (Some groups) x is allowed = (let same : x ≡ Partition groups = cc in subst IsFault same allowed)
+groups_told None x is allowed = (let both : ◌≡◌ {A = Option Fault} None (Some x) = is in cc)
+
+kind_told : (v : Value) (kind : FaultKind) (x : Fault) → fault_by kind v ≡ Some x → IsFault x → MayTell kind v
+kind_told v FaultKind.Partition x is allowed = groups_told (groups_in v) x is allowed
+kind_told v FaultKind.Heal x is allowed = tt
+kind_told v FaultKind.Pause x is allowed = tt
+kind_told v FaultKind.Resume x is allowed = tt
+kind_told v FaultKind.Crash x is allowed = tt
+kind_told v FaultKind.Restart x is allowed = tt
+kind_told v FaultKind.LoseReplies x is allowed = tt
+
+-- a fault that may be there is told by a value that may tell it
+pub told_by : (f v : Value) (kind : FaultKind) (x : Fault) → f ≡ keyword (text_of_fault kind) → SpellsFault f v x → IsFault x → MayTell kind v
+told_by f v kind x named h allowed = kind_told v kind x (ap (λ k. fault_by k v) (one_fault_kind f kind h.0 named h.1) ∙ h.2) allowed
+
+pub partition_told : (f v : Value) (kind : FaultKind) → f ≡ keyword (text_of_fault kind) → kind ≡ FaultKind.Partition → MayTell kind v → (x : Fault) × SpellsFault f v x × IsFault x
+partition_told f v FaultKind.Partition named is told =
+    (let s = some_and (groups_in v) AreGroups told in (Partition s.0, (FaultKind.Partition, named, ap (option_map Partition) s.1), s.2))
+partition_told f v FaultKind.Heal named is told = cc
+partition_told f v FaultKind.Pause named is told = cc
+partition_told f v FaultKind.Resume named is told = cc
+partition_told f v FaultKind.Crash named is told = cc
+partition_told f v FaultKind.Restart named is told = cc
+partition_told f v FaultKind.LoseReplies named is told = cc
+
+op_in_tables : (kind : EventKind) (p : ℕ) (op : Op) → IsPartOf kind op.name op.part → IsInTables kind (Client p) (AnOp op)
+op_in_tables Invoke p op h = h
+op_in_tables Ok p op h = h
+op_in_tables Fail p op h = h
+op_in_tables Info p op h = h
+
+pub some_client : (kind : EventKind) (p : ℕ) (f v : Value) (process : Process) → process ≡ Client p → (op : Op) × SpellsOp f v op × IsPartOf kind op.name op.part
+    → (b : Body) × SpellsBody process f v b × IsInTables kind process b
+some_client kind p f v process is m =
+    (AnOp m.0, subst (λ q. SpellsBody q f v (AnOp m.0)) (sym is) m.1, subst (λ q. IsInTables kind q (AnOp m.0)) (sym is) (op_in_tables kind p m.0 m.2))
+
+pub some_nemesis : (kind : EventKind) (f v : Value) (process : Process) → kind ≡ Info → process ≡ Nemesis → (x : Fault) × SpellsFault f v x × IsFault x
+    → (b : Body) × SpellsBody process f v b × IsInTables kind process b
+some_nemesis kind f v process info is m =
+    (AFault m.0, subst (λ q. SpellsBody q f v (AFault m.0)) (sym is) m.1, subst (λ k. IsInTables k process (AFault m.0)) (sym info) (subst (λ q. IsInTables Info q (AFault m.0)) (sym is) m.2))
+
+pub is_two : (v k p : Value) → Some (k, p) ≡ two_in v → v ≡ vector (more k (more p none))
+is_two (vector (more a (more b none))) k p h =
+    (let same : ◌≡◌ {A = Value × Value} (k, p) (a, b) = cc in
+    sym (ap (λ (x : Value × Value). vector (more x.0 (more x.1 none))) same))
+is_two v k p h = (let both : ◌≡◌ {A = Option (Value × Value)} (Some (k, p)) None = h in cc)
+
+pub some_op : (f v : Value) (name : Name) (k p : Value) (key : ℕ) (part : Part) → SpellsName f name → Some (k, p) ≡ two_in v → IsNumber (2 ^ 16) k key → SpellsPart p part
+    → SpellsOp f v (record { name = name; key = key; part = part })
+some_op f v name k p key part named are number spelled = (named, (k, p, is_two v k p are, number, spelled))
 
 at_one : {X : Type 0} (P : Value → X → Type 0) → ((v : Value) (x y : X) → P v x → P v y → x ≡ y) → (o : Option Value) (x y : X) → IsSomeAnd o (λ v. P v x) → IsSomeAnd o (λ v. P v y) → x ≡ y
 at_one P one (Some v) x y a b = one v x y a b

@@ -93,7 +93,7 @@ marks_more seen before numbers i x h is kept below new =
     (seen_more seen (before ++ take i numbers) x kept below new)
 
 -- the numbers of groups
-concat-append : (xs ys : List (List ℕ)) → concat (xs ++ ys) ≡ concat xs ++ concat ys
+pub concat-append : (xs ys : List (List ℕ)) → concat (xs ++ ys) ≡ concat xs ++ concat ys
 concat-append [] ys = refl
 concat-append (x ∷ xs) ys = ap (λ l. x ++ l) (concat-append xs ys) ∙ sym (append_assoc x (concat xs) (concat ys))
 
@@ -114,3 +114,13 @@ numbers_in_cut groups i g h is =
 
 pub numbers_in_all : (groups : List (Vec ℕ Global)) (i : ℕ) → length groups ≤ i → numbers_in (take i groups) ≡ numbers_in groups
 numbers_in_all groups i h = ap numbers_in (take_all i groups h)
+
+-- numbers and groups cut at one of them
+pub seam : (before ns : List ℕ) (x : ℕ) (later after numbers : List ℕ) → numbers ≡ ns ++ x ∷ later → (before ++ numbers) ++ after ≡ ((before ++ ns) ++ x ∷ []) ++ (later ++ after)
+seam before ns x later after numbers is = ap (λ l. (before ++ l) ++ after) is ∙ simp append_assoc
+
+pub concat_at : (gs : List (List ℕ)) (x : List ℕ) (later all : List (List ℕ)) → all ≡ gs ++ x ∷ later → concat all ≡ (concat gs ++ x) ++ concat later
+concat_at gs x later all is = ap concat is ∙ concat-append gs (x ∷ later) ∙ sym (append_assoc (concat gs) x (concat later))
+
+pub concat_push : (gs : List (List ℕ)) (x : List ℕ) → concat gs ++ x ≡ concat (gs ++ x ∷ [])
+concat_push gs x = sym (concat-append gs (x ∷ []) ∙ ap (λ l. concat gs ++ l) (append-nil x))

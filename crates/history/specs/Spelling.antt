@@ -1,5 +1,5 @@
 -- Promise: the events that elements of a text spell (the Jepsen documentation; the table of parts is this project's own)
-use Rattle.std.specs.Prelude.{◌≡◌, ℕ, ◌<◌, ◌^◌, ℤ, pos, nat_lt, Option, Some, None, IsSomeAnd, option_map, List, [], ◌∷◌, codes, if◌then◌else◌}
+use Rattle.std.specs.Prelude.{◌≡◌, ℕ, ◌<◌, ◌^◌, ℤ, pos, nat_lt, Option, Some, None, IsSomeAnd, MatchOption, option_map, List, [], ◌∷◌, codes, if◌then◌else◌}
 use Rattle.edn.specs.Value.{Value, int, keyword, nil, vector, members, Values, none, more}
 use Rattle.edn.specs.Parts.{int_in, value_in}
 use Rattle.edn.specs.declared.refusal.Refusal.{Refusal}
@@ -20,7 +20,12 @@ use Rattle.history.specs.declared.event.Fault.{Fault}
 use Rattle.history.specs.declared.event.Fault.TheVariants.{Partition, Heal, Pause, Resume, Crash, Restart, LoseReplies}
 use Rattle.history.specs.declared.fault_kind.FaultKind.{FaultKind}
 use Rattle.history.specs.declared.event.Event.{Event}
+use Rattle.history.specs.Replicas.{AreGroups}
 use Rattle.history.specs.WellFormed.{IsInTables}
+
+-- such a thing was found; or none of them is allowed
+abbrev pub FindsAllowed : {X : Type 0} → Option X → (X → Type 0) → (X → Type 0) → Type 0
+FindsAllowed {X} found IsSuch IsAllowed = MatchOption found ((x : X) → IsSuch x → ¬ IsAllowed x) IsSuch
 
 -- the two elements of a vector of two
 abbrev pub two_in : Value → Option (Value × Value)
@@ -122,6 +127,11 @@ fault_by FaultKind.Resume v = option_map Resume (number_in (2 ^ 8) v)
 fault_by FaultKind.Crash v = option_map Crash (number_in (2 ^ 8) v)
 fault_by FaultKind.Restart v = option_map Restart (number_in (2 ^ 8) v)
 fault_by FaultKind.LoseReplies v = option_map LoseReplies (number_in (2 ^ 16) v)
+
+-- a partition is told by groups that are apart
+abbrev pub MayTell : FaultKind → Value → Type 0
+MayTell FaultKind.Partition v = IsSomeAnd (groups_in v) AreGroups
+MayTell _ v = Unit {0}
 
 abbrev pub SpellsFault : Value → Value → Fault → Type 0
 SpellsFault f v fault = (kind : FaultKind) × (f ≡ keyword (text_of_fault kind)) × (fault_by kind v ≡ Some fault)

@@ -1,9 +1,11 @@
 //! The tables of values that events may have.
-ghost use Rattle.std.specs.Prelude.{◌↔◌, IsTrue};
+ghost use Rattle.std.specs.Prelude.{◌↔◌, [], IsTrue};
+ghost use Rattle.models.specs.declared.operation.Part.TheVariants.{Set};
 ghost use Rattle.history.specs.WellFormed.{IsPart, IsOkPart, IsPartOf, IsFault, IsInTables, IsRepeat, Completes};
 
 use crate::event::{Body, EventKind, Fault, Process};
-use models::{Name, Op, Part, each_name};
+use models::{Members, Name, Op, Part, each_name};
+use std::alloc::Global;
 
 /// The greatest number of a replica.
 const LAST_REPLICA: u8 = 6;
@@ -51,14 +53,23 @@ fn is_ok_part(name: Name, part: &Part) -> bool
     each_name!(is_answer; name, part)
 }
 
-/// Whether the operation's part is one that an event of this kind may have.
-pub fn is_part_of(kind: EventKind, op: &Op) -> bool
-    ensures { IsTrue result ↔ IsPartOf kind op.now.name op.now.part }
+/// Whether the part is one that an event of this kind and name may have.
+pub fn is_part_of(kind: EventKind, name: Name, part: &Part) -> bool
+    ensures { IsTrue result ↔ IsPartOf kind name part.now }
 {
     match kind {
-        EventKind::Ok => is_ok_part(op.name, &op.part),
-        _ => is_part(op.name, &op.part),
+        EventKind::Ok => is_ok_part(name, part),
+        _ => is_part(name, part),
     }
+}
+
+/// Whether an event of this kind and name may have a set, whatever its members: the empty one stands for all. Takes no
+/// memory.
+pub fn takes_sets(alloc: Global, kind: EventKind, name: Name) -> bool
+    ensures { IsTrue result ↔ IsPartOf kind name (Set []) }
+{
+    let empty = Part::Set(Members::new(alloc));
+    is_part_of(kind, name, &empty)
 }
 
 fn is_fault(fault: &Fault) -> bool
@@ -81,7 +92,7 @@ pub fn is_in_tables(kind: EventKind, process: Process, body: &Body) -> bool
 {
     match process {
         Process::Client(_) => match body {
-            Body::Op(op) => is_part_of(kind, op),
+            Body::Op(op) => is_part_of(kind, op.name, &op.part),
             Body::Fault(_) => false,
         },
         Process::Nemesis => match body {

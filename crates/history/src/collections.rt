@@ -1,10 +1,11 @@
 //! What vectors and sets of a text are.
-ghost use Rattle.std.specs.Prelude.{◌≡◌, ◌^◌, ℕ, IfOk, option_map, map, List};
+ghost use Rattle.std.specs.Prelude.{◌≡◌, ◌^◌, ◌↔◌, ◌++◌, ℕ, List, Some, IsTrue, IsSome, IsSomeAnd, IsErr, IfOk, MatchBool, option_map, map, length};
 ghost use Rattle.edn.specs.View.{value_of, values_of};
 ghost use Rattle.edn.specs.Parts.{int_in};
+ghost use Rattle.history.specs.Replicas.{AreApart, AreGroups, HasSeen};
 ghost use Rattle.history.specs.Spelling.{number_in, numbers_in, groups_in, each_in, ascending, set_in};
 
-use crate::groups::Groups;
+use crate::groups::{Groups, REPLICAS, mark};
 use edn::Edn;
 use models::Members;
 use std::alloc::{AllocError, Global};
@@ -24,16 +25,33 @@ pub fn count_of(element: &Edn) -> Option<u16>
 }
 
 /// The set of integers that an element is, ascending, in whatever order it was spelled. The time is that of sorting them.
+/// Memory is taken where each element is an integer.
 pub fn set_of(alloc: Global, element: &Edn) -> Result<Option<Members>, AllocError>
-    ensures { IfOk result (λ found. found ≡ set_in (value_of element.now)) }
+    ensures found { IfOk result (λ found. found ≡ set_in (value_of element.now)) }
+    ensures memory_last { IsErr result → IsSome (set_in (value_of element.now)) }
 {
     let Edn::Set(elements) = element else {
         return Ok(None);
     };
+    if !are_integers(elements.as_slice()) {
+        return Ok(None);
+    }
     let Some(integers) = integers_of(alloc, elements.as_slice())? else {
         return Ok(None);
     };
     Ok(Some(members_of(integers)))
+}
+
+// Whether each element is an integer.
+fn are_integers(elements: &[Edn]) -> bool
+    ensures { IsTrue result ↔ IsSome (each_in int_in (values_of elements.now)) }
+{
+    for element in elements {
+        if element.as_int().is_none() {
+            return false;
+        }
+    }
+    true
 }
 
 // The integers, if each element is one.
@@ -56,6 +74,45 @@ fn members_of(integers: Vec<i64>) -> Members
     ensures { result ≡ ascending integers.items }
 {
     Members::of_unordered(integers)
+}
+
+/// Whether an element is groups of replicas' numbers, each number at most once. Takes no memory.
+pub fn are_groups(element: &Edn) -> bool
+    ensures { IsTrue result ↔ IsSomeAnd (groups_in (value_of element.now)) AreGroups }
+{
+    let Edn::Vector(elements) = element else {
+        return false;
+    };
+    let mut seen = [false; REPLICAS];
+    for element in elements {
+        if !mark_each(element, &mut seen) {
+            return false;
+        }
+    }
+    true
+}
+
+// Marks the replicas that a vector names. It answers false where the element is no vector of replicas' numbers, or one of
+// them is marked.
+fn mark_each(element: &Edn, seen: &mut [bool]) -> bool
+    requires { length seen.old ≡ 7 }
+    ensures { (before : List ℕ) → HasSeen seen.old before → MatchBool result
+        (IsSomeAnd (numbers_in (value_of element.now)) (λ numbers. HasSeen seen.new (before ++ numbers)))
+        ((numbers after : List ℕ) → numbers_in (value_of element.now) ≡ Some numbers
+        → ¬ AreApart ((before ++ numbers) ++ after)) }
+{
+    let Edn::Vector(elements) = element else {
+        return false;
+    };
+    for element in elements {
+        let Some(number) = byte_of(element) else {
+            return false;
+        };
+        if !mark(&[number], seen) {
+            return false;
+        }
+    }
+    true
 }
 
 /// The groups of numbers that an element is, a vector of vectors.

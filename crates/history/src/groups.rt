@@ -6,7 +6,7 @@ use std::alloc::AllocError;
 use std::marker::Model;
 
 /// The replicas are numbered from 0 to one below this.
-const REPLICAS: usize = 7;
+pub const REPLICAS: usize = 7;
 
 /// The groups into which a partition cuts the replicas, by their numbers. A replica that no group names is alone.
 #[derive(Drop)]
@@ -64,8 +64,8 @@ impl Groups {
     }
 }
 
-// Marks the replicas that the numbers name. It answers false where a number is not that of a replica, or is marked.
-fn mark(numbers: &[u8], seen: &mut [bool]) -> bool
+/// Marks the replicas that the numbers name. It answers false where a number is not that of a replica, or is marked.
+pub fn mark(numbers: &[u8], seen: &mut [bool]) -> bool
     requires { length seen.old ≡ 7 }
     ensures { (before : List ℕ) → HasSeen seen.old before → MatchBool result
         (HasSeen seen.new (before ++ numbers.now))

@@ -1,13 +1,19 @@
 //! Events as they are spelled in texts.
-ghost use Rattle.std.specs.Prelude.{◌≡◌, codes, option_map, IfOk, IfErr};
+ghost use Rattle.std.specs.Prelude.{◌≡◌, ◌↔◌, codes, option_map, IsTrue, IsErr, IfOk, IfErr, IsErrOf};
 ghost use Rattle.std.specs.Option.{option_copied};
 ghost use Rattle.edn.specs.View.{value_of};
 ghost use Rattle.edn.specs.Value.{keyword};
-ghost use Rattle.history.specs.Spelling.{SpellsIndex, SpellsKind, SpellsProcess, SpellsName, SpellsPart, SpellsOp, text_of_fault, fault_by, SpellsFault, SpellsBody, SpellsHead, SpellsAbout, Spells, WhyUnspelled};
+ghost use Rattle.history.specs.Spelling.{SpellsIndex, SpellsKind, SpellsProcess, SpellsName, SpellsPart, SpellsOp, text_of_fault, fault_by, MayTell, SpellsFault, SpellsBody, SpellsHead, SpellsAbout, Spells, WhyUnspelled, FindsAllowed};
+ghost use Rattle.history.specs.WellFormed.{IsPartOf, IsFault, IsInTables};
+ghost use Rattle.history.specs.declared.event.Event.{Event};
+ghost use Rattle.history.specs.declared.event.Body.{Body};
+ghost use Rattle.history.specs.declared.event.Fault.{Fault};
+ghost use Rattle.models.specs.declared.operation.Op.{Op};
+ghost use Rattle.models.specs.declared.operation.Part.{Part};
 ghost use Rattle.models.specs.Names.{Finds};
 
-use crate::allowed::is_in_tables;
-use crate::collections::{byte_of, count_of, groups_of, set_of};
+use crate::allowed::{is_in_tables, takes_sets};
+use crate::collections::{are_groups, byte_of, count_of, groups_of, set_of};
 use crate::elements::{integers_of, key_of, number_of, two_of};
 use crate::event::{Body, Event, EventKind, Fault, Process};
 use crate::fault_kind::FaultKind;
@@ -58,9 +64,16 @@ fn operation_name_of(element: &Edn) -> Option<Name>
     Name::of_text(element.as_keyword()?)
 }
 
-#[tactic(auto, using(crate::proofs::Values::no_part))]
-fn part_of(alloc: Global, element: &Edn) -> Result<Option<Part>, AllocError>
-    ensures { IfOk result (λ found. Finds found (SpellsPart (value_of element.now))) }
+fn part_of(
+    alloc: Global,
+    kind: EventKind,
+    name: Name,
+    element: &Edn,
+) -> Result<Option<Part>, AllocError>
+    ensures found { IfOk result (λ found.
+        FindsAllowed found (SpellsPart (value_of element.now)) (IsPartOf kind name)) }
+    ensures memory_last { IsErr result →
+        (part : Part) × SpellsPart (value_of element.now) part × IsPartOf kind name part }
 {
     if element.is_nil() {
         return Ok(Some(Part::Nil));
@@ -71,15 +84,25 @@ fn part_of(alloc: Global, element: &Edn) -> Result<Option<Part>, AllocError>
     if let Some((a, b)) = integers_of(element) {
         return Ok(Some(Part::Pair(a, b)));
     }
+    if !takes_sets(alloc, kind, name) {
+        return Ok(None);
+    }
     let Some(members) = set_of(alloc, element)? else {
         return Ok(None);
     };
     Ok(Some(Part::Set(members)))
 }
 
-fn operation_of(alloc: Global, name: &Edn, value: &Edn) -> Result<Option<Op>, AllocError>
-    ensures { IfOk result (λ found. Finds found
-        (SpellsOp (value_of name.now) (value_of value.now))) }
+fn operation_of(
+    alloc: Global,
+    kind: EventKind,
+    name: &Edn,
+    value: &Edn,
+) -> Result<Option<Op>, AllocError>
+    ensures found { IfOk result (λ found. FindsAllowed found
+        (SpellsOp (value_of name.now) (value_of value.now)) (λ op. IsPartOf kind op.name op.part)) }
+    ensures memory_last { IsErr result → (op : Op) × SpellsOp (value_of name.now) (value_of value.now) op
+        × IsPartOf kind op.name op.part }
 {
     let Some(name) = operation_name_of(name) else {
         return Ok(None);
@@ -90,7 +113,7 @@ fn operation_of(alloc: Global, name: &Edn, value: &Edn) -> Result<Option<Op>, Al
     let Some(key) = key_of(key) else {
         return Ok(None);
     };
-    let Some(part) = part_of(alloc, part)? else {
+    let Some(part) = part_of(alloc, kind, name, part)? else {
         return Ok(None);
     };
     Ok(Some(Op { name, key, part }))
@@ -102,9 +125,10 @@ fn fault_kind_of(name: &Edn) -> Option<FaultKind>
     FaultKind::of_text(name.as_keyword()?)
 }
 
-// The fault of this kind that the value tells.
+// The fault of this kind that the value tells. A partition alone takes memory.
 fn fault_by(alloc: Global, kind: FaultKind, value: &Edn) -> Result<Option<Fault>, AllocError>
-    ensures { IfOk result (λ found. found ≡ fault_by kind (value_of value.now)) }
+    ensures found { IfOk result (λ found. found ≡ fault_by kind (value_of value.now)) }
+    ensures partition { IsErr result → kind ≡ FaultKind.Partition }
 {
     match kind {
         FaultKind::Partition => Ok(groups_of(alloc, value)?.map(Fault::Partition)),
@@ -117,28 +141,50 @@ fn fault_by(alloc: Global, kind: FaultKind, value: &Edn) -> Result<Option<Fault>
     }
 }
 
-fn fault_of(alloc: Global, name: &Edn, value: &Edn) -> Result<Option<Fault>, AllocError>
-    ensures { IfOk result (λ found. Finds found
-        (SpellsFault (value_of name.now) (value_of value.now))) }
+// Whether the value tells groups that are apart, where the fault is a partition. Takes no memory.
+fn may_tell(kind: FaultKind, value: &Edn) -> bool
+    ensures { IsTrue result ↔ MayTell kind (value_of value.now) }
 {
-    match fault_kind_of(name) {
-        Some(kind) => fault_by(alloc, kind, value),
-        None => Ok(None),
+    match kind {
+        FaultKind::Partition => are_groups(value),
+        _ => true,
     }
+}
+
+fn fault_of(alloc: Global, name: &Edn, value: &Edn) -> Result<Option<Fault>, AllocError>
+    ensures found { IfOk result (λ found. FindsAllowed found
+        (SpellsFault (value_of name.now) (value_of value.now)) IsFault) }
+    ensures memory_last { IsErr result → (fault : Fault)
+        × SpellsFault (value_of name.now) (value_of value.now) fault × IsFault fault }
+{
+    let Some(kind) = fault_kind_of(name) else {
+        return Ok(None);
+    };
+    if !may_tell(kind, value) {
+        return Ok(None);
+    }
+    fault_by(alloc, kind, value)
 }
 
 fn body_of(
     alloc: Global,
+    kind: EventKind,
     process: Process,
     name: &Edn,
     value: &Edn,
 ) -> Result<Option<Body>, AllocError>
-    ensures { IfOk result (λ found. Finds found
-        (SpellsBody process (value_of name.now) (value_of value.now))) }
+    ensures found { IfOk result (λ found. FindsAllowed found
+        (SpellsBody process (value_of name.now) (value_of value.now)) (IsInTables kind process)) }
+    ensures memory_last { IsErr result → (body : Body)
+        × SpellsBody process (value_of name.now) (value_of value.now) body
+        × IsInTables kind process body }
 {
     match process {
-        Process::Client(_) => Ok(operation_of(alloc, name, value)?.map(Body::Op)),
+        Process::Client(_) => Ok(operation_of(alloc, kind, name, value)?.map(Body::Op)),
         Process::Nemesis => {
+            if !matches!(kind, EventKind::Info) {
+                return Ok(None);
+            }
             let Some(fault) = fault_of(alloc, name, value)? else {
                 return Ok(None);
             };
@@ -169,8 +215,16 @@ fn head_of(element: &Edn) -> Option<Head>
     })
 }
 
-fn about_of(alloc: Global, element: &Edn, process: Process) -> Result<Option<Body>, AllocError>
-    ensures { IfOk result (λ found. Finds found (SpellsAbout (value_of element.now) process)) }
+fn about_of(
+    alloc: Global,
+    kind: EventKind,
+    process: Process,
+    element: &Edn,
+) -> Result<Option<Body>, AllocError>
+    ensures found { IfOk result (λ found. FindsAllowed found
+        (SpellsAbout (value_of element.now) process) (IsInTables kind process)) }
+    ensures memory_last { IsErr result → (body : Body)
+        × SpellsAbout (value_of element.now) process body × IsInTables kind process body }
 {
     let Some(name) = element.get("f") else {
         return Ok(None);
@@ -178,16 +232,17 @@ fn about_of(alloc: Global, element: &Edn, process: Process) -> Result<Option<Bod
     let Some(value) = element.get("value") else {
         return Ok(None);
     };
-    body_of(alloc, process, name, value)
+    body_of(alloc, kind, process, name, value)
 }
 
 fn event_of(alloc: Global, element: &Edn) -> Result<Option<Event>, AllocError>
-    ensures { IfOk result (λ found. Finds found (Spells (value_of element.now))) }
+    ensures found { IfOk result (λ found. Finds found (Spells (value_of element.now))) }
+    ensures memory_last { IsErr result → (event : Event) × Spells (value_of element.now) event }
 {
     let Some(head) = head_of(element) else {
         return Ok(None);
     };
-    let Some(body) = about_of(alloc, element, head.process)? else {
+    let Some(body) = about_of(alloc, head.kind, head.process, element)? else {
         return Ok(None);
     };
     if !is_in_tables(head.kind, head.process, &body) {
@@ -211,10 +266,13 @@ fn event_of(alloc: Global, element: &Edn) -> Result<Option<Event>, AllocError>
 /// The time is that of one pass over the pairs, and of sorting the members of a set.
 ///
 /// # Errors
-/// [`Refusal::BadValue`] where the element spells no event; [`Refusal::NoMemory`] where a growth was refused.
+/// [`Refusal::BadValue`] where the element spells no event; [`Refusal::NoMemory`] last, where it spells one and a growth
+/// was refused.
 pub fn from_edn(alloc: Global, element: &Edn) -> Result<Event, Refusal>
     ensures ok { IfOk result (Spells (value_of element.now)) }
     ensures refused { IfErr result (WhyUnspelled (value_of element.now)) }
+    ensures memory_last { IsErrOf result Refusal.NoMemory →
+        (event : Event) × Spells (value_of element.now) event }
 {
     match event_of(alloc, element)? {
         Some(event) => Ok(event),

@@ -1,10 +1,9 @@
 -- the outcomes of a dequeue that keeps no order, one after another
-use Rattle.std.proofs.Common.{◌≡◌, ◌≢◌, ◌↔◌, ℕ, zero, suc, ◌+◌, ◌<◌, ◌≤◌, ℤ, ◌<ℤ◌, ◌≤ℤ◌, ◌⊎◌, inl, inr, ⊎_elim, List, [], ◌∷◌, ◌++◌, map, length, get_or, take, remove, refl, sym, ap, ◌∙◌, subst, arith, append_assoc, eq-or-lt_of_le}
+use Rattle.std.proofs.Common.{◌≡◌, ◌≢◌, ℕ, zero, suc, ◌+◌, ◌<◌, ℤ, ◌<ℤ◌, ◌≤ℤ◌, ⊎_elim, List, [], ◌∷◌, ◌++◌, length, get_or, take, remove, sym, ap, ◌∙◌, subst, arith, eq-or-lt_of_le}
 use Rattle.std.specs.List.{Contains}
 use Rattle.std.proofs.lemmas.Int.{ints, by_lt_z}
 use Rattle.std.proofs.lemmas.List.{map-append, get_or_default, get_or-take, length-take, take_more}
-use Rattle.std.proofs.lemmas.List.Elements.{Contains-append_cases, Contains-append_left, Contains-append_right, Contains-push, Contains-push_cases, Contains-get_or}
-use Rattle.models.specs.declared.finding.Found.{Found}
+use Rattle.std.proofs.lemmas.List.Elements.{Contains-append_left, Contains-push, Contains-push_cases, Contains-get_or}
 use Rattle.models.specs.declared.finding.Found.TheVariants.{Item}
 use Rattle.models.specs.Members.{IsAscending}
 use Rattle.models.specs.Multisets.{NeverFalls, without_one, values_of}
@@ -71,7 +70,7 @@ module _ (s : List ℤ) (at : ℕ) (d : ℤ) (fits : at < length s) (is : NeverF
         let same : get_or s there.0 d ≡ y = get_or_default s there.0 d y (let lt : there.0 < at = there.1 in omega arith) ∙ there.2 in
         subst (λ z. z <ℤ v) same l
 
-    values_new : values_of (take (at + 1) s) ≡ values_of (take at s) ++ v ∷ []
+    pub values_new : values_of (take (at + 1) s) ≡ values_of (take at s) ++ v ∷ []
     values_new =
         one_ascending (values_of (take (at + 1) s)) (values_of (take at s) ++ v ∷ []) (IsAscending-values_of (take (at + 1) s))
         (IsAscending-push (values_of (take at s)) v (IsAscending-values_of (take at s)) (λ y h. above y ((Contains-values_of (take at s) y).0 h)))
@@ -104,7 +103,7 @@ module _ (s : List ℤ) (at : ℕ) (d : ℤ) (fits : at < length s) (is : NeverF
     there_already : (y : ℤ) → v ≡ y → Contains (take at s) y
     there_already y e = in_place p y (omega arith) (get_or_default s p y d (omega arith) ∙ equal ∙ e)
 
-    values_old : values_of (take (at + 1) s) ≡ values_of (take at s)
+    pub values_old : values_of (take (at + 1) s) ≡ values_of (take at s)
     values_old =
         one_ascending (values_of (take (at + 1) s)) (values_of (take at s)) (IsAscending-values_of (take (at + 1) s)) (IsAscending-values_of (take at s))
         (λ y. (

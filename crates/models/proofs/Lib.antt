@@ -3,6 +3,8 @@ pub mod PutIn
 pub mod Bags
 pub mod Dequeues
 pub mod Unordered
+pub mod Apart
+pub mod Counting
 pub mod Steps
 pub mod Tables
 pub mod Sorting

@@ -49,13 +49,13 @@ pub not_lower : (a b : ℤ) → b <ℤ a → int_lt a b ≡ false
 not_lower a b h = ⊎_elim (λ e. absurd (not_below b (below_all b a b h (is_below a b e)))) (λ e. e) (cases_Bool (int_lt a b))
 
 -- put_in by its three cases
-put_in-first : (v x : ℤ) (xs : List ℤ) → int_lt v x ≡ true → put_in v (x ∷ xs) ≡ v ∷ x ∷ xs
+pub put_in-first : (v x : ℤ) (xs : List ℤ) → int_lt v x ≡ true → put_in v (x ∷ xs) ≡ v ∷ x ∷ xs
 put_in-first v x xs e = ap (λ b. cond b (v ∷ x ∷ xs) (cond (int_lt x v) (x ∷ put_in v xs) (x ∷ xs))) e
 
-put_in-later : (v x : ℤ) (xs : List ℤ) → int_lt v x ≡ false → int_lt x v ≡ true → put_in v (x ∷ xs) ≡ x ∷ put_in v xs
+pub put_in-later : (v x : ℤ) (xs : List ℤ) → int_lt v x ≡ false → int_lt x v ≡ true → put_in v (x ∷ xs) ≡ x ∷ put_in v xs
 put_in-later v x xs e f = ap (λ b. cond b (v ∷ x ∷ xs) (cond (int_lt x v) (x ∷ put_in v xs) (x ∷ xs))) e ∙ ap (λ b. cond b (x ∷ put_in v xs) (x ∷ xs)) f
 
-put_in-there : (v x : ℤ) (xs : List ℤ) → int_lt v x ≡ false → int_lt x v ≡ false → put_in v (x ∷ xs) ≡ x ∷ xs
+pub put_in-there : (v x : ℤ) (xs : List ℤ) → int_lt v x ≡ false → int_lt x v ≡ false → put_in v (x ∷ xs) ≡ x ∷ xs
 put_in-there v x xs e f = ap (λ b. cond b (v ∷ x ∷ xs) (cond (int_lt x v) (x ∷ put_in v xs) (x ∷ xs))) e ∙ ap (λ b. cond b (x ∷ put_in v xs) (x ∷ xs)) f
 
 -- the members are v and those before

@@ -1,7 +1,7 @@
 -- what the table of the queue without an order comes to
-use Rattle.std.proofs.Common.{◌≡◌, ◌≢◌, ◌↔◌, ℕ, zero, suc, ◌+◌, ◌<◌, ◌≤◌, ℤ, pos, ◌<ℤ◌, ◌⊎◌, inl, inr, ⊎_elim, true, false, cond, int_lt, List, [], ◌∷◌, ◌++◌, map, length, get_or, refl, sym, ap, ◌∙◌, subst, arith}
+use Rattle.std.proofs.Common.{◌≡◌, ◌≢◌, ◌↔◌, ℕ, zero, suc, ◌+◌, ◌<◌, ◌≤◌, ℤ, pos, ◌<ℤ◌, inl, inr, ⊎_elim, cond, int_lt, List, [], ◌∷◌, ◌++◌, map, length, get_or, refl, sym, ap, ◌∙◌, subst, arith}
 use Rattle.std.specs.Ordering.{int_eq}
-use Rattle.std.specs.List.{AllPairs, Contains, count_by, sum_by}
+use Rattle.std.specs.List.{Contains}
 use Rattle.std.specs.List.Sorted.{IsPermutation}
 use Rattle.std.proofs.lemmas.Bool.{cases_Bool}
 use Rattle.std.proofs.lemmas.Bool.Decides.{Decides-int_eq}
@@ -19,39 +19,11 @@ use Rattle.models.specs.declared.finding.Found.{Found}
 use Rattle.models.specs.declared.finding.Found.TheVariants.{Unit as Done, Item}
 use Rattle.models.specs.Members.{IsAscending}
 use Rattle.models.specs.Multisets.{with_one, without_one, values_of}
-use Rattle.models.specs.Objects.{Object, IsOneOf, taken_from, unordered_apply, unordered_queue}
+use Rattle.models.specs.Objects.{AreApart, IsOneOf, taken_from, unordered_apply, unordered_queue}
 use Rattle.models.specs.Runs.{Runs, enqueued, dequeued, is_enqueue_of, is_dequeue_of, times_enqueued, times_dequeued, times_in}
 use Rattle.models.proofs.PutIn.{no_member, first_member, later_member, member_cases}
 use Rattle.models.proofs.Bags.{with_one-later, with_one-here, without_one-here, without_one-later, same_int, other_int, Contains-values_of, IsAscending-values_of}
-use Rattle.models.proofs.Steps.{only_one, same_outcome, Runs-append}
-
--- no outcome is listed twice, since what is found differs
-ascends : (xs : List ℤ) → IsAscending xs → (i j : ℕ) (d : ℤ) → i < j → j < length xs → get_or xs i d <ℤ get_or xs j d
-ascends [] is i j d lt fits = absurd (omega arith)
-ascends (x ∷ xs) is i zero d lt fits = absurd (omega arith)
-ascends (x ∷ xs) is zero (suc j) d lt fits = is.0 (get_or xs j d) (Contains-get_or xs j d (omega arith))
-ascends (x ∷ xs) is (suc i) (suc j) d lt fits = ascends xs is.1 i j d (omega arith) (omega arith)
-
-item_of : (a b : ℤ) → Item a ≡ Item b → a ≡ b
-item_of a b e = cc
-
-taken_differ : (s values : List ℤ) → IsAscending values → AllPairs (λ x y. x ≢ y) (taken_from s values)
-taken_differ s values is i j d lt fits e =
-    let f : ℤ → List ℤ × Found = (λ v. (without_one v s, Item v)) in
-    let long : length (map f values) ≡ length values = length-map values f in
-    let below : get_or values i (pos 0) <ℤ get_or values j (pos 0) = ascends values is i j (pos 0) lt (omega arith) in
-    let at_i : get_or (map f values) i d ≡ f (get_or values i (pos 0)) = get_or-map f values i (pos 0) d (omega arith) in
-    let at_j : get_or (map f values) j d ≡ f (get_or values j (pos 0)) = get_or-map f values j (pos 0) d (omega arith) in
-    let same : get_or values i (pos 0) ≡ get_or values j (pos 0) = item_of (get_or values i (pos 0)) (get_or values j (pos 0)) (ap (λ (r : List ℤ × Found). r.1) (sym at_i ∙ e ∙ at_j)) in
-    absurd (omega (arith, ints))
-
-alone : {X : Type 0} (xs : List X) → length xs ≤ 1 → AllPairs (λ x y. x ≢ y) xs
-alone xs l i j d lt fits = absurd (omega arith)
-
-pub unordered_differ : (name : Name) (part : Part) (s : List ℤ) → AllPairs (λ x y. x ≢ y) (unordered_apply name part s)
-unordered_differ Enqueue (Int v) s = alone (unordered_apply Enqueue (Int v) s) (omega arith)
-unordered_differ Dequeue Nil s = taken_differ s (values_of s) (IsAscending-values_of s)
-unordered_differ _ _ s = alone [] (omega arith)
+use Rattle.models.proofs.Steps.{same_outcome, Runs-append}
 
 -- what a dequeue comes to
 from_taken : (s values t : List ℤ) (found : Found) → IsOneOf (taken_from s values) (t, found) → (v : ℤ) × Contains values v × (t ≡ without_one v s) × (found ≡ Item v)
@@ -102,6 +74,43 @@ times_without w v (x ∷ xs) h =
     omega arith)
     (member_cases x xs v h))
     (cases_Bool (int_eq x v))
+
+-- no two outcomes of a dequeue leave the same state: of the value that is taken out there is one less
+ascends : (xs : List ℤ) → IsAscending xs → (i j : ℕ) (d : ℤ) → i < j → j < length xs → get_or xs i d <ℤ get_or xs j d
+ascends [] is i j d lt fits = absurd (omega arith)
+ascends (x ∷ xs) is i zero d lt fits = absurd (omega arith)
+ascends (x ∷ xs) is zero (suc j) d lt fits = is.0 (get_or xs j d) (Contains-get_or xs j d (omega arith))
+ascends (x ∷ xs) is (suc i) (suc j) d lt fits = ascends xs is.1 i j d (omega arith) (omega arith)
+
+left_differ : (s : List ℤ) (a b : ℤ) → Contains s a → Contains s b → a ≢ b → without_one a s ≢ without_one b s
+left_differ s a b has_a has_b other e =
+    let less = times_without a a s has_a in
+    let same = times_without a b s has_b in
+    let one : cond {A = ℕ} (int_eq a a) 1 0 ≡ 1 = ap (λ t. cond t 1 0) (same_int a a refl) in
+    let none : cond {A = ℕ} (int_eq b a) 1 0 ≡ 0 = ap (λ t. cond t 1 0) (other_int b a (λ q. other (sym q))) in
+    let left : times_in a (without_one a s) ≡ times_in a (without_one b s) = ap (times_in a) e in
+    absurd (omega (arith, less, same, one, none, left))
+
+taken_differ : (s values : List ℤ) → IsAscending values → ((v : ℤ) → Contains values v → Contains s v) → AreApart (taken_from s values)
+taken_differ s values is among i j d lt fits e =
+    let f : ℤ → List ℤ × Found = (λ v. (without_one v s, Item v)) in
+    let long : length (map f values) ≡ length values = length-map values f in
+    let a = get_or values i (pos 0) in
+    let b = get_or values j (pos 0) in
+    let below : a <ℤ b = ascends values is i j (pos 0) lt (omega arith) in
+    let at_i : get_or (map f values) i d ≡ f a = get_or-map f values i (pos 0) d (omega arith) in
+    let at_j : get_or (map f values) j d ≡ f b = get_or-map f values j (pos 0) d (omega arith) in
+    left_differ s a b (among a (Contains-get_or values i (pos 0) (omega arith))) (among b (Contains-get_or values j (pos 0) (omega arith)))
+    (λ q. absurd (omega (arith, ints)))
+    (ap (λ (r : List ℤ × Found). r.0) (sym at_i) ∙ e ∙ ap (λ (r : List ℤ × Found). r.0) at_j)
+
+alone : {S : Type 0} (xs : List (S × Found)) → length xs ≤ 1 → AreApart xs
+alone xs few i j d lt fits = absurd (omega arith)
+
+pub unordered_apart : (name : Name) (part : Part) (s : List ℤ) → AreApart (unordered_apply name part s)
+unordered_apart Enqueue (Int v) s = alone (unordered_apply Enqueue (Int v) s) (omega arith)
+unordered_apart Dequeue Nil s = taken_differ s (values_of s) (IsAscending-values_of s) (λ v. (Contains-values_of s v).0)
+unordered_apart _ _ s = alone [] (omega arith)
 
 in_if_counted : (v : ℤ) (s : List ℤ) → 0 < times_in v s → Contains s v
 in_if_counted v [] h = absurd (omega arith)

@@ -1,6 +1,7 @@
 -- Promise: sequential objects (sequential specifications; Herlihy and Wing 1990, section 2). The tables are this
 -- project's own, under the names of Knossos
-use Rattle.std.specs.Prelude.{◌≡◌, ℤ, ◌⊎◌, Option, Some, None, List, [], ◌∷◌, ◌++◌, map, Bool, true, false, if◌then◌else◌}
+use Rattle.std.specs.Prelude.{◌≡◌, ◌≢◌, ℤ, ◌⊎◌, Option, Some, None, List, [], ◌∷◌, ◌++◌, map, Bool, true, false, if◌then◌else◌}
+use Rattle.std.specs.List.{AllPairs}
 use Rattle.std.specs.Ordering.{int_eq}
 use Rattle.models.specs.declared.operation.Name.{Name}
 use Rattle.models.specs.declared.operation.Name.TheVariants.{Read, Write, Cas, Acquire, Release, Enqueue, Dequeue, Add}
@@ -50,6 +51,10 @@ object_by table = of_table table.State table.start table.apply
 abbrev pub ReadsLeave : Object → Type 0
 ReadsLeave o =
     (op : Op) (s t : o.State) (found : Found) → op.name ≡ Read → o.Steps s op found t → s ≡ t
+
+-- no two of these outcomes leave the same state
+abbrev pub AreApart : {S : Type 0} → List (S × Found) → Type 0
+AreApart {S} outcomes = AllPairs (λ (x y : S × Found). x.0 ≢ y.0) outcomes
 
 -- a register: write v leaves v, read finds the state
 abbrev pub register_apply : Name → Part → Option ℤ → List (Option ℤ × Found)

@@ -1,7 +1,6 @@
 -- Invariant: in each table a read leaves the state as it was
 use Rattle.std.specs.Prelude.{◌≡◌, ℤ, Option, List, [], ◌∷◌}
 use Rattle.std.proofs.Common.{ap, subst, ⊎_elim}
-use Rattle.models.specs.declared.operation.Name.{Name}
 use Rattle.models.specs.declared.operation.Name.TheVariants.{Read}
 use Rattle.models.specs.declared.operation.Part.{Part}
 use Rattle.models.specs.declared.operation.Part.TheVariants.{Nil, Int, Pair, Set}

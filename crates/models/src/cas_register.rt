@@ -30,6 +30,11 @@ impl SeqObject for CasRegister {
         Ok(*state)
     }
 
+    #[tactic(auto, using(crate::proofs::Apart::cas_register_alone))]
+    fn has_more_outcomes(_state: &Option<i64>, _op: &Op, _most: usize) -> bool {
+        false
+    }
+
     fn append_outcomes(
         alloc: Global,
         state: &Option<i64>,

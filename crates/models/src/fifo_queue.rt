@@ -29,6 +29,11 @@ impl SeqObject for FifoQueue {
         state.copy()
     }
 
+    #[tactic(auto, using(crate::proofs::Apart::queue_alone))]
+    fn has_more_outcomes(_state: &Items, _op: &Op, _most: usize) -> bool {
+        false
+    }
+
     fn append_outcomes(
         alloc: Global,
         state: &Items,

@@ -12,14 +12,16 @@ ghost use Rattle.models.specs.declared.any_state.AnyState.{AnyState};
 ghost use Rattle.models.specs.AnyState.{any, kind_of_state};
 ghost use Rattle.models.specs.Members.{IsAscending, put_in};
 ghost use Rattle.models.specs.Multisets.{without_one};
-ghost use Rattle.models.specs.Objects.{IsOneOf, cas_register_apply, mutex_apply, unordered_apply};
+ghost use Rattle.models.specs.Objects.{IsOneOf, AreApart, cas_register_apply, mutex_apply, unordered_apply};
 ghost use Rattle.models.specs.Objects.{fifo_queue, unordered_queue, object_of, table_of};
 ghost use Rattle.models.specs.Runs.{Runs, enqueued, dequeued, times_enqueued, times_dequeued, times_in};
 
-/// No table lists an outcome twice.
+/// No table lists an outcome twice; and the outcomes of an operation in a state leave different states.
 pub fn table_law()
-    ensures { (kind : ModelKind) (op : Op) (s : (table_of kind).State) →
+    ensures once { (kind : ModelKind) (op : Op) (s : (table_of kind).State) →
         AllPairs (λ x y. x ≢ y) ((table_of kind).apply op s) }
+    ensures apart { (kind : ModelKind) (op : Op) (s : (table_of kind).State) →
+        AreApart ((table_of kind).apply op s) }
 {}
 
 /// A cas takes place just where the state is its first value, and leaves its second.

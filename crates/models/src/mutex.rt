@@ -29,6 +29,11 @@ impl SeqObject for Mutex {
         Ok(*state)
     }
 
+    #[tactic(auto, using(crate::proofs::Apart::mutex_alone))]
+    fn has_more_outcomes(_state: &bool, _op: &Op, _most: usize) -> bool {
+        false
+    }
+
     fn append_outcomes(
         _alloc: Global,
         state: &bool,

@@ -1,15 +1,15 @@
 //! What each sequential object has: a sequential specification (Herlihy and Wing 1990, section 2).
-ghost use Rattle.std.specs.Prelude.{true, ◌≡◌, ◌↔◌, ◌++◌, IsTrue, IfOk, OnOk, OnErr, List};
+ghost use Rattle.std.specs.Prelude.{true, ◌≡◌, ◌↔◌, ◌≤◌, ◌<◌, ◌++◌, IsTrue, IfOk, OnOk, OnErr, List, length};
 ghost use Rattle.models.specs.declared.operation.Op.{Op};
 ghost use Rattle.models.specs.declared.finding.Found.{Found};
-ghost use Rattle.models.specs.Objects.{ReadsLeave, of_table};
+ghost use Rattle.models.specs.Objects.{AreApart, ReadsLeave, of_table};
 
 use crate::finding::Found;
 use crate::operation::Op;
 use std::alloc::{AllocError, Global};
 
-/// A sequential object: its states, the one it starts in, and what each operation does in each state. The state after
-/// an operation and what it finds are functions of the state and the operation alone.
+/// A sequential object: its states, the one it starts in, and the outcomes of each operation in each state, which are a
+/// function of the state and the operation alone.
 pub trait SeqObject {
     /// Its states. They compare and are ordered lawfully, and states that compare equal are the same.
     type State: Drop + Ord;
@@ -27,6 +27,13 @@ pub trait SeqObject {
     /// An equal state; `AllocError` where there is no memory for it.
     fn copy(alloc: Global, state: &Self::State) -> Result<Self::State, AllocError>
         ensures { IfOk result (λ other. other ≡ state.now) };
+
+    /// Whether the operation has more outcomes in the state than so many, for a caller who will not make them all. They leave
+    /// different states. Takes no memory.
+    fn has_more_outcomes(state: &Self::State, op: &Op, most: usize) -> bool
+        requires { 1 ≤ most }
+        ensures more { IsTrue result ↔ (most < length (apply_to op.now state.now)) }
+        ensures apart { AreApart (apply_to op.now state.now) };
 
     /// Puts the outcomes of the operation in the state behind those in the list, so that a caller who keeps the list has
     /// no list made for each step; `AllocError` where there is no memory for a new state or for the list, which is then
@@ -46,6 +53,7 @@ pub trait SeqObject {
 
     /// A read leaves the state as it was.
     ghost reads: { ReadsLeave (of_table Self.State start_state apply_to) };
+
     /// The outcomes of the operation in the state, each once: the state after it and what it finds. None where it can't
     /// take place; `AllocError` where there is no memory for a new state or for the list. Leaves the state as it was.
     final fn apply(

@@ -28,6 +28,11 @@ impl SeqObject for Register {
         Ok(*state)
     }
 
+    #[tactic(auto, using(crate::proofs::Apart::register_alone))]
+    fn has_more_outcomes(_state: &Option<i64>, _op: &Op, _most: usize) -> bool {
+        false
+    }
+
     fn append_outcomes(
         _alloc: Global,
         state: &Option<i64>,

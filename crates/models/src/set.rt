@@ -29,6 +29,11 @@ impl SeqObject for Set {
         state.copy()
     }
 
+    #[tactic(auto, using(crate::proofs::Apart::set_alone))]
+    fn has_more_outcomes(_state: &Members, _op: &Op, _most: usize) -> bool {
+        false
+    }
+
     fn append_outcomes(
         _alloc: Global,
         state: &Members,

@@ -1,7 +1,7 @@
 //! The queue without an order.
-ghost use Rattle.std.specs.Prelude.{◌≡◌, ◌≢◌, ◌+◌, ◌<◌, ◌++◌, ℕ, ℤ, List, [], true, false, OnOk, OnErr, get_or, length, take};
+ghost use Rattle.std.specs.Prelude.{◌≡◌, ◌≢◌, ◌↔◌, ◌+◌, ◌<◌, ◌++◌, ℕ, ℤ, List, [], IsTrue, true, false, OnOk, OnErr, get_or, length, take};
 ghost use Rattle.models.specs.declared.finding.Found.{Found};
-ghost use Rattle.models.specs.Multisets.{values_of};
+ghost use Rattle.models.specs.Multisets.{NeverFalls, values_of};
 ghost use Rattle.models.specs.Objects.{taken_from};
 ghost use Rattle.models.specs.Comparisons.{ints_eq-exact};
 ghost use Rattle.models.specs.Reads.{unordered_reads};
@@ -28,6 +28,26 @@ fn is_new(values: &[i64], at: usize) -> bool
         return true;
     }
     values[at - 1] != values[at]
+}
+
+// Whether there are more different values than so many. Looks at no further ones then.
+fn has_more_values(values: &[i64], most: usize) -> bool
+    requires { NeverFalls values.now }
+    ensures { IsTrue result ↔ (most < length (values_of values.now)) }
+{
+    if values.len() <= most {
+        return false;
+    }
+    let mut different = 0;
+    for at in 0..values.len() {
+        if is_new(values, at) {
+            if different == most {
+                return true;
+            }
+            different += 1;
+        }
+    }
+    false
 }
 
 // Puts the outcome that takes the value at this place out behind the others, unless it is there already, as that of an equal
@@ -98,6 +118,14 @@ impl SeqObject for UnorderedQueue {
 
     fn copy(_alloc: Global, state: &Multiset) -> Result<Multiset, AllocError> {
         state.copy()
+    }
+
+    #[tactic(auto, using(crate::proofs::Unordered::unordered_apart))]
+    fn has_more_outcomes(state: &Multiset, op: &Op, most: usize) -> bool {
+        match (op.name, &op.part) {
+            (Name::Dequeue, Part::Nil) => has_more_values(state.as_slice(), most),
+            _ => false,
+        }
     }
 
     fn append_outcomes(

@@ -1,5 +1,6 @@
 pub mod Carried
 pub mod Changes
+pub mod Changing
 pub mod Committing
 pub mod Cutting
 pub mod EachOnce

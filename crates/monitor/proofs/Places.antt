@@ -47,20 +47,6 @@ module _ {X : Type 0} (xs : List X) (i : ℕ) (x : X) (at : slice_get xs i ≡ S
   pub one_more_dropped : (p : X → Bool) → p x ≡ false → filter p (take (i + 1) xs) ≡ filter p (take i xs)
   one_more_dropped p fails = ap (filter p) one_more_taken ∙ filter-append p (take i xs) (x ∷ []) ∙ ap (λ b. filter p (take i xs) ++ cond b (x ∷ []) []) fails ∙ append-nil (filter p (take i xs))
 
--- a filter that keeps as many keeps all
-pub all_kept : {X : Type 0} (p : X → Bool) (xs : List X) → length xs ≤ length (filter p xs) → filter p xs ≡ xs
-all_kept p [] le = refl
-all_kept {X} p (x ∷ xs) le =
-    ⊎_elim
-    (λ (e : p x ≡ true).
-    (let here : filter p (x ∷ xs) ≡ x ∷ filter p xs = ap (λ b. cond b (x ∷ filter p xs) (filter p xs)) e in
-    let long : length (filter p (x ∷ xs)) ≡ suc (length (filter p xs)) = ap length here in
-    here ∙ ap (λ (l : List X). x ∷ l) (all_kept p xs (omega arith))))
-    (λ (e : p x ≡ false).
-    (let here : length (filter p (x ∷ xs)) ≡ length (filter p xs) = ap (λ b. length (cond b (x ∷ filter p xs) (filter p xs))) e in
-    absurd (omega (arith, length-filter_both p (λ y. not (p y)) (λ y. refl) xs))))
-    (cases_Bool (p x))
-
 -- a key that has no place has no row
 pub absent_key : {A : Type 0} (rows : List (ℕ × A)) (key : ℕ) → position (nat_eq key) (keys_of rows) ≡ None → lookup (nat_eq key) rows ≡ None
 absent_key {A} rows key none = is_none (lookup (nat_eq key) rows) (sym (some_index (nat_eq key) rows) ∙ ap is_some none)

@@ -1,13 +1,13 @@
 -- what is written to the line at a place
-use Rattle.std.proofs.Common.{◌≡◌, ◌≢◌, ℕ, zero, suc, Option, Some, IfSome, Result, Ok, Err, IfOk, OnOk, OnErr, List, [], ◌∷◌, slice_get, sym, ap, subst, ◌∙◌}
+use Rattle.std.proofs.Common.{◌≡◌, ℕ, zero, suc, Option, Some, IfSome, Result, Ok, Err, IfOk, OnOk, OnErr, List, [], ◌∷◌, slice_get, sym, ap, subst, ◌∙◌}
 use Rattle.std.specs.Map.{values_of}
 use Rattle.std.proofs.lemmas.Option.{none-some, same_Some}
 use Rattle.std.proofs.lemmas.Result.{IfOk-weaker, on_ok_weaker}
 use Rattle.indexmap.specs.Layout.{set_value_at}
 use Rattle.linspec.specs.declared.verdict.KeyStatus.{KeyStatus}
 use Rattle.checkpoints.specs.KeyLineView.{KeyHistory, KeyLineView, IsStatusOf, at_rest, with_next}
-use Rattle.monitor.specs.Rows.{nows}
-use Rattle.monitor.proofs.Places.{read_written, others_stay, same_written, map_written}
+use Rattle.monitor.specs.Rows.{nows, without_next}
+use Rattle.monitor.proofs.Places.{read_written, same_written, map_written}
 use Rattle.monitor.proofs.Joins.{now_read}
 
 -- a line that is read has a key
@@ -41,6 +41,11 @@ module _ (es rows : List (ℕ × KeyLineView)) (seen : es ≡ rows) (place : ℕ
         (subst (λ (l : List (ℕ × KeyLineView)). slice_get (set_value_at l place after) place ≡ Some (row_at.0, with_next (change line.now) (due line.now) line)) (sym seen)
         (read_written rows place row_at.0 line after row_at.1 ∙ ap (λ (l : KeyLineView). Some (row_at.0, l)) e)))
 
+    pub prepared_rows : OnOk r (after ≡ with_next (change line.now) (due line.now) line) → OnOk r (IfSome (slice_get rows place) (λ row. set_value_at es place after ≡ set_value_at rows place (with_next (change row.1.now) (due row.1.now) row.1)))
+    prepared_rows = on_ok_weaker r
+        (λ (e : after ≡ with_next (change line.now) (due line.now) line). at_row rows place row_at.0 line (λ row. set_value_at es place after ≡ set_value_at rows place (with_next (change row.1.now) (due row.1.now) row.1)) row_at.1
+        (ap (λ (l : List (ℕ × KeyLineView)). set_value_at l place after) seen ∙ ap (set_value_at rows place) e))
+
     pub prepared_kept : OnOk r (after ≡ with_next (change line.now) (due line.now) line) → OnErr r (after ≡ at_rest line.now line.replayed) → nows (set_value_at es place after) ≡ nows rows
     prepared_kept ok err =
         ap (λ (l : List (ℕ × KeyLineView)). nows (set_value_at l place after)) seen
@@ -48,5 +53,7 @@ module _ (es rows : List (ℕ × KeyLineView)) (seen : es ≡ rows) (place : ℕ
         ∙ ap (λ (h : KeyHistory). set_value_at (nows rows) place h) (now_kept r line after (change line.now) (due line.now) ok err)
         ∙ same_written (nows rows) place row_at.0 line.now (now_read rows place row_at.0 line row_at.1)
 
-  pub prepared_others : (other : ℕ) → other ≢ place → slice_get (set_value_at es place after) other ≡ slice_get rows other
-  prepared_others other ne = ap (λ (l : List (ℕ × KeyLineView)). slice_get (set_value_at l place after) other) seen ∙ others_stay rows place other after ne
+  -- what was prepared is dropped
+  pub dropped : after ≡ without_next line → IfSome (slice_get rows place) (λ row. set_value_at es place after ≡ set_value_at rows place (without_next row.1))
+  dropped is = at_row rows place row_at.0 line (λ row. set_value_at es place after ≡ set_value_at rows place (without_next row.1)) row_at.1
+      (ap (λ (l : List (ℕ × KeyLineView)). set_value_at l place after) seen ∙ ap (set_value_at rows place) is)

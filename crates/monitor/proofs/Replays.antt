@@ -26,19 +26,16 @@ use Rattle.monitor.proofs.Preparing.{at_row}
 
 -- what the line at a place counts
 module _ (n : ℕ) (rows : List (ℕ × KeyLineView)) (place key : ℕ) (line : KeyLineView) (at : slice_get rows place ≡ Some (key, line)) where
-  pub due_counted : AreCutAt n rows → begins_below n line.now ≡ true → loses_at n line.now ≡ true → (due : ℕ) → due ≡ line.due → IfSome (slice_get rows place) (λ row. due ≡ replays_at n row.1.now)
-  due_counted cut begins loses due is =
+  pub due_counted : AreCutAt n rows → begins_below n line.now ≡ true → (due : ℕ) → due ≡ line.due → IfSome (slice_get rows place) (λ row. due ≡ replays_at n row.1.now)
+  due_counted cut begins due is =
       let here : IsCutAt n line = subst (λ (o : Option (ℕ × KeyLineView)). IfSome o (λ row. IsCutAt n row.1)) at (cut place) in
-      at_row rows place key line (λ row. due ≡ replays_at n row.1.now) at (is ∙ (here begins loses).1)
+      at_row rows place key line (λ row. due ≡ replays_at n row.1.now) at (is ∙ (here begins).1)
 
   pub none_begins : begins_below n line.now ≡ false → IfSome (slice_get rows place) (λ row. 0 ≡ replays_at n row.1.now)
   none_begins none =
       let empty : length (events_below n line.now.events) ≤ 0 = ltb-false 0 (length (events_below n line.now.events)) none in
       at_row rows place key line (λ row. 0 ≡ replays_at n row.1.now) at
       (cond_both (loses_at n line.now) (length (events_below n line.now.events) % 64) 0 (λ k. 0 ≡ k) (λ e. omega arith) (λ e. refl))
-
-  pub none_lost : loses_at n line.now ≡ false → IfSome (slice_get rows place) (λ row. 0 ≡ replays_at n row.1.now)
-  none_lost whole = at_row rows place key line (λ row. 0 ≡ replays_at n row.1.now) at (sym (no_replay n line.now whole))
 
 -- what it counts is the count of its key
 pub replays_seen : (h : JudgedHistory) (rows : List (ℕ × KeyLineView)) (k place n r : ℕ) → nows rows ≡ rows_of h → position (nat_eq k) (keys_in_order h.events) ≡ Some place

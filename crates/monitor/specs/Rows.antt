@@ -1,9 +1,9 @@
 -- Invariant: the lines of the keys
-use Rattle.std.specs.Prelude.{◌≡◌, ℕ, true, false, Option, Some, None, IfSome, List, [], ◌∷◌, map, slice_get}
+use Rattle.std.specs.Prelude.{◌≡◌, ℕ, true, false, if◌then◌else◌, Option, Some, None, IfSome, List, [], ◌∷◌, map, slice_get}
 use Rattle.linspec.specs.declared.verdict.KeyStatus.{KeyStatus}
 use Rattle.linspec.specs.declared.verdict.Verdict.{Verdict}
 use Rattle.linspec.specs.Verdicts.{IsJoin}
-use Rattle.checkpoints.specs.KeyLineView.{KeyHistory, KeyLineView, IsStatusOf, cut_at, loses_at, begins_below, replays_at}
+use Rattle.checkpoints.specs.KeyLineView.{KeyHistory, KeyLineView, IsStatusOf, at_rest, with_next, cut_at, begins_below, replays_at, count_on}
 
 -- a row for each key: the key and its line; and the room for more
 pub record LinesView : Type 0 where
@@ -28,9 +28,24 @@ AreStatusesOf _ _ = ⊥
 abbrev pub JoinsRows : List (ℕ × KeyHistory) → Verdict → Type 0
 JoinsRows rows v = (statuses : List (ℕ × KeyStatus)) × AreStatusesOf rows statuses × IsJoin statuses v
 
--- the cut at n is prepared where it takes events from the line and does not empty it, and its replays are counted
+-- each line is changed so
+abbrev pub each_line : (KeyLineView → KeyLineView) → List (ℕ × KeyLineView) → List (ℕ × KeyLineView)
+each_line change rows = map (λ row. (row.0, change row.1)) rows
+
+-- the changes: the cut at n is prepared, if the key has an event before it; it is carried out; nothing is prepared
+abbrev pub with_cut : ℕ → KeyLineView → KeyLineView
+with_cut n line =
+    if begins_below n line.now then with_next (cut_at n line.now) (replays_at n line.now) line else line
+
+abbrev pub cut_done : ℕ → KeyLineView → KeyLineView
+cut_done n line = at_rest (cut_at n line.now) (count_on line.replayed line.due)
+
+abbrev pub without_next : KeyLineView → KeyLineView
+without_next line = at_rest line.now line.replayed
+
+-- the cut at n is prepared, if the key has an event before it, and its replays are counted
 abbrev pub IsCutAt : ℕ → KeyLineView → Type 0
-IsCutAt n line = begins_below n line.now ≡ true → loses_at n line.now ≡ true
+IsCutAt n line = begins_below n line.now ≡ true
     → (line.next ≡ Some (cut_at n line.now)) × (line.due ≡ replays_at n line.now)
 
 -- so it is at each line

@@ -7,4 +7,5 @@ mod monitor;
 mod parts;
 mod settings;
 
+pub use lines::Lines;
 pub use monitor::{KeyRow, Monitor};

@@ -1,12 +1,12 @@
 //! The lines of the keys that have events, in the order of their first events.
-ghost use Rattle.std.specs.Prelude.{◌≡◌, ◌≢◌, ℕ, ◌<◌, ◌≤◌, true, [], ◌∷◌, ◌++◌, Some, None, length, nat_eq, position, slice_get, take, IfOk, OnOk, IfSome, IsSome, IsSomeAnd};
+ghost use Rattle.std.specs.Prelude.{◌≡◌, ◌≢◌, ℕ, ◌<◌, ◌≤◌, true, [], ◌∷◌, ◌++◌, Some, None, length, nat_eq, position, slice_get, take, IfOk, OnOk, OnErr, IfSome, IsSome, IsSomeAnd};
 ghost use Rattle.std.specs.List.{filter};
 ghost use Rattle.std.specs.Map.{keys_of};
 ghost use Rattle.indexmap.specs.Layout.{set_value_at};
 ghost use Rattle.models.specs.declared.model_kind.ModelKind.{ModelKind};
 ghost use Rattle.history.specs.ProcessRule.{IsHistory};
-ghost use Rattle.checkpoints.specs.KeyLineView.{KeyHistory, IsStatusOf, at_rest, with_next, with_pushed, judged_by, cut_at, begins_below, loses_at, replays_at, count_on};
-ghost use Rattle.monitor.specs.Rows.{nows, cut_rows, JoinsRows, IsCutAt, AreCutAt, StandsAfter};
+ghost use Rattle.checkpoints.specs.KeyLineView.{KeyHistory, IsStatusOf, at_rest, with_next, with_pushed, judged_by, cut_at, begins_below, replays_at, count_on};
+ghost use Rattle.monitor.specs.Rows.{nows, cut_rows, each_line, with_cut, cut_done, without_next, JoinsRows, AreCutAt, StandsAfter};
 
 use checkpoints::KeyLine;
 use history::Event;
@@ -18,9 +18,12 @@ use models::{Key, ModelKind};
 use std::alloc::{AllocError, Global};
 use std::marker::Model;
 
-/// The line of each key that has events. A key is found in constant time.
+/// The line of each key that has events, as a [`Monitor`](crate::Monitor) keeps them. A key is found in constant time.
+///
+/// A rewind of a monitor is [`prepare_cut`](Self::prepare_cut) and [`commit_cut`](Self::commit_cut) of its lines, whose clauses
+/// say what becomes of each line, the count of its replays among it.
 #[derive(Drop)]
-pub(crate) struct Lines {
+pub struct Lines {
     map: IndexMap<Key, KeyLine>,
 }
 
@@ -35,7 +38,7 @@ impl Model for Lines {
 
 impl Lines {
     /// No lines. Takes no memory.
-    pub(crate) fn new(alloc: Global) -> Lines
+    pub fn new(alloc: Global) -> Lines
         ensures { result.rows ≡ [] }
     {
         Lines {
@@ -44,21 +47,21 @@ impl Lines {
     }
 
     /// How many there are.
-    pub(crate) fn len(&self) -> usize
+    pub fn len(&self) -> usize
         ensures { result ≡ length self.now.rows }
     {
         self.map.len()
     }
 
     /// The place of a key's line.
-    pub(crate) fn find(&self, key: Key) -> Option<usize>
+    pub fn find(&self, key: Key) -> Option<usize>
         ensures { result ≡ position (nat_eq key) (keys_of self.now.rows) }
     {
         self.map.get_index_of(&key)
     }
 
     /// The key and the line at a place.
-    pub(crate) fn at(&self, place: usize) -> (Key, &KeyLine)
+    pub fn at(&self, place: usize) -> (Key, &KeyLine)
         requires { place < length self.now.rows }
         ensures { slice_get self.now.rows place ≡ Some (result.0, result.1.now) }
     {
@@ -69,7 +72,7 @@ impl Lines {
     }
 
     /// Prepares one more event of the key at a place, and gives the status that it brings.
-    pub(crate) fn prepare_push(
+    pub fn prepare_push(
         &mut self,
         place: usize,
         index: u32,
@@ -92,7 +95,7 @@ impl Lines {
     }
 
     /// Prepares that the key at a place is judged by this kind and budget, and gives the status that this brings.
-    pub(crate) fn prepare_rebuild(
+    pub fn prepare_rebuild(
         &mut self,
         place: usize,
         kind: ModelKind,
@@ -116,33 +119,31 @@ impl Lines {
         }
     }
 
-    /// Prepares a cut at `n` of each line that it takes events from and does not empty. Gives the number of lines that have
-    /// an event before `n`, and the verdict that joins how they then stand. It takes the time of all lines, and of a cut
-    /// of those that lose events.
-    pub(crate) fn prepare_cut(&mut self, n: u32) -> Result<(usize, Verdict), AllocError>
+    /// Prepares a cut at `n` of each line that has an event before `n`. Gives the number of these, and the verdict that joins
+    /// how they then stand. It takes the time of all lines, and of a cut of those that lose events. Where memory was refused,
+    /// no line has anything prepared.
+    pub fn prepare_cut(&mut self, n: u32) -> Result<(usize, Verdict), AllocError>
         ensures kept_lines { IfOk result (λ cut.
             cut.0 ≡ length (filter (λ row. begins_below n row.1) (nows self.old.rows))) }
         ensures verdict { IfOk result (λ cut.
             JoinsRows (cut_rows n (filter (λ row. begins_below n row.1) (nows self.old.rows)))
             cut.1) }
-        ensures next { OnOk result (AreCutAt n self.new.rows) }
+        ensures next { OnOk result (self.new.rows ≡ each_line (with_cut n) self.old.rows) }
+        ensures none { OnErr result (self.new.rows ≡ each_line without_next self.new.rows) }
         ensures kept { nows self.new.rows ≡ nows self.old.rows }
         ensures room { self.old.room ≤ self.new.room }
     {
-        no_keys_law();
-        let mut kept = 0;
-        let mut verdict = Verdict::Legal;
-        for place in 0..self.map.len() {
-            if let Some((key, status)) = self.prepare_cut_at(place, n)? {
-                verdict = join_with(verdict, key, status);
-                kept += 1;
+        match self.prepare_each_cut(n) {
+            Ok(cut) => Ok(cut),
+            Err(no_memory) => {
+                self.drop_prepared();
+                Err(no_memory)
             }
         }
-        Ok((kept, verdict))
     }
 
     /// The verdict that joins how the keys stand, where the one at a place stands so. It takes the time of all lines.
-    pub(crate) fn joined_with(&self, place: usize, status: KeyStatus) -> Verdict
+    pub fn joined_with(&self, place: usize, status: KeyStatus) -> Verdict
         ensures { (next : KeyHistory) → IsStatusOf next status
             → JoinsRows (set_value_at (nows self.now.rows) place next) result }
     {
@@ -161,7 +162,7 @@ impl Lines {
     }
 
     /// Carries out what is prepared at a place. Takes no memory.
-    pub(crate) fn commit(&mut self, place: usize)
+    pub fn commit(&mut self, place: usize)
         requires { IsSomeAnd (slice_get self.old.rows place) (λ row. IsSome row.1.next) }
         ensures { IfSome (slice_get self.old.rows place) (λ row. IfSome row.1.next (λ next.
             self.new.rows ≡ set_value_at self.old.rows place
@@ -173,21 +174,23 @@ impl Lines {
         }
     }
 
-    /// Carries out a prepared cut at `n`, after which this many lines are left, the first ones. Takes no memory.
-    pub(crate) fn commit_cut(&mut self, n: u32, kept: usize)
+    /// Carries out a prepared cut at `n`, after which this many lines are left, the first ones. Judges nothing, and takes no
+    /// memory.
+    pub fn commit_cut(&mut self, n: u32, kept: usize)
         requires next { AreCutAt n self.old.rows }
         requires first { filter (λ row. begins_below n row.1) (nows self.old.rows)
             ≡ take kept (nows self.old.rows) }
-        ensures { nows self.new.rows ≡ cut_rows n (take kept (nows self.old.rows)) }
+        ensures rows { self.new.rows ≡ each_line (cut_done n) (take kept self.old.rows) }
+        ensures now { nows self.new.rows ≡ cut_rows n (take kept (nows self.old.rows)) }
     {
         self.map.truncate(kept);
         for place in 0..self.map.len() {
-            self.commit_cut_at(place, n);
+            self.commit(place);
         }
     }
 
     /// How many events of the line at a place were judged again for a prepared cut at `n`.
-    pub(crate) fn replays_at(&self, place: usize, n: u32) -> u64
+    pub fn replays_at(&self, place: usize, n: u32) -> u64
         requires within { place < length self.now.rows }
         requires next { AreCutAt n self.now.rows }
         ensures { IfSome (slice_get self.now.rows place)
@@ -197,14 +200,11 @@ impl Lines {
         if !cut.begins_below(n) {
             return 0;
         }
-        if !cut.loses(n) {
-            return 0;
-        }
         cut.due()
     }
 
     /// Makes room for one more line.
-    pub(crate) fn reserve(&mut self) -> Result<(), AllocError>
+    pub fn reserve(&mut self) -> Result<(), AllocError>
         ensures same { self.new.rows ≡ self.old.rows }
         ensures room { OnOk result (0 < self.new.room) }
     {
@@ -212,7 +212,7 @@ impl Lines {
     }
 
     /// Adds the line of a new key as the last one. Takes no memory.
-    pub(crate) fn add(&mut self, key: Key, line: KeyLine)
+    pub fn add(&mut self, key: Key, line: KeyLine)
         requires room { 0 < self.old.room }
         requires new { position (nat_eq key) (keys_of self.old.rows) ≡ None }
         ensures { self.new.rows ≡ self.old.rows ++ (key, line) ∷ [] }
@@ -223,8 +223,30 @@ impl Lines {
         }
     }
 
-    // Prepares a cut at `n` of the line at a place, if it takes events from it and does not empty it. Gives its key and how
-    // it then stands, if it has an event before `n`.
+    // Prepares a cut at `n` of each line that has an event before `n`.
+    fn prepare_each_cut(&mut self, n: u32) -> Result<(usize, Verdict), AllocError>
+        ensures kept_lines { IfOk result (λ cut.
+            cut.0 ≡ length (filter (λ row. begins_below n row.1) (nows self.old.rows))) }
+        ensures verdict { IfOk result (λ cut.
+            JoinsRows (cut_rows n (filter (λ row. begins_below n row.1) (nows self.old.rows)))
+            cut.1) }
+        ensures next { OnOk result (self.new.rows ≡ each_line (with_cut n) self.old.rows) }
+        ensures kept { nows self.new.rows ≡ nows self.old.rows }
+        ensures room { self.old.room ≤ self.new.room }
+    {
+        no_keys_law();
+        let mut kept = 0;
+        let mut verdict = Verdict::Legal;
+        for place in 0..self.map.len() {
+            if let Some((key, status)) = self.prepare_cut_at(place, n)? {
+                verdict = join_with(verdict, key, status);
+                kept += 1;
+            }
+        }
+        Ok((kept, verdict))
+    }
+
+    // Prepares a cut at `n` of the line at a place, if it has an event before `n`. Gives its key and how it then stands.
     fn prepare_cut_at(
         &mut self,
         place: usize,
@@ -233,19 +255,14 @@ impl Lines {
         requires { place < length self.old.rows }
         ensures stands { IfOk result (λ stands. IfSome (slice_get self.old.rows place)
             (λ row. StandsAfter n (row.0, row.1.now) stands)) }
-        ensures next { OnOk result (IfSome (slice_get self.new.rows place)
-            (λ row. IsCutAt n row.1)) }
-        ensures others { (other : ℕ) → other ≢ place
-            → slice_get self.new.rows other ≡ slice_get self.old.rows other }
+        ensures next { OnOk result (IfSome (slice_get self.old.rows place) (λ row.
+            self.new.rows ≡ set_value_at self.old.rows place (with_cut n row.1))) }
         ensures kept { nows self.new.rows ≡ nows self.old.rows }
         ensures room { self.old.room ≤ self.new.room }
     {
         let (key, line) = self.at(place);
         if !line.begins_below(n) {
             return Ok(None);
-        }
-        if !line.loses(n) {
-            return Ok(Some((key, line.status())));
         }
         let status = self.prepare_line_cut(place, n)?;
         Ok(Some((key, status)))
@@ -257,10 +274,8 @@ impl Lines {
         ensures status { IfOk result (λ status. IfSome (slice_get self.old.rows place)
             (λ row. IsStatusOf (cut_at n row.1.now) status)) }
         ensures next { OnOk result (IfSome (slice_get self.old.rows place) (λ row.
-            slice_get self.new.rows place
-            ≡ Some (row.0, with_next (cut_at n row.1.now) (replays_at n row.1.now) row.1))) }
-        ensures others { (other : ℕ) → other ≢ place
-            → slice_get self.new.rows other ≡ slice_get self.old.rows other }
+            self.new.rows ≡ set_value_at self.old.rows place
+            (with_next (cut_at n row.1.now) (replays_at n row.1.now) row.1))) }
         ensures kept { nows self.new.rows ≡ nows self.old.rows }
         ensures room { self.old.room ≤ self.new.room }
     {
@@ -270,18 +285,26 @@ impl Lines {
         }
     }
 
-    // Carries out the cut at `n` of the line at a place, if it takes events from it.
-    fn commit_cut_at(&mut self, place: usize, n: u32)
-        requires { IsSomeAnd (slice_get self.old.rows place) (λ row.
-            loses_at n row.1.now ≡ true → row.1.next ≡ Some (cut_at n row.1.now)) }
-        ensures cut { IfSome (slice_get self.old.rows place) (λ row.
-            nows self.new.rows ≡ set_value_at (nows self.old.rows) place (cut_at n row.1.now)) }
-        ensures others { (other : ℕ) → other ≢ place
-            → slice_get self.new.rows other ≡ slice_get self.old.rows other }
+    // Drops what each line has prepared. Takes no memory.
+    fn drop_prepared(&mut self)
+        ensures rows { self.new.rows ≡ each_line without_next self.old.rows }
+        ensures room { self.old.room ≤ self.new.room }
     {
-        let (_, line) = self.at(place);
-        if line.loses(n) {
-            self.commit(place);
+        for place in 0..self.map.len() {
+            self.drop_prepared_at(place);
+        }
+    }
+
+    // Drops what the line at a place has prepared. Takes no memory.
+    fn drop_prepared_at(&mut self, place: usize)
+        requires { place < length self.old.rows }
+        ensures rows { IfSome (slice_get self.old.rows place) (λ row.
+            self.new.rows ≡ set_value_at self.old.rows place (without_next row.1)) }
+        ensures room { self.old.room ≤ self.new.room }
+    {
+        match self.map.get_index_mut(place) {
+            Some(line) => line.drop_prepared(),
+            None => unreachable!(),
         }
     }
 }

@@ -5,6 +5,8 @@ ghost use Rattle.history.specs.WellFormed.{IsConcurrency};
 ghost use Rattle.checkpoints.specs.KeyLineView.{IsStatusOf};
 ghost use Rattle.monitor.specs.JudgedHistory.{IsVerdictOn, with_event, rewound, with_kind, with_budget, IsBudget, opening_of, keys_in_order, history_of_key, kind_of, budget_of};
 ghost use Rattle.monitor.specs.Monitors.{at_rest, with_next, Admits, MayDecline, MayNotBegin, MayNotRewind, MayNotSetBudget, replays_by, loses_by};
+ghost use Rattle.monitor.specs.Rows.{nows};
+ghost use Rattle.monitor.specs.Judged.{rows_of};
 
 use crate::laws::{judging_law, next_event_law};
 use crate::lines::Lines;
@@ -358,6 +360,13 @@ impl Monitor {
         ensures concurrency { result.now.concurrency ≡ self.now.now.concurrency }
     {
         &self.history
+    }
+
+    /// The lines of the keys that have events, by first event. Each tells what was judged again for it so far. Takes no memory.
+    pub fn lines(&self) -> &Lines
+        ensures { nows result.now.rows ≡ rows_of self.now.now }
+    {
+        &self.lines
     }
 
     /// How many keys have events. Takes no memory.

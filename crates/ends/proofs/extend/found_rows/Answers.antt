@@ -3,13 +3,6 @@ use Rattle.models.specs.Objects.{of_table}
 use Rattle.ends.proofs.Growing.{grown_all}
 use Rattle.ends.proofs.extend.found_rows.Goals as goal
 
-pub returns-then-not-branch-clause-over : goal.returns-then-not-branch-clause-over
-returns-then-not-branch-clause-over g c once ends shown closed none =
-    let n = c.in_ok-grow.ensures.grows once ends shown closed in
-    let long = n.shown.long in
-    let beyond = c.in_ok-grow.ensures.beyond c.if-not-branch.true in
-    (n.more, n.grows, omega (arith, long, beyond))
-
 pub returns-clause-all : goal.returns-clause-all
 returns-clause-all g c once ends shown closed _ =
     let o = of_table g.row.M-State.Denot g.M.SeqObject.start_state g.M.SeqObject.apply_to in

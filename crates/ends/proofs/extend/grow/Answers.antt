@@ -1,4 +1,5 @@
-use Rattle.std.proofs.Common.{rules, ◌≤◌, [], get_or, length, ◌∙◌, arith}
+use Rattle.std.proofs.Common.{rules, ◌≤◌, ◌<◌, [], get_or, length, sym, ◌∙◌, arith}
+use Rattle.std.proofs.lemmas.Bool.{true≢false}
 use Rattle.std.proofs.lemmas.Option.{slice_get-get_or}
 use Rattle.models.specs.Objects.{of_table}
 use Rattle.linspec.proofs.Lists.{Contains-nil}
@@ -7,6 +8,8 @@ use Rattle.ends.proofs.Growing.{Grows-itself, cost_more}
 use Rattle.ends.proofs.Closing.{all_tried}
 use Rattle.ends.proofs.Moving.{moves_none}
 use Rattle.ends.proofs.Showing.{all_done, done_on, end_at, grows_on, widens_itself, widens_on}
+use Rattle.ends.proofs.Beyond.{beyond_found, beyond_from}
+use Rattle.ends.proofs.Rows.{has_place}
 use Rattle.ends.proofs.Adding.{IsFront-itself, IsFront-trans}
 use Rattle.ends.proofs.extend.grow.Goals as goal
 
@@ -59,3 +62,29 @@ returns-clause-grows g c once ends shown closed =
 
 pub returns-in_err-grow_from-clause-widens : goal.returns-in_err-grow_from-clause-widens
 returns-in_err-grow_from-clause-widens g c = widens_on c.args.table.now c.loop-at.table c.grow_from.new.table c.loop-at.invariant.widens c.in_err-grow_from.ensures.widens
+
+pub returns-then-len-budget-clause-over : goal.returns-then-len-budget-clause-over
+returns-then-len-budget-clause-over g c once ends each_once shown closed _ =
+    let o = of_table g.row.M-State.Denot g.M.SeqObject.start_state g.M.SeqObject.apply_to in
+    let s = c.loop-at.invariant.grown once ends shown closed in
+    let long = s.1.long in
+    beyond_found o c.args.calls.now ends c.args.budget s.0 each_once s.2 (omega (arith, long))
+
+pub returns-clause-over : goal.returns-clause-over
+returns-clause-over g c once ends each_once shown closed none =
+    let o = of_table g.row.M-State.Denot g.M.SeqObject.start_state g.M.SeqObject.apply_to in
+    let s = c.loop-at.invariant.grown once ends shown closed in
+    let long = s.1.long in
+    beyond_found o c.args.calls.now ends c.args.budget s.0 each_once s.2 (let many : c.args.budget < length (rows_of c.loop-at.table) = search rules in omega (arith, long, many))
+
+pub returns-then-leads_beyond-clause-grows : goal.returns-then-leads_beyond-clause-grows
+returns-then-leads_beyond-clause-grows g c once ends shown closed =
+    let s = c.loop-at.invariant.grown once ends shown closed in
+    record { more = s.0; shown = s.1; grows = s.2; closed = λ is. absurd (true≢false (sym is)) }
+
+pub returns-then-leads_beyond-clause-over : goal.returns-then-leads_beyond-clause-over
+returns-then-leads_beyond-clause-over g c once ends each_once shown closed _ =
+    let o = of_table g.row.M-State.Denot g.M.SeqObject.start_state g.M.SeqObject.apply_to in
+    let s = c.loop-at.invariant.grown once ends shown closed in
+    let p = end_at c.args.calls.now c.loop-at.table s.0 s.1 c.loop-at.at (get_or (rows_of c.loop-at.table) c.loop-at.at []) (slice_get-get_or (rows_of c.loop-at.table) c.loop-at.at [] (omega arith)) in
+    beyond_from o c.args.calls.now ends c.args.budget p.0 (s.2.reached p.0 (has_place s.0 c.loop-at.at p.0 p.1)) (c.leads_beyond.ensures.beyond c.if-leads_beyond.true p.0 p.2)

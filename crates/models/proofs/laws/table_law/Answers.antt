@@ -1,5 +1,8 @@
-use Rattle.models.proofs.Tables.{none_listed_twice}
+use Rattle.models.proofs.Apart.{none_listed_twice, table_apart}
 use Rattle.models.proofs.laws.table_law.Goals as goal
 
-pub returns : goal.returns
-returns c = none_listed_twice
+pub returns-clause-once : goal.returns-clause-once
+returns-clause-once c = none_listed_twice
+
+pub returns-clause-apart : goal.returns-clause-apart
+returns-clause-apart c = table_apart

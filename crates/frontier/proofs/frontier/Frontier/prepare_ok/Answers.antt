@@ -42,7 +42,7 @@ returns-then-not-all-clause-step g c =
     (record {
       right = λ marks given is_open.
           too_many_by o f marks (c.in_ok-list_fresh.ensures.listed marks given).lists c.deref.result.now c.deref.ensures.value f.budget
-          (λ once ends shown closed. c.in_ok-all.ensures.over once ends shown closed c.if-not-all.true);
+          (λ once ends apart shown closed. c.in_ok-all.ensures.over once ends apart shown closed c.if-not-all.true);
       over_at_ok = λ over. tt;
     })
 

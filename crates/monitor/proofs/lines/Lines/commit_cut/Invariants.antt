@@ -1,5 +1,7 @@
-use Rattle.monitor.proofs.Committing.{AreCommittedSoFar}
+use Rattle.std.proofs.Common.{◌≡◌}
+use Rattle.monitor.specs.Rows.{cut_done}
+use Rattle.monitor.proofs.Changing.{first_changed}
 use Rattle.monitor.proofs.lines.Lines.commit_cut.Given as goal
 
 abbrev pub invariant-loop-place : goal.invariant-loop-place
-invariant-loop-place l = AreCommittedSoFar l.n l.initial.self.rows l.self.rows l.place
+invariant-loop-place l = l.self.rows ≡ first_changed (cut_done l.n) l.place l.initial.self.rows

@@ -1,45 +1,12 @@
-use Rattle.std.proofs.Common.{◌<◌, ℕ, Option, IfSome, length, slice_get, ap, subst, arith}
-use Rattle.linspec.specs.declared.verdict.KeyStatus.{KeyStatus}
-use Rattle.monitor.specs.Rows.{nows, LinesView, StandsAfter}
-use Rattle.monitor.proofs.Cutting.{AreCutSoFar-skip, AreCutSoFar-more, AreCutSoFar-all, same_length}
+use Rattle.std.proofs.Common.{ap, sym, ◌∙◌}
+use Rattle.monitor.specs.Rows.{nows, each_line, without_next}
+use Rattle.monitor.proofs.Changing.{none_left, nows_left}
 use Rattle.monitor.proofs.lines.Lines.prepare_cut.Goals as goal
-use Rattle.monitor.proofs.lines.Lines.prepare_cut.Goals.{in-Some, in_default}
 
-pub loop-place-preserved : goal.loop-place-preserved
-loop-place-preserved c =
-    let n = c.args.n in
-    let old = c.args.self.now.rows in
-    let rows = c.loop-place.self.rows in
-    let after = c.prepare_cut_at.new.self.rows in
-    let place = c.loop-place.place in
-    let kept = c.loop-place.kept in
-    let verdict = c.loop-place.verdict in
-    let so_far = c.loop-place.invariant.so_far in
-    let seen = ap (λ (v : LinesView). v.rows) c.self.view_is in
-    let long = same_length c.self.inside.map.entries old rows seen so_far.same in
-    let lt : place < length rows = omega (arith, long, c.len-place-end.ensures.len) in
-    let stands = c.in_ok-key.ensures.stands in
-    let next = c.in_ok-key.ensures.next in
-    let same = c.prepare_cut_at.ensures.kept in
-    let others = c.prepare_cut_at.ensures.others in
-    elim c.match-branch-2.branch [
-      | in-Some w ↦
-          (let stands_so = subst (λ (o : Option (ℕ × KeyStatus)). IfSome (slice_get rows place) (λ row. StandsAfter n (row.0, row.1.now) o)) w.in-Some.is stands in
-          record {
-            so_far = rw (w.kept-is, w.verdict-is) (AreCutSoFar-more n (nows old) rows after place kept verdict so_far lt same next others (w.in-Some.key, w.in-Some.status) w.join_with-verdict.result stands_so w.join_with-verdict.ensures);
-            room = omega arith;
-          })
-      | in_default w ↦
-          (let stands_so = subst (λ (o : Option (ℕ × KeyStatus)). IfSome (slice_get rows place) (λ row. StandsAfter n (row.0, row.1.now) o)) w.in_default.is stands in
-          record {
-            so_far = rw (w.kept-is, w.verdict-is) (AreCutSoFar-skip n (nows old) rows after place kept verdict so_far lt same next others stands_so);
-            room = omega arith;
-          })
-    ]
+pub returns-in-Err-clause-none : goal.returns-in-Err-clause-none
+returns-in-Err-clause-none c =
+    let rows = c.prepare_each_cut.new.self.rows in
+    c.drop_prepared.ensures.rows ∙ none_left rows ∙ sym (ap (each_line without_next) c.drop_prepared.ensures.rows)
 
-pub returns-clause-next : goal.returns-clause-next
-returns-clause-next c =
-    let so_far = c.loop-place.invariant.so_far in
-    let seen = ap (λ (v : LinesView). v.rows) c.self.view_is in
-    let long = same_length c.self.inside.map.entries c.args.self.now.rows c.loop-place.self.rows seen so_far.same in
-    AreCutSoFar-all c.args.n (nows c.args.self.now.rows) c.loop-place.self.rows c.loop-place.place c.loop-place.kept c.loop-place.verdict so_far (omega (arith, long, c.len-place-end.ensures.len))
+pub returns-in-Err-clause-kept : goal.returns-in-Err-clause-kept
+returns-in-Err-clause-kept c = ap nows c.drop_prepared.ensures.rows ∙ nows_left c.prepare_each_cut.new.self.rows ∙ c.prepare_each_cut.ensures.kept

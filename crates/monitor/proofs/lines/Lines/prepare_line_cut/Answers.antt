@@ -1,7 +1,7 @@
 use Rattle.std.proofs.Common.{ap}
 use Rattle.checkpoints.specs.KeyLineView.{cut_at, replays_at}
 use Rattle.monitor.specs.Rows.{LinesView}
-use Rattle.monitor.proofs.Preparing.{prepared_status, prepared_next, prepared_kept, prepared_others}
+use Rattle.monitor.proofs.Preparing.{prepared_status, prepared_rows, prepared_kept}
 use Rattle.monitor.proofs.lines.Lines.prepare_line_cut.Goals as goal
 
 pub returns-clause-status : goal.returns-clause-status
@@ -12,14 +12,9 @@ returns-clause-status c =
 pub returns-clause-next : goal.returns-clause-next
 returns-clause-next c =
     let seen = ap (λ (v : LinesView). v.rows) c.self.view_is in
-    prepared_next c.self.inside.map.entries c.args.self.now.rows seen c.args.place c.in-Some.line.now c.prepare_cut.new.self c.in-Some.ensures.value c.prepare_cut.result (cut_at c.args.n) (replays_at c.args.n) c.prepare_cut.ensures.prepared
+    prepared_rows c.self.inside.map.entries c.args.self.now.rows seen c.args.place c.in-Some.line.now c.prepare_cut.new.self c.in-Some.ensures.value c.prepare_cut.result (cut_at c.args.n) (replays_at c.args.n) c.prepare_cut.ensures.prepared
 
 pub returns-clause-kept : goal.returns-clause-kept
 returns-clause-kept c =
     let seen = ap (λ (v : LinesView). v.rows) c.self.view_is in
     prepared_kept c.self.inside.map.entries c.args.self.now.rows seen c.args.place c.in-Some.line.now c.prepare_cut.new.self c.in-Some.ensures.value c.prepare_cut.result (cut_at c.args.n) (replays_at c.args.n) c.prepare_cut.ensures.prepared c.prepare_cut.ensures.err
-
-pub returns-clause-others : goal.returns-clause-others
-returns-clause-others c =
-    let seen = ap (λ (v : LinesView). v.rows) c.self.view_is in
-    prepared_others c.self.inside.map.entries c.args.self.now.rows seen c.args.place c.in-Some.line.now c.prepare_cut.new.self c.in-Some.ensures.value

@@ -1,15 +1,11 @@
 use Rattle.std.proofs.Common.{sym}
-use Rattle.monitor.proofs.Replays.{due_counted, none_begins, none_lost}
+use Rattle.monitor.proofs.Replays.{due_counted, none_begins}
 use Rattle.monitor.proofs.lines.Lines.replays_at.Goals as goal
 
 pub returns-then-not-begins_below : goal.returns-then-not-begins_below
 returns-then-not-begins_below c =
     none_begins c.args.n c.args.self.now.rows c.args.place c.at.result.0 c.at.result.1.now c.at.ensures (sym c.if-not-begins_below.ensures)
 
-pub returns-then-not-loses : goal.returns-then-not-loses
-returns-then-not-loses c =
-    none_lost c.args.n c.args.self.now.rows c.args.place c.at.result.0 c.at.result.1.now c.at.ensures (sym c.if-not-loses.ensures)
-
 pub returns : goal.returns
 returns c =
-    due_counted c.args.n c.args.self.now.rows c.args.place c.at.result.0 c.at.result.1.now c.at.ensures c.requires.next (sym c.if-not-begins_below.ensures) (sym c.if-not-loses.ensures) c.due.result c.due.ensures
+    due_counted c.args.n c.args.self.now.rows c.args.place c.at.result.0 c.at.result.1.now c.at.ensures c.requires.next (sym c.if-not-begins_below.ensures) c.due.result c.due.ensures

@@ -5,6 +5,7 @@ use Rattle.monitor.specs.SoundMonitor.{judged_by_parts}
 use Rattle.monitor.specs.Rows.{nows}
 use Rattle.monitor.proofs.Changes.{cut_judged}
 use Rattle.monitor.proofs.Carried.{renamed}
+use Rattle.monitor.proofs.Cutting.{are_cut}
 use Rattle.monitor.proofs.Prepared.{rewind_ready}
 use Rattle.monitor.proofs.monitor.Monitor.prepare_rewind.Goals as goal
 
@@ -13,7 +14,7 @@ invariant_of-self-2 c =
     renamed c.put.ensures
     (rewind_ready c.judging_law.ensures c.self.inside.history c.prepare_cut.new.self c.self.inside.kinds c.self.inside.budgets c.self.inside.lines c.prepare_cut-2.new.self c.self.inside.verdict
     c.self.inside.prepared c.args.n c.in_ok-kept.kept c.in_ok-kept.verdict c.self.invariant c.in_ok-prepare_cut.ensures.within c.in_ok-prepare_cut.ensures.prepared c.in_ok-kept.ensures.kept_lines c.in_ok-kept.ensures.verdict
-    c.in_ok-kept.ensures.next c.in_ok-kept.ensures.kept)
+    (are_cut c.args.n c.self.inside.lines.rows c.prepare_cut-2.new.self.rows c.in_ok-kept.ensures.next) c.in_ok-kept.ensures.kept)
 
 pub returns-clause-verdict : goal.returns-clause-verdict
 returns-clause-verdict c =

@@ -1,0 +1,66 @@
+-- how many different values there are
+use Rattle.std.proofs.Common.{◌≡◌, ◌≢◌, ℕ, ◌+◌, ◌<◌, ◌≤◌, ℤ, ◌<ℤ◌, ⊎_elim, int_lt, List, [], ◌∷◌, length, get_or, take, drop, sym, ap, ◌∙◌, subst, arith}
+use Rattle.std.specs.List.{Contains}
+use Rattle.std.proofs.lemmas.Bool.{cases_Bool}
+use Rattle.std.proofs.lemmas.List.{length-append, length-map, take-append-drop}
+use Rattle.std.proofs.lemmas.List.Elements.{Contains-append_left}
+use Rattle.models.specs.declared.finding.Found.TheVariants.{Item}
+use Rattle.models.specs.Members.{IsAscending, put_in}
+use Rattle.models.specs.Multisets.{NeverFalls, without_one, values_of}
+use Rattle.models.specs.Objects.{taken_from}
+use Rattle.models.proofs.PutIn.{no_member, first_member, later_member, member_cases, below_all, not_below, put_in-first, put_in-later, put_in-there}
+use Rattle.models.proofs.Bags.{Contains-values_of, IsAscending-values_of}
+use Rattle.models.proofs.Dequeues.{values_new, values_old}
+
+-- no more than the values
+length-put_in : (v : ℤ) (xs : List ℤ) → length (put_in v xs) ≤ length xs + 1
+length-put_in v [] = omega arith
+length-put_in v (x ∷ xs) =
+    ⊎_elim
+    (λ e. let long = ap length (put_in-first v x xs e) in omega (arith, long))
+    (λ e. ⊎_elim
+    (λ f. let long = ap length (put_in-later v x xs e f) in let rest = length-put_in v xs in omega (arith, long, rest))
+    (λ f. let long = ap length (put_in-there v x xs e f) in omega (arith, long))
+    (cases_Bool (int_lt x v)))
+    (cases_Bool (int_lt v x))
+
+pub length-values_of : (xs : List ℤ) → length (values_of xs) ≤ length xs
+length-values_of [] = omega arith
+length-values_of (x ∷ xs) = let rest = length-values_of xs in let one = length-put_in x (values_of xs) in omega (arith, rest, one)
+
+-- an ascending list whose members another one has is no longer
+no_longer : (xs ys : List ℤ) → IsAscending xs → IsAscending ys → ((v : ℤ) → Contains xs v → Contains ys v) → length xs ≤ length ys
+no_longer [] ys is js among = omega arith
+no_longer (x ∷ xs) [] is js among = absurd (no_member x (among x (first_member x xs)))
+no_longer (x ∷ xs) (y ∷ ys) is js among =
+    ⊎_elim
+    (λ (e : y ≡ x).
+    let rest = no_longer xs ys is.1 js.1 (λ v h.
+    ⊎_elim (λ (q : y ≡ v). absurd (not_below v (subst (λ z. z <ℤ v) (sym e ∙ q) (is.0 v h)))) (λ k. k) (member_cases y ys v (among v (later_member x xs v h)))) in
+    omega (arith, rest))
+    (λ k.
+    let rest = no_longer (x ∷ xs) ys is js.1 (λ v h.
+    ⊎_elim
+    (λ (q : y ≡ v). absurd (not_below y (below_all y x y (js.0 x k) (subst (λ z. x <ℤ z) (sym q) (⊎_elim (λ f. absurd (not_below x (subst (λ z. z <ℤ x) (q ∙ sym f) (js.0 x k)))) (is.0 v) (member_cases x xs v h))))))
+    (λ j. j)
+    (member_cases y ys v (among v h))) in
+    omega (arith, rest))
+    (member_cases y ys x (among x (first_member x xs)))
+
+-- the first values have no more different ones than all
+pub fewer_at_first : (xs : List ℤ) (n : ℕ) → length (values_of (take n xs)) ≤ length (values_of xs)
+fewer_at_first xs n = no_longer (values_of (take n xs)) (values_of xs) (IsAscending-values_of (take n xs)) (IsAscending-values_of xs)
+    (λ v h. (Contains-values_of xs v).1 (subst (λ l. Contains l v) (take-append-drop n xs) (Contains-append_left (take n xs) (drop n xs) v ((Contains-values_of (take n xs) v).0 h))))
+
+-- one value more, which is new or not
+pub one_different : (s : List ℤ) (at : ℕ) (d : ℤ) → at < length s → NeverFalls s → ((p : ℕ) (e : ℤ) → p + 1 ≡ at → get_or s p e ≢ get_or s at e)
+    → length (values_of (take (at + 1) s)) ≡ length (values_of (take at s)) + 1
+one_different s at d fits is new = ap length (values_new s at d fits is new) ∙ length-append (values_of (take at s)) (get_or s at d ∷ [])
+
+pub none_different : (s : List ℤ) (at : ℕ) (d : ℤ) → at < length s → NeverFalls s → (p : ℕ) → p + 1 ≡ at → get_or s p d ≡ get_or s at d
+    → length (values_of (take (at + 1) s)) ≡ length (values_of (take at s))
+none_different s at d fits is p before equal = ap length (values_old s at d fits is p before equal)
+
+-- so many outcomes has a dequeue
+pub outcomes_are : (s values : List ℤ) → length (taken_from s values) ≡ length values
+outcomes_are s values = length-map values (λ v. (without_one v s, Item v))

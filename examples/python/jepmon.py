@@ -1,0 +1,401 @@
+"""Judges what a test does to a store while it does it: drives `jepmon script` from Python. One file, no dependencies; copy it.
+
+    from jepmon import Monitor
+
+    with Monitor() as monitor:
+        def client(number):
+            with monitor.write(key, number):         # the block is the operation
+                store.put(key, number)
+            with monitor.read(key) as op:
+                op.value = store.get(key)            # what it answered; None where the key is missing
+        monitor.run(client, 5)                       # client(0) to client(4), in threads; threads of your own will do as well
+
+A block that ends is an :ok. An exception in it is an :info: the operation may have taken place, or may yet. `raise Failed` in
+it, or op.fail(), is a :fail: it certainly did not take place. The first event after which the history is not linearizable
+raises Illegal in the thread that told it, and in each later operation of the others; so does a key over its budget (Unknown),
+and what jepmon refuses (Refused). Their text has the last events of the key. The end of `with Monitor()` raises them again.
+
+jepmon takes an answer of nil to say nothing, so that a store which loses every write would pass. Here a missing key is a value,
+ABSENT: each key of a register begins with it (monitor.begin(key, value) says otherwise, before the first operation), and a read
+that answers None tells it. monitor.write(key, ABSENT) is a deletion.
+
+Values are integers; monitor.number(x) gives one for anything else that is hashable. Keys are integers from 0 to 65535.
+"""
+import collections
+import copy
+import os
+import pathlib
+import shutil
+import subprocess
+import threading
+from concurrent.futures import ThreadPoolExecutor
+from types import TracebackType
+from typing import Any, Callable, Deque, Dict, Hashable, Iterable, List, NoReturn, Optional, Set, TextIO, Tuple, Type, Union
+
+ABSENT = -(1 << 63)
+REGISTERS = ("register", "cas-register")
+LAST_EVENTS = 16  # of a key, in the text of an exception
+
+Value = Union[None, int, Iterable[int]]
+ErrorType = Optional[Type[BaseException]]
+
+
+class Failed(Exception):
+    """Raise it in a block: the operation certainly did not take place. The block ends, and the exception goes no further."""
+
+
+class NotLegal(Exception):
+    """A reply of jepmon that is not `legal`, its key and index where it names them, and the last events of the key."""
+
+    def __init__(
+        self, reply: str, key: Optional[int] = None, index: Optional[int] = None, events: Tuple[str, ...] = ()
+    ) -> None:
+        super().__init__(reply, key, index, events)
+        self.reply, self.key, self.index, self.events = reply, key, index, events
+
+    def __str__(self) -> str:
+        return "\n".join((self.reply,) + self.events)
+
+
+class Illegal(NotLegal, AssertionError):
+    """The history is not linearizable: the store has answered wrongly."""
+
+
+class Unknown(NotLegal):
+    """A key has had too many operations open or timed out at once: nothing is known of it from here on."""
+
+
+class Refused(NotLegal):
+    """jepmon did not take an event, or has ended: the test is at fault, not the store."""
+
+
+class Monitor:
+    """A running `jepmon script`. Any number of threads may use it; at most `concurrency` operations are open at once.
+
+    program      its path; else the environment's JEPMON, what ./jepmon built in this repository, or jepmon on the PATH
+    model        what each key is: register, cas-register, mutex, fifo-queue, unordered-queue or set (see set_model)
+    budget       how many outcomes of a key are followed before it is Unknown
+    expected     exceptions that end an operation as :info and go no further, as (TimeoutError, ConnectionError)
+    log          gets each line that is sent; `jepmon script` with the same options judges it again
+    """
+
+    def __init__(
+        self,
+        program: Optional[str] = None,
+        model: str = "register",
+        concurrency: int = 64,
+        budget: int = 4096,
+        expected: Tuple[Type[BaseException], ...] = (),
+        log: Optional[TextIO] = None,
+    ) -> None:
+        self.concurrency, self.expected, self.log = concurrency, expected, log
+        self.length = 0  # events that jepmon has taken
+        self.failure: Optional[NotLegal] = None
+        self._verdict: Optional[str] = None
+        self._lock = threading.Lock()  # one pipe: the order of its lines is the history
+        self._free = set(range(concurrency))  # threads of jepmon without an open operation
+        self._homes: Dict[int, int] = {}  # the thread of jepmon that a thread of Python has, where it is free
+        self._current = list(range(concurrency))  # the process of each thread of jepmon
+        self._model = model
+        self._models: Dict[int, str] = {}  # of keys that have another one
+        self._begun: Set[int] = set()
+        self._numbers: Dict[Hashable, int] = {}
+        self._events: Dict[int, Deque[Tuple[int, int, str]]] = {}  # the last ones of each key: index, process and text
+        words = [_found(program), "script", "--concurrency", str(concurrency), "--model", model, "--budget", str(budget)]
+        # a session of its own, so that Ctrl-C in a terminal ends the test and not the program under it
+        self._child = subprocess.Popen(words, stdin=subprocess.PIPE, stdout=subprocess.PIPE, start_new_session=True)
+
+    # Operations, each a block.
+
+    def read(self, key: int) -> "Operation":
+        """Of a register: set op.value to an integer, or None for a missing key. Of a set: to its members."""
+        return Operation(self, "read", key)
+
+    def write(self, key: int, value: Optional[int]) -> "Operation":
+        return Operation(self, "write", key, _edn(_told(value)))
+
+    def cas(self, key: int, old: Optional[int], new: Optional[int]) -> "Operation":
+        """Sets the key to new where it is old. Where the store says that it was not: op.fail()."""
+        return Operation(self, "cas", key, f"[{_edn(_told(old))} {_edn(_told(new))}]")
+
+    def add(self, key: int, value: int) -> "Operation":
+        return Operation(self, "add", key, _edn(value))
+
+    def enqueue(self, key: int, value: int) -> "Operation":
+        return Operation(self, "enqueue", key, _edn(value))
+
+    def dequeue(self, key: int) -> "Operation":
+        """Set op.value to the integer that came. None, for an empty queue, counts as op.fail()."""
+        return Operation(self, "dequeue", key)
+
+    def acquire(self, key: int = 0) -> "Operation":
+        """Takes a lock. Where somebody else holds it: op.fail()."""
+        return Operation(self, "acquire", key)
+
+    def release(self, key: int = 0) -> "Operation":
+        return Operation(self, "release", key)
+
+    def run(self, work: Callable[[int], object], threads: int) -> None:
+        """Does work(0) to work(threads - 1), each in a thread of its own. Raises what is not legal, else what one raised."""
+        with ThreadPoolExecutor(threads) as pool:
+            tasks = [pool.submit(work, number) for number in range(threads)]
+        if self.failure is not None:
+            raise copy.copy(self.failure)
+        for task in tasks:
+            task.result()
+
+    # What is said of a key.
+
+    def begin(self, key: int, value: Optional[int] = ABSENT) -> None:
+        """Says what a register holds at first; without it, the first operation on the key says ABSENT."""
+        with self._lock:
+            if key in self._begun:
+                raise ValueError(f"key {key} has begun already: say what it holds before the first operation on it")
+            self._begin(_key(key), _edn(_told(value)))
+
+    def set_model(self, key: int, model: str) -> None:
+        with self._lock:
+            self._models[_key(key)] = model
+            self._ask(f"[:model {key} :{model}]")
+
+    def set_budget(self, key: int, budget: int) -> None:
+        with self._lock:
+            self._ask(f"[:budget {_key(key)} {budget}]")
+
+    def number(self, thing: Hashable) -> int:
+        """A number for the thing, the same whenever it is asked for."""
+        with self._lock:
+            return self._numbers.setdefault(thing, len(self._numbers))
+
+    # The end.
+
+    def close(self) -> str:
+        """Ends the program. Gives the final verdict: `legal`, or the reply that was not."""
+        with self._lock:
+            if self._verdict is None:
+                self._verdict = self._last_verdict()
+                self._end_child()
+            return self._verdict
+
+    def __enter__(self) -> "Monitor":
+        return self
+
+    def __exit__(self, kind: ErrorType, error: Optional[BaseException], trace: Optional[TracebackType]) -> None:
+        self.close()
+        if error is None and self.failure is not None:
+            raise copy.copy(self.failure)
+
+    # The exchange with the program. The caller has the lock.
+
+    def _begin(self, key: int, part: str) -> None:
+        if key not in self._begun:
+            self._begun.add(key)
+            thread = self._take_thread()
+            for kind in ("invoke", "ok"):
+                self._tell(kind, self._current[thread], "write", key, part)
+            self._free.add(thread)
+
+    def _is_register(self, key: int) -> bool:
+        return self._models.get(key, self._model) in REGISTERS
+
+    def _take_thread(self) -> int:
+        if not self._free:
+            raise ValueError(f"more than {self.concurrency} operations are open at once: raise concurrency, 64 at most")
+        home = self._homes.setdefault(threading.get_ident(), len(self._homes) % self.concurrency)
+        thread = home if home in self._free else max(self._free)
+        self._free.remove(thread)
+        return thread
+
+    def _invoke(self, name: str, key: int, part: str) -> int:
+        """Tells an invocation, and gives the thread of jepmon that it is on."""
+        if self._is_register(key):
+            self._begin(key, _edn(ABSENT))
+        thread = self._take_thread()
+        self._tell("invoke", self._current[thread], name, key, part)
+        return thread
+
+    def _complete(self, kind: str, thread: int, name: str, key: int, part: str) -> None:
+        """Tells a completion. After an :info the process is gone, and its thread goes on with process + concurrency."""
+        process = self._current[thread]
+        if kind == "info":
+            self._current[thread] += self.concurrency
+        self._free.add(thread)
+        self._tell(kind, process, name, key, part)
+
+    def _tell(self, kind: str, process: int, name: str, key: int, part: str) -> None:
+        self._test_running()
+        line = f"{{:type :{kind}, :process {process}, :f :{name}, :value [{key} {part}]}}"
+        self._events.setdefault(key, collections.deque(maxlen=LAST_EVENTS)).append((self.length, process, line))
+        self.length += 1
+        self._ask(line, key)
+        if kind == "fail":
+            self._forget(key, process)
+
+    def _forget(self, key: int, process: int) -> None:
+        """Takes an operation that failed out of the events that are shown: what did not take place explains nothing."""
+        events = self._events[key]
+        for event in [event for event in events if event[1] == process][-2:]:
+            events.remove(event)
+
+    def _ask(self, line: str, key: Optional[int] = None) -> None:
+        """Sends a line and waits for its reply. Raises what is not legal, also where it was found before."""
+        self._test_running()
+        try:
+            reply = self._reply(line)
+        except BaseException:  # as Ctrl-C: the reply to this line may come yet, so no later one can be told from it
+            self.failure = Refused("the exchange with jepmon was broken off")
+            raise
+        if reply != "legal":
+            self._stop(reply, line, key)
+
+    def _test_running(self) -> None:
+        if self._verdict is not None:
+            raise ValueError("the monitor is closed")
+        if self.failure is not None:
+            raise copy.copy(self.failure)
+
+    def _reply(self, line: str) -> str:
+        assert self._child.stdin is not None and self._child.stdout is not None
+        if self.log is not None:
+            self.log.write(line + "\n")
+        try:
+            self._child.stdin.write(line.encode() + b"\n")
+            self._child.stdin.flush()
+        except BrokenPipeError:
+            return ""
+        return self._child.stdout.readline().decode().rstrip("\n")
+
+    def _stop(self, reply: str, line: str, key: Optional[int]) -> NoReturn:
+        words = reply.split()
+        if words[:1] in (["illegal"], ["unknown"]):
+            kind = Illegal if words[0] == "illegal" else Unknown
+            self.failure = kind(reply, int(words[2]), int(words[4]), self._last_events(int(words[2]), int(words[4])))
+        elif words:
+            self.failure = Refused(f"{reply}: {line}", key, None, self._last_events(key, self.length - 1))
+        else:
+            self.failure = Refused(f"jepmon has ended, with status {self._child.wait(timeout=10)}")
+        raise copy.copy(self.failure)
+
+    def _last_events(self, key: Optional[int], index: int) -> Tuple[str, ...]:
+        events = self._events.get(key, ()) if key is not None else ()
+        marked = (f"  {at} {'<--' if at == index else '   '} {line}" for at, _, line in events)
+        return tuple(line.replace(str(ABSENT), "ABSENT") for line in marked)
+
+    def _last_verdict(self) -> str:
+        try:
+            self._ask("[:verdict]")
+        except NotLegal as failure:
+            return failure.reply
+        return "legal"
+
+    def _end_child(self) -> None:
+        assert self._child.stdin is not None and self._child.stdout is not None
+        try:
+            self._child.stdin.close()
+        except BrokenPipeError:
+            pass
+        try:
+            self._child.wait(timeout=10)
+        except subprocess.TimeoutExpired:
+            self._child.kill()
+            self._child.wait()
+        self._child.stdout.close()
+
+
+class Operation:
+    """One operation, from the beginning of its block to the end."""
+
+    _UNSET: Any = object()
+
+    def __init__(self, monitor: Monitor, name: str, key: int, part: str = "nil") -> None:
+        self.value: Value = self._UNSET  # of a read or a dequeue: what it answered
+        self.outcome: Optional[str] = None  # "ok", "fail" or "info", once the block has ended
+        self._monitor, self._name, self._key, self._part = monitor, name, _key(key), part
+        self._said: Optional[str] = None
+
+    def fail(self) -> None:
+        """The operation certainly did not take place."""
+        self._said = "fail"
+
+    def info(self) -> None:
+        """The operation may have taken place, or may yet, as after a timeout that raised nothing."""
+        self._said = "info"
+
+    def __enter__(self) -> "Operation":
+        with self._monitor._lock:
+            self._thread = self._monitor._invoke(self._name, self._key, self._part)
+        return self
+
+    def __exit__(self, kind: ErrorType, error: Optional[BaseException], trace: Optional[TracebackType]) -> bool:
+        ends_here = isinstance(error, (Failed,) + self._monitor.expected)
+        try:
+            self._end(self._outcome(error))
+        except NotLegal:
+            if error is None or ends_here:
+                raise
+        return ends_here
+
+    def _end(self, outcome: str) -> None:
+        try:
+            part = self._answer() if outcome == "ok" else self._part
+        except (TypeError, ValueError):
+            self._complete("info", self._part)
+            raise
+        self._complete(outcome, part)
+
+    def _outcome(self, error: Optional[BaseException]) -> str:
+        if error is not None:
+            return "fail" if isinstance(error, Failed) else "info"
+        found_empty = self._name == "dequeue" and self.value is None
+        return self._said or ("fail" if found_empty else "ok")
+
+    def _answer(self) -> str:
+        """The part of the :ok: an answer, or what the invocation had."""
+        if self._name not in ("read", "dequeue"):
+            return self._part
+        if self.value is self._UNSET:
+            raise ValueError(f"the block of a {self._name} has to set op.value")
+        if self._name == "dequeue" or self._monitor._is_register(self._key):
+            return _edn(_told(self.value))
+        return _members(self.value)
+
+    def _complete(self, outcome: str, part: str) -> None:
+        self.outcome = outcome
+        with self._monitor._lock:
+            self._monitor._complete(outcome, self._thread, self._name, self._key, part)
+
+
+def _told(value: Any) -> Any:
+    """None stands for a missing key."""
+    return ABSENT if value is None else value
+
+
+def _edn(value: Any) -> str:
+    if isinstance(value, bool) or not isinstance(value, int):
+        raise TypeError(f"jepmon takes integers, not {value!r}; Monitor.number gives one")
+    if not -(1 << 63) <= value < 1 << 63:
+        raise ValueError(f"jepmon takes integers of 64 bits, not {value}; Monitor.number gives one")
+    return str(value)
+
+
+def _members(value: Any) -> str:
+    """The text of a set of integers; None stands for the empty one."""
+    return "#{" + " ".join(sorted({_edn(member) for member in value or ()})) + "}"
+
+
+def _key(key: int) -> int:
+    if isinstance(key, bool) or not isinstance(key, int) or not 0 <= key < 65536:
+        raise ValueError(f"a key is an integer from 0 to 65535, not {key!r}; Monitor.number gives one")
+    return key
+
+
+def _found(program: Optional[str]) -> str:
+    """The path of the program."""
+    named = program or os.environ.get("JEPMON")
+    if named:
+        return named
+    built = pathlib.Path(__file__).resolve().parents[2] / "crates" / "jepmon" / "out" / "jepmon"
+    path = str(built) if built.exists() else shutil.which("jepmon")
+    if path is None:
+        raise FileNotFoundError("there is no jepmon: build it by ./jepmon --help, or name it by Monitor(program) or JEPMON")
+    return path

@@ -1,0 +1,64 @@
+#!/usr/bin/env python3
+"""Is SET NX PX of Redis a lock? As long as the work ends before the lease. Live under jepmon.
+
+    examples/python/redis_lock.py                      # a lease of 20 ms, work of up to 40 ms: two clients hold the lock
+    examples/python/redis_lock.py --lease 5000         # legal
+
+It starts a redis-server of its own on this machine, and stops it. Status: 0 legal, 1 not.
+"""
+import argparse
+import random
+import sys
+import time
+import uuid
+
+from jepmon import Monitor, NotLegal
+from redis_server import Client, Server
+
+CLIENTS = 4
+RELEASE = "if redis.call('get', KEYS[1]) == ARGV[1] then return redis.call('del', KEYS[1]) else return 0 end"
+
+
+def client(monitor: Monitor, number: int, port: int, lease: int, work: int, end: float) -> None:
+    """Takes the lock, works, and gives it back, until the time is up, or until what came is not legal."""
+    draws = random.Random(number)
+    redis = Client(port)
+    while time.monotonic() < end:
+        token = uuid.uuid4().hex
+        with monitor.acquire() as op:
+            if redis.call("SET", "lock", token, "NX", "PX", lease) is None:
+                op.fail()
+        if op.outcome != "ok":
+            time.sleep(0.002)
+            continue
+        time.sleep(draws.random() * work / 1000)
+        with monitor.release() as op:
+            if redis.call("EVAL", RELEASE, 1, "lock", token) == 0:
+                op.fail()  # the lease had run out: there was nothing to give back
+
+
+def words() -> argparse.Namespace:
+    parser = argparse.ArgumentParser(description=__doc__, formatter_class=argparse.RawDescriptionHelpFormatter)
+    parser.add_argument("--lease", type=int, default=20, help="milliseconds")
+    parser.add_argument("--work", type=int, default=40, help="milliseconds at most")
+    parser.add_argument("--seconds", type=float, default=5.0)
+    parser.add_argument("--jepmon", metavar="PROGRAM", help="its path, where it is not built in this repository")
+    return parser.parse_args()
+
+
+def main() -> int:
+    given = words()
+    end = time.monotonic() + given.seconds
+    monitor = Monitor(given.jepmon, model="mutex", expected=(OSError,))
+    try:
+        with monitor, Server() as server:
+            monitor.run(lambda number: client(monitor, number, server.port, given.lease, given.work, end), CLIENTS)
+    except NotLegal as found:
+        print(f"{monitor.length} events: {found}")
+        return 1
+    print(f"{monitor.length} events: legal")
+    return 0
+
+
+if __name__ == "__main__":
+    sys.exit(main())

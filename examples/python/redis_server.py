@@ -1,0 +1,119 @@
+"""A redis-server of its own for an example, on a free port of this machine alone, and a client of it. It needs `redis-server`
+on the PATH, and no package.
+
+    with Server() as primary, Server(primary) as replica:
+        client = Client(primary.port)
+        client.call("SET", "x", 5)
+        client.call("GET", "x")                      # b"5"
+"""
+import socket
+import subprocess
+import tempfile
+import time
+from types import TracebackType
+from typing import Any, Optional, Type, Union
+
+ADDRESS = "127.0.0.1"
+
+
+class RedisError(Exception):
+    """An answer of the server that is an error."""
+
+
+class Client:
+    """A connection. After a timeout it is made anew, so that a late answer is not taken for the next one."""
+
+    def __init__(self, port: int, timeout: float = 0.5) -> None:
+        self.port, self.timeout = port, timeout
+        self.stream: Any = None
+
+    def call(self, *words: Union[str, int]) -> Any:
+        """The server's answer to a command: an integer, bytes, a list of them, or None."""
+        try:
+            if self.stream is None:
+                self.stream = socket.create_connection((ADDRESS, self.port), self.timeout).makefile("rwb")
+            self.stream.write(request(words))
+            self.stream.flush()
+            return self.answer()
+        except OSError:
+            self.close()
+            raise
+
+    def answer(self) -> Any:
+        line = self.stream.readline()
+        if not line.endswith(b"\r\n"):
+            raise ConnectionError("the server has closed the connection")
+        kind, rest = line[:1], line[1:-2]
+        if kind == b"-":
+            raise RedisError(rest.decode())
+        if kind == b"+":
+            return rest
+        number = int(rest)
+        if kind == b":" or number < 0:
+            return number if kind == b":" else None
+        if kind == b"*":
+            return [self.answer() for _ in range(number)]
+        return self.stream.read(number + 2)[:-2]
+
+    def close(self) -> None:
+        stream, self.stream = self.stream, None
+        if stream is not None:
+            try:
+                stream.close()
+            except OSError:
+                pass
+
+
+def request(words: Any) -> bytes:
+    """A command in the protocol of Redis: its words, each with its length."""
+    parts = [str(word).encode() for word in words]
+    return b"*%d\r\n" % len(parts) + b"".join(b"$%d\r\n%s\r\n" % (len(part), part) for part in parts)
+
+
+class Server:
+    """A redis-server that keeps nothing on the disk, a replica where another one is named. It ends with its block."""
+
+    def __init__(self, primary: Optional["Server"] = None) -> None:
+        self.port = free_port()
+        self.folder = tempfile.TemporaryDirectory()
+        words = ["redis-server", "--port", str(self.port), "--bind", ADDRESS, "--save", "", "--appendonly", "no",
+                 "--dir", self.folder.name, "--repl-diskless-sync-delay", "0"]
+        if primary is not None:
+            words += ["--replicaof", ADDRESS, str(primary.port)]
+        self.process = subprocess.Popen(words, stdout=subprocess.DEVNULL, start_new_session=True)
+        self.wanted = b"role:master" if primary is None else b"master_link_status:up"
+        self.wait_until_ready()
+
+    def wait_until_ready(self) -> None:
+        """Until it answers, and where it is a replica has what its primary has."""
+        for _ in range(200):
+            if self.is_ready():
+                return
+            time.sleep(0.05)
+        self.stop()
+        raise TimeoutError("redis-server is not ready")
+
+    def is_ready(self) -> bool:
+        try:
+            return self.wanted in Client(self.port).call("INFO", "replication")
+        except (OSError, RedisError):
+            return False
+
+    def stop(self) -> None:
+        self.process.terminate()
+        self.process.wait()
+        self.folder.cleanup()
+
+    def __enter__(self) -> "Server":
+        return self
+
+    def __exit__(
+        self, kind: Optional[Type[BaseException]], error: Optional[BaseException], trace: Optional[TracebackType]
+    ) -> None:
+        self.stop()
+
+
+def free_port() -> int:
+    with socket.socket() as probe:
+        probe.bind((ADDRESS, 0))
+        return int(probe.getsockname()[1])

@@ -1,0 +1,64 @@
+#!/usr/bin/env python3
+"""Is Redis a linearizable register? Writers go to the primary, readers to its replica or to the primary too, under jepmon.
+
+    examples/python/redis_stale.py                     # readers at the replica: a stale read is found
+    examples/python/redis_stale.py --read-at primary   # legal
+
+It starts two redis-servers of its own on this machine, and stops them. Status: 0 legal, 1 not.
+"""
+import argparse
+import itertools
+import random
+import sys
+import time
+
+from jepmon import Monitor, NotLegal
+from redis_server import Client, Server
+
+CLIENTS = 5
+KEYS = 3
+
+
+def client(monitor: Monitor, number: int, values: "itertools.count[int]", primary: int, reader: int, end: float) -> None:
+    """Reads and writes until the time is up, or until what came is not legal."""
+    draws = random.Random(number)
+    write_at, read_at = Client(primary), Client(reader)
+    while time.monotonic() < end:
+        key = draws.randrange(KEYS)
+        if draws.random() < 0.5:
+            value = next(values)
+            with monitor.write(key, value):
+                write_at.call("SET", f"k{key}", value)
+        else:
+            with monitor.read(key) as op:
+                answer = read_at.call("GET", f"k{key}")
+                op.value = None if answer is None else int(answer)
+
+
+def words() -> argparse.Namespace:
+    parser = argparse.ArgumentParser(description=__doc__, formatter_class=argparse.RawDescriptionHelpFormatter)
+    parser.add_argument("--read-at", choices=("replica", "primary"), default="replica")
+    parser.add_argument("--seconds", type=float, default=5.0)
+    parser.add_argument("--jepmon", metavar="PROGRAM", help="its path, where it is not built in this repository")
+    return parser.parse_args()
+
+
+def main() -> int:
+    given = words()
+    values = itertools.count(1)
+    end = time.monotonic() + given.seconds
+    # a request that timed out may yet take place, and counts for the rest of the run
+    monitor = Monitor(given.jepmon, expected=(OSError,))
+    try:
+        with monitor, Server() as primary, Server(primary) as replica:
+            reader = (replica if given.read_at == "replica" else primary).port
+            monitor.run(lambda number: client(monitor, number, values, primary.port, reader, end), CLIENTS)
+    except NotLegal as found:
+        print(f"{monitor.length} events: {found}")
+        return 1
+    print(f"{monitor.length} events: legal")
+    return 0
+
+
+if __name__ == "__main__":
+    sys.exit(main())

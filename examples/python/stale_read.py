@@ -1,0 +1,44 @@
+#!/usr/bin/env python3
+"""A test that catches a stale read, for pytest or by itself. It fails, as it should: the store that it tests is at fault."""
+import threading
+from typing import Dict, Optional
+
+from jepmon import Monitor
+
+
+class Store:
+    """The store under test: reads are answered by a copy that gets the first hundred writes alone."""
+
+    def __init__(self) -> None:
+        self.lock = threading.Lock()
+        self.writes = 0
+        self.copy: Dict[int, int] = {}
+
+    def put(self, key: int, value: int) -> None:
+        with self.lock:
+            self.writes += 1
+            if self.writes <= 100:
+                self.copy[key] = value
+
+    def get(self, key: int) -> Optional[int]:
+        with self.lock:
+            return self.copy.get(key)
+
+
+def test_reads_are_not_stale() -> None:
+    store = Store()
+    with Monitor() as monitor:
+
+        def client(number: int) -> None:
+            for value in range(number * 1000, number * 1000 + 1000):
+                key = value % 3
+                with monitor.write(key, value):  # an exception in the block: it may have taken place
+                    store.put(key, value)
+                with monitor.read(key) as op:
+                    op.value = store.get(key)  # None where the key is missing
+
+        monitor.run(client, 5)  # in five threads
+
+
+if __name__ == "__main__":
+    test_reads_are_not_stale()

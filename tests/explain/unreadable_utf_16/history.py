@@ -1,0 +1,4 @@
+"""A history in UTF-16."""
+import sys
+
+sys.stdout.buffer.write("{}".encode("utf-16"))

@@ -1,0 +1,412 @@
+#!/usr/bin/env python3
+"""Live tests of examples/python/jepmon.py on the built program: stores in this process, some with a fault, used by several
+threads. No server is needed. Ends with 'N passed, M failed'. With words, it runs the tests of these names alone.
+"""
+import faulthandler
+import io
+import os
+import pathlib
+import random
+import subprocess
+import sys
+import threading
+from typing import Callable, Dict, List, Optional, Set, Type
+
+TOP = pathlib.Path(__file__).resolve().parent.parent
+sys.path.insert(0, str(TOP / "examples" / "python"))
+
+from jepmon import ABSENT, Failed, Illegal, Monitor, NotLegal, Refused, Unknown  # noqa: E402
+
+PROGRAM = os.environ.get("JEPMON") or str(TOP / "crates" / "jepmon" / "out" / "jepmon")
+LIMIT = 120  # seconds for all of them
+THREADS = 4
+KEYS = 3
+
+
+class Store:
+    """Two copies of the same keys: writes go to one and reads to the other, to which each write is carried over at once, until
+    the copies are cut after so many writes."""
+
+    def __init__(self, writes_until_cut: float = float("inf")) -> None:
+        self.lock = threading.Lock()
+        self.left = writes_until_cut
+        self.written: Dict[int, int] = {}
+        self.shown: Dict[int, int] = {}
+
+    def put(self, key: int, value: int) -> None:
+        with self.lock:
+            self.left -= 1
+            self.written[key] = value
+            if self.left >= 0:
+                self.shown[key] = value
+
+    def get(self, key: int) -> Optional[int]:
+        with self.lock:
+            return self.shown.get(key)
+
+    def cas(self, key: int, old: int, new: int) -> bool:
+        with self.lock:
+            if self.written.get(key) != old:
+                return False
+            self.written[key] = self.shown[key] = new
+            return True
+
+
+class ForgetfulLock:
+    """A lock that forgets at its thirtieth request that somebody holds it."""
+
+    def __init__(self) -> None:
+        self.lock = threading.Lock()
+        self.held = False
+        self.requests = 0
+
+    def take(self) -> bool:
+        with self.lock:
+            self.requests += 1
+            if self.held and self.requests != 30:
+                return False
+            self.held = True
+            return True
+
+    def give(self) -> None:
+        with self.lock:
+            self.held = False
+
+
+def reads_and_writes(monitor: Monitor, store: Store, operations: int) -> None:
+    def client(thread: int) -> None:
+        draws = random.Random(thread)
+        for number in range(operations):
+            key = draws.randrange(KEYS)
+            if draws.random() < 0.5:
+                with monitor.write(key, thread * operations + number):
+                    store.put(key, thread * operations + number)
+            else:
+                with monitor.read(key) as op:
+                    op.value = store.get(key)
+
+    monitor.run(client, THREADS)
+
+
+def raised(kind: Type[BaseException], act: Callable[[], object]) -> BaseException:
+    """The exception of this kind that the act raises; none is a fault of the test."""
+    try:
+        act()
+    except kind as error:
+        return error
+    raise AssertionError(f"no {kind.__name__} was raised")
+
+
+def kinds_told(log: io.StringIO, name: str) -> List[str]:
+    """The types of the completions of these operations, as they were sent."""
+    lines = [line for line in log.getvalue().splitlines() if f":f :{name}," in line]
+    return [line.split()[1].strip(":,") for line in lines if ":invoke" not in line]
+
+
+def a_linearizable_store_is_legal() -> None:
+    monitor = Monitor(PROGRAM)
+    reads_and_writes(monitor, Store(), 250)
+    assert monitor.close() == "legal" == monitor.close()
+    assert monitor.length == 2 * (THREADS * 250 + KEYS), monitor.length
+
+
+def a_stale_read_is_illegal() -> None:
+    monitor = Monitor(PROGRAM)
+    error = raised(Illegal, lambda: reads_and_writes(monitor, Store(writes_until_cut=50), 250))
+    assert isinstance(error, Illegal) and isinstance(error, AssertionError)
+    assert error.key in range(KEYS) and error.index == monitor.length - 1
+    assert str(error).startswith(f"illegal key {error.key} index {error.index}\n"), str(error)
+    assert error.events[-1].startswith(f"  {error.index} <-- {{:type :ok, "), error.events
+    assert monitor.close() == error.reply
+
+
+def each_thread_is_stopped() -> None:
+    """The others learn it at their next operation, and the end of the monitor's block raises it once more."""
+    store = Store(writes_until_cut=0)
+    stopped: List[str] = []
+
+    def client(thread: int) -> None:
+        try:
+            while True:
+                with monitor.write(thread, 1):
+                    store.put(thread, 1)
+                with monitor.read(thread) as op:
+                    op.value = store.get(thread)
+        except Illegal as error:
+            stopped.append(error.reply)
+
+    monitor = Monitor(PROGRAM)
+    raised(Illegal, lambda: monitor.run(client, THREADS))
+    assert len(stopped) == THREADS and len(set(stopped)) == 1, stopped
+    raised(Illegal, lambda: monitor.__exit__(None, None, None))
+
+
+def lost_writes_are_illegal() -> None:
+    def lose_a_write() -> None:
+        with Monitor(PROGRAM) as monitor:
+            with monitor.write(7, 1):
+                pass
+            with monitor.read(7) as op:
+                op.value = None
+
+    assert "[7 ABSENT]" in str(raised(Illegal, lose_a_write))
+
+
+def a_missing_key_is_legal() -> None:
+    with Monitor(PROGRAM) as monitor:
+        with monitor.read(7) as op:
+            op.value = None
+        monitor.begin(8, 5)
+        with monitor.read(8) as op:
+            op.value = 5
+        with monitor.write(8, ABSENT):
+            pass
+        with monitor.read(8) as op:
+            op.value = None
+        raised(ValueError, lambda: monitor.begin(8, 5))
+
+
+def a_timeout_is_an_info() -> None:
+    """A write that timed out may be read later on, and its thread of jepmon goes on with the next process."""
+    log = io.StringIO()
+    with Monitor(PROGRAM, concurrency=3, expected=(TimeoutError,), log=log) as monitor:
+        for number in range(3):
+            with monitor.write(0, number) as op:
+                raise TimeoutError
+            assert op.outcome == "info"
+            with monitor.read(0) as op:
+                op.value = number
+            assert op.outcome == "ok"
+    assert kinds_told(log, "write") == ["ok", "info", "info", "info"], log.getvalue()
+    assert ":process 9, :f :read, :value [0 2]" in log.getvalue(), log.getvalue()
+
+
+def an_unexpected_exception_goes_on() -> None:
+    log = io.StringIO()
+    with Monitor(PROGRAM, log=log) as monitor:
+
+        def fail() -> None:
+            with monitor.write(0, 1):
+                raise KeyError("of the test")
+
+        raised(KeyError, fail)
+        raised(KeyError, lambda: monitor.run(lambda number: fail(), 1))
+    assert kinds_told(log, "write") == ["ok", "info", "info"]
+
+
+def what_failed_did_not_take_place() -> None:
+    log = io.StringIO()
+
+    def read_what_failed() -> None:
+        with Monitor(PROGRAM, log=log) as monitor:
+            with monitor.write(0, 1):
+                raise Failed("the store refused it")
+            with monitor.write(0, 2) as op:
+                op.fail()
+            with monitor.write(0, 3) as op:
+                op.info()
+            with monitor.read(0) as op:
+                op.value = 3
+            with monitor.read(0) as op:
+                op.value = 2
+
+    raised(Illegal, read_what_failed)
+    assert kinds_told(log, "write") == ["ok", "fail", "fail", "info"]
+
+
+def a_cas_register() -> None:
+    store = Store()
+    store.put(0, 0)
+
+    def client(thread: int) -> None:
+        for number in range(60):
+            with monitor.read(0) as op:
+                op.value = seen = store.get(0)
+            with monitor.cas(0, seen, (number + thread) % 5) as op:
+                if not store.cas(0, seen or 0, (number + thread) % 5):
+                    op.fail()
+
+    with Monitor(PROGRAM, model="cas-register") as monitor:
+        monitor.begin(0, 0)
+        monitor.run(client, 3)
+
+
+def a_lock_that_two_hold() -> None:
+    lock = ForgetfulLock()
+
+    def client(thread: int) -> None:
+        for _ in range(20):
+            with monitor.acquire() as op:
+                if not lock.take():
+                    op.fail()
+            if op.outcome == "ok":
+                with monitor.release():
+                    lock.give()
+
+    with Monitor(PROGRAM, model="mutex") as monitor:
+        monitor.run(client, 1)
+    monitor = Monitor(PROGRAM, model="mutex")
+    with monitor.acquire():
+        lock.take()
+    error = raised(Illegal, lambda: monitor.run(client, 2))
+    assert monitor.close().startswith("illegal key 0 index ")
+    assert ":fail" not in str(error) and len(str(error).splitlines()) in (5, 6), error  # one more may be open
+
+
+def queues_and_sets() -> None:
+    queue: List[int] = []
+    members: Set[int] = set()
+    with Monitor(PROGRAM, model="fifo-queue") as monitor:
+        monitor.set_model(1, "set")
+        monitor.set_model(2, "unordered-queue")
+        monitor.set_budget(2, 100)
+        with monitor.dequeue(0) as op:
+            op.value = None  # an empty queue
+        assert op.outcome == "fail"
+        for number in range(3):
+            with monitor.enqueue(0, number):
+                queue.append(number)
+            with monitor.enqueue(2, number):
+                pass
+            with monitor.add(1, number):
+                members.add(number)
+            with monitor.read(1) as op:
+                op.value = members
+        for number in range(3):
+            with monitor.dequeue(0) as op:
+                op.value = queue.pop(0)
+            with monitor.dequeue(2) as op:
+                op.value = 2 - number
+        with monitor.read(3) as op:
+            raise Failed("key 3 is a queue")
+        monitor.set_model(3, "set")
+        with monitor.read(3) as op:
+            op.value = None  # nothing was added
+
+
+def what_is_no_integer() -> None:
+    """Keys and values that jepmon does not take are faults of the test, before anything is told; answers too."""
+    log = io.StringIO()
+    with Monitor(PROGRAM, log=log) as monitor:
+        for key in (-1, 65536, "x", True, None):
+            raised(ValueError, lambda key=key: monitor.read(key))  # type: ignore[misc]
+        for value in ("5", b"5", 1.5, True):
+            raised(TypeError, lambda value=value: monitor.write(0, value))  # type: ignore[misc]
+        raised(ValueError, lambda: monitor.write(0, 1 << 63))
+        assert log.getvalue() == ""
+
+        def read(*answer: object) -> None:
+            with monitor.read(0) as op:
+                if answer:
+                    op.value = answer[0]  # type: ignore[assignment]
+
+        raised(TypeError, lambda: read(b"5"))
+        raised(TypeError, lambda: read({5}))
+        raised(ValueError, lambda: read())
+        assert kinds_told(log, "read") == ["info", "info", "info"]
+        five, six = monitor.number("five"), monitor.number("six")
+        assert five != six and five == monitor.number("five")
+
+
+def too_many_at_once() -> None:
+    with Monitor(PROGRAM, concurrency=2) as monitor:
+        with monitor.write(0, 1), monitor.write(0, 2):
+            raised(ValueError, monitor.read(0).__enter__)
+
+
+def a_key_over_its_budget() -> None:
+    def two_at_once() -> None:
+        with Monitor(PROGRAM, budget=1) as monitor:
+            with monitor.write(0, 1), monitor.write(0, 2):
+                pass
+
+    error = raised(Unknown, two_at_once)
+    assert isinstance(error, Unknown) and error.reply == f"unknown key 0 index {error.index}" and len(error.events) == 2, error
+
+
+def what_is_refused() -> None:
+    def model() -> None:
+        with Monitor(PROGRAM) as monitor:
+            monitor.set_model(0, "stack")
+
+    assert str(raised(Refused, model)).startswith("refused 5 BadValue: [:model 0 :stack]")
+
+
+def the_program_ends() -> None:
+    monitor = Monitor(PROGRAM)
+    with monitor.write(0, 1):
+        pass
+    monitor._child.kill()
+    monitor._child.wait()
+    error = raised(Refused, monitor.write(0, 2).__enter__)
+    assert str(error) == "jepmon has ended, with status -9", error
+    assert monitor.close() == str(error)
+    assert isinstance(error, NotLegal)
+
+
+def a_session_of_its_own() -> None:
+    with Monitor(PROGRAM) as monitor:
+        assert os.getsid(monitor._child.pid) == monitor._child.pid != os.getsid(0)
+
+
+def a_closed_monitor() -> None:
+    monitor = Monitor(PROGRAM)
+    assert monitor.close() == "legal"
+    raised(ValueError, monitor.read(0).__enter__)
+
+
+def the_log_is_judged_again() -> None:
+    log = io.StringIO()
+    monitor = Monitor(PROGRAM, log=log)
+    error = raised(Illegal, lambda: reads_and_writes(monitor, Store(writes_until_cut=20), 100))
+    monitor.close()
+    ran = subprocess.run([PROGRAM, "script", "--concurrency", "64"], input=log.getvalue().encode(), stdout=subprocess.PIPE)
+    assert isinstance(error, Illegal) and ran.stdout.decode().splitlines()[-1] == error.reply and ran.returncode == 1
+
+
+def no_program() -> None:
+    raised(FileNotFoundError, lambda: Monitor("/nowhere/jepmon"))
+
+
+def example(name: str, *words: str) -> "subprocess.CompletedProcess[str]":
+    return subprocess.run([sys.executable, str(TOP / "examples" / "python" / name), *words], stdout=subprocess.PIPE,
+                          stderr=subprocess.PIPE, universal_newlines=True, timeout=60, env=dict(os.environ, JEPMON=PROGRAM))
+
+
+def the_examples() -> None:
+    """The example finds the stale read; those that need a redis-server are only asked for their help."""
+    ran = example("stale_read.py")
+    assert ran.returncode == 1 and "\njepmon.Illegal: illegal key " in ran.stderr, ran
+    for name in ("redis_stale.py", "redis_lock.py"):
+        ran = example(name, "--help")
+        assert ran.returncode == 0 and "--jepmon" in ran.stdout and not ran.stderr, ran
+
+
+TESTS = [a_linearizable_store_is_legal, a_stale_read_is_illegal, each_thread_is_stopped, lost_writes_are_illegal,
+         a_missing_key_is_legal, a_timeout_is_an_info, an_unexpected_exception_goes_on, what_failed_did_not_take_place,
+         a_cas_register, a_lock_that_two_hold, queues_and_sets, what_is_no_integer, too_many_at_once, a_key_over_its_budget,
+         what_is_refused, the_program_ends, a_session_of_its_own, a_closed_monitor, the_log_is_judged_again, no_program,
+         the_examples]
+
+
+def main(names: List[str]) -> int:
+    """Runs the tests of these names, or all where none is named."""
+    unknown = sorted(set(names) - {test.__name__ for test in TESTS})
+    failed = len(unknown)
+    for name in unknown:
+        print(f"python {name}: there is no such test")
+    tests = [test for test in TESTS if not names or test.__name__ in names]
+    for test in tests:
+        try:
+            test()
+            print(f"python {test.__name__}: ok")
+        except Exception as fault:  # whatever it is, the test has failed
+            print(f"python {test.__name__}: FAILED\n  {fault!r}")
+            failed += 1
+    print(f"{len(tests) + len(unknown) - failed} passed, {failed} failed")
+    return 1 if failed else 0
+
+
+if __name__ == "__main__":
+    faulthandler.dump_traceback_later(LIMIT, exit=True)
+    sys.exit(main(sys.argv[1:]))
