@@ -3,8 +3,9 @@
 
 A case is a folder of tests/cases: args (one word a line), stdin, stdout (the bytes that must come), status (0 where
 left out), and for what goes to standard error a file stderr (each of its lines must be among those that came; with no
-such file nothing may come). In place of stdin a case may have stdin.py, which prints it. Words that name files are read from the
-top of the repository: a case of check has its history.edn beside them. A file memory is the limit on the program's memory, in KiB.
+such file nothing may come), or a file terminal: then standard error is a terminal, and this is what it must show. In place of
+stdin a case may have stdin.py, which prints it. Words that name files are read from the top of the repository: a case of check
+has its history.edn beside them. A file memory is the limit on the program's memory, in KiB.
 The live cases are a session through two pipes: a line is sent only when the reply to the one before has come.
 With words, it runs the cases of these names alone.
 """
@@ -44,10 +45,35 @@ def limited(kibibytes):
     return lambda: resource.setrlimit(resource.RLIMIT_AS, (kibibytes << 10, kibibytes << 10))
 
 
+def all_shown(terminal):
+    """All that was written to a terminal, or a pipe, that no program holds open any more."""
+    told = b""
+    with open(terminal, "rb", buffering=0) as shown:
+        try:
+            while piece := shown.read(65536):
+                told += piece
+        except OSError:  # how a terminal ends
+            pass
+    return told
+
+
+def run_on_terminal(command, case):
+    """Runs it with standard error a terminal: how it ran, and in place of standard error what the terminal shows."""
+    shown, errors = os.openpty()
+    ran = subprocess.run(command, input=stream(case, "stdin"), stdout=subprocess.PIPE, stderr=errors, timeout=120, cwd=TOP)
+    os.close(errors)
+    ran.stderr = all_shown(shown).replace(b"\r\n", b"\n")
+    return ran
+
+
 def run_case(case):
-    limit = limited(int(read(case / "memory"))) if (case / "memory").exists() else None
-    ran = subprocess.run([str(PROGRAM)] + words(case), input=stream(case, "stdin"), stdout=subprocess.PIPE,
-                         stderr=subprocess.PIPE, timeout=120, cwd=TOP, preexec_fn=limit)
+    command = [str(PROGRAM)] + words(case)
+    if (case / "terminal").exists():
+        ran = run_on_terminal(command, case)
+    else:
+        limit = limited(int(read(case / "memory"))) if (case / "memory").exists() else None
+        ran = subprocess.run(command, input=stream(case, "stdin"), stdout=subprocess.PIPE, stderr=subprocess.PIPE, timeout=120,
+                             cwd=TOP, preexec_fn=limit)
     faults = []
     if ran.stdout != stream(case, "stdout"):
         faults.append(f"standard output was {ran.stdout[:400]!r}")
@@ -58,6 +84,9 @@ def run_case(case):
         for line in read(case / "stderr").rstrip(b"\n").split(b"\n"):
             if line not in errors:
                 faults.append(f"standard error lacks {line!r}: {ran.stderr[:400]!r}")
+    elif (case / "terminal").exists():
+        if ran.stderr != read(case / "terminal"):
+            faults.append(f"the terminal showed {ran.stderr[:400]!r}")
     elif ran.stderr:
         faults.append(f"standard error was {ran.stderr[:400]!r}")
     return faults
@@ -152,20 +181,15 @@ def run_slow_check(terminal, pause):
             time.sleep(pause)
             history.write(text[len(text) // 2:])
         written = process.communicate(timeout=10)[0]
-    with open(shown, "rb", buffering=0) as stream:
-        try:
-            told = stream.read(65536)
-        except OSError:  # a terminal that nobody holds open any more, and to which nothing was written
-            told = b""
-    return written, told, process.returncode
+    return written, all_shown(shown), process.returncode
 
 
 def run_progress():
-    """A check of more than a second says on a terminal how far it has come; a shorter one says nothing, nor does one whose
-    standard error is no terminal. Standard output has the verdict alone."""
+    """A check of more than a second says on a terminal how far it has come, from then on, also while it reads; a shorter one
+    says nothing, nor does one whose standard error is no terminal. Standard output has the verdict alone."""
     verdict = b"illegal key 7 index 5\n"
     faults = []
-    for terminal, pause, want in ((True, 1.2, b"\r1 of 6 events\r\n"), (True, 0, b""), (False, 1.2, b"")):
+    for terminal, pause, want in ((True, 1.2, b"\r511 bytes were read\r\n"), (True, 0, b""), (False, 1.2, b"")):
         got = run_slow_check(terminal, pause)
         if got != (verdict, want, 1):
             faults.append(f"on a {'terminal' if terminal else 'pipe'}, with a pause of {pause} s, it ended with {got!r}")

@@ -1,5 +1,5 @@
 -- Promise: what a check reads of a recorded history, finds and says (this project's own)
-use Rattle.std.specs.Prelude.{◌≡◌, ℕ, Bool, true, List, ◌++◌, Option, ◌⊎◌}
+use Rattle.std.specs.Prelude.{◌≡◌, ℕ, Bool, true, false, List, ◌++◌, Option, ◌⊎◌}
 use Rattle.std.specs.Io.KnownBytes.{Appends, Consumes, IsAtEnd}
 use Rattle.edn.specs.declared.refusal.Refusal.TheVariants.{NoMemory, ReadFailed}
 use Rattle.harness.specs.declared.judging.Judging.{Judging}
@@ -15,10 +15,10 @@ IsFound settings input left has_failed findings =
     ⊎ ((findings ≡ Refused ReadFailed) × (has_failed ≡ true))
     ⊎ (findings ≡ Refused NoMemory)
 
--- the line was written whole; or the writer has failed, and took a beginning of it
+-- the line was written whole, and the writer has not failed; or it has, and took a beginning of it
 abbrev pub IsPut : List ℕ → ℕ → Option (List ℕ) → Option (List ℕ) → Bool → ℕ → Type 0
 IsPut line line_status before after has_failed status =
-    (Appends before after line × (status ≡ line_status))
+    (Appends before after line × (has_failed ≡ false) × (status ≡ line_status))
     ⊎ ((part : List ℕ) × (more : List ℕ) × (line ≡ part ++ more) × Appends before after part
     × (has_failed ≡ true) × (status ≡ 3))
 

@@ -4,16 +4,16 @@ ghost use Rattle.jepmon.specs.declared.recorded.Findings.{Findings};
 ghost use Rattle.jepmon.specs.Checks.{Checks, IsPut, IsTold};
 
 use crate::exit_status::REFUSED;
-use crate::progress::Progress;
 use crate::recorded::{Findings, findings_text, judge_text, status_of_findings};
 use edn::Refusal;
 use harness::Judging;
 use line_loop::{Failed, Watched, flush_all, read_whole, write_text};
+use onlookers::Onlooker;
 use std::alloc::Global;
-use std::fs;
 use std::fs::Files;
 use std::io::{Read, Write};
 use std::sync::Wait;
+use std::{fs, io};
 
 // The line of want of memory, for which none may be left.
 const NO_MEMORY: &[u8] = b"refused 13 NoMemory\n";
@@ -23,16 +23,16 @@ const NO_MEMORY: &[u8] = b"refused 13 NoMemory\n";
 /// The line is that of the verdict; or `refused NUMBER NAME event I`, where I elements were taken and the next one was
 /// refused; or `refused NUMBER NAME` for what is no element's refusal: `ReadFailed` where the reader has failed,
 /// `Unreadable` with its place, `NoMemory`. The status is that of the verdict, else 3, and 3 too where the writer has
-/// failed. The bytes are held once, and one element at a time. How many events are taken is told on the way; the number
-/// of workers, 1 to 64, changes nothing: one thread judges.
-pub fn check_text<X: Wait, R: Read + Failed, W: Write + Failed, P: Progress>(
+/// failed. The bytes are held once, and one element at a time. The onlooker is told how many events are taken on the way; the
+/// number of workers, 1 to 64, changes nothing: one thread judges.
+pub fn check_text<X: Wait, R: Read + Failed, W: Write + Failed, L: Onlooker>(
     rt: &X,
     alloc: Global,
     settings: Judging,
     _workers: u32,
     reader: &mut R,
     writer: &mut W,
-    progress: &mut P,
+    onlooker: &L,
 ) -> u8
     requires reads { R.has_failed reader.old ≡ false }
     requires writes { W.has_failed writer.old ≡ false }
@@ -41,31 +41,67 @@ pub fn check_text<X: Wait, R: Read + Failed, W: Write + Failed, P: Progress>(
         (W.contents writer.old) (W.contents writer.new) (W.has_failed writer.new) result }
 {
     let findings = match read_whole(rt, alloc, reader) {
-        Ok(bytes) => judge_text(alloc, settings, bytes.as_slice(), progress),
-        Err(refusal) => Findings::Refused(refusal),
+        Ok(bytes) => judge_text(alloc, settings, bytes.as_slice(), onlooker),
+        Err(refusal) => {
+            onlooker.refused(&refusal);
+            Findings::Refused(refusal)
+        }
     };
     tell(rt, alloc, &findings, writer)
 }
 
 /// Judges the recorded history in a file: [`check_text`] of what the file has. A file that can't be opened is told as
 /// `ReadFailed`.
-pub fn check_file<X: Wait + Files, W: Write + Failed, P: Progress>(
+pub fn check_file<X: Wait + Files, W: Write + Failed, L: Onlooker>(
     rt: &X,
     alloc: Global,
     path: &str,
     settings: Judging,
     workers: u32,
     writer: &mut W,
-    progress: &mut P,
+    onlooker: &L,
 ) -> u8
     requires { W.has_failed writer.old ≡ false }
 {
     match fs::open(rt, path) {
         Ok(file) => {
-            let mut reader = Watched::new(file);
-            check_text(rt, alloc, settings, workers, &mut reader, writer, progress)
+            let mut reader = Watched::new(SeenFile {
+                file,
+                path,
+                onlooker,
+            });
+            check_text(rt, alloc, settings, workers, &mut reader, writer, onlooker)
         }
-        Err(_) => tell(rt, alloc, &Findings::Refused(Refusal::ReadFailed), writer),
+        Err(reason) => {
+            onlooker.unread(path, &reason);
+            onlooker.refused(&Refusal::ReadFailed);
+            tell(rt, alloc, &Findings::Refused(Refusal::ReadFailed), writer)
+        }
+    }
+}
+
+// A file, at whose reads somebody looks on.
+#[derive(Drop)]
+struct SeenFile<'a, R, L> {
+    file: R,
+    path: &'a str,
+    onlooker: &'a L,
+}
+
+impl<'a, R: Read, L: Onlooker> Read for SeenFile<'a, R, L> {
+    ghost remaining = { λ seen. R.remaining seen.file };
+
+    fn read(&mut self, buf: &mut [u8]) -> io::Result<usize> {
+        match self.file.read(buf) {
+            Ok(n) => {
+                self.onlooker.read(n);
+                Ok(n)
+            }
+            Err(reason) => {
+                self.onlooker.unread(self.path, &reason);
+                Err(reason)
+            }
+        }
     }
 }
 

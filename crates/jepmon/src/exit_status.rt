@@ -6,6 +6,7 @@ use crate::command_line::Stop;
 use edn::Refusal;
 use line_loop::refusal_text;
 use linspec::Verdict;
+use onlookers::Onlooker;
 use std::alloc::Global;
 use std::io::{Eprint, Print};
 
@@ -14,13 +15,18 @@ pub(crate) const REFUSED: u8 = 3;
 
 /// The exit status after a script: 0 legal, 1 illegal, 2 unknown, and 3 for a refusal, whose line goes to standard
 /// error.
-pub fn status_after<P: Eprint>(rt: &P, alloc: Global, outcome: Result<Verdict, Refusal>) -> u8
+pub fn status_after<P: Eprint, L: Onlooker>(
+    rt: &P,
+    alloc: Global,
+    outcome: Result<Verdict, Refusal>,
+    onlooker: &L,
+) -> u8
     ensures { MatchResult outcome (λ verdict. result ≡ status_of verdict) (λ _. result ≡ 3) }
 {
     match outcome {
         Ok(verdict) => status_of_verdict(&verdict),
         Err(refusal) => {
-            print_refusal(rt, alloc, &refusal);
+            print_refusal(rt, alloc, &refusal, onlooker);
             REFUSED
         }
     }
@@ -37,9 +43,14 @@ pub(crate) fn status_of_verdict(verdict: &Verdict) -> u8
     }
 }
 
-/// The exit status where there is no order: 0 for help, which goes to standard output, else 3. A usage fault and a
-/// refusal line go to standard error.
-pub fn status_of_stop<P: Print + Eprint>(rt: &P, alloc: Global, stop: &Stop) -> u8 {
+/// The exit status where there is no order: 0 for help and the version, which go to standard output, else 3. A usage fault
+/// and a refusal line go to standard error.
+pub fn status_of_stop<P: Print + Eprint, L: Onlooker>(
+    rt: &P,
+    alloc: Global,
+    stop: &Stop,
+    onlooker: &L,
+) -> u8 {
     match stop {
         Stop::Help(help) => match help.print(rt) {
             Ok(()) => 0,
@@ -50,15 +61,16 @@ pub fn status_of_stop<P: Print + Eprint>(rt: &P, alloc: Global, stop: &Stop) -> 
             REFUSED
         }
         Stop::Refused(refusal) => {
-            print_refusal(rt, alloc, refusal);
+            print_refusal(rt, alloc, refusal, onlooker);
             REFUSED
         }
     }
 }
 
 // Prints the line of a refusal on standard error, if that can be done.
-fn print_refusal<P: Eprint>(rt: &P, alloc: Global, refusal: &Refusal) {
+fn print_refusal<P: Eprint, L: Onlooker>(rt: &P, alloc: Global, refusal: &Refusal, onlooker: &L) {
     if let Ok(line) = refusal_text(alloc, refusal) {
         let _ = eprint!(rt; "{line}");
     }
+    onlooker.stopped(refusal);
 }

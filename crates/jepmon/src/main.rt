@@ -7,8 +7,8 @@ pub mod check;
 pub mod command;
 pub mod command_line;
 pub mod exit_status;
+mod help;
 pub mod laws;
-pub mod progress;
 pub mod recorded;
 pub mod script;
 pub mod verdict_line;
@@ -18,12 +18,12 @@ use command_line::{Order, Stop, no_text, order_of};
 use edn::Refusal;
 use exit_status::{status_after, status_of_stop};
 pub use line_loop::{Failed, Watched};
-use progress::OnTerminal;
+use onlookers::OnTerminal;
 use script::run_script;
 use std::alloc::{AllocError, Global};
 use std::env;
 use std::env::Args;
-use std::io::ErrorKind;
+use std::io::{ErrorKind, IsTerminal};
 use std::process::ExitCode;
 use std::rt::Env;
 
@@ -46,12 +46,14 @@ fn rest_of(alloc: Global, words: Args) -> Result<Vec<String>, AllocError> {
 
 fn main(rt: HostRuntime) -> ExitCode {
     let alloc: Global = rt.alloc();
+    let terminal = OnTerminal::new(&rt, rt.stderr().is_terminal());
     let status = match order_given(&rt) {
         Ok(Order::Script(settings)) => {
             let mut reader = Watched::new(rt.stdin());
             let mut writer = Watched::new(rt.stdout());
-            let outcome = run_script(&rt, alloc, settings, &mut reader, &mut writer);
-            status_after(&rt, alloc, outcome)
+            let outcome = run_script(&rt, alloc, settings, &mut reader, &mut writer, &terminal);
+            terminal.end();
+            status_after(&rt, alloc, outcome, &terminal)
         }
         Ok(
             Order::Check {
@@ -61,18 +63,19 @@ fn main(rt: HostRuntime) -> ExitCode {
             },
         ) => {
             let mut writer = Watched::new(rt.stdout());
-            let mut progress = OnTerminal::new(&rt, rt.stderr());
-            check_file(
+            let status = check_file(
                 &rt,
                 alloc,
                 path.as_str(),
                 settings,
                 workers,
                 &mut writer,
-                &mut progress,
-            )
+                &terminal,
+            );
+            terminal.end();
+            status
         },
-        Err(stop) => status_of_stop(&rt, alloc, &stop),
+        Err(stop) => status_of_stop(&rt, alloc, &stop, &terminal),
     };
     ExitCode::from(status)
 }

@@ -6,17 +6,18 @@ ghost use Rattle.edn.specs.View.{value_of};
 ghost use Rattle.machine.specs.Machine.{opening};
 ghost use Rattle.harness.specs.Setups.{judging};
 ghost use Rattle.harness.specs.CoreView.{at_rest};
+ghost use Rattle.monitor.specs.JudgedHistory.{IsVerdictOn};
 ghost use Rattle.jepmon.specs.declared.recorded.Findings.{Findings};
 ghost use Rattle.jepmon.specs.Recorded.{TakesElement, RefusesElement, ComesTo, findings_line, findings_status};
 
 use crate::exit_status::{REFUSED, status_of_verdict};
-use crate::progress::Progress;
 use crate::verdict_line::verdict_text;
 use edn::{Edn, Elements, Refusal, check_text};
 use harness::{Command, Core, Judging};
 use history::from_edn;
 use line_loop::refusal_text;
 use linspec::Verdict;
+use onlookers::Onlooker;
 use std::alloc::{AllocError, Global};
 
 /// What a recorded history comes to.
@@ -33,50 +34,52 @@ pub enum Findings {
 /// Judges a text whose elements are events, in turn, up to the first that is refused.
 ///
 /// Where the bytes are no text, that is what is found, even if an element before that place would be refused. The bytes
-/// are read twice, once as a text alone and once for their elements, of which one is held at a time. How many are taken is
-/// told on the way.
-pub fn judge_text<P: Progress>(
+/// are read twice, once as a text alone and once for their elements, of which one is held at a time. The onlooker is told on
+/// the way how many are taken.
+pub fn judge_text<L: Onlooker>(
     alloc: Global,
     settings: Judging,
     bytes: &[u8],
-    progress: &mut P,
+    onlooker: &L,
 ) -> Findings
     ensures { ComesTo settings bytes.now result }
 {
     match check_text(alloc, bytes) {
-        Ok(events) => {
-            let findings = judge_elements(alloc, settings, bytes, events, progress);
-            progress.end();
-            findings
+        Ok(events) => judge_elements(alloc, settings, bytes, events, onlooker),
+        Err(refusal) => {
+            onlooker.refused_text(bytes, &refusal);
+            Findings::Refused(refusal)
         }
-        Err(refusal) => Findings::Refused(refusal),
     }
 }
 
 // The same of bytes that are a text of so many events.
-fn judge_elements<P: Progress>(
+fn judge_elements<L: Onlooker>(
     alloc: Global,
     settings: Judging,
     bytes: &[u8],
     events: usize,
-    progress: &mut P,
+    onlooker: &L,
 ) -> Findings
     requires { (values : Values) × IsText bytes.now values }
     ensures { ComesTo settings bytes.now result }
 {
     match Core::to_judge(alloc, settings) {
-        Ok(mut core) => judge_with(alloc, &mut core, bytes, events, progress),
-        Err(refusal) => Findings::Refused(refusal),
+        Ok(mut core) => judge_with(alloc, &mut core, bytes, events, onlooker),
+        Err(refusal) => {
+            onlooker.refused(&refusal);
+            Findings::Refused(refusal)
+        }
     }
 }
 
 // The same by an object that was opened and has taken nothing yet.
-fn judge_with<P: Progress>(
+fn judge_with<L: Onlooker>(
     alloc: Global,
     core: &mut Core,
     bytes: &[u8],
     events: usize,
-    progress: &mut P,
+    onlooker: &L,
 ) -> Findings
     requires { (values : Values) × IsText bytes.now values }
     ensures { (settings : Judging) → core.old ≡ at_rest (opening (judging settings))
@@ -87,17 +90,32 @@ fn judge_with<P: Progress>(
     'elements: loop {
         let element = match elements.next(alloc) {
             Ok(Some(element)) => element,
-            Ok(None) => return Findings::Judged(core.verdict()),
-            Err(refusal) => return Findings::Refused(refusal),
+            Ok(None) => return Findings::Judged(judged(core, onlooker)),
+            Err(refusal) => {
+                onlooker.refused(&refusal);
+                return Findings::Refused(refusal);
+            }
         };
         match take_element(alloc, core, element) {
             Ok(()) => {
                 taken += 1;
-                progress.taken(taken, events);
+                onlooker.taken(taken, events);
             }
-            Err(refusal) => return refused_at(taken, refusal),
+            Err(refusal) => {
+                onlooker.refused(&refusal);
+                return refused_at(taken, refusal);
+            }
         }
     }
+}
+
+// The verdict on all that was taken.
+fn judged<L: Onlooker>(core: &Core, onlooker: &L) -> Verdict
+    ensures { IsVerdictOn core.now.machine.judged result }
+{
+    let verdict = core.verdict();
+    onlooker.judged(core.monitor(), &verdict);
+    verdict
 }
 
 // Appends the event that the element spells.

@@ -15,19 +15,21 @@ use edn::Refusal;
 use harness::{Command, Core, Judging, Reply};
 use line_loop::{Failed, LineMachine, answer_lines, append_refusal};
 use linspec::Verdict;
+use onlookers::Onlooker;
 use std::alloc::{AllocError, Global};
 use std::io::{Read, Write};
 use std::marker::Model;
 use std::sync::Wait;
 
-// A one-thread object whose commands are lines.
+// A one-thread object whose commands are lines, and who looks on.
 #[derive(Drop)]
-struct ScriptMachine {
+struct ScriptMachine<'a, L> {
     alloc: Global,
     core: Core,
+    onlooker: &'a L,
 }
 
-impl Model for ScriptMachine {
+impl<'a, L> Model for ScriptMachine<'a, L> {
     ghost use Rattle.std.specs.Coded.{codes};
     ghost use Rattle.generators.specs.Codes.{generator_code};
     ghost use Rattle.machine.specs.Machine.{Machine};
@@ -39,8 +41,8 @@ impl Model for ScriptMachine {
     ghost view = { λ machine. machine.core.machine };
 }
 
-impl LineMachine for ScriptMachine {
-    type State = ScriptMachine;
+impl<'a, L: Onlooker> LineMachine for ScriptMachine<'a, L> {
+    type State = ScriptMachine<'a, L>;
 
     type Verdict = Verdict;
 
@@ -51,24 +53,43 @@ impl LineMachine for ScriptMachine {
     ghost shows = { λ machine verdict. IsVerdictOn machine.judged verdict };
 
     fn answer(&mut self, line: &[u8], reply: &mut Vec<u8>) -> Result<(), AllocError> {
+        self.onlooker.line();
         match read_command(self.alloc, line) {
             Ok(None) => Ok(()),
-            Ok(Some(command)) => carry_out(self.alloc, &mut self.core, command, reply),
-            Err(refusal) => reply_refusal(self.alloc, refusal, reply),
+            Ok(Some(command)) => {
+                tell_event(self.onlooker, &command);
+                carry_out(self.alloc, &mut self.core, command, reply, self.onlooker)
+            }
+            Err(refusal) => reply_refusal(self.alloc, refusal, reply, self.onlooker),
         }
     }
 
+    fn pass_over(&self) {
+        self.onlooker.line();
+        self.onlooker.refused(&Refusal::TooLong);
+    }
+
     fn verdict(&self) -> Verdict {
-        self.core.verdict()
+        let verdict = self.core.verdict();
+        self.onlooker.judged(self.core.monitor(), &verdict);
+        verdict
+    }
+}
+
+// Tells of an event that is to be appended.
+fn tell_event<L: Onlooker>(onlooker: &L, command: &Command) {
+    if let Command::Append(_) = command {
+        onlooker.event();
     }
 }
 
 // Carries out a command that a line asks for, and puts the line of what came of it into an empty vector.
-fn carry_out(
+fn carry_out<L: Onlooker>(
     alloc: Global,
     core: &mut Core,
     command: Command,
     reply: &mut Vec<u8>,
+    onlooker: &L,
 ) -> Result<(), AllocError>
     requires empty { reply.old.items ≡ [] }
     requires asked { (line : List ℕ) × Asks line (Ok (Some command)) }
@@ -76,7 +97,7 @@ fn carry_out(
 {
     match core.step(command) {
         Ok(said) => append_verdict(alloc, reply, &verdict_of(said)),
-        Err(refusal) => reply_refusal(alloc, refusal, reply),
+        Err(refusal) => reply_refusal(alloc, refusal, reply, onlooker),
     }
 }
 
@@ -96,14 +117,22 @@ fn verdict_of(said: Reply) -> Verdict
 }
 
 // Puts the line of a refusal into an empty vector. Want of memory has no line.
-fn reply_refusal(alloc: Global, refusal: Refusal, reply: &mut Vec<u8>) -> Result<(), AllocError>
+fn reply_refusal<L: Onlooker>(
+    alloc: Global,
+    refusal: Refusal,
+    reply: &mut Vec<u8>,
+    onlooker: &L,
+) -> Result<(), AllocError>
     requires { reply.old.items ≡ [] }
     ensures line { OnOk result (reply.new.items ≡ refusal_line refusal) }
     ensures memory { OnOk result (refusal ≢ Refusal.NoMemory) }
 {
     match refusal {
         Refusal::NoMemory => Err(AllocError),
-        refusal => append_refusal(alloc, reply, &refusal),
+        refusal => {
+            onlooker.refused(&refusal);
+            append_refusal(alloc, reply, &refusal)
+        }
     }
 }
 
@@ -112,18 +141,19 @@ fn reply_refusal(alloc: Global, refusal: Refusal, reply: &mut Vec<u8>) -> Result
 ///
 /// A line is at most 65,536 bytes, its line feed not counted; a longer one is answered by `refused 22 TooLong`. A line
 /// without an element gets no reply. The time is that of the commands, and the memory that of the monitor and of two
-/// lines.
+/// lines. The onlooker is told of each line.
 ///
 /// # Errors
 ///
 /// What [`Core::to_judge`] refuses, before anything is read. Else `ReadFailed` where the reader failed, `WriteFailed` where
 /// the writer failed or took none of some bytes, and `NoMemory`: the writer has then taken a beginning of the replies.
-pub fn run_script<X: Wait, R: Read + Failed, W: Write + Failed>(
+pub fn run_script<X: Wait, R: Read + Failed, W: Write + Failed, L: Onlooker>(
     rt: &X,
     alloc: Global,
     settings: Judging,
     reader: &mut R,
     writer: &mut W,
+    onlooker: &L,
 ) -> Result<Verdict, Refusal>
     requires reads { R.has_failed reader.old ≡ false }
     requires writes { W.has_failed writer.old ≡ false }
@@ -150,5 +180,10 @@ pub fn run_script<X: Wait, R: Read + Failed, W: Write + Failed>(
     ensures wrote { result ≡ Err Refusal.WriteFailed → W.has_failed writer.new ≡ true }
 {
     let core = Core::to_judge(alloc, settings)?;
-    answer_lines(rt, alloc, ScriptMachine { alloc, core }, reader, writer)
+    let machine = ScriptMachine {
+        alloc,
+        core,
+        onlooker,
+    };
+    answer_lines(rt, alloc, machine, reader, writer)
 }

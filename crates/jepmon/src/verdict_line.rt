@@ -33,6 +33,9 @@ pub fn append_verdict(
     ensures ok { OnOk result (reply.new.items ≡ reply.old.items ++ verdict_line verdict.now) }
     ensures err { OnErr result (reply.new.items ≡ reply.old.items) }
 {
+    if let Verdict::Legal = verdict {
+        return reply.extend_from_slice(b"legal\n");
+    }
     let line = verdict_text(alloc, verdict)?;
     reply.extend_from_slice(line.as_bytes())
 }

@@ -11,7 +11,7 @@ pub returns-in-Ok-None : goal.returns-in-Ok-None
 returns-in-Ok-None g c = λ settings opened.
     let (given, behind, same, takes, counted, room) = c.elements.invariant in
     let text = at_none c.in-Ok-None.field-0 c.in-Ok-None.field-0-is c.in-Ok-None.ensures.end given (subst (λ b. IsLeftBehind b given c.elements.elements.left) (sym same) behind) in
-    (c.elements.core.machine, taken settings c.args.core.now opened c.args.bytes.now given _ takes (subst (λ b. IsText b given) same text), c.verdict.ensures)
+    (c.elements.core.machine, taken settings c.args.core.now opened c.args.bytes.now given _ takes (subst (λ b. IsText b given) same text), c.judged.ensures)
 
 pub elements-preserved : goal.elements-preserved
 elements-preserved g c =

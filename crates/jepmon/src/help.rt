@@ -1,0 +1,103 @@
+//! What the program says of itself.
+
+use models::each_kind;
+use onlookers::each_hint;
+
+/// The program's version, and the toolchain that proves and builds it: the first word that `rt version` prints.
+pub const VERSION: &str = "1.0.0
+rattle-kit-13f";
+
+pub const ABOUT: &str = "Judges whether what clients saw of a store is linearizable";
+
+pub const MORE: &str =
+    "Without a command it is script, with its defaults. Its options: jepmon script --help";
+
+pub const SCRIPT: &str = "Answers events on standard input by verdicts";
+
+pub const SCRIPT_LONG: &str =
+    "Reads events from standard input, a line each, and answers each on standard output,
+before it reads the next, by the verdict on all events so far:
+
+  legal                    the history is linearizable
+  illegal key K index I    it is not, and event I of key K is the first that shows it
+  unknown key K index I    the budget of key K did not suffice at event I
+
+A line that is refused changes nothing and is answered by `refused NUMBER NAME`.";
+
+pub const CHECK: &str = "Judges a recorded history, whose elements are events";
+
+pub const CHECK_LONG: &str =
+    "Reads a file of events, one after the other, judges all of them, and prints one line:
+
+  legal                        the history is linearizable
+  illegal key K index I        it is not, and event I of key K is the first that shows it
+  unknown key K index I        the budget of key K did not suffice at event I
+  refused NUMBER NAME event I  event I is none that may come there
+  refused NUMBER NAME          the file can't be read, or is no text";
+
+pub const STATUS: &str = "Exit status: 0 legal, 1 illegal, 2 unknown, 3 refused";
+
+// The forms of the input, then of an event, then the refusals, then the exit status.
+macro_rules! with_forms {
+    ($forms:literal, $status:literal; $($n:literal $name:literal $hint:literal),*) => {
+        concat!($forms, "
+
+An event's :type is :invoke, or :ok (it took place), :fail (it did not) or :info (nobody knows).
+Its :process is an integer, its :value is [KEY PART] with a KEY of 0 to 65535, and its :f one of
+
+  :read      the part is nil; of an :ok an integer, nil, or a set of integers as #{1 2}
+  :write     an integer
+  :cas       [A B]: B is written where the value is A
+  :acquire   nil
+  :release   nil
+  :enqueue   an integer
+  :dequeue   nil; of an :ok an integer
+  :add       an integer
+
+Its :index, where it has one, is the number of events before it. Other keys are dropped.
+
+Refusals, and what is usually the cause of each:
+", $("\n  ", $n, " ", $name, ": ", $hint,)* "\n\n", $status)
+    };
+}
+
+pub const SCRIPT_FORMS: &str = each_hint!(with_forms;
+"A line of input is empty, or has one of
+
+  {:type :invoke, :process 0, :f :write, :value [7 3]}
+                     an event: process 0 begins to write 3 to key 7
+  [:verdict]         the verdict is asked for
+  [:rewind N]        the first N events are kept
+  [:model KEY KIND]  the key is of this kind, as [:model 7 :mutex]
+  [:budget KEY N]    the key has this budget",
+"Exit status, by the verdict at the end: 0 legal, 1 illegal, 2 unknown. 3 where the words, standard
+input or standard output are refused; a line that is refused does not count.");
+
+pub const CHECK_FORMS: &str = each_hint!(with_forms;
+"The file has events, one after the other:
+
+  {:type :invoke, :process 0, :f :write, :value [7 3]}
+                     process 0 begins to write 3 to key 7",
+"Exit status: 0 legal, 1 illegal, 2 unknown, 3 refused");
+
+pub const FILE: &str =
+    "The file, or /dev/stdin; its events stand in it as in script, cut into lines or not";
+
+pub const WORKERS: &str = "Threads that judge keys, 1 to 64; for now one does it";
+
+pub const CONCURRENCY: &str =
+    "Threads of the clients, 1 to 64; process P belongs to thread P mod N";
+
+// A text, and then the names of the kinds.
+macro_rules! with_names {
+    ($text:literal; $First:ident $first:literal, $($K:ident $name:literal),*) => {
+        concat!($text, $first $(, ", ", $name)*)
+    };
+}
+
+pub const MODEL: &str = each_kind!(with_names; "The object that every key is: ");
+
+pub const NO_MODEL: &str = each_kind!(with_names; "--model takes one of ");
+
+pub const BUDGET: &str =
+    "Ends of one key that are kept apart, 1 to 65536; a key with more is unknown";

@@ -1,0 +1,36 @@
+//! Whoever looks on while the program runs.
+
+use edn::Refusal;
+use linspec::Verdict;
+use monitor::Monitor;
+use std::io;
+
+/// Is told how far a run has come, and why something was refused.
+pub trait Onlooker {
+    /// So many further bytes of a recorded history were read; 0 at its end.
+    fn read(&self, bytes: usize);
+
+    /// The file can't be opened or read, for this reason.
+    fn unread(&self, path: &str, reason: &io::Error);
+
+    /// So many of the events that a recorded history has were taken.
+    fn taken(&self, taken: usize, events: usize);
+
+    /// A further line of a script came.
+    fn line(&self);
+
+    /// The line spells an event.
+    fn event(&self);
+
+    /// The line that came is refused; or the next event of a recorded history, or the whole of it.
+    fn refused(&self, refusal: &Refusal);
+
+    /// These bytes of a recorded history are refused as a text.
+    fn refused_text(&self, bytes: &[u8], refusal: &Refusal);
+
+    /// The input was taken to its end, and this is the verdict.
+    fn judged(&self, monitor: &Monitor, verdict: &Verdict);
+
+    /// The program stops for this.
+    fn stopped(&self, refusal: &Refusal);
+}

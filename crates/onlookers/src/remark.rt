@@ -1,0 +1,125 @@
+//! What may be said beside a verdict.
+
+use history::{Body, Event};
+use linspec::Verdict;
+use models::{Key, ModelKind, Name, each_kind};
+use monitor::Monitor;
+use std::fmt;
+
+/// What may be said beside a verdict.
+#[derive(Clone, Copy)]
+pub enum Remark {
+    /// Nothing was judged.
+    NoEvent,
+    /// The operation that shows it is none that the key's object has. Another kind may have all that the key saw.
+    NoneOfTheKind {
+        key: Key,
+        kind: ModelKind,
+        name: Name,
+        meant: Option<ModelKind>,
+    },
+    /// The budget of the key did not suffice.
+    Blown(Key),
+}
+
+macro_rules! kinds {
+    (; $($K:ident $name:literal),*) => {
+        [$(ModelKind::$K),*]
+    };
+}
+
+const KINDS: [ModelKind; 6] = each_kind!(kinds;);
+
+// Whether objects of this kind have operations of this name.
+fn has_operation(kind: ModelKind, name: Name) -> bool {
+    match kind {
+        ModelKind::Register => matches!(name, Name::Read | Name::Write),
+        ModelKind::CasRegister => matches!(name, Name::Read | Name::Write | Name::Cas),
+        ModelKind::Mutex => matches!(name, Name::Acquire | Name::Release),
+        ModelKind::FifoQueue | ModelKind::UnorderedQueue => {
+            matches!(name, Name::Enqueue | Name::Dequeue)
+        }
+        ModelKind::Set => matches!(name, Name::Add | Name::Read),
+    }
+}
+
+/// What may be said beside this verdict of the monitor, if anything.
+pub fn remark_on(monitor: &Monitor, verdict: &Verdict) -> Option<Remark> {
+    match verdict {
+        Verdict::Legal => None,
+        Verdict::Illegal { key, index } => none_of_the_kind(monitor, *key, *index),
+        Verdict::Unknown { key, .. } => Some(Remark::Blown(*key)),
+    }
+}
+
+// Says so where the event of this index is of an operation that the key's object does not have.
+fn none_of_the_kind(monitor: &Monitor, key: Key, index: u32) -> Option<Remark> {
+    let events = monitor.history().events();
+    let Body::Op(op) = &events.get(index as usize)?.body else {
+        return None;
+    };
+    let kind = kind_of(monitor, key)?;
+    if has_operation(kind, op.name) {
+        return None;
+    }
+    Some(Remark::NoneOfTheKind {
+        key,
+        kind,
+        name: op.name,
+        meant: KINDS
+            .iter()
+            .copied()
+            .find(|kind| has_all(*kind, events, key)),
+    })
+}
+
+// The kind by which the key is judged.
+fn kind_of(monitor: &Monitor, key: Key) -> Option<ModelKind> {
+    for i in 0..monitor.key_count() {
+        let row = monitor.key_at(i);
+        if row.key == key {
+            return Some(row.kind);
+        }
+    }
+    None
+}
+
+// Whether objects of this kind have all operations of the key among the events.
+fn has_all(kind: ModelKind, events: &[Event], key: Key) -> bool {
+    events.iter().all(|event| match &event.body {
+        Body::Op(op) => op.key != key || has_operation(kind, op.name),
+        Body::Fault(_) => true,
+    })
+}
+
+impl fmt::Display for Remark {
+    fn fmt<W: fmt::Write>(&self, f: &mut fmt::Formatter<W>) -> fmt::Result {
+        match self {
+            Remark::NoEvent => f.write_str("no event was read"),
+            Remark::NoneOfTheKind {
+                key,
+                kind,
+                name,
+                meant,
+            } => {
+                let kind = kind.name();
+                let name = name.text();
+                write!(f, "key {key} is of the kind {kind}, which has no {name}")?;
+                match meant {
+                    Some(meant) => {
+                        let meant = meant.name();
+                        write!(f, ": was --model {meant} meant?")
+                    }
+                    None => Ok(()),
+                }
+            }
+            Remark::Blown(key) => {
+                write!(
+                    f,
+                    "key {key} has more ends than its budget: raise --budget, "
+                )?;
+                f.write_str("let fewer clients use one key, or go on with a new key after timeouts")
+            }
+        }
+    }
+}
