@@ -1,11 +1,11 @@
 -- An item that is found inside a form is one that the form gives
-use Rattle.std.proofs.Common.{◌≡◌, ℕ, ◌+◌, ◌%◌, ◌<◌, Bool, true, false, List, [], ◌∷◌, length, get_or, take, drop, sym, subst}
+use Rattle.std.proofs.Common.{◌≡◌, ℕ, ◌+◌, ◌%◌, ◌<◌, Bool, true, false, List, ◌∷◌, length, get_or, take, drop, sym, subst}
 use Rattle.std.specs.Prelude.{Result, Ok, Err, OnErr}
 use Rattle.generators.specs.declared.item.Asker.TheVariants.{Thread}
 use Rattle.generators.specs.declared.search_result.SearchResult.{SearchResult}
 use Rattle.generators.specs.declared.search_result.SearchResult.TheVariants.{Gives, Declines}
 use Rattle.generators.specs.declared.form.Gen.{Gen}
-use Rattle.generators.specs.Generators.{Generator, Generators, mix, limit, seq, phases, each_thread, clients, nemesis, count, generator_of, generators_of, is_over, all_over, is_some}
+use Rattle.generators.specs.Generators.{Generator, Generators, mix, limit, seq, phases, each_thread, clients, nemesis, generator_of, generators_of, is_over, is_some}
 use Rattle.generators.specs.Draws.{Ask, Draws, DrawsInTurn, GivesItem, declines, next_place, is_thread, all_idle}
 use Rattle.generators.specs.SearchResults.{under, IsItem}
 use Rattle.generators.specs.Moves.{moved, outcome, FindsItem, FindsInTurn, FindsFirst}
