@@ -1,8 +1,8 @@
-//! What frontiers answer to the events of short histories, with fails, crashes and blown budgets among them.
-use frontier::{AnyFrontier, Step};
+//! What frontiers answer where no command shows it: each event by its own call, a blown budget twice, and the counts of steps.
+use frontier::{AnyFrontier, Frontier, Step};
 use history::EventKind;
-use history::EventKind::{Fail as Failed, Info, Invoke, Ok as Done};
-use models::{Members, ModelKind, Name, Op, Part};
+use history::EventKind::{Fail as Failed, Invoke, Ok as Done};
+use models::{Answer, ModelKind, Name, Op, Part, Register};
 use std::alloc::{AllocError, Global};
 use std::test::Fail;
 
@@ -47,26 +47,6 @@ fn answers(
     Ok(true)
 }
 
-// Just before the ok there are two ends: the write has taken place or not. A fail asks for no budget.
-#[test]
-fn budget_one_blown_by_a_write(rt: HostRuntime) -> Result<(), Fail> {
-    for (budget, kind, want) in [
-        (1, Done, Step::Over),
-        (2, Done, Step::Alive),
-        (1, Failed, Step::Alive),
-    ] {
-        let rows = vec![in rt.alloc();
-            lives(0, Invoke, Name::Write, Part::Int(1)),
-            gets(0, kind, Name::Write, Part::Int(1), want),
-        ]?;
-        assert!(rt;
-            answers(rt.alloc(), ModelKind::Register, budget, rows)?,
-            "budget {budget}"
-        );
-    }
-    Ok(())
-}
-
 // Five ends stand before the ok: no enqueue, either alone, and both in either order. Over leaves the frontier as it was:
 // the other enqueue may still fail, and then there are fewer.
 #[test]
@@ -80,201 +60,6 @@ fn over_changes_nothing(rt: HostRuntime) -> Result<(), Fail> {
         lives(0, Done, Name::Enqueue, Part::Int(5)),
     ]?;
     assert!(rt; answers(rt.alloc(), ModelKind::FifoQueue, 4, rows)?);
-    Ok(())
-}
-
-// A read may find a write that is still open; the write may then return or crash, and not fail.
-#[test]
-fn failed_write_was_read(rt: HostRuntime) -> Result<(), Fail> {
-    for (kind, want) in [
-        (Done, Step::Alive),
-        (Info, Step::Alive),
-        (Failed, Step::Dead),
-    ] {
-        let rows = vec![in rt.alloc();
-            lives(0, Invoke, Name::Write, Part::Int(1)),
-            lives(1, Invoke, Name::Read, Part::Nil),
-            lives(1, Done, Name::Read, Part::Int(1)),
-            gets(0, kind, Name::Write, Part::Int(1), want),
-        ]?;
-        assert!(rt; answers(rt.alloc(), ModelKind::Register, 4096, rows)?);
-    }
-    Ok(())
-}
-
-// A write of 2 has crashed after a write of 1: a read may find either, and after 2 none finds 1.
-#[test]
-fn crashed_write_takes_place_later(rt: HostRuntime) -> Result<(), Fail> {
-    for (first, second, want) in [(1, 2, Step::Alive), (2, 1, Step::Dead)] {
-        let rows = vec![in rt.alloc();
-            lives(0, Invoke, Name::Write, Part::Int(1)),
-            lives(0, Done, Name::Write, Part::Int(1)),
-            lives(2, Invoke, Name::Write, Part::Int(2)),
-            lives(2, Info, Name::Write, Part::Int(2)),
-            lives(4, Invoke, Name::Read, Part::Nil),
-            lives(4, Done, Name::Read, Part::Int(first)),
-            lives(6, Invoke, Name::Read, Part::Nil),
-            gets(6, Done, Name::Read, Part::Int(second), want),
-        ]?;
-        assert!(rt; answers(rt.alloc(), ModelKind::Register, 4096, rows)?);
-    }
-    Ok(())
-}
-
-// A cas that may have failed to take place changes nothing, and one that has taken place leaves its second number.
-#[test]
-fn open_cas_may_take_place(rt: HostRuntime) -> Result<(), Fail> {
-    for (value, want) in [(1, Step::Alive), (2, Step::Dead)] {
-        let rows = vec![in rt.alloc();
-            lives(0, Invoke, Name::Write, Part::Int(1)),
-            lives(0, Done, Name::Write, Part::Int(1)),
-            lives(2, Invoke, Name::Cas, Part::Pair(1, 2)),
-            lives(3, Invoke, Name::Read, Part::Nil),
-            lives(3, Done, Name::Read, Part::Int(value)),
-            gets(2, Failed, Name::Cas, Part::Pair(1, 2), want),
-        ]?;
-        assert!(rt; answers(rt.alloc(), ModelKind::CasRegister, 4096, rows)?);
-    }
-    Ok(())
-}
-
-// A crashed read decides nothing: two ends stand before the second read returns, it is in or not.
-#[test]
-fn crashed_reads_are_set_aside(rt: HostRuntime) -> Result<(), Fail> {
-    let rows = vec![in rt.alloc();
-        lives(0, Invoke, Name::Write, Part::Int(5)),
-        lives(0, Done, Name::Write, Part::Int(5)),
-        lives(2, Invoke, Name::Read, Part::Nil),
-        lives(2, Info, Name::Read, Part::Nil),
-        lives(4, Invoke, Name::Read, Part::Nil),
-        lives(4, Done, Name::Read, Part::Int(5)),
-    ]?;
-    assert!(rt; answers(rt.alloc(), ModelKind::Register, 2, rows)?);
-    Ok(())
-}
-
-// Before the first ok there are five ends: nothing, the write, the read of nil, and both in either order. Three are left, which
-// differ by the read alone; once it has crashed they are one, and two more writes make five again.
-#[test]
-fn ends_that_a_crashed_read_told_apart(rt: HostRuntime) -> Result<(), Fail> {
-    for (budget, want) in [(5, Step::Alive), (4, Step::Over)] {
-        let rows = vec![in rt.alloc();
-            lives(0, Invoke, Name::Write, Part::Int(1)),
-            lives(1, Invoke, Name::Read, Part::Nil),
-            gets(0, Done, Name::Write, Part::Int(1), want),
-        ]?;
-        assert!(rt; answers(rt.alloc(), ModelKind::Register, budget, rows)?);
-    }
-    let rows = vec![in rt.alloc();
-        lives(0, Invoke, Name::Write, Part::Int(1)),
-        lives(1, Invoke, Name::Read, Part::Nil),
-        lives(0, Done, Name::Write, Part::Int(1)),
-        lives(1, Info, Name::Read, Part::Nil),
-        lives(4, Invoke, Name::Write, Part::Int(2)),
-        lives(5, Invoke, Name::Write, Part::Int(3)),
-        lives(4, Done, Name::Write, Part::Int(2)),
-    ]?;
-    assert!(rt; answers(rt.alloc(), ModelKind::Register, 5, rows)?);
-    Ok(())
-}
-
-// An acquire that failed did not take place, and the mutex is free. One that crashed may hold the mutex or not, until a
-// release shows that it did.
-#[test]
-fn failed_and_crashed_acquires(rt: HostRuntime) -> Result<(), Fail> {
-    for (name, want) in [(Name::Acquire, Step::Alive), (Name::Release, Step::Dead)] {
-        let failed = vec![in rt.alloc();
-            lives(0, Invoke, Name::Acquire, Part::Nil),
-            lives(0, Failed, Name::Acquire, Part::Nil),
-            lives(2, Invoke, name, Part::Nil),
-            gets(2, Done, name, Part::Nil, want),
-        ]?;
-        assert!(rt; answers(rt.alloc(), ModelKind::Mutex, 4096, failed)?);
-        let crashed = vec![in rt.alloc();
-            lives(0, Invoke, Name::Acquire, Part::Nil),
-            lives(0, Info, Name::Acquire, Part::Nil),
-            lives(2, Invoke, Name::Release, Part::Nil),
-            lives(2, Done, Name::Release, Part::Nil),
-            lives(4, Invoke, name, Part::Nil),
-            gets(4, Done, name, Part::Nil, want),
-        ]?;
-        assert!(rt; answers(rt.alloc(), ModelKind::Mutex, 4096, crashed)?);
-    }
-    Ok(())
-}
-
-// An enqueue that crashed may take place at any later moment, once.
-#[test]
-fn crashed_enqueue_takes_place_later(rt: HostRuntime) -> Result<(), Fail> {
-    for (second, third, wants) in [
-        (5, 5, [Step::Alive, Step::Dead]),
-        (6, 5, [Step::Dead, Step::Dead]),
-    ] {
-        let rows = vec![in rt.alloc();
-            lives(0, Invoke, Name::Enqueue, Part::Int(5)),
-            lives(0, Info, Name::Enqueue, Part::Int(5)),
-            lives(2, Invoke, Name::Enqueue, Part::Int(6)),
-            lives(2, Done, Name::Enqueue, Part::Int(6)),
-            lives(4, Invoke, Name::Dequeue, Part::Nil),
-            lives(4, Done, Name::Dequeue, Part::Int(6)),
-            lives(6, Invoke, Name::Dequeue, Part::Nil),
-            gets(6, Done, Name::Dequeue, Part::Int(second), wants[0]),
-            lives(8, Invoke, Name::Dequeue, Part::Nil),
-            gets(8, Done, Name::Dequeue, Part::Int(third), wants[1]),
-        ]?;
-        assert!(rt; answers(rt.alloc(), ModelKind::FifoQueue, 4096, rows)?);
-    }
-    Ok(())
-}
-
-// A dequeue that crashed may have taken the front, once: then 6 comes first, and 5 not at all.
-#[test]
-fn crashed_dequeue_takes_the_front(rt: HostRuntime) -> Result<(), Fail> {
-    for (first, second, want) in [(6, 5, Step::Dead), (5, 6, Step::Alive)] {
-        let rows = vec![in rt.alloc();
-            lives(0, Invoke, Name::Enqueue, Part::Int(5)),
-            lives(0, Done, Name::Enqueue, Part::Int(5)),
-            lives(2, Invoke, Name::Enqueue, Part::Int(6)),
-            lives(2, Done, Name::Enqueue, Part::Int(6)),
-            lives(4, Invoke, Name::Dequeue, Part::Nil),
-            lives(4, Info, Name::Dequeue, Part::Nil),
-            lives(6, Invoke, Name::Dequeue, Part::Nil),
-            lives(6, Done, Name::Dequeue, Part::Int(first)),
-            lives(8, Invoke, Name::Dequeue, Part::Nil),
-            gets(8, Done, Name::Dequeue, Part::Int(second), want),
-        ]?;
-        assert!(rt; answers(rt.alloc(), ModelKind::FifoQueue, 4096, rows)?);
-    }
-    Ok(())
-}
-
-fn set_of(alloc: Global, values: &[i64]) -> Result<Part, AllocError> {
-    let mut members = Members::new(alloc);
-    for value in values {
-        members = members.with(*value)?;
-    }
-    Ok(Part::Set(members))
-}
-
-// The second add is open: a first read may find it or not, and once it is found a later one may not miss it.
-#[test]
-fn set_members(rt: HostRuntime) -> Result<(), Fail> {
-    for (found, want) in [
-        ([2, 1].as_slice(), Step::Dead),
-        ([2].as_slice(), Step::Alive),
-    ] {
-        let rows = vec![in rt.alloc();
-            lives(0, Invoke, Name::Add, Part::Int(2)),
-            lives(0, Done, Name::Add, Part::Int(2)),
-            lives(2, Invoke, Name::Add, Part::Int(1)),
-            lives(3, Invoke, Name::Read, Part::Nil),
-            lives(3, Done, Name::Read, set_of(rt.alloc(), found)?),
-            lives(5, Invoke, Name::Read, Part::Nil),
-            gets(5, Done, Name::Read, set_of(rt.alloc(), &[2])?, want),
-            gets(2, Failed, Name::Add, Part::Int(1), want),
-        ]?;
-        assert!(rt; answers(rt.alloc(), ModelKind::Set, 4096, rows)?);
-    }
     Ok(())
 }
 
@@ -333,34 +118,98 @@ fn ok_applies_each_once(rt: HostRuntime) -> Result<(), Fail> {
     Ok(())
 }
 
-// A read just after so many crashed writes of the same value: each end is a set of writes, and the read found nil, 1 or is
-// out. Ten leave 3,071 ends, and eleven 6,143.
-#[test]
-fn crashed_writes_blow_at_eleven(rt: HostRuntime) -> Result<(), Fail> {
-    for (writes, want) in [(10, Step::Alive), (11, Step::Over)] {
-        let mut frontier = AnyFrontier::start(rt.alloc(), ModelKind::Register, 4096)?;
-        for id in 0..writes {
-            let write = Op {
-                name: Name::Write,
-                key: 7,
-                part: Part::Int(1),
-            };
-            assert_eq!(rt; frontier.observe(id, Invoke, &write)?, Step::Alive);
-            assert_eq!(rt; frontier.observe(id, Info, &write)?, Step::Alive);
-        }
-        let read = Op {
-            name: Name::Read,
-            key: 7,
-            part: Part::Nil,
-        };
-        assert_eq!(rt; frontier.observe(100, Invoke, &read)?, Step::Alive);
-        assert_eq!(rt; frontier.applied(), 0);
-        let answer = Op {
-            name: Name::Read,
-            key: 7,
-            part: Part::Int(1),
-        };
-        assert_eq!(rt; frontier.observe(100, Done, &answer)?, want);
+/// An event by its own call.
+#[derive(Drop)]
+enum Call {
+    Invoke(Op),
+    Ok(Answer),
+    Fail,
+    Crash,
+}
+
+fn write(value: i64) -> Call {
+    Call::Invoke(Op {
+        name: Name::Write,
+        key: 7,
+        part: Part::Int(value),
+    })
+}
+
+fn read() -> Call {
+    Call::Invoke(Op {
+        name: Name::Read,
+        key: 7,
+        part: Part::Nil,
+    })
+}
+
+fn answered(value: i64) -> Call {
+    Call::Ok(Answer::Number(value))
+}
+
+// What the call for this operation answers; an invocation and a crash leave the frontier alive.
+fn answer(frontier: &mut Frontier<Register>, id: u32, call: Call) -> Result<Step, AllocError> {
+    match call {
+        Call::Invoke(op) => frontier.invoke(id, op)?,
+        Call::Ok(answer) => return frontier.ok(id, &answer),
+        Call::Fail => return frontier.fail(id),
+        Call::Crash => frontier.crash(id)?,
     }
+    Ok(Step::Alive)
+}
+
+// Whether the frontier answers so.
+fn all_answered(
+    frontier: &mut Frontier<Register>,
+    rows: Vec<(u32, Call, Step)>,
+) -> Result<bool, AllocError> {
+    for (id, call, want) in rows {
+        if answer(frontier, id, call)? != want {
+            return Ok(false);
+        }
+    }
+    Ok(true)
+}
+
+// Just before the ok there are two ends: the write has taken place or not.
+#[test]
+fn budget_one_blown_by_a_write(rt: HostRuntime) -> Result<(), Fail> {
+    let rows = vec![in rt.alloc(); (0, write(3), Step::Alive), (0, answered(3), Step::Over)]?;
+    let mut frontier = Frontier::start(rt.alloc(), 1)?;
+    assert!(rt; all_answered(&mut frontier, rows)?);
+    Ok(())
+}
+
+// A read has found a write that then fails.
+#[test]
+fn failed_write_was_read(rt: HostRuntime) -> Result<(), Fail> {
+    let rows = vec![in rt.alloc();
+        (0, write(1), Step::Alive),
+        (1, read(), Step::Alive),
+        (1, answered(1), Step::Alive),
+        (0, Call::Fail, Step::Dead),
+    ]?;
+    let mut frontier = Frontier::start(rt.alloc(), 4096)?;
+    assert!(rt; all_answered(&mut frontier, rows)?);
+    Ok(())
+}
+
+// A write of 2 has crashed after a write of 1: a read may find 1 and the next one 2, and then none finds 1.
+#[test]
+fn crashed_write_takes_place_later(rt: HostRuntime) -> Result<(), Fail> {
+    let rows = vec![in rt.alloc();
+        (0, write(1), Step::Alive),
+        (0, answered(1), Step::Alive),
+        (2, write(2), Step::Alive),
+        (2, Call::Crash, Step::Alive),
+        (4, read(), Step::Alive),
+        (4, answered(1), Step::Alive),
+        (6, read(), Step::Alive),
+        (6, answered(2), Step::Alive),
+        (8, read(), Step::Alive),
+        (8, answered(1), Step::Dead),
+    ]?;
+    let mut frontier = Frontier::start(rt.alloc(), 4096)?;
+    assert!(rt; all_answered(&mut frontier, rows)?);
     Ok(())
 }

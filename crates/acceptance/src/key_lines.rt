@@ -1,29 +1,14 @@
 //! Lines of a few events, against statuses that follow from the definitions by hand.
-ghost use Rattle.std.specs.Prelude.{◌≡◌, None, IfOk};
+ghost use Rattle.std.specs.Prelude.{◌≡◌, IfOk};
 ghost use Rattle.acceptance.specs.LongLine.{writes_from};
 
+use crate::rows::event;
 use checkpoints::KeyLine;
 use history::{Body, Event, EventKind, Fault, Process};
 use linspec::KeyStatus;
-use models::{ModelKind, Name, Op, Part};
+use models::{ModelKind, Name, Part};
 use std::alloc::{AllocError, Global};
 use std::test::Fail;
-
-fn event(process: u32, kind: EventKind, name: Name, part: Part) -> Event
-    ensures { result ≡ record {
-      index = None;
-      kind = kind;
-      process = Process.Client process;
-      body = Body.Op (record { name = name; key = 7; part = part });
-    } }
-{
-    Event {
-        index: None,
-        kind,
-        process: Process::Client(process),
-        body: Body::Op(Op { name, key: 7, part }),
-    }
-}
 
 // A mutex that nobody holds is not released, while a release may crash or fail. What is prepared counts once it is
 // committed.
@@ -57,52 +42,6 @@ fn fault_changes_nothing(rt: HostRuntime) -> Result<(), Fail> {
     line.push(2, event(0, EventKind::Ok, Name::Write, Part::Int(1)))?;
     assert!(rt; matches!(line.status(), KeyStatus::Alive));
     assert_eq!(rt; line.len(), 3);
-    Ok(())
-}
-
-// A cas takes place on a cas-register, and never on a plain register: another kind judges the same events anew.
-#[test]
-fn model_changes(rt: HostRuntime) -> Result<(), Fail> {
-    let mut line = KeyLine::new(rt.alloc(), ModelKind::Register, 4096)?;
-    line.push(0, event(0, EventKind::Invoke, Name::Write, Part::Int(1)))?;
-    line.push(1, event(0, EventKind::Ok, Name::Write, Part::Int(1)))?;
-    line.push(2, event(0, EventKind::Invoke, Name::Cas, Part::Pair(1, 2)))?;
-    line.push(3, event(0, EventKind::Ok, Name::Cas, Part::Pair(1, 2)))?;
-    assert!(rt; matches!(line.status(), KeyStatus::Dead(3)));
-    let other = line.prepare_rebuild(ModelKind::CasRegister, 4096)?;
-    assert!(rt; matches!(other, KeyStatus::Alive));
-    assert!(rt; matches!(line.status(), KeyStatus::Dead(3)));
-    line.commit();
-    assert!(rt; matches!(line.status(), KeyStatus::Alive));
-    line.rebuild(ModelKind::Register, 4096)?;
-    assert!(rt; matches!(line.status(), KeyStatus::Dead(3)));
-    line.rebuild(ModelKind::CasRegister, 1)?;
-    assert!(rt; matches!(line.status(), KeyStatus::Over(1)));
-    Ok(())
-}
-
-// A cut brings back what was known before the events that it takes away.
-#[test]
-fn rewind_revives(rt: HostRuntime) -> Result<(), Fail> {
-    let mut line = KeyLine::new(rt.alloc(), ModelKind::Register, 4096)?;
-    line.push(0, event(0, EventKind::Invoke, Name::Write, Part::Int(1)))?;
-    line.push(1, event(0, EventKind::Ok, Name::Write, Part::Int(1)))?;
-    line.push(4, event(0, EventKind::Invoke, Name::Read, Part::Nil))?;
-    line.push(5, event(0, EventKind::Ok, Name::Read, Part::Int(2)))?;
-    assert!(rt; matches!(line.status(), KeyStatus::Dead(5)));
-    line.cut(6)?;
-    assert!(rt; matches!(line.status(), KeyStatus::Dead(5)));
-    assert_eq!(rt; line.len(), 4);
-    let cut = line.prepare_cut(5)?;
-    assert!(rt; matches!(cut, KeyStatus::Alive));
-    assert_eq!(rt; line.len(), 4);
-    line.commit();
-    assert_eq!(rt; line.len(), 3);
-    line.push(5, event(0, EventKind::Ok, Name::Read, Part::Int(1)))?;
-    assert!(rt; matches!(line.status(), KeyStatus::Alive));
-    line.cut(2)?;
-    assert_eq!(rt; line.len(), 2);
-    assert!(rt; matches!(line.status(), KeyStatus::Alive));
     Ok(())
 }
 

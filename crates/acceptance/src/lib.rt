@@ -11,6 +11,8 @@ mod joins;
 #[cfg(test)]
 mod key_lines;
 #[cfg(test)]
+mod monitors;
+#[cfg(test)]
 mod one_thread;
 #[cfg(test)]
-mod plain_checker;
+mod rows;

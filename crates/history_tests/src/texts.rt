@@ -1,4 +1,4 @@
-//! Texts and their elements, and the places at which texts stop being any.
+//! Texts, their elements, and how elements are written.
 use edn::{Edn, Elements, Refusal, all_differ, check_text, is_keyword_name, read_all, same};
 use edn_writer::{in_profile, write};
 use std::test::Fail;
@@ -17,35 +17,8 @@ fn integers(rt: &HostRuntime, text: &[u8]) -> Result<Vec<i64>, Fail> {
     Ok(integers)
 }
 
-fn place_of_refusal(rt: &HostRuntime, text: &[u8]) -> Result<usize, Fail> {
-    match read_all(rt.alloc(), text) {
-        Err(Refusal::Unreadable(place)) => Ok(place),
-        Err(why) => Err(why.into()),
-        Ok(_) => Err("it was read".into()),
-    }
-}
-
-// As many collections open at once as may be, and one more.
+// As many collections open at once as may be.
 const DEEPEST: &[u8] = b"[[[[[[[[[[[[[[[[[[[[[[[[[[[[[[[[]]]]]]]]]]]]]]]]]]]]]]]]]]]]]]]]";
-
-const TOO_DEEP: &[u8] = b"[[[[[[[[[[[[[[[[[[[[[[[[[[[[[[[[[]]]]]]]]]]]]]]]]]]]]]]]]]]]]]]]]]";
-
-#[test]
-fn unreadable_places(rt: HostRuntime) -> Result<(), Fail> {
-    assert_eq!(rt; place_of_refusal(&rt, b"007")?, 1);
-    assert_eq!(rt; place_of_refusal(&rt, b"{:a 1 :a 2}")?, 0);
-    assert_eq!(rt; place_of_refusal(&rt, b"-9223372036854775809")?, 19);
-    assert_eq!(rt; place_of_refusal(&rt, b"{:type :invoke")?, 0);
-    assert_eq!(rt; place_of_refusal(&rt, b"{:type :invoke} {")?, 16);
-    assert_eq!(rt; place_of_refusal(&rt, b"nil true fals")?, 9);
-    assert_eq!(rt; place_of_refusal(&rt, b"12a")?, 2);
-    assert_eq!(rt; place_of_refusal(&rt, b"#_ 12a")?, 5);
-    assert_eq!(rt; place_of_refusal(&rt, b"\"a\\q\"")?, 0);
-    assert_eq!(rt; place_of_refusal(&rt, b"1 \"\xff\"")?, 2);
-    assert_eq!(rt; place_of_refusal(&rt, b"#{1 2 [] [] }")?, 0);
-    assert_eq!(rt; place_of_refusal(&rt, TOO_DEEP)?, 0);
-    Ok(())
-}
 
 #[test]
 fn elements_of_texts(rt: HostRuntime) -> Result<(), Fail> {

@@ -139,37 +139,10 @@ fn greatest_version_wins(rt: HostRuntime) {
     assert!(rt; strike(&mut store, Fault::Resume(0), 2));
     assert!(rt; strike(&mut store, Fault::Pause(2), 2));
     assert_eq!(rt; serve(&mut store, 0, read(), 2), Said::Found(Some(6)));
-}
-
-#[test]
-fn minority_refuses(rt: HostRuntime) {
-    let Ok(mut store) = three(rt.alloc(), Mode::Strict) else {
-        panic!(rt; "a store")
-    };
-    let Ok(groups) = groups_of(rt.alloc(), &[0], &[1, 2]) else {
-        panic!(rt; "groups")
-    };
-    assert!(rt; strike(&mut store, Fault::Partition(groups), 0));
-    assert_eq!(rt; serve(&mut store, 0, write(5), 0), Said::Refused);
-    assert_eq!(rt; serve(&mut store, 1, write(6), 1), Said::Done);
-    assert!(rt; strike(&mut store, Fault::LoseReplies(1), 2));
-    assert_eq!(rt; serve(&mut store, 2, write(8), 2), Said::Lost);
-    assert_eq!(rt; serve(&mut store, 2, read(), 3), Said::Found(Some(8)));
-}
-
-#[test]
-fn sloppy_heal(rt: HostRuntime) {
-    let Ok(mut store) = three(rt.alloc(), Mode::Sloppy) else {
-        panic!(rt; "a store")
-    };
-    assert_eq!(rt; serve(&mut store, 0, write(5), 0), Said::Done);
-    assert_eq!(rt; serve(&mut store, 1, read(), 1), Said::Found(None));
-    assert!(rt; strike(&mut store, Fault::Heal, 2));
-    assert_eq!(rt; serve(&mut store, 1, read(), 2), Said::Found(Some(5)));
     let Ok(mut copy) = copied(&store, 3) else {
         panic!(rt; "a copy")
     };
-    assert_eq!(rt; serve(&mut copy, 2, read(), 3), Said::Found(Some(5)));
+    assert_eq!(rt; serve(&mut copy, 0, read(), 3), Said::Found(Some(6)));
 }
 
 #[test]

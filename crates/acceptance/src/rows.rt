@@ -1,0 +1,46 @@
+//! Events of one key, and answers as plain data.
+ghost use Rattle.std.specs.Prelude.{◌≡◌, None};
+
+use edn::Refusal;
+use history::{Body, Event, EventKind, Process};
+use linspec::Verdict;
+use models::{Name, Op, Part};
+
+pub fn event(process: u32, kind: EventKind, name: Name, part: Part) -> Event
+    ensures { result ≡ record {
+      index = None;
+      kind = kind;
+      process = Process.Client process;
+      body = Body.Op (record { name = name; key = 7; part = part });
+    } }
+{
+    Event {
+        index: None,
+        kind,
+        process: Process::Client(process),
+        body: Body::Op(Op { name, key: 7, part }),
+    }
+}
+
+/// What a call is answered by, as plain data.
+#[derive(Clone, Copy, Debug, PartialEq, Eq)]
+pub enum Said {
+    Legal,
+    Illegal(u16, u32),
+    Unknown(u16, u32),
+    // What is no verdict: a ticket, an outcome or a fault.
+    Other,
+    Refused(u8),
+}
+
+pub fn plain_of(verdict: Verdict) -> Said {
+    match verdict {
+        Verdict::Legal => Said::Legal,
+        Verdict::Illegal { key, index } => Said::Illegal(key, index),
+        Verdict::Unknown { key, index } => Said::Unknown(key, index),
+    }
+}
+
+pub fn refused(why: Refusal) -> Said {
+    Said::Refused(why.number())
+}
