@@ -2,7 +2,7 @@
 use Rattle.std.proofs.Common.{◌≡◌, ℕ, zero, suc, ◌+◌, ◌<◌, ◌≤◌, if◌then◌else◌, true, false, Option, Some, None, IfSome, List, [], ◌∷◌, ◌++◌, length, take, slice_get, refl, sym, ap, subst, ◌∙◌, arith}
 use Rattle.std.specs.List.{filter}
 use Rattle.std.proofs.lemmas.Bool.{cond_both, true≢false}
-use Rattle.std.proofs.lemmas.List.{map-append, length-map, length_push}
+use Rattle.std.proofs.lemmas.List.{map-append, length-map, length_push, take_all}
 use Rattle.indexmap.specs.Layout.{set_value_at}
 use Rattle.linspec.specs.declared.verdict.KeyStatus.{KeyStatus}
 use Rattle.linspec.specs.declared.verdict.Verdict.{Verdict}
@@ -103,3 +103,9 @@ same_length old rows same =
     sym (length-map rows (λ (row : ℕ × KeyLineView). (row.0, row.1.now)))
     ∙ ap length same
     ∙ length-map old (λ (row : ℕ × KeyLineView). (row.0, row.1.now))
+
+-- once all lines are through
+pub all_joined : (n : ℕ) (old rows : List (ℕ × KeyLineView)) (place kept : ℕ) (v : Verdict) → AreCutSoFar n old rows place kept v → length old ≤ place → JoinsRows (cut_rows n (begun n (nows old))) v
+all_joined n old rows place kept v so_far all =
+    let long : length (nows old) ≡ length old = length-map old (λ (row : ℕ × KeyLineView). (row.0, row.1.now)) in
+    subst (λ (l : List (ℕ × KeyHistory)). JoinsRows (cut_rows n (begun n l)) v) (take_all place (nows old) (omega (arith, long, all))) so_far.joins

@@ -1,8 +1,8 @@
-use Rattle.std.proofs.Common.{◌≡◌, ◌<◌, ◌≤◌, ℕ, Option, IfSome, length, slice_get, ap, subst, arith}
+use Rattle.std.proofs.Common.{◌≡◌, ◌<◌, ◌≤◌, ℕ, Option, IfSome, length, slice_get, ap, subst, ◌∙◌, arith}
 use Rattle.linspec.specs.declared.verdict.KeyStatus.{KeyStatus}
 use Rattle.monitor.specs.Rows.{LinesView, StandsAfter, with_cut}
 use Rattle.monitor.proofs.Changing.{changed-all}
-use Rattle.monitor.proofs.Cutting.{AreCutSoFar-skip, AreCutSoFar-more, same_nows, same_length}
+use Rattle.monitor.proofs.Cutting.{AreCutSoFar-skip, AreCutSoFar-more, all_joined, same_nows, same_length}
 use Rattle.monitor.proofs.lines.Lines.prepare_each_cut.Goals as goal
 use Rattle.monitor.proofs.lines.Lines.prepare_each_cut.Goals.{in-Some, in_default}
 
@@ -52,3 +52,15 @@ returns-clause-next c =
 
 pub returns-clause-kept : goal.returns-clause-kept
 returns-clause-kept c = same_nows c.args.n c.args.self.now.rows c.loop-place.self.rows c.loop-place.place c.loop-place.invariant.so_far.changed
+
+pub returns-in_err-key-clause-kept : goal.returns-in_err-key-clause-kept
+returns-in_err-key-clause-kept c =
+    c.in_err-key.ensures.kept
+    ∙ same_nows c.args.n c.args.self.now.rows c.loop-place.self.rows c.loop-place.place c.loop-place.invariant.so_far.changed
+
+pub returns-clause-verdict : goal.returns-clause-verdict
+returns-clause-verdict c =
+    let old = c.args.self.now.rows in
+    let seen = ap (λ (v : LinesView). length v.rows) c.self.view_is in
+    let all : length old ≤ c.loop-place.place = omega (arith, seen, c.len-place-end.ensures.len) in
+    all_joined c.args.n old c.loop-place.self.rows c.loop-place.place c.loop-place.kept c.loop-place.verdict c.loop-place.invariant.so_far all
