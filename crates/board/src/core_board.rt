@@ -93,8 +93,8 @@ impl<B: Tag> board::Board<Core, B> {
     ///
     /// # Errors
     /// [`Refusal::TapeFull`] where the tape has 2^32 - 1 calls, all of which the seat has then seen, else
-    /// [`Refusal::NoMemory`] where a growth was refused, which the verdict and a command that is refused never want, but
-    /// for the nemesis where no fault is due. Then the call is no entry, and nothing is published.
+    /// [`Refusal::NoMemory`] where a growth was refused, which the verdict and a command that is refused never want. Then
+    /// the call is no entry, and nothing is published.
     pub fn call<R: Wait>(
         &self,
         rt: &R,

@@ -23,12 +23,12 @@ use Rattle.monitor.specs.Monitors.{with_next as monitor_with_next}
 use Rattle.machine.specs.declared.command.Command.TheVariants.{Draw, Serve, Finish, Nemesis}
 use Rattle.machine.specs.declared.command.Reply.{Reply}
 use Rattle.machine.specs.declared.command.Reply.TheVariants.{Verdict as Says, Drawn as HasDrawn, Pending as IsPending, Done as IsDone, Served, Fault as Struck}
-use Rattle.machine.specs.Machine.{Machine, HasTicket, ThreadMayDraw, Gives, idle_from, current_process, invoked_by, with_served, struck_by, first_due}
+use Rattle.machine.specs.Machine.{Machine, HasTicket, ThreadMayDraw, HasOperation, Gives, idle_from, current_process, invoked_by, with_served, struck_by, first_due}
 use Rattle.machine.specs.Tickets.{IsAnswered, served_of}
 use Rattle.machine.proofs.Counting.{served-le}
 use Rattle.machine.proofs.Tickets.{may_complete}
 use Rattle.harness.specs.declared.inner.Change.TheVariants.{Same, Judged, Draw as Invoke, Serve as Serving, StrikeDue, StrikeDrawn}
-use Rattle.harness.specs.Asking.{MayGive}
+use Rattle.harness.specs.Asking.{MayGive, HasOpFor}
 use Rattle.harness.specs.CoreView.{CoreView, IsPrepared}
 use Rattle.harness.specs.SoundCore.{machine_of, judged_as, moved_on, served_at, IsSoundMachine}
 use Rattle.harness.specs.Tickets.{MayFinish, MayServe as MayBeServed}
@@ -55,6 +55,9 @@ module _ (monitor : MonitorView) (source : SourceView) (schedule : List (ℕ × 
         (subst (λ (c : ℕ). MayGive source (idle_from c history.events 0 c) asker drawn to) shows.0 may),
     refl,
   )
+
+  pub has_operation : (history : HistoryView) (thread : ℕ) → Shows monitor history → HasOpFor source (idle_from history.concurrency history.events 0 history.concurrency) thread → HasOperation m thread
+  has_operation history thread shows f = (f.0, moved_on f.1 m, given history (Thread thread) (Gets (AnOp f.0)) f.1 shows f.2)
 
   -- a draw's part is one of its table
   pub drawn_part : (history : HistoryView) (thread : ℕ) (op : Op) (to : Generator × ℕ) → IsSoundMachine m → Shows monitor history → GivesBy source history (Thread thread) (Gets (AnOp op)) to → IsPart op.name op.part

@@ -1,5 +1,7 @@
 -- A command that is prepared in the parts is prepared in the whole
 use Rattle.std.proofs.Common.{◌≡◌, ℕ, ◌≤◌, Option, None, IfSome, IfErr, Result, Ok, Err, List, length, refl, sym, ap, subst}
+use Rattle.std.specs.Prelude.{IsErrAnd}
+use Rattle.std.proofs.lemmas.Result.{err_from_is_err_and}
 use Rattle.edn.specs.declared.refusal.Refusal.{Refusal}
 use Rattle.edn.specs.declared.refusal.Refusal.TheVariants.{NoMemory}
 use Rattle.models.specs.declared.model_kind.ModelKind.{ModelKind}
@@ -20,7 +22,7 @@ use Rattle.machine.specs.declared.command.Reply.TheVariants.{Verdict as Says}
 use Rattle.machine.specs.Machine.{Machine, Refuses, MayStep, cut_to}
 use Rattle.harness.specs.declared.inner.Change.{Change}
 use Rattle.harness.specs.declared.inner.Change.TheVariants.{Nothing, Same, Judged, Rewind as Cut}
-use Rattle.harness.specs.CoreView.{CoreView, IsPrepared, MayDecline}
+use Rattle.harness.specs.CoreView.{CoreView, IsPrepared, MayWantMemory, MayDecline}
 use Rattle.harness.specs.SoundCore.{machine_of, judged_as, next_of, IsSoundMachine, IsReady, IsSoundCore}
 use Rattle.harness.specs.Tickets.{IsOf}
 use Rattle.harness.proofs.Showing.{Shows}
@@ -90,3 +92,7 @@ pub declines_at : {T : Type 0} (r : Result T Refusal) (e why : Refusal) (s t : C
 declines_at {T} r e why s t command is from same h =
     subst (λ (x : Result T Refusal). IfErr x (MayDecline t.machine command)) (sym is)
     (subst (MayDecline t.machine command) (sym from) (subst (λ (x : CoreView). MayDecline x.machine command why) same h))
+
+-- the same where memory ran out
+pub wants_at : {T : Type 0} (r : Result T Refusal) (s t : CoreView) (command : Command) → IsErrAnd r (λ e. e ≡ NoMemory) → s ≡ t → MayWantMemory s.machine command → IfErr r (MayDecline t.machine command)
+wants_at r s t command is same h = (let p = err_from_is_err_and r is in declines_at r p.0 NoMemory s t command p.1 p.2 same h)

@@ -1,5 +1,6 @@
 -- Which fault strikes next, and why none does
 use Rattle.std.proofs.Common.{◌≡◌, ℕ, ◌<◌, ◌≤◌, ◌⊎◌, ⊎_elim, inl, inr, Bool, true, false, nat_le, if◌then◌else◌, Option, Some, None, List, [], ◌∷◌, length, refl, sym, ap, ◌∙◌, subst, arith}
+use Rattle.std.specs.Prelude.{Result, Ok, Err, IfOk, OnErr}
 use Rattle.history.specs.declared.event.Event.{Event}
 use Rattle.history.specs.declared.event.Fault.{Fault}
 use Rattle.history.specs.WellFormed.{HistoryView, HasRoom}
@@ -12,7 +13,10 @@ use Rattle.generators.specs.Sources.{SourceView}
 use Rattle.test_store.specs.Store.{StoreView, MayStrike}
 use Rattle.trials.specs.declared.ticket.Ticket.{Ticket}
 use Rattle.monitor.specs.Monitors.{MonitorView}
-use Rattle.machine.specs.Machine.{Machine, NextFault, HasNoFault, first_due}
+use Rattle.machine.specs.declared.command.Command.TheVariants.{Nemesis}
+use Rattle.machine.specs.Machine.{Machine, HasFault, HasNoFault, first_due, idle_from}
+use Rattle.harness.specs.Asking.{MayGiveFault, HasFaultFor, why_full}
+use Rattle.harness.specs.CoreView.{MayDecline}
 use Rattle.harness.specs.SoundCore.{machine_of, moved_on}
 use Rattle.harness.proofs.Showing.{Shows}
 use Rattle.harness.proofs.Driving.{GivesBy, given}
@@ -40,11 +44,11 @@ module _ (monitor : MonitorView) (source : SourceView) (schedule : List (ℕ × 
   pub due_is : (index : ℕ) (o : Option Fault) → index ≡ length monitor.now.events → o ≡ due_at index schedule → first_due m ≡ o
   due_is index o is said = ap (λ (n : ℕ). due_at n schedule) (sym is) ∙ sym said
 
-  pub next_due : (fault : Fault) → first_due m ≡ Some fault → (f : Fault) × (after : Machine) × NextFault m f after
+  pub next_due : (fault : Fault) → first_due m ≡ Some fault → HasFault m
   next_due fault is = (fault, record m { schedule = after_first schedule }, inl (is, refl))
 
   pub next_given : (history : HistoryView) (fault : Fault) (to : Generator × ℕ) → Shows monitor history → first_due m ≡ None → GivesBy source history TheNemesis (Gets (AFault fault)) to
-      → (f : Fault) × (after : Machine) × NextFault m f after
+      → HasFault m
   next_given history fault to shows none gives =
       (fault, moved_on to m, inr (none, given monitor source schedule store tickets history TheNemesis (Gets (AFault fault)) to shows gives))
 
@@ -55,3 +59,12 @@ module _ (monitor : MonitorView) (source : SourceView) (schedule : List (ℕ × 
     ⊎_elim (λ g. inl (moved_on to m, given monitor source schedule store tickets history TheNemesis Pending to shows g))
         (λ g. inr (moved_on to m, given monitor source schedule store tickets history TheNemesis Done to shows g)) gives,
   )
+
+  -- where the history is full, there is no fault, or no room for one
+  pub refused_full : {E : Type 0} (history : HistoryView) (r : Result (Option Fault) E) (to : Generator × ℕ) → Shows monitor history → first_due m ≡ None → ¬ HasRoom monitor.now.events
+      → IfOk r (λ (drew : Option Fault). MayGiveFault source (idle_from history.concurrency history.events 0 history.concurrency) drew to)
+      → OnErr r (HasFaultFor source (idle_from history.concurrency history.events 0 history.concurrency))
+      → MayDecline m Nemesis (why_full r)
+  refused_full history (Ok None) to shows none full gives has = no_fault history to shows none gives
+  refused_full history (Ok (Some fault)) to shows none full gives has = (next_given history fault to shows none gives, full)
+  refused_full history (Err e) to shows none full gives has = (next_given history has.0 has.1 shows none has.2, full)

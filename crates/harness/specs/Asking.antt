@@ -1,5 +1,8 @@
 -- Invariant: what a source may answer a thread and the nemesis
-use Rattle.std.specs.Prelude.{ℕ, Bool, List, Option, Some, None, ◌⊎◌}
+use Rattle.std.specs.Prelude.{ℕ, Bool, List, Option, Some, None, Result, Ok, Err, ◌⊎◌}
+use Rattle.edn.specs.declared.refusal.Refusal.{Refusal}
+use Rattle.edn.specs.declared.refusal.Refusal.TheVariants.{Idle, HistoryFull}
+use Rattle.models.specs.declared.operation.Op.{Op}
 use Rattle.history.specs.declared.event.Fault.{Fault}
 use Rattle.generators.specs.declared.item.Item.TheVariants.{Op as AnOp, Fault as AFault}
 use Rattle.generators.specs.declared.item.Asker.{Asker}
@@ -30,3 +33,18 @@ abbrev pub MayGiveFault : SourceView → List Bool → Option Fault → Generato
 MayGiveFault source idle (Some fault) to = MayGive source idle Nemesis (Gets (AFault fault)) to
 MayGiveFault source idle None to =
     MayGive source idle Nemesis Pending to ⊎ MayGive source idle Nemesis Done to
+
+-- the source has an operation for the thread; it has a fault
+abbrev pub HasOpFor : SourceView → List Bool → ℕ → Type 0
+HasOpFor source idle thread =
+    (op : Op) × (to : Generator × ℕ) × MayGive source idle (Thread thread) (Gets (AnOp op)) to
+
+abbrev pub HasFaultFor : SourceView → List Bool → Type 0
+HasFaultFor source idle =
+    (fault : Fault) × (to : Generator × ℕ) × MayGive source idle Nemesis (Gets (AFault fault)) to
+
+-- why no fault strikes where the history is full: there is none, or there is one, also where there is no memory for it
+abbrev pub why_full : {E : Type 0} → Result (Option Fault) E → Refusal
+why_full (Ok None) = Idle
+why_full (Ok (Some fault)) = HistoryFull
+why_full (Err e) = HistoryFull

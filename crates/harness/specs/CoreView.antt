@@ -9,7 +9,7 @@ use Rattle.trials.specs.Trials.{IsStillOpen}
 use Rattle.machine.specs.declared.command.Command.{Command}
 use Rattle.machine.specs.declared.command.Command.TheVariants.{Append, Rewind, SetModel, SetBudget, Verdict as Ask, Draw, Serve, Finish, Nemesis}
 use Rattle.machine.specs.declared.command.Reply.{Reply}
-use Rattle.machine.specs.Machine.{Machine, IsTicketAnd, Takes, ThreadMayDraw, first_due, Refuses, MayStep}
+use Rattle.machine.specs.Machine.{Machine, IsTicketAnd, Takes, ThreadMayDraw, HasOperation, HasFault, Refuses, MayStep}
 
 -- the machine, and the machine that a prepared command leads to
 pub record CoreView : Type 0 where
@@ -28,21 +28,21 @@ IsPrepared old command answer new =
     (next : Machine) × MayStep old command (Ok answer.0) next × IsVerdictOn next.judged answer.1
     × (new ≡ with_next old next)
 
--- the command passes every test, so that only memory can be wanted. Asking for the verdict wants none; asking a generator for
--- a fault does, so where none is due memory may be wanted before it is known whether there is one
+-- the command passes every test, so that only memory can be wanted. Asking for the verdict wants none, and nor does a draw
+-- that finds no operation
 abbrev pub MayWantMemory : Machine → Command → Type 0
 MayWantMemory m (Append event) = Takes m event
 MayWantMemory m (Rewind n) = n ≤ length m.judged.events
 MayWantMemory m (SetModel key kind) = Unit {0}
 MayWantMemory m (SetBudget key n) = IsBudget n
 MayWantMemory m Ask = ⊥
-MayWantMemory m (Draw thread) = ThreadMayDraw m thread
+MayWantMemory m (Draw thread) = ThreadMayDraw m thread × HasOperation m thread
 MayWantMemory m (Serve number) =
     IsTicketAnd m number (λ t. (t.outcome ≡ None) × IsStillOpen m.judged.events t)
 MayWantMemory m (Finish number) =
     IsTicketAnd m number (λ t. IsSome t.outcome × IsStillOpen m.judged.events t)
     × HasRoom m.judged.events
-MayWantMemory m Nemesis = IsSome (first_due m) → HasRoom m.judged.events
+MayWantMemory m Nemesis = HasFault m × HasRoom m.judged.events
 
 -- the command may be refused for this
 abbrev pub MayDecline : Machine → Command → Refusal → Type 0

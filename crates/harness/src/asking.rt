@@ -4,8 +4,9 @@ ghost use Rattle.history.specs.WellFormed.{HistoryView};
 ghost use Rattle.generators.specs.declared.item.Asker.{Asker};
 ghost use Rattle.generators.specs.Sources.{upcoming};
 ghost use Rattle.machine.specs.Machine.{idle_from};
-ghost use Rattle.harness.specs.Asking.{MayGiveOp, MayGiveFault};
+ghost use Rattle.harness.specs.Asking.{MayGiveOp, MayGiveFault, HasOpFor, HasFaultFor, why_full};
 
+use edn::Refusal;
 use generators::{Asker, Drawn, Item, Source};
 use history::{Fault, History};
 use models::Op;
@@ -19,7 +20,8 @@ pub(crate) enum Drew {
     Done,
 }
 
-/// What the generator would give the thread. It changes nothing but what the source has prepared.
+/// What the generator would give the thread. It changes nothing but what the source has prepared. Only an operation wants
+/// memory.
 pub(crate) fn draw_op(
     source: &mut Source,
     history: &History,
@@ -28,6 +30,8 @@ pub(crate) fn draw_op(
     ensures answer { IfOk result (λ drew.
         MayGiveOp source.old (idle_from history.now.concurrency history.now.events 0 history.now.concurrency)
         thread drew (upcoming source.new)) }
+    ensures item { OnErr result (HasOpFor source.old
+        (idle_from history.now.concurrency history.now.events 0 history.now.concurrency) thread) }
     ensures kept { source.new ≡ record source.old { next = source.new.next } }
 {
     let flags = idle_flags(history);
@@ -40,7 +44,8 @@ pub(crate) fn draw_op(
     }
 }
 
-/// The fault that the generator would give the nemesis, if there is one. It changes nothing but what the source has prepared.
+/// The fault that the generator would give the nemesis, if there is one. It changes nothing but what the source has
+/// prepared. Only a fault wants memory.
 pub(crate) fn draw_fault(
     source: &mut Source,
     history: &History,
@@ -48,6 +53,8 @@ pub(crate) fn draw_fault(
     ensures answer { IfOk result (λ drew.
         MayGiveFault source.old (idle_from history.now.concurrency history.now.events 0 history.now.concurrency)
         drew (upcoming source.new)) }
+    ensures item { OnErr result (HasFaultFor source.old
+        (idle_from history.now.concurrency history.now.events 0 history.now.concurrency)) }
     ensures kept { source.new ≡ record source.old { next = source.new.next } }
 {
     let flags = idle_flags(history);
@@ -57,6 +64,17 @@ pub(crate) fn draw_fault(
         Drawn::Op(Item::Op(_)) => unreachable!(),
         Drawn::Pending => Ok(None),
         Drawn::Done => Ok(None),
+    }
+}
+
+/// Why no fault strikes where the history is full: there is none, or there is one, also where there is no memory for it.
+pub(crate) fn why_full(drawn: &Result<Option<Fault>, AllocError>) -> Refusal
+    ensures { result ≡ why_full drawn.now }
+{
+    match drawn {
+        Ok(None) => Refusal::Idle,
+        Ok(Some(_fault)) => Refusal::HistoryFull,
+        Err(_no_memory) => Refusal::HistoryFull,
     }
 }
 

@@ -85,8 +85,8 @@ impl Core {
     /// [`Refusal::Busy`], [`Refusal::HistoryFull`], [`Refusal::TapeFull`]; a serve [`Refusal::Stale`],
     /// [`Refusal::AlreadyServed`], [`Refusal::NotOpen`]; a finish [`Refusal::Stale`], [`Refusal::NotServed`],
     /// [`Refusal::HistoryFull`], [`Refusal::NotOpen`]; the nemesis [`Refusal::Idle`], [`Refusal::HistoryFull`]. Else
-    /// [`Refusal::NoMemory`] where a growth was refused; where no fault is due, asking the generator takes memory, so then
-    /// `NoMemory` may also come before [`Refusal::Idle`]. Then nothing is prepared. [`Command::Verdict`] is never refused.
+    /// [`Refusal::NoMemory`] where a growth was refused, which only a command that passes its tests may want. Then nothing is
+    /// prepared. [`Command::Verdict`] is never refused.
     pub fn prepare(&mut self, command: Command) -> Result<(Reply, Verdict), Refusal>
         ensures answered { IfOk result (λ answer.
             IsPrepared self.old.machine command answer self.new) }

@@ -12,7 +12,7 @@ ghost use Rattle.machine.specs.Machine.{Setup, opening, first_due, MayStep, Runs
 ghost use Rattle.harness.specs.Setups.{setup_of, judging, IsSetup, MayNotOpen, HasLimits, MayNotJudge};
 ghost use Rattle.harness.specs.CoreView.{at_rest, with_next, IsPrepared, MayWantMemory, MayDecline};
 
-use crate::asking::{Drew, draw_fault, draw_op};
+use crate::asking::{Drew, draw_fault, draw_op, why_full};
 use crate::config::Config;
 use crate::parts::{append, invoke, strike};
 use crate::tickets::{MOST_EVENTS, come_to, entry_of, finishing, make_stale, test_draw, unserved};
@@ -346,13 +346,15 @@ impl Inner {
         ensures err { OnErr result (self.new ≡ at_rest self.old.machine) }
     {
         self.change = Change::Nothing;
-        let Some(fault) = draw_fault(&mut self.source, self.monitor.history())? else {
+        let history = self.monitor.history();
+        let index = history.len();
+        if index >= MOST_EVENTS {
+            let drawn = draw_fault(&mut self.source, history);
+            return Err(why_full(&drawn));
+        }
+        let Some(fault) = draw_fault(&mut self.source, history)? else {
             return Err(Refusal::Idle);
         };
-        let index = self.monitor.history().len();
-        if index >= MOST_EVENTS {
-            return Err(Refusal::HistoryFull);
-        }
         let verdict = strike(&mut self.monitor, &mut self.store, &fault)?;
         self.change = Change::StrikeDrawn;
         Ok((Reply::Fault { fault, index }, verdict))

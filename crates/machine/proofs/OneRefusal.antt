@@ -3,7 +3,6 @@ use Rattle.std.proofs.Common.{◌≡◌, ℕ, zero, suc, ◌<◌, ◌≤◌, Opt
 use Rattle.std.proofs.lemmas.Option.{same_Some}
 use Rattle.edn.specs.declared.refusal.Refusal.{Refusal}
 use Rattle.edn.specs.declared.refusal.Refusal.TheVariants.{Busy, WrongProcess, NotOpen, HistoryFull, NoSuchIndex, BadBudget, TapeFull, Idle, NotServed, AlreadyServed, Stale}
-use Rattle.history.specs.declared.event.Fault.{Fault}
 use Rattle.history.specs.WellFormed.{HasRoom}
 use Rattle.history.proofs.OneRefusal.{refusal_one, well_formed_stands}
 use Rattle.trials.specs.declared.ticket.Ticket.{Ticket}
@@ -13,7 +12,7 @@ use Rattle.machine.specs.declared.command.Command.TheVariants.{Append, Rewind, S
 use Rattle.machine.specs.declared.command.Reply.{Reply}
 use Rattle.machine.specs.declared.command.Reply.TheVariants.{Verdict as Says, Drawn as HasDrawn, Pending as IsPending, Done as IsDone, Served, Fault as Struck}
 use Rattle.monitor.specs.JudgedHistory.{IsBudget}
-use Rattle.machine.specs.Machine.{Machine, most_tickets, HasTicket, HasNoTicket, NextFault, IsThread, open_at, ThreadMayDraw, Replies, Refuses}
+use Rattle.machine.specs.Machine.{Machine, most_tickets, HasTicket, HasNoTicket, HasFault, IsThread, open_at, ThreadMayDraw, Replies, Refuses}
 use Rattle.machine.proofs.Firsts.{FirstFails, FailsFirst, same_why, not_refused}
 use Rattle.machine.proofs.OneGift.{no_fault}
 
@@ -33,7 +32,7 @@ tests m (Finish number) =
     ∷ HasRoom m.judged.events
     ∷ ((t : Ticket) → HasTicket m.tickets number t → IsStillOpen m.judged.events t)
     ∷ []
-tests m Nemesis = ((fault : Fault) × (after : Machine) × NextFault m fault after) ∷ HasRoom m.judged.events ∷ []
+tests m Nemesis = HasFault m ∷ HasRoom m.judged.events ∷ []
 tests m command = []
 
 -- how many there are

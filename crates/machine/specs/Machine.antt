@@ -136,12 +136,20 @@ Gives m asker drawn after =
 abbrev pub first_due : Machine → Option Fault
 first_due m = due_at (length m.judged.events) m.schedule
 
+-- the generator has an operation for the thread
+abbrev pub HasOperation : Machine → ℕ → Type 0
+HasOperation m thread =
+    (op : Op) × (after : Machine) × Gives m (Thread thread) (Gets (AnOp op)) after
+
 -- the fault that strikes next, and the machine that is without it: the first of the schedule, where it is due, else one
 -- that the nemesis draws
 abbrev pub NextFault : Machine → Fault → Machine → Type 0
 NextFault m fault after =
     ((first_due m ≡ Some fault) × (after ≡ record m { schedule = after_first m.schedule }))
     ⊎ ((first_due m ≡ None) × Gives m TheNemesis (Gets (AFault fault)) after)
+
+abbrev pub HasFault : Machine → Type 0
+HasFault m = (fault : Fault) × (after : Machine) × NextFault m fault after
 
 -- there is none
 abbrev pub HasNoFault : Machine → Type 0
@@ -227,8 +235,7 @@ Refuses m (Finish number) NotOpen =
     IsTicketAnd m number (λ t. IsSome t.outcome × ¬ IsStillOpen m.judged.events t)
     × HasRoom m.judged.events
 Refuses m Nemesis Idle = HasNoFault m
-Refuses m Nemesis HistoryFull =
-    ((fault : Fault) × (after : Machine) × NextFault m fault after) × ¬ HasRoom m.judged.events
+Refuses m Nemesis HistoryFull = HasFault m × ¬ HasRoom m.judged.events
 Refuses m command why = ⊥
 
 -- the command may be answered so, or refused for this. A refusal changes nothing

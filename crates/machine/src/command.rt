@@ -1,4 +1,4 @@
-//! What the one-thread object is told, and what it says.
+//! Commands of a `Core`, and its replies.
 use history::{Event, Fault};
 use linspec::Verdict;
 use models::{Key, ModelKind};

@@ -8,18 +8,14 @@ use Rattle.trials.specs.declared.ticket.Ticket.{Ticket}
 use Rattle.trials.specs.Trials.{IsStillOpen}
 use Rattle.machine.specs.declared.command.Command.{Command}
 use Rattle.machine.specs.declared.command.Command.TheVariants.{Append, Rewind, SetModel, SetBudget, Verdict as Ask, Draw, Serve, Finish, Nemesis}
-use Rattle.machine.specs.Machine.{Machine, most_tickets, HasTicket, open_at, first_due, Refuses, MayStep}
+use Rattle.machine.specs.Machine.{Machine, most_tickets, HasTicket, open_at, ThreadMayDraw, Refuses, MayStep}
+use Rattle.machine.proofs.OneGift.{no_fault}
 use Rattle.machine.proofs.OneRefusal.{same_ticket}
 use Rattle.harness.specs.CoreView.{MayWantMemory}
 use Rattle.harness.proofs.laws.refused_wants_no_memory.Goals as goal
 
 not_none : {X : Type 0} (o : Option X) → IsSome o → o ≡ None → ⊥
 not_none o some none = true≢false (sym some ∙ ap is_some none)
-
--- nothing is there, where its presence would give what is not
-none_where : {X : Type 0} (o : Option X) (P : Type 0) → (IsSome o → P) → ¬ P → o ≡ None
-none_where None P gives not = refl
-none_where (Some x) P gives not = absurd (not (gives refl))
 
 -- what holds of a ticket with the number holds of another
 of_other : (P : Ticket → Type 0) (m : Machine) (number : ℕ) (t u : Ticket) → HasTicket m.tickets number t → HasTicket m.tickets number u → P t → P u
@@ -33,7 +29,7 @@ budget_wants : (m : Machine) (key n : ℕ) (why : Refusal) → Refuses m (SetBud
 budget_wants m key n BadBudget may want = may want
 budget_wants m key n why may want = may
 
-draw_wants : (m : Machine) (thread : ℕ) (why : Refusal) → Refuses m (Draw thread) why → MayWantMemory m (Draw thread) → ⊥
+draw_wants : (m : Machine) (thread : ℕ) (why : Refusal) → Refuses m (Draw thread) why → ThreadMayDraw m thread → ⊥
 draw_wants m thread WrongProcess may want = may want.0
 draw_wants m thread Busy may want = not_none (open_at m thread) may.1 want.1
 draw_wants m thread HistoryFull may want = may.2 want.2
@@ -57,23 +53,22 @@ finish_wants m number NotOpen may want =
     may.0.2.1 (of_other (λ t. IsStillOpen m.judged.events t) m number want.0.0 may.0.0 want.0.1 may.0.1 want.0.2.1)
 finish_wants m number why may want = may
 
-nemesis_wants : (m : Machine) (why : Refusal) → Refuses m Nemesis why → MayWantMemory m Nemesis → first_due m ≡ None
-nemesis_wants m Idle may want = may.0
-nemesis_wants m HistoryFull may want = none_where (first_due m) (history.HasRoom m.judged.events) want may.1
-nemesis_wants m why may want = absurd may
+nemesis_wants : (m : Machine) (why : Refusal) → Refuses m Nemesis why → MayWantMemory m Nemesis → ⊥
+nemesis_wants m Idle may want = no_fault m may want.0.0 want.0.1 want.0.2
+nemesis_wants m HistoryFull may want = may.1 want.1
+nemesis_wants m why may want = may
 
-only_nemesis : ((c : ℕ) (events : List Event) (e : Event) (why : Refusal) → IsWellFormed c events e → ¬ history.Refuses c events e why)
-    → (old new : Machine) (command : Command) (why : Refusal) → MayStep old command (Err why) new → MayWantMemory old command
-    → (command ≡ Nemesis) × (first_due old ≡ None)
-only_nemesis taken old new (Append event) why step want = absurd (taken old.judged.concurrency old.judged.events event why want step.0)
-only_nemesis taken old new (Rewind n) why step want = absurd (rewind_wants old n why step.0 want)
-only_nemesis taken old new (SetModel key kind) why step want = absurd step.0
-only_nemesis taken old new (SetBudget key n) why step want = absurd (budget_wants old key n why step.0 want)
-only_nemesis taken old new Ask why step want = absurd want
-only_nemesis taken old new (Draw thread) why step want = absurd (draw_wants old thread why step.0 want)
-only_nemesis taken old new (Serve number) why step want = absurd (serve_wants old number why step.0 want)
-only_nemesis taken old new (Finish number) why step want = absurd (finish_wants old number why step.0 want)
-only_nemesis taken old new Nemesis why step want = (refl, nemesis_wants old why step.0 want)
+none_wants : ((c : ℕ) (events : List Event) (e : Event) (why : Refusal) → IsWellFormed c events e → ¬ history.Refuses c events e why)
+    → (old new : Machine) (command : Command) (why : Refusal) → MayStep old command (Err why) new → ¬ MayWantMemory old command
+none_wants taken old new (Append event) why step want = taken old.judged.concurrency old.judged.events event why want step.0
+none_wants taken old new (Rewind n) why step want = rewind_wants old n why step.0 want
+none_wants taken old new (SetModel key kind) why step want = step.0
+none_wants taken old new (SetBudget key n) why step want = budget_wants old key n why step.0 want
+none_wants taken old new Ask why step want = want
+none_wants taken old new (Draw thread) why step want = draw_wants old thread why step.0 want.0
+none_wants taken old new (Serve number) why step want = serve_wants old number why step.0 want
+none_wants taken old new (Finish number) why step want = finish_wants old number why step.0 want
+none_wants taken old new Nemesis why step want = nemesis_wants old why step.0 want
 
 pub returns : goal.returns
-returns c = only_nemesis c.one_refusal.ensures.taken
+returns c = none_wants c.one_refusal.ensures.taken

@@ -13,8 +13,8 @@ use Rattle.harness.specs.Asking.{MayGiveOp}
 use Rattle.harness.specs.CoreView.{CoreView, IsPrepared}
 use Rattle.harness.specs.SoundCore.{machine_of}
 use Rattle.harness.proofs.Showing.{Shows}
-use Rattle.harness.proofs.Preparing.{seen, readied, is_of, declines_at}
-use Rattle.harness.proofs.Driving.{drawn, drawn_takes, pending, done}
+use Rattle.harness.proofs.Preparing.{seen, readied, is_of, declines_at, wants_at}
+use Rattle.harness.proofs.Driving.{has_operation, drawn, drawn_takes, pending, done}
 use Rattle.harness.proofs.inner.Inner.prepare_draw.Goals as goal
 
 pub returns-in_err-test_draw-clause-refused : goal.returns-in_err-test_draw-clause-refused
@@ -124,3 +124,30 @@ returns-in-Done-clause-answered c =
     let v = c.verdict-in-Done.result in
     subst (λ (s : CoreView). IsPrepared s.machine (Draw c.args.thread) (IsDone, v) (seen a.monitor c.draw_op.new.source a.schedule a.store a.tickets.items Same)) c.self.view_is
     (done a.monitor a.source a.schedule a.store a.tickets.items c.draw_op.new.source shown c.args.thread v c.draw_op.ensures.kept shows may c.verdict-in-Done.ensures to gives)
+
+pub returns-in_err-op-clause-refused : goal.returns-in_err-op-clause-refused
+returns-in_err-op-clause-refused c =
+    let a = c.self.inside in
+    let m = machine_of a.monitor a.source a.schedule a.store a.tickets.items in
+    let here = is_of a.monitor a.source a.schedule a.store a.tickets.items c.as_slice.result.now c.history.result.now (c.history.ensures.concurrency, c.history.ensures.events) c.as_slice.ensures.value in
+    let may : ThreadMayDraw m c.args.thread = c.in_ok-test_draw.ensures.ok m here in
+    let shown = c.history-2.result.now in
+    let shows : Shows a.monitor shown = (c.history-2.ensures.concurrency, c.history-2.ensures.events) in
+    wants_at c.from_residual-in_err-op.result _ c.args.self.now (Draw c.args.thread) c.from_residual-in_err-op.ensures.1 c.self.view_is
+    (may, has_operation a.monitor a.source a.schedule a.store a.tickets.items shown c.args.thread shows c.in_err-op.ensures.item)
+
+pub returns-in_err-ticket-in-Op-clause-refused : goal.returns-in_err-ticket-in-Op-clause-refused
+returns-in_err-ticket-in-Op-clause-refused c =
+    let a = c.self.inside in
+    let m = machine_of a.monitor a.source a.schedule a.store a.tickets.items in
+    let here = is_of a.monitor a.source a.schedule a.store a.tickets.items c.as_slice.result.now c.history.result.now (c.history.ensures.concurrency, c.history.ensures.events) c.as_slice.ensures.value in
+    let may : ThreadMayDraw m c.args.thread = c.in_ok-test_draw.ensures.ok m here in
+    let shown = c.history-2.result.now in
+    let shows : Shows a.monitor shown = (c.history-2.ensures.concurrency, c.history-2.ensures.events) in
+    let to = upcoming c.draw_op.new.source in
+    let idle = idle_from shown.concurrency shown.events 0 shown.concurrency in
+    let op = c.in-Op.op in
+    let is_op : c.in_ok-op.field-0 ≡ DrewOp op = c.in-Op.is in
+    let gives = subst (λ (d : Drew). MayGiveOp a.source idle c.args.thread d to) is_op c.in_ok-op.ensures.answer in
+    wants_at c.from_residual-in_err-ticket-in-Op.result _ c.args.self.now (Draw c.args.thread) c.from_residual-in_err-ticket-in-Op.ensures.1 c.self.view_is
+    (may, has_operation a.monitor a.source a.schedule a.store a.tickets.items shown c.args.thread shows (op, to, gives))

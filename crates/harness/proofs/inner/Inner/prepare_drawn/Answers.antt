@@ -1,6 +1,7 @@
 use Rattle.std.proofs.Common.{◌≡◌, List, None, length, sym, ap, ◌∙◌, subst}
 use Rattle.std.specs.Vec.{vec_capacity}
-use Rattle.edn.specs.declared.refusal.Refusal.TheVariants.{Idle, HistoryFull}
+use Rattle.edn.specs.declared.refusal.Refusal.{Refusal}
+use Rattle.edn.specs.declared.refusal.Refusal.TheVariants.{Idle}
 use Rattle.history.specs.declared.event.Event.{Event}
 use Rattle.history.specs.declared.event.Fault.{Fault}
 use Rattle.std.proofs.Common.{Option}
@@ -10,20 +11,20 @@ use Rattle.machine.specs.declared.command.Reply.TheVariants.{Fault as Struck}
 use Rattle.machine.specs.Machine.{Refuses, first_due, idle_from}
 use Rattle.harness.specs.Asking.{MayGiveFault}
 use Rattle.harness.specs.declared.inner.Change.TheVariants.{StrikeDrawn}
-use Rattle.harness.specs.CoreView.{CoreView, IsPrepared}
+use Rattle.harness.specs.CoreView.{CoreView, IsPrepared, MayDecline}
 use Rattle.harness.specs.SoundCore.{machine_of}
 use Rattle.harness.proofs.Showing.{Shows}
-use Rattle.harness.proofs.Preparing.{seen, readied}
+use Rattle.harness.proofs.Preparing.{seen, readied, wants_at}
 use Rattle.harness.proofs.Driving.{drawn_strikes, given_fault}
-use Rattle.harness.proofs.Striking.{has_room, no_room, no_fault, next_given}
+use Rattle.harness.proofs.Striking.{has_room, no_room, no_fault, next_given, refused_full}
 use Rattle.harness.proofs.Takes.{may_strike}
 use Rattle.harness.proofs.inner.Inner.prepare_drawn.Goals as goal
 
 pub returns-in_default-clause-refused : goal.returns-in_default-clause-refused
 returns-in_default-clause-refused c =
     let a = c.self.inside in
-    let shown = c.history.result.now in
-    let shows : Shows a.monitor shown = (c.history.ensures.concurrency, c.history.ensures.events) in
+    let shown = c.history-history.result.now in
+    let shows : Shows a.monitor shown = (c.history-history.ensures.concurrency, c.history-history.ensures.events) in
     let to = upcoming c.draw_fault.new.source in
     let idle = idle_from shown.concurrency shown.events 0 shown.concurrency in
     let none = subst (λ (s : CoreView). first_due s.machine ≡ None) (sym c.self.view_is) c.requires in
@@ -34,22 +35,44 @@ pub returns-then-index-ge-MOST_EVENTS-clause-refused :
     goal.returns-then-index-ge-MOST_EVENTS-clause-refused
 returns-then-index-ge-MOST_EVENTS-clause-refused c =
     let a = c.self.inside in
-    let shown = c.history.result.now in
-    let shows : Shows a.monitor shown = (c.history.ensures.concurrency, c.history.ensures.events) in
+    let shown = c.history-history.result.now in
+    let shows : Shows a.monitor shown = (c.history-history.ensures.concurrency, c.history-history.ensures.events) in
+    let none = subst (λ (s : CoreView). first_due s.machine ≡ None) (sym c.self.view_is) c.requires in
+    let index : c.len-index.result ≡ length a.monitor.now.events = c.len-index.ensures.value ∙ ap (λ (l : List Event). length l) c.history-history.ensures.events in
+    let why = refused_full a.monitor a.source a.schedule a.store a.tickets.items shown c.draw_fault-drawn.result (upcoming c.draw_fault-drawn.new.source) shows none
+    (no_room c.len-index.result a.monitor.now.events index c.if-index-ge-MOST_EVENTS.true) c.draw_fault-drawn.ensures.answer c.draw_fault-drawn.ensures.item in
+    subst (λ (s : CoreView). MayDecline s.machine Nemesis c.why_full.result) c.self.view_is (subst (λ (w : Refusal). MayDecline (machine_of a.monitor a.source a.schedule a.store a.tickets.items) Nemesis w) (sym c.why_full.ensures) why)
+
+pub returns-in_err-fault-clause-refused : goal.returns-in_err-fault-clause-refused
+returns-in_err-fault-clause-refused c =
+    let a = c.self.inside in
+    let shown = c.history-history.result.now in
+    let shows : Shows a.monitor shown = (c.history-history.ensures.concurrency, c.history-history.ensures.events) in
+    let none = subst (λ (s : CoreView). first_due s.machine ≡ None) (sym c.self.view_is) c.requires in
+    let index : c.len-index.result ≡ length a.monitor.now.events = c.len-index.ensures.value ∙ ap (λ (l : List Event). length l) c.history-history.ensures.events in
+    let has = c.in_err-fault.ensures.item in
+    wants_at c.from_residual.result _ c.args.self.now Nemesis c.from_residual.ensures.1 c.self.view_is
+    (next_given a.monitor a.source a.schedule a.store a.tickets.items shown has.0 has.1 shows none has.2, has_room c.len-index.result a.monitor.now.events index c.if-index-ge-MOST_EVENTS.false)
+
+pub returns-in_err-verdict-clause-refused : goal.returns-in_err-verdict-clause-refused
+returns-in_err-verdict-clause-refused c =
+    let a = c.self.inside in
+    let shown = c.history-history.result.now in
+    let shows : Shows a.monitor shown = (c.history-history.ensures.concurrency, c.history-history.ensures.events) in
+    let none = subst (λ (s : CoreView). first_due s.machine ≡ None) (sym c.self.view_is) c.requires in
+    let index : c.len-index.result ≡ length a.monitor.now.events = c.len-index.ensures.value ∙ ap (λ (l : List Event). length l) c.history-history.ensures.events in
     let to = upcoming c.draw_fault.new.source in
     let idle = idle_from shown.concurrency shown.events 0 shown.concurrency in
-    let none = subst (λ (s : CoreView). first_due s.machine ≡ None) (sym c.self.view_is) c.requires in
     let fault : Fault = c.in-Some.fault in
     let gives = subst (λ (o : Option Fault). MayGiveFault a.source idle o to) c.in-Some.is c.in_ok-fault.ensures.answer in
-    let index : c.len-index.result ≡ length a.monitor.now.events = c.len-index.ensures.value ∙ ap (λ (l : List Event). length l) c.history-2.ensures.events in
-    subst (λ (s : CoreView). Refuses s.machine Nemesis HistoryFull) c.self.view_is
-    (next_given a.monitor a.source a.schedule a.store a.tickets.items shown fault to shows none gives, no_room c.len-index.result a.monitor.now.events index c.if-index-ge-MOST_EVENTS.true)
+    wants_at c.from_residual-in_err-verdict.result _ c.args.self.now Nemesis c.from_residual-in_err-verdict.ensures.1 c.self.view_is
+    (next_given a.monitor a.source a.schedule a.store a.tickets.items shown fault to shows none gives, has_room c.len-index.result a.monitor.now.events index c.if-index-ge-MOST_EVENTS.false)
 
 pub strike-requires-clause-may : goal.strike-requires-clause-may
 strike-requires-clause-may c =
     let a = c.self.inside in
-    let shown = c.history.result.now in
-    let shows : Shows a.monitor shown = (c.history.ensures.concurrency, c.history.ensures.events) in
+    let shown = c.history-history.result.now in
+    let shows : Shows a.monitor shown = (c.history-history.ensures.concurrency, c.history-history.ensures.events) in
     let to = upcoming c.draw_fault.new.source in
     let idle = idle_from shown.concurrency shown.events 0 shown.concurrency in
     let fault : Fault = c.in-Some.fault in
@@ -59,13 +82,13 @@ strike-requires-clause-may c =
 pub strike-requires-clause-takes : goal.strike-requires-clause-takes
 strike-requires-clause-takes c =
     let a = c.self.inside in
-    let shown = c.history.result.now in
-    let shows : Shows a.monitor shown = (c.history.ensures.concurrency, c.history.ensures.events) in
+    let shown = c.history-history.result.now in
+    let shows : Shows a.monitor shown = (c.history-history.ensures.concurrency, c.history-history.ensures.events) in
     let to = upcoming c.draw_fault.new.source in
     let idle = idle_from shown.concurrency shown.events 0 shown.concurrency in
     let fault : Fault = c.in-Some.fault in
     let gives = subst (λ (o : Option Fault). MayGiveFault a.source idle o to) c.in-Some.is c.in_ok-fault.ensures.answer in
-    let index : c.len-index.result ≡ length a.monitor.now.events = c.len-index.ensures.value ∙ ap (λ (l : List Event). length l) c.history-2.ensures.events in
+    let index : c.len-index.result ≡ length a.monitor.now.events = c.len-index.ensures.value ∙ ap (λ (l : List Event). length l) c.history-history.ensures.events in
     let may = drawn_strikes a.monitor a.source a.schedule a.store a.tickets.items shown fault to c.self.invariant.now shows gives in
     may_strike a.monitor.now.concurrency a.store.now.replicas a.monitor.now.events fault c.self.invariant.now.count may
     (has_room c.len-index.result a.monitor.now.events index c.if-index-ge-MOST_EVENTS.false)
@@ -73,14 +96,14 @@ strike-requires-clause-takes c =
 pub invariant_of-self-2 : goal.invariant_of-self-2
 invariant_of-self-2 c =
     let a = c.self.inside in
-    let shown = c.history.result.now in
-    let shows : Shows a.monitor shown = (c.history.ensures.concurrency, c.history.ensures.events) in
+    let shown = c.history-history.result.now in
+    let shows : Shows a.monitor shown = (c.history-history.ensures.concurrency, c.history-history.ensures.events) in
     let to = upcoming c.draw_fault.new.source in
     let idle = idle_from shown.concurrency shown.events 0 shown.concurrency in
     let none = subst (λ (s : CoreView). first_due s.machine ≡ None) (sym c.self.view_is) c.requires in
     let fault : Fault = c.in-Some.fault in
     let gives = subst (λ (o : Option Fault). MayGiveFault a.source idle o to) c.in-Some.is c.in_ok-fault.ensures.answer in
-    let index : c.len-index.result ≡ length a.monitor.now.events = c.len-index.ensures.value ∙ ap (λ (l : List Event). length l) c.history-2.ensures.events in
+    let index : c.len-index.result ≡ length a.monitor.now.events = c.len-index.ensures.value ∙ ap (λ (l : List Event). length l) c.history-history.ensures.events in
     let may = drawn_strikes a.monitor a.source a.schedule a.store a.tickets.items shown fault to c.self.invariant.now shows gives in
     let v = c.in_ok-verdict.verdict in
     let told = c.in_ok-verdict.ensures in
@@ -91,14 +114,14 @@ invariant_of-self-2 c =
 pub returns-clause-answered : goal.returns-clause-answered
 returns-clause-answered c =
     let a = c.self.inside in
-    let shown = c.history.result.now in
-    let shows : Shows a.monitor shown = (c.history.ensures.concurrency, c.history.ensures.events) in
+    let shown = c.history-history.result.now in
+    let shows : Shows a.monitor shown = (c.history-history.ensures.concurrency, c.history-history.ensures.events) in
     let to = upcoming c.draw_fault.new.source in
     let idle = idle_from shown.concurrency shown.events 0 shown.concurrency in
     let none = subst (λ (s : CoreView). first_due s.machine ≡ None) (sym c.self.view_is) c.requires in
     let fault : Fault = c.in-Some.fault in
     let gives = subst (λ (o : Option Fault). MayGiveFault a.source idle o to) c.in-Some.is c.in_ok-fault.ensures.answer in
-    let index : c.len-index.result ≡ length a.monitor.now.events = c.len-index.ensures.value ∙ ap (λ (l : List Event). length l) c.history-2.ensures.events in
+    let index : c.len-index.result ≡ length a.monitor.now.events = c.len-index.ensures.value ∙ ap (λ (l : List Event). length l) c.history-history.ensures.events in
     let may = drawn_strikes a.monitor a.source a.schedule a.store a.tickets.items shown fault to c.self.invariant.now shows gives in
     let v = c.in_ok-verdict.verdict in
     let told = c.in_ok-verdict.ensures in

@@ -10,7 +10,7 @@ use Rattle.machine.specs.Machine.{Refuses}
 use Rattle.harness.specs.declared.inner.Change.TheVariants.{StrikeDue}
 use Rattle.harness.specs.CoreView.{CoreView, IsPrepared}
 use Rattle.harness.specs.SoundCore.{machine_of}
-use Rattle.harness.proofs.Preparing.{seen, readied}
+use Rattle.harness.proofs.Preparing.{seen, readied, wants_at}
 use Rattle.harness.proofs.Driving.{due}
 use Rattle.harness.proofs.Striking.{has_room, no_room, due_strikes, due_is, next_due}
 use Rattle.harness.proofs.Takes.{may_strike}
@@ -67,3 +67,21 @@ returns-clause-answered c =
     subst (λ (s : CoreView). IsPrepared s.machine Nemesis (Struck copy c.len-index.result, v) (seen c.strike.new.monitor a.source a.schedule c.strike.new.store a.tickets.items StrikeDue)) c.self.view_is
     (due a.monitor a.source a.schedule a.store a.tickets.items c.strike.new.monitor c.strike.new.store copy c.len-index.result v c.self.invariant.now may
     (has_room c.len-index.result a.monitor.now.events index c.if-index-ge-MOST_EVENTS.false) index told.store told.struck told.prepared told.verdict is_due)
+
+pub returns-in_err-copy-clause-refused : goal.returns-in_err-copy-clause-refused
+returns-in_err-copy-clause-refused c =
+    let a = c.self.inside in
+    let fault : Fault = c.in-Some.fault.now in
+    let index : c.len-index.result ≡ length a.monitor.now.events = c.len-index.ensures.value ∙ ap (λ (l : List Event). length l) c.history.ensures.events in
+    let is_due = due_is a.monitor a.source a.schedule a.store a.tickets.items c.len-index.result (Some fault) index c.in-Some.ensures in
+    wants_at c.from_residual.result _ c.args.self.now Nemesis c.from_residual.ensures.1 c.self.view_is
+    (next_due a.monitor a.source a.schedule a.store a.tickets.items fault is_due, has_room c.len-index.result a.monitor.now.events index c.if-index-ge-MOST_EVENTS.false)
+
+pub returns-in_err-verdict-clause-refused : goal.returns-in_err-verdict-clause-refused
+returns-in_err-verdict-clause-refused c =
+    let a = c.self.inside in
+    let fault : Fault = c.in-Some.fault.now in
+    let index : c.len-index.result ≡ length a.monitor.now.events = c.len-index.ensures.value ∙ ap (λ (l : List Event). length l) c.history.ensures.events in
+    let is_due = due_is a.monitor a.source a.schedule a.store a.tickets.items c.len-index.result (Some fault) index c.in-Some.ensures in
+    wants_at c.from_residual-in_err-verdict.result _ c.args.self.now Nemesis c.from_residual-in_err-verdict.ensures.1 c.self.view_is
+    (next_due a.monitor a.source a.schedule a.store a.tickets.items fault is_due, has_room c.len-index.result a.monitor.now.events index c.if-index-ge-MOST_EVENTS.false)
