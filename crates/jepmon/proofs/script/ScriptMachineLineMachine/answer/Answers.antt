@@ -9,7 +9,7 @@ use Rattle.jepmon.proofs.Answering.{carried_out}
 use Rattle.jepmon.proofs.script.ScriptMachineLineMachine.answer.Goals as goal
 
 pub returns-in-Ok-Some : goal.returns-in-Ok-Some
-returns-in-Ok-Some c =
+returns-in-Ok-Some g c =
     (let asks : Asks c.args.line.now (Ok (Some c.in-Ok-Some.command)) =
     subst (λ (asked : Result (Option Command) Refusal). asked ≢ Err NoMemory → Asks c.args.line.now asked) (c.in-Ok-Some.is ∙ ap (λ (o : Option Command). let asked : Result (Option Command) Refusal = Ok o in asked) c.in-Ok-Some.field-0-is) c.read_command.ensures (λ q. cc)
     in

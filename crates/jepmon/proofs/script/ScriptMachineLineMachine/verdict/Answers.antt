@@ -4,4 +4,4 @@ use Rattle.monitor.specs.JudgedHistory.{IsVerdictOn}
 use Rattle.jepmon.proofs.script.ScriptMachineLineMachine.verdict.Goals as goal
 
 pub returns : goal.returns
-returns c = subst (λ (m : Machine). IsVerdictOn m.judged c.verdict.result) c.self.view_is c.verdict.ensures
+returns g c = subst (λ (m : Machine). IsVerdictOn m.judged c.verdict-verdict.result) c.self.view_is c.verdict-verdict.ensures
