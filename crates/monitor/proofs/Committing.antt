@@ -29,7 +29,6 @@ kept_passes p xs ys place x e at =
 pub first_nows : (old left : List (ℕ × KeyLineView)) (kept : ℕ) → left ≡ take kept old → nows left ≡ take kept (nows old)
 first_nows old left kept left_is = ap nows left_is ∙ sym (take-map (λ (r : ℕ × KeyLineView). (r.0, r.1.now)) kept old)
 
-
 -- what lines have whose cut is carried out
 pub done_rows : (n : ℕ) (rows : List (ℕ × KeyLineView)) → nows (each_line (cut_done n) rows) ≡ cut_rows n (nows rows)
 done_rows n [] = refl
