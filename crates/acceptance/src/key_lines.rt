@@ -2,7 +2,7 @@
 ghost use Rattle.std.specs.Prelude.{◌≡◌, IfOk};
 ghost use Rattle.acceptance.specs.LongLine.{writes_from};
 
-use crate::rows::event;
+use crate::plain::event;
 use checkpoints::KeyLine;
 use history::{Body, Event, EventKind, Fault, Process};
 use linspec::KeyStatus;

@@ -15,4 +15,4 @@ mod monitors;
 #[cfg(test)]
 mod one_thread;
 #[cfg(test)]
-mod rows;
+mod plain;

@@ -1,5 +1,5 @@
 //! The calls of a monitor, each answered by the verdict that the definition gives.
-use crate::rows::{Said, event, plain_of, refused};
+use crate::plain::{Said, event, plain_of, refused};
 use edn::Refusal;
 use history::Event;
 use history::EventKind::{Invoke, Ok as Done};

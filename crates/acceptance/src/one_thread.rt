@@ -1,5 +1,5 @@
 //! The two halves of a command on a `Core`, and the refusals of its opening.
-use crate::rows::{Said, event, plain_of, refused};
+use crate::plain::{Said, event, plain_of, refused};
 use edn::Refusal;
 use harness::{Command, Core, Judging, Reply};
 use history::EventKind;
