@@ -462,6 +462,26 @@ def an_exchange_that_is_broken_off() -> None:
     assert monitor._program._child.returncode == 0
 
 
+def a_test_that_is_interrupted() -> None:
+    """Ctrl-C while clients go on for ever ends them at their next operation, and the test."""
+    script = f"""
+import sys
+from jepmon import Monitor
+def client(number):
+    while True:
+        with monitor.write(number, 1):
+            print(flush=True)
+with Monitor({PROGRAM!r}) as monitor:
+    monitor.run(client, 4)
+"""
+    child = subprocess.Popen([sys.executable, "-B", "-c", script], stdout=subprocess.PIPE, stderr=subprocess.PIPE,
+                             env=dict(os.environ, PYTHONPATH=str(TOP / "examples" / "python")))
+    assert child.stdout is not None and child.stdout.readline() == b"\n"
+    child.send_signal(signal.SIGINT)
+    _, errors = child.communicate(timeout=30)
+    assert child.returncode != 0 and errors.rstrip().endswith(b"KeyboardInterrupt"), errors
+
+
 def another_model() -> None:
     """Where a key is illegal, the model that may have been meant is named: it has the operations, or what was seen is legal."""
     def act(model: str, work: Callable[[Monitor], object]) -> Tuple[str, str]:
@@ -600,7 +620,8 @@ TESTS = [a_linearizable_store_is_legal, a_stale_read_is_illegal, each_thread_is_
          a_missing_key_is_legal, a_timeout_is_an_info, an_unexpected_exception_goes_on, what_failed_did_not_take_place,
          a_cas_register, a_lock_that_two_hold, queues_and_sets, what_is_no_integer, too_many_at_once, a_key_over_its_budget,
          what_is_refused, options_out_of_their_limits, programs_that_are_no_jepmon, the_program_ends, the_program_wants_memory,
-         the_program_gives_no_reply, a_line_longer_than_a_pipe, an_exchange_that_is_broken_off, another_model, coroutines,
+         the_program_gives_no_reply, a_line_longer_than_a_pipe, an_exchange_that_is_broken_off, a_test_that_is_interrupted,
+         another_model, coroutines,
          each_block_has_its_operation, nothing_is_left_open, a_session_of_its_own, a_closed_monitor, the_log_is_judged_again,
          no_program, the_examples]
 

@@ -36,7 +36,7 @@ import subprocess
 import tempfile
 import threading
 import time
-from concurrent.futures import ThreadPoolExecutor
+from concurrent.futures import ThreadPoolExecutor, wait
 from types import TracebackType
 from typing import Any, Callable, Deque, Dict, Hashable, Iterable, List, NoReturn, Optional, Set, TextIO, Tuple, Type, Union
 
@@ -172,9 +172,17 @@ class Monitor:
         return Operation(self, "release", key)
 
     def run(self, work: Callable[[int], object], threads: int) -> None:
-        """Does work(0) to work(threads - 1), each in a thread of its own. Raises what is not legal, else what one raised."""
-        with ThreadPoolExecutor(threads) as pool:
+        """Does work(0) to work(threads - 1), each in a thread of its own. Raises what is not legal, else what one raised.
+        Ctrl-C ends each of them at its next operation."""
+        pool = ThreadPoolExecutor(threads)
+        try:
             tasks = [pool.submit(work, number) for number in range(threads)]
+            wait(tasks)
+        except BaseException:
+            self.failure = self.failure or Refused("the test was broken off")
+            raise
+        finally:
+            pool.shutdown()
         if self.failure is not None:
             raise copy.copy(self.failure)
         for task in tasks:
@@ -199,7 +207,7 @@ class Monitor:
             self._ask(f"[:budget {_key(key)} {budget}]")
 
     def number(self, thing: Hashable) -> int:
-        """A number for the thing, the same whenever it is asked for."""
+        """A number for the thing, the same whenever it is asked for: 0, 1, .. So number each value of a key, or none."""
         with self._lock:
             return self._numbers.setdefault(thing, len(self._numbers))
 
