@@ -373,7 +373,7 @@ def programs_that_are_no_jepmon() -> None:
     for script, error in (
         ("exit 0", f"{words} has ended, with status 0"),
         ("echo not proved >&2; exit 3", f"{words} has ended, with status 3: not proved"),
-        ("kill -TERM $$", f"{words} has ended, by SIGTERM"),
+        ("kill -TERM $$", f"{words} has ended, by signal 15"),
         ("cat", f"{words} is no jepmon: its first reply was '[:verdict]'"),
         ("printf leg", f"{words} has ended, with status 0"),
         ("read line; echo building >&2; sleep 60", f"{words} gave no reply for 0.2 seconds: building"),
@@ -390,7 +390,7 @@ def the_program_ends() -> None:
         pass
     os.kill(monitor._program._child.pid, signal.SIGKILL)
     error = raised(Refused, monitor.write(0, 2).__enter__)
-    assert str(error).endswith("--budget 4096 has ended, by SIGKILL"), error
+    assert str(error).endswith("--budget 4096 has ended, by signal 9"), error
     assert monitor.close() == str(error)
     assert isinstance(error, NotLegal)
 
@@ -600,6 +600,7 @@ def the_log_is_judged_again() -> None:
 
 def no_program() -> None:
     raised(FileNotFoundError, lambda: Monitor("/nowhere/jepmon"))
+    raised(FileNotFoundError, lambda: Monitor(pathlib.Path("/nowhere/jepmon")))
 
 
 def example(name: str, *words: str) -> "subprocess.CompletedProcess[str]":

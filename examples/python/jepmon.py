@@ -116,7 +116,7 @@ class Monitor:
 
     def __init__(
         self,
-        program: Optional[str] = None,
+        program: "Union[str, os.PathLike[str], None]" = None,
         model: str = "register",
         concurrency: int = 64,
         budget: int = 4096,
@@ -413,14 +413,14 @@ class _Program:
             status = self._child.wait(timeout=PATIENCE)
         except subprocess.TimeoutExpired:
             return Refused(f"{self._name} goes on, and takes or gives no line any more{self._errors_told()}")
-        how = f"with status {status}" if status >= 0 else f"by {signal.Signals(-status).name}"
+        how = f"with status {status}" if status >= 0 else f"by signal {-status}"
         told = self._errors_told()
         return Refused(f"{self._name} has ended, {how}{told}", hint=_hint_of(told))
 
     def _errors_told(self) -> str:
         """The last of what it wrote to standard error."""
-        self._errors.seek(0)
-        text = self._errors.read()[-2000:].decode(errors="replace").strip()
+        file = self._errors.fileno()
+        text = os.pread(file, 2000, max(0, os.fstat(file).st_size - 2000)).decode(errors="replace").strip()
         return f": {text}" if text else ""
 
     def end(self, patience: float = PATIENCE) -> None:
@@ -543,11 +543,11 @@ def _key(key: int) -> int:
     return key
 
 
-def _found(program: Optional[str]) -> str:
+def _found(program: "Union[str, os.PathLike[str], None]") -> str:
     """The path of the program."""
     named = program or os.environ.get("JEPMON")
     if named:
-        return named
+        return os.fspath(named)
     built = pathlib.Path(__file__).resolve().parents[2] / "crates" / "jepmon" / "out" / "jepmon"
     path = str(built) if built.exists() else shutil.which("jepmon")
     if path is None:
