@@ -71,7 +71,9 @@ def run_missing_file() -> List[str]:
 def run_faults_of_words() -> List[str]:
     """What jepmon check says of an option comes through, with its status."""
     ran = explained(["-", "--concurrency", "65"])
-    return differing("what came", (ran.stdout, ran.stderr, ran.returncode), (b"", b"refused 10 BadConcurrency\n", 3))
+    other = explained(["-", "--seed", "1"])
+    return (differing("what came", (ran.stdout, ran.stderr, ran.returncode), (b"", b"refused 10 BadConcurrency\n", 3))
+            + differing("what came of a word of no option", (other.stdout, other.returncode), (b"", 3)))
 
 
 def all_cases() -> List[Tuple[str, Callable[[], List[str]]]]:
