@@ -2,8 +2,8 @@
 """Runs examples/explain on histories, with the built program. Ends with 'N passed, M failed'.
 
 A case is a folder of tests/explain: history.edn, or in its place history.py, which prints it; args, the options of the check,
-one word a line; and stdout, stderr and status (0 where left out), which must come to the byte. What is printed and the status
-must be those of jepmon check itself. With words, it runs the cases of these names alone.
+one word a line; and stdout, stderr and status (0 where left out), which must come to the byte: stdout is the last line, and all
+that is printed, and the status, must be those of jepmon check itself. With words, it runs the cases of these names alone.
 """
 import functools
 import os
@@ -49,7 +49,7 @@ def run_case(case: pathlib.Path) -> List[str]:
     text = given(case)
     ran = explained(["-"] + words(case), text)
     plain = subprocess.run([PROGRAM, "check", "/dev/stdin"] + words(case), input=text, stdout=subprocess.PIPE, timeout=LIMIT)
-    return (differing("standard output", ran.stdout, read(case / "stdout"))
+    return (differing("the last line of standard output", b"".join(ran.stdout.splitlines(True)[-1:]), read(case / "stdout"))
             + differing("standard error", ran.stderr, read(case / "stderr"))
             + differing("status", ran.returncode, int(read(case / "status", b"0")))
             + differing("what jepmon check says", (ran.stdout, ran.returncode), (plain.stdout, plain.returncode)))
@@ -71,7 +71,9 @@ def run_missing_file() -> List[str]:
 def run_faults_of_words() -> List[str]:
     """What jepmon check says of an option comes through, with its status."""
     ran = explained(["-", "--concurrency", "65"])
-    return differing("what came", (ran.stdout, ran.stderr, ran.returncode), (b"", b"refused 10 BadConcurrency\n", 3))
+    other = explained(["-", "--seed", "1"])
+    return (differing("what came", (ran.stdout, ran.stderr, ran.returncode), (b"", b"refused 10 BadConcurrency\n", 3))
+            + differing("what came of a word of no option", (other.stdout, other.returncode), (b"", 3)))
 
 
 def all_cases() -> List[Tuple[str, Callable[[], List[str]]]]:

@@ -2,15 +2,21 @@
 """Live tests of examples/python/jepmon.py on the built program: stores in this process, some with a fault, used by several
 threads. No server is needed. Ends with 'N passed, M failed'. With words, it runs the tests of these names alone.
 """
+import asyncio
+import contextlib
 import faulthandler
+import gc
 import io
 import os
 import pathlib
 import random
+import signal
 import subprocess
 import sys
+import tempfile
 import threading
-from typing import Callable, Dict, List, Optional, Set, Type
+import time
+from typing import Callable, Dict, Iterator, List, Optional, Set, Tuple, Type
 
 TOP = pathlib.Path(__file__).resolve().parent.parent
 sys.path.insert(0, str(TOP / "examples" / "python"))
@@ -95,6 +101,22 @@ def raised(kind: Type[BaseException], act: Callable[[], object]) -> BaseExceptio
     except kind as error:
         return error
     raise AssertionError(f"no {kind.__name__} was raised")
+
+
+@contextlib.contextmanager
+def another_program(script: str) -> Iterator[str]:
+    """The path of a program that is this shell script, in which jepmon stands for the program under test."""
+    with tempfile.TemporaryDirectory() as folder:
+        path = pathlib.Path(folder, "program")
+        path.write_text(f"#!/bin/sh\njepmon={PROGRAM}\n{script}\n")
+        path.chmod(0o755)
+        yield str(path)
+
+
+def refused_at_once(script: str, timeout: float = 60.0) -> str:
+    """What a monitor of this shell script says as it is made."""
+    with another_program(script) as program:
+        return str(raised(Refused, lambda: Monitor(program, timeout=timeout))).replace(program, "PROGRAM", 1)
 
 
 def kinds_told(log: io.StringIO, name: str) -> List[str]:
@@ -322,6 +344,7 @@ def a_key_over_its_budget() -> None:
 
     error = raised(Unknown, two_at_once)
     assert isinstance(error, Unknown) and error.reply == f"unknown key 0 index {error.index}" and len(error.events) == 2, error
+    assert str(error).endswith("or raise the budget"), error
 
 
 def what_is_refused() -> None:
@@ -332,21 +355,232 @@ def what_is_refused() -> None:
     assert str(raised(Refused, model)).startswith("refused 5 BadValue: [:model 0 :stack]")
 
 
+def options_out_of_their_limits() -> None:
+    """An option that jepmon does not take is told where the monitor is made, with its own words, and the limits."""
+    error = str(raised(Refused, lambda: Monitor(PROGRAM, model="stack")))
+    assert f"{PROGRAM} script --concurrency 64 --model stack --budget 4096 has ended, with status 3: error: --model" in error, error
+    for concurrency in (0, 65):
+        error = str(raised(Refused, lambda: Monitor(PROGRAM, concurrency=concurrency)))
+        assert error.endswith("3: refused 10 BadConcurrency\nthe concurrency is a number from 1 to 64"), error
+    for budget in (0, 65537):
+        error = str(raised(Refused, lambda: Monitor(PROGRAM, budget=budget)))
+        assert error.endswith("3: refused 9 BadBudget\na budget is a number from 1 to 65536"), error
+
+
+def programs_that_are_no_jepmon() -> None:
+    """Each way in which the first reply does not come, or is none, is told at once."""
+    words = "PROGRAM script --concurrency 64 --model register --budget 4096"
+    for script, error in (
+        ("exit 0", f"{words} has ended, with status 0"),
+        ("echo not proved >&2; exit 3", f"{words} has ended, with status 3: not proved"),
+        ("kill -TERM $$", f"{words} has ended, by signal 15"),
+        ("cat", f"{words} is no jepmon: its first reply was '[:verdict]'"),
+        ("printf leg", f"{words} has ended, with status 0"),
+        ("read line; echo building >&2; sleep 60", f"{words} gave no reply for 0.2 seconds: building"),
+        ("dd if=/dev/zero bs=1M count=1 >&2; exit 5", f"{words} has ended, with status 5: "),
+    ):
+        told = refused_at_once(script, timeout=0.2 if "sleep" in script else 60.0)
+        assert told == error or error.endswith(": ") and told.startswith(error), (script, told[:300])
+    raised(PermissionError, lambda: Monitor("/"))
+
+
 def the_program_ends() -> None:
     monitor = Monitor(PROGRAM)
     with monitor.write(0, 1):
         pass
-    monitor._child.kill()
-    monitor._child.wait()
+    os.kill(monitor._program._child.pid, signal.SIGKILL)
     error = raised(Refused, monitor.write(0, 2).__enter__)
-    assert str(error) == "jepmon has ended, with status -9", error
+    assert str(error).endswith("--budget 4096 has ended, by signal 9"), error
     assert monitor.close() == str(error)
     assert isinstance(error, NotLegal)
 
 
+def the_program_wants_memory() -> None:
+    """It ends within the test, and what it says then is told, with what may be done."""
+    with another_program("ulimit -v 20000; exec $jepmon \"$@\"") as program:
+        monitor = Monitor(program)
+
+        def fill() -> None:
+            for key in range(65536):
+                for number in range(20):
+                    with monitor.write(key, number):
+                        pass
+
+        error = str(raised(Refused, fill))
+        assert "has ended, with status 3: refused 13 NoMemory\nthe memory did not suffice" in error, error
+        monitor.close()
+
+
+def the_program_gives_no_reply() -> None:
+    """One that hangs is killed after the time that a reply may take: in the thread that waits, and then in each other one."""
+    monitor = Monitor(PROGRAM, timeout=0.5)
+    with monitor.write(0, 1):
+        pass
+    os.kill(monitor._program._child.pid, signal.SIGSTOP)
+    begin = time.monotonic()
+    error = str(raised(Refused, lambda: monitor.run(lambda number: monitor.write(number, 2).__enter__(), THREADS)))
+    assert error.endswith("gave no reply for 0.5 seconds"), error
+    assert monitor.close() == error and monitor._program._child.returncode == -signal.SIGKILL
+    assert time.monotonic() - begin < 5
+
+
+def a_line_longer_than_a_pipe() -> None:
+    """Is sent whole, or not for ever where nobody reads it."""
+    members = range(10 ** 9, 10 ** 9 + 5900)  # some 65,000 bytes
+    monitor = Monitor(PROGRAM, model="set", timeout=0.5)
+    with monitor.add(0, 1):
+        pass
+    operation = monitor.read(0).__enter__()
+    os.kill(monitor._program._child.pid, signal.SIGSTOP)
+    monitor._program._input.write(b" " * (1 << 20))  # as much as the pipe takes
+    operation.value = members
+    assert "gave no reply" in str(raised(Refused, lambda: operation.__exit__(None, None, None)))
+    monitor.close()
+
+    def read_too_many() -> None:
+        with Monitor(PROGRAM, model="set") as monitor:
+            with monitor.read(0) as op:
+                op.value = list(members) * 2 + list(range(900))
+
+    error = raised(Refused, read_too_many)
+    assert str(error).startswith("refused 22 TooLong: {:type :ok, ") and len(str(error)) < 100000, str(error)[:300]
+    assert "let the sets that are read be smaller" in str(error)
+
+
+def an_exchange_that_is_broken_off() -> None:
+    """As by Ctrl-C while a reply is awaited: no later reply can be told from the one that may come yet."""
+    class Broken(io.StringIO):
+        def write(self, text: str) -> int:
+            raise KeyboardInterrupt
+
+    monitor = Monitor(PROGRAM)
+    monitor.log = Broken()
+    raised(KeyboardInterrupt, monitor.read(0).__enter__)
+    monitor.log = None
+    assert str(raised(Refused, monitor.read(0).__enter__)) == "the exchange with jepmon was broken off"
+    assert monitor.close() == "the exchange with jepmon was broken off"
+    assert monitor._program._child.returncode == 0
+
+
+def a_test_that_is_interrupted() -> None:
+    """Ctrl-C while clients go on for ever ends them at their next operation, and the test."""
+    script = f"""
+import sys
+from jepmon import Monitor
+def client(number):
+    while True:
+        with monitor.write(number, 1):
+            print(flush=True)
+with Monitor({PROGRAM!r}) as monitor:
+    monitor.run(client, 4)
+"""
+    child = subprocess.Popen([sys.executable, "-B", "-c", script], stdout=subprocess.PIPE, stderr=subprocess.PIPE,
+                             env=dict(os.environ, PYTHONPATH=str(TOP / "examples" / "python")))
+    assert child.stdout is not None and child.stdout.readline() == b"\n"
+    child.send_signal(signal.SIGINT)
+    _, errors = child.communicate(timeout=30)
+    assert child.returncode != 0 and errors.rstrip().endswith(b"KeyboardInterrupt"), errors
+
+
+def another_model() -> None:
+    """Where a key is illegal, the model that may have been meant is named: it has the operations, or what was seen is legal."""
+    def act(model: str, work: Callable[[Monitor], object]) -> Tuple[str, str]:
+        def acts() -> None:
+            with Monitor(PROGRAM, model=model) as monitor:
+                work(monitor)
+
+        error = raised(Illegal, acts)
+        assert isinstance(error, Illegal) and str(error).endswith(error.hint)
+        return error.reply, error.hint
+
+    def locks(monitor: Monitor) -> None:
+        with monitor.acquire(4):
+            pass
+
+    def locks_and_adds(monitor: Monitor) -> None:
+        with monitor.add(4, 1), monitor.acquire(4):
+            pass
+
+    def queues_out_of_order(monitor: Monitor) -> None:
+        for value in (5, 6):
+            with monitor.enqueue(1, value):
+                pass
+        with monitor.dequeue(1) as op:
+            op.value = 6
+
+    def delivers_twice(monitor: Monitor) -> None:
+        with monitor.enqueue(1, 5):
+            pass
+        for _ in range(2):
+            with monitor.dequeue(1) as op:
+                op.value = 5
+
+    def swaps(monitor: Monitor) -> None:
+        with monitor.cas(1, None, 5):
+            pass
+
+    assert act("register", locks) == ("illegal key 4 index 3",
+                                      "key 4 is judged as a register, where no acquire can take place: was mutex meant?")
+    assert act("set", locks_and_adds)[1] == ("key 4 is judged as a set, where no acquire can take place: "
+                                             "no model has acquire and add together")
+    assert act("register", swaps)[1].endswith("where no cas can take place: was cas-register meant?")
+    assert act("fifo-queue", queues_out_of_order) == (
+        "illegal key 1 index 5", "key 1 is judged as a fifo-queue, and is legal as unordered-queue: was that meant?")
+    assert act("fifo-queue", delivers_twice) == ("illegal key 1 index 5", "")
+    assert act("unordered-queue", delivers_twice) == ("illegal key 1 index 5", "")
+
+
+def coroutines() -> None:
+    """Share a monitor in one thread, each with an operation open at a time."""
+    async def client(monitor: Monitor, number: int) -> None:
+        for value in range(10):
+            with monitor.write(number, value):
+                await asyncio.sleep(0)
+            with monitor.read(number) as op:
+                await asyncio.sleep(0)
+                op.value = value
+
+    async def clients() -> None:
+        with Monitor(PROGRAM, concurrency=5) as monitor:
+            await asyncio.gather(*(client(monitor, number) for number in range(5)))
+            assert monitor.length == 5 * 42
+
+    loop = asyncio.new_event_loop()
+    try:
+        loop.run_until_complete(clients())
+    finally:
+        loop.close()
+
+
+def each_block_has_its_operation() -> None:
+    with Monitor(PROGRAM) as monitor:
+        operation = monitor.write(0, 1)
+        with operation:
+            pass
+        assert "call Monitor.write for each block" in str(raised(ValueError, operation.__enter__))
+
+
+def nothing_is_left_open() -> None:
+    """However a monitor ends, its files are closed, and no child is left."""
+    def files() -> Set[str]:
+        gc.collect()  # what earlier tests have left
+        return set(os.listdir("/proc/self/fd"))
+
+    before = files()
+    monitor = Monitor(PROGRAM)
+    child = monitor._program._child
+    assert monitor.close() == "legal" and child.returncode == 0
+    raised(Refused, lambda: Monitor(PROGRAM, concurrency=0))
+    raised(FileNotFoundError, lambda: Monitor("/nowhere/jepmon"))
+    with another_program("cat") as program:
+        raised(Refused, lambda: Monitor(program))
+    assert files() == before, (files(), before)
+
+
 def a_session_of_its_own() -> None:
     with Monitor(PROGRAM) as monitor:
-        assert os.getsid(monitor._child.pid) == monitor._child.pid != os.getsid(0)
+        child = monitor._program._child
+        assert os.getsid(child.pid) == child.pid != os.getsid(0)
 
 
 def a_closed_monitor() -> None:
@@ -366,6 +600,7 @@ def the_log_is_judged_again() -> None:
 
 def no_program() -> None:
     raised(FileNotFoundError, lambda: Monitor("/nowhere/jepmon"))
+    raised(FileNotFoundError, lambda: Monitor(pathlib.Path("/nowhere/jepmon")))
 
 
 def example(name: str, *words: str) -> "subprocess.CompletedProcess[str]":
@@ -385,8 +620,11 @@ def the_examples() -> None:
 TESTS = [a_linearizable_store_is_legal, a_stale_read_is_illegal, each_thread_is_stopped, lost_writes_are_illegal,
          a_missing_key_is_legal, a_timeout_is_an_info, an_unexpected_exception_goes_on, what_failed_did_not_take_place,
          a_cas_register, a_lock_that_two_hold, queues_and_sets, what_is_no_integer, too_many_at_once, a_key_over_its_budget,
-         what_is_refused, the_program_ends, a_session_of_its_own, a_closed_monitor, the_log_is_judged_again, no_program,
-         the_examples]
+         what_is_refused, options_out_of_their_limits, programs_that_are_no_jepmon, the_program_ends, the_program_wants_memory,
+         the_program_gives_no_reply, a_line_longer_than_a_pipe, an_exchange_that_is_broken_off, a_test_that_is_interrupted,
+         another_model, coroutines,
+         each_block_has_its_operation, nothing_is_left_open, a_session_of_its_own, a_closed_monitor, the_log_is_judged_again,
+         no_program, the_examples]
 
 
 def main(names: List[str]) -> int:

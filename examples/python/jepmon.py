@@ -13,28 +13,54 @@
 A block that ends is an :ok. An exception in it is an :info: the operation may have taken place, or may yet. `raise Failed` in
 it, or op.fail(), is a :fail: it certainly did not take place. The first event after which the history is not linearizable
 raises Illegal in the thread that told it, and in each later operation of the others; so does a key over its budget (Unknown),
-and what jepmon refuses (Refused). Their text has the last events of the key. The end of `with Monitor()` raises them again.
+and what jepmon refuses (Refused). Their text has the last events of the key, and what may have been meant. The end of
+`with Monitor()` raises them again, where nothing else was raised in it.
 
 jepmon takes an answer of nil to say nothing, so that a store which loses every write would pass. Here a missing key is a value,
-ABSENT: each key of a register begins with it (monitor.begin(key, value) says otherwise, before the first operation), and a read
-that answers None tells it. monitor.write(key, ABSENT) is a deletion.
+ABSENT: each key of a register begins with it, and a read that answers None tells it. monitor.write(key, ABSENT) is a deletion.
+So take keys that the store does not have yet, or say what they hold, before the first operation, by monitor.begin(key, value):
+a value that an earlier run has left there is else a wrong answer.
 
 Values are integers; monitor.number(x) gives one for anything else that is hashable. Keys are integers from 0 to 65535.
+It needs Python 3.6 or later, and Linux.
 """
 import collections
 import copy
 import os
 import pathlib
+import re
+import select
 import shutil
+import signal
 import subprocess
+import tempfile
 import threading
-from concurrent.futures import ThreadPoolExecutor
+import time
+from concurrent.futures import ThreadPoolExecutor, wait
 from types import TracebackType
 from typing import Any, Callable, Deque, Dict, Hashable, Iterable, List, NoReturn, Optional, Set, TextIO, Tuple, Type, Union
 
 ABSENT = -(1 << 63)
+MODELS = {
+    "register": {"read", "write"},
+    "cas-register": {"read", "write", "cas"},
+    "mutex": {"acquire", "release"},
+    "fifo-queue": {"enqueue", "dequeue"},
+    "unordered-queue": {"enqueue", "dequeue"},
+    "set": {"add", "read"},
+}
 REGISTERS = ("register", "cas-register")
 LAST_EVENTS = 16  # of a key, in the text of an exception
+PATIENCE = 10.0  # seconds for what is not worth more: another model that is tried, the end of the program
+VERDICT = re.compile(r"(illegal|unknown) key ([0-9]+) index ([0-9]+)")
+HINTS = {  # beside a refusal, by its name
+    "HistoryFull": "a history has 1048576 events at most: at a quiet moment go on with a new Monitor and new keys",
+    "BadBudget": "a budget is a number from 1 to 65536",
+    "BadConcurrency": "the concurrency is a number from 1 to 64",
+    "NoMemory": "the memory did not suffice: take a smaller budget, or go on with a new Monitor sooner",
+    "TooLong": "a line has 65536 bytes at most: let the sets that are read be smaller",
+}
+UNKNOWN_HINT = "let fewer clients use one key, go on with a new key after some timeouts, or raise the budget"
 
 Value = Union[None, int, Iterable[int]]
 ErrorType = Optional[Type[BaseException]]
@@ -45,20 +71,26 @@ class Failed(Exception):
 
 
 class NotLegal(Exception):
-    """A reply of jepmon that is not `legal`, its key and index where it names them, and the last events of the key."""
+    """A reply of jepmon that is not `legal`, its key and index where it names them, the last events of the key, and, where it
+    is not empty, a hint: what may have been meant."""
 
     def __init__(
-        self, reply: str, key: Optional[int] = None, index: Optional[int] = None, events: Tuple[str, ...] = ()
+        self,
+        reply: str,
+        key: Optional[int] = None,
+        index: Optional[int] = None,
+        events: Tuple[str, ...] = (),
+        hint: str = "",
     ) -> None:
-        super().__init__(reply, key, index, events)
-        self.reply, self.key, self.index, self.events = reply, key, index, events
+        super().__init__(reply, key, index, events, hint)
+        self.reply, self.key, self.index, self.events, self.hint = reply, key, index, events, hint
 
     def __str__(self) -> str:
-        return "\n".join((self.reply,) + self.events)
+        return "\n".join((self.reply,) + self.events + ((self.hint,) if self.hint else ()))
 
 
 class Illegal(NotLegal, AssertionError):
-    """The history is not linearizable: the store has answered wrongly."""
+    """The history is not linearizable: the store has answered wrongly, unless the model was the wrong one (see the hint)."""
 
 
 class Unknown(NotLegal):
@@ -66,27 +98,31 @@ class Unknown(NotLegal):
 
 
 class Refused(NotLegal):
-    """jepmon did not take an event, or has ended: the test is at fault, not the store."""
+    """jepmon did not take an option or an event, has ended, or gave no reply: the test is at fault, not the store."""
 
 
 class Monitor:
-    """A running `jepmon script`. Any number of threads may use it; at most `concurrency` operations are open at once.
+    """A running `jepmon script`. Any number of threads of this process may use it, and coroutines, whose blocks then hold an
+    await; at most `concurrency` operations are open at once. It starts here: Refused says that an option was not taken.
 
     program      its path; else the environment's JEPMON, what ./jepmon built in this repository, or jepmon on the PATH
     model        what each key is: register, cas-register, mutex, fifo-queue, unordered-queue or set (see set_model)
-    budget       how many outcomes of a key are followed before it is Unknown
+    concurrency  1 to 64
+    budget       how many outcomes of a key are followed before it is Unknown, 1 to 65536
     expected     exceptions that end an operation as :info and go no further, as (TimeoutError, ConnectionError)
-    log          gets each line that is sent; `jepmon script` with the same options judges it again
+    log          gets each line that tells something; `jepmon script` with the same options judges it again
+    timeout      seconds that a reply may take, mostly microseconds; after them jepmon is killed and what was asked is Refused
     """
 
     def __init__(
         self,
-        program: Optional[str] = None,
+        program: "Union[str, os.PathLike[str], None]" = None,
         model: str = "register",
         concurrency: int = 64,
         budget: int = 4096,
         expected: Tuple[Type[BaseException], ...] = (),
         log: Optional[TextIO] = None,
+        timeout: float = 60.0,
     ) -> None:
         self.concurrency, self.expected, self.log = concurrency, expected, log
         self.length = 0  # events that jepmon has taken
@@ -101,9 +137,9 @@ class Monitor:
         self._begun: Set[int] = set()
         self._numbers: Dict[Hashable, int] = {}
         self._events: Dict[int, Deque[Tuple[int, int, str]]] = {}  # the last ones of each key: index, process and text
+        self._names: Dict[int, Set[str]] = {}  # of the operations that each key has seen, but for the write that begins it
         words = [_found(program), "script", "--concurrency", str(concurrency), "--model", model, "--budget", str(budget)]
-        # a session of its own, so that Ctrl-C in a terminal ends the test and not the program under it
-        self._child = subprocess.Popen(words, stdin=subprocess.PIPE, stdout=subprocess.PIPE, start_new_session=True)
+        self._program = _Program(words, timeout)
 
     # Operations, each a block.
 
@@ -136,9 +172,17 @@ class Monitor:
         return Operation(self, "release", key)
 
     def run(self, work: Callable[[int], object], threads: int) -> None:
-        """Does work(0) to work(threads - 1), each in a thread of its own. Raises what is not legal, else what one raised."""
-        with ThreadPoolExecutor(threads) as pool:
+        """Does work(0) to work(threads - 1), each in a thread of its own. Raises what is not legal, else what one raised.
+        Ctrl-C ends each of them at its next operation."""
+        pool = ThreadPoolExecutor(threads)
+        try:
             tasks = [pool.submit(work, number) for number in range(threads)]
+            wait(tasks)
+        except BaseException:
+            self.failure = self.failure or Refused("the test was broken off")
+            raise
+        finally:
+            pool.shutdown()
         if self.failure is not None:
             raise copy.copy(self.failure)
         for task in tasks:
@@ -163,7 +207,7 @@ class Monitor:
             self._ask(f"[:budget {_key(key)} {budget}]")
 
     def number(self, thing: Hashable) -> int:
-        """A number for the thing, the same whenever it is asked for."""
+        """A number for the thing, the same whenever it is asked for: 0, 1, .. So number each value of a key, or none."""
         with self._lock:
             return self._numbers.setdefault(thing, len(self._numbers))
 
@@ -173,8 +217,10 @@ class Monitor:
         """Ends the program. Gives the final verdict: `legal`, or the reply that was not."""
         with self._lock:
             if self._verdict is None:
-                self._verdict = self._last_verdict()
-                self._end_child()
+                try:
+                    self._verdict = self._last_verdict()
+                finally:
+                    self._program.end()
             return self._verdict
 
     def __enter__(self) -> "Monitor":
@@ -211,6 +257,7 @@ class Monitor:
         if self._is_register(key):
             self._begin(key, _edn(ABSENT))
         thread = self._take_thread()
+        self._names.setdefault(key, set()).add(name)
         self._tell("invoke", self._current[thread], name, key, part)
         return thread
 
@@ -241,7 +288,12 @@ class Monitor:
         """Sends a line and waits for its reply. Raises what is not legal, also where it was found before."""
         self._test_running()
         try:
-            reply = self._reply(line)
+            if self.log is not None:
+                self.log.write(line + "\n")
+            reply = self._program.reply(line)
+        except Refused as failure:
+            self.failure = copy.copy(failure)
+            raise
         except BaseException:  # as Ctrl-C: the reply to this line may come yet, so no later one can be told from it
             self.failure = Refused("the exchange with jepmon was broken off")
             raise
@@ -254,27 +306,39 @@ class Monitor:
         if self.failure is not None:
             raise copy.copy(self.failure)
 
-    def _reply(self, line: str) -> str:
-        assert self._child.stdin is not None and self._child.stdout is not None
-        if self.log is not None:
-            self.log.write(line + "\n")
-        try:
-            self._child.stdin.write(line.encode() + b"\n")
-            self._child.stdin.flush()
-        except BrokenPipeError:
-            return ""
-        return self._child.stdout.readline().decode().rstrip("\n")
-
     def _stop(self, reply: str, line: str, key: Optional[int]) -> NoReturn:
-        words = reply.split()
-        if words[:1] in (["illegal"], ["unknown"]):
-            kind = Illegal if words[0] == "illegal" else Unknown
-            self.failure = kind(reply, int(words[2]), int(words[4]), self._last_events(int(words[2]), int(words[4])))
-        elif words:
-            self.failure = Refused(f"{reply}: {line}", key, None, self._last_events(key, self.length - 1))
-        else:
-            self.failure = Refused(f"jepmon has ended, with status {self._child.wait(timeout=10)}")
+        verdict = VERDICT.fullmatch(reply)
+        if verdict is None:
+            events = self._last_events(key, self.length - 1)
+            self.failure = Refused(f"{reply}: {line[:200]}", key, None, events, _hint_of(reply))
+            raise copy.copy(self.failure)
+        at_key, index = int(verdict.group(2)), int(verdict.group(3))
+        events = self._last_events(at_key, index)
+        if verdict.group(1) == "unknown":
+            self.failure = Unknown(reply, at_key, index, events, UNKNOWN_HINT)
+            raise copy.copy(self.failure)
+        self.failure = Illegal(reply, at_key, index, events)
+        self.failure = Illegal(reply, at_key, index, events, self._other_model(at_key))
         raise copy.copy(self.failure)
+
+    def _other_model(self, key: int) -> str:
+        """Which model may have been meant for a key that is illegal, if any: its own lacks an operation that the key has seen,
+        or what the key has seen is legal by another one. The verdict has fallen, so the program is free to judge it anew."""
+        model, names = self._models.get(key, self._model), self._names.get(key, set())
+        others = [other for other in MODELS if other != model and names <= MODELS[other]]
+        strange = sorted(names - MODELS.get(model, names))
+        if strange:
+            meant = f"was {' or '.join(others)} meant?" if others else f"no model has {' and '.join(sorted(names))} together"
+            return f"key {key} is judged as a {model}, where no {' and no '.join(strange)} can take place: {meant}"
+        fitting = " or ".join(other for other in others if self._is_legal_as(key, other))
+        return f"key {key} is judged as a {model}, and is legal as {fitting}: was that meant?" if fitting else ""
+
+    def _is_legal_as(self, key: int, model: str) -> bool:
+        try:
+            reply = self._program.reply(f"[:model {key} :{model}]", PATIENCE)
+        except Refused:
+            return False
+        return not reply.startswith((f"illegal key {key} ", f"unknown key {key} ", "refused "))
 
     def _last_events(self, key: Optional[int], index: int) -> Tuple[str, ...]:
         events = self._events.get(key, ()) if key is not None else ()
@@ -288,22 +352,108 @@ class Monitor:
             return failure.reply
         return "legal"
 
-    def _end_child(self) -> None:
+
+class _Program:
+    """The program as it runs: a line goes in, and the reply to it comes out. One thread at a time may use it."""
+
+    def __init__(self, words: List[str], timeout: float) -> None:
+        self._name, self._timeout = " ".join(words), timeout
+        self._unread = b""  # what has come after the last reply
+        self._errors = tempfile.TemporaryFile()  # not a pipe, which a program that says much would fill
+        try:
+            # a session of its own, so that Ctrl-C in a terminal ends the test and not the program under it
+            self._child = subprocess.Popen(
+                words, bufsize=0, stdin=subprocess.PIPE, stdout=subprocess.PIPE, stderr=self._errors, start_new_session=True
+            )
+        except BaseException:
+            self._errors.close()
+            raise
         assert self._child.stdin is not None and self._child.stdout is not None
+        self._input, self._output = self._child.stdin, self._child.stdout
         try:
-            self._child.stdin.close()
-        except BrokenPipeError:
-            pass
+            os.set_blocking(self._input.fileno(), False)
+            reply = self.reply("[:verdict]")
+            if reply != "legal":
+                raise Refused(f"{self._name} is no jepmon: its first reply was {reply[:200]!r}")
+        except BaseException:
+            self.end(patience=0)
+            raise
+
+    def reply(self, line: str, timeout: Optional[float] = None) -> str:
+        """Sends a line, and waits for the reply to it. Refused where the program has ended, or gives none in time."""
+        seconds = self._timeout if timeout is None else min(timeout, self._timeout)
+        deadline = time.monotonic() + seconds
         try:
-            self._child.wait(timeout=10)
+            self._send(line.encode() + b"\n", deadline)
+            return self._receive(deadline)
+        except (BrokenPipeError, EOFError):
+            raise self._ended() from None
+        except TimeoutError:
+            self._kill()
+            raise Refused(f"{self._name} gave no reply for {seconds:g} seconds{self._errors_told()}") from None
+
+    def _send(self, data: bytes, deadline: float) -> None:
+        while data:
+            _await(self._input.fileno(), select.POLLOUT, deadline)
+            data = data[os.write(self._input.fileno(), data):]
+
+    def _receive(self, deadline: float) -> str:
+        while b"\n" not in self._unread:
+            _await(self._output.fileno(), select.POLLIN, deadline)
+            piece = os.read(self._output.fileno(), 65536)
+            if not piece:
+                raise EOFError
+            self._unread += piece
+        reply, _, self._unread = self._unread.partition(b"\n")
+        return reply.decode(errors="replace")
+
+    def _ended(self) -> Refused:
+        """How it has ended, with what it wrote to standard error."""
+        try:
+            status = self._child.wait(timeout=PATIENCE)
         except subprocess.TimeoutExpired:
-            self._child.kill()
+            return Refused(f"{self._name} goes on, and takes or gives no line any more{self._errors_told()}")
+        how = f"with status {status}" if status >= 0 else f"by signal {-status}"
+        told = self._errors_told()
+        return Refused(f"{self._name} has ended, {how}{told}", hint=_hint_of(told))
+
+    def _errors_told(self) -> str:
+        """The last of what it wrote to standard error."""
+        file = self._errors.fileno()
+        text = os.pread(file, 2000, max(0, os.fstat(file).st_size - 2000)).decode(errors="replace").strip()
+        return f": {text}" if text else ""
+
+    def end(self, patience: float = PATIENCE) -> None:
+        """Ends it by the end of its input, else by force. A second call does nothing."""
+        self._input.close()
+        try:
+            self._child.wait(timeout=patience)
+        except subprocess.TimeoutExpired:
+            self._kill()
+        self._output.close()
+        self._errors.close()
+
+    def _kill(self) -> None:
+        """Kills it where it still runs, and what it has started."""
+        if self._child.poll() is None:
+            os.killpg(self._child.pid, signal.SIGKILL)
             self._child.wait()
-        self._child.stdout.close()
+
+
+def _await(file: int, event: int, deadline: float) -> None:
+    """Waits until the file is ready, or at its end."""
+    poll = select.poll()
+    poll.register(file, event)
+    if not poll.poll(min(max(0.0, deadline - time.monotonic()), 1e6) * 1000):
+        raise TimeoutError
+
+
+def _hint_of(refusal: str) -> str:
+    return next((hint for name, hint in HINTS.items() if name in refusal.split()), "")
 
 
 class Operation:
-    """One operation, from the beginning of its block to the end."""
+    """One operation, from the beginning of its block to the end. Each block has its own."""
 
     _UNSET: Any = object()
 
@@ -312,6 +462,7 @@ class Operation:
         self.outcome: Optional[str] = None  # "ok", "fail" or "info", once the block has ended
         self._monitor, self._name, self._key, self._part = monitor, name, _key(key), part
         self._said: Optional[str] = None
+        self._thread: Optional[int] = None  # of jepmon, once the block has begun
 
     def fail(self) -> None:
         """The operation certainly did not take place."""
@@ -322,6 +473,8 @@ class Operation:
         self._said = "info"
 
     def __enter__(self) -> "Operation":
+        if self._thread is not None:
+            raise ValueError(f"this {self._name} has had its block already: call Monitor.{self._name} for each block")
         with self._monitor._lock:
             self._thread = self._monitor._invoke(self._name, self._key, self._part)
         return self
@@ -361,6 +514,7 @@ class Operation:
 
     def _complete(self, outcome: str, part: str) -> None:
         self.outcome = outcome
+        assert self._thread is not None, "no block has begun"
         with self._monitor._lock:
             self._monitor._complete(outcome, self._thread, self._name, self._key, part)
 
@@ -389,13 +543,13 @@ def _key(key: int) -> int:
     return key
 
 
-def _found(program: Optional[str]) -> str:
+def _found(program: "Union[str, os.PathLike[str], None]") -> str:
     """The path of the program."""
     named = program or os.environ.get("JEPMON")
     if named:
-        return named
+        return os.fspath(named)
     built = pathlib.Path(__file__).resolve().parents[2] / "crates" / "jepmon" / "out" / "jepmon"
     path = str(built) if built.exists() else shutil.which("jepmon")
     if path is None:
-        raise FileNotFoundError("there is no jepmon: build it by ./jepmon --help, or name it by Monitor(program) or JEPMON")
+        raise FileNotFoundError("there is no jepmon: install it by ./jepmon install DIR, or name it by Monitor(program) or JEPMON")
     return path
