@@ -8,7 +8,7 @@ ghost use Rattle.ends.specs.KeptEnds.{AreIncluded, IsIncluded, end_kept};
 ghost use Rattle.ends.specs.EndSteps.{Along};
 ghost use Rattle.ends.specs.Moves.{AreMoves, IsKnown, targets_of};
 ghost use Rattle.ends.specs.Tables.{HasEachOnce, IsOnceIn, IsSlot};
-ghost use Rattle.ends.specs.Tables.{AreShown, IsThat, IsToldBefore, IsSameTable, ShownWith, told_by};
+ghost use Rattle.ends.specs.Tables.{AreShown, IsThat, IsToldBefore, ShownWith, told_by};
 ghost use Rattle.ends.specs.Tables.{AreLed, Shows, Widens, found_by, rows_of};
 
 use crate::kept_end::{KeptEnd, found_in, has};
@@ -301,32 +301,4 @@ pub fn ends_of<M: SeqObject>(
         push_end::<M>(alloc, &mut ends, table, from, calls)?;
     }
     Ok(ends)
-}
-
-// The same things, with memory of their own.
-fn copied_founds(alloc: Global, founds: &[Found]) -> Result<Vec<Found>, AllocError>
-    ensures { IfOk result (λ copies. copies.items ≡ founds.now) }
-{
-    let mut copies = Vec::with_capacity(alloc, founds.len())?;
-    for found in founds {
-        copies.push(found.copy()?)?;
-    }
-    Ok(copies)
-}
-
-/// The same table, with memory of its own.
-pub fn copied<M: SeqObject>(
-    alloc: Global,
-    table: &Table<M::State>,
-) -> Result<Table<M::State>, AllocError>
-    ensures { IfOk result (λ other. IsSameTable table.now other) }
-{
-    let states = states::copied::<M>(alloc, &table.states)?;
-    let founds = copied_founds(alloc, &table.founds)?;
-    let rows = table.rows.copied()?;
-    Ok(Table {
-        states,
-        founds,
-        rows,
-    })
 }
