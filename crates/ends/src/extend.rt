@@ -123,6 +123,9 @@ fn grow_at<M: SeqObject>(
     ensures cost { applied.new ≤ applied.old + 1 }
 {
     let to = table::led_to::<M>(alloc, table, moves, from, number, calls, at, applied)?;
+    if let Move::Nowhere = to {
+        return Ok(());
+    }
     put_led(table, from, at + 1, to, &moves.targets)
 }
 

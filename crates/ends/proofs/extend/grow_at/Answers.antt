@@ -1,10 +1,12 @@
-use Rattle.std.proofs.Common.{◌≡◌, [], get_or, sym, ap, subst}
+use Rattle.std.proofs.Common.{◌≡◌, ◌+◌, [], get_or, sym, ap, subst}
 use Rattle.std.proofs.lemmas.Result.{on_ok_weaker}
 use Rattle.models.specs.Objects.{of_table}
 use Rattle.ends.specs.Moves.{targets_of}
-use Rattle.ends.specs.Tables.{AreLed, rows_of}
+use Rattle.history.specs.Events.{IsFront}
+use Rattle.ends.specs.Tables.{AreLed, Shows, row_led, rows_of}
+use Rattle.ends.proofs.Adding.{IsFront-itself}
 use Rattle.ends.proofs.Moving.{moves_wider, on_ok}
-use Rattle.ends.proofs.Showing.{all_led, shown_more, widens_on, widens_rows}
+use Rattle.ends.proofs.Showing.{all_led, led_none, shown_more, widens_on, widens_rows}
 use Rattle.ends.proofs.extend.grow_at.Goals as goal
 
 pub returns-clause-moves : goal.returns-clause-moves
@@ -28,3 +30,17 @@ returns-clause-adds g c known once call e ends here shows shown =
 
 pub returns-clause-widens : goal.returns-clause-widens
 returns-clause-widens g c = widens_on c.args.table.now c.led_to.new.table c.put_led.new.table c.in_ok-to.ensures.widens (widens_rows c.led_to.new.table c.put_led.new.table c.put_led.ensures.states (ap (λ v. v.items) c.put_led.ensures.founds))
+
+pub returns-in-Nowhere-clause-adds : goal.returns-in-Nowhere-clause-adds
+returns-in-Nowhere-clause-adds g c known once call e ends here shows shown =
+    let o = of_table g.row.M-State.Denot g.M.SeqObject.start_state g.M.SeqObject.apply_to in
+    let calls = c.args.calls.now in
+    let t = c.led_to.new.table in
+    let row = get_or (rows_of c.args.table.now) c.args.from [] in
+    let led : AreLed o t calls row c.args.at e call [] =
+    subst (λ m. AreLed o t calls row c.args.at e call (targets_of m c.led_to.new.moves.targets.items)) c.in-Nowhere.is (c.in_ok-to.ensures.next known once call e here shows) in
+    all_led o calls t t row c.args.at e call [] ends led
+    (led_none calls t (λ x g. Shows t calls (row_led row (c.args.at + 1) x) g) ends (shown_more calls c.args.table.now t ends c.in_ok-to.ensures.widens c.in_ok-to.ensures.rows shown))
+
+pub returns-in-Nowhere-clause-front : goal.returns-in-Nowhere-clause-front
+returns-in-Nowhere-clause-front g c = subst (IsFront (rows_of c.args.table.now)) (sym c.in_ok-to.ensures.rows) (IsFront-itself (rows_of c.args.table.now))
