@@ -1,6 +1,7 @@
 -- what a call leads to from an end that a row says
-use Rattle.std.proofs.Common.{◌≡◌, ◌+◌, ℕ, false, refl, List, sym, ap, subst, slice_get, Some}
+use Rattle.std.proofs.Common.{◌≡◌, ◌+◌, ℕ, false, refl, List, [], sym, ap, subst, slice_get, Some}
 use Rattle.models.specs.declared.operation.Op.{Op}
+use Rattle.linspec.proofs.Lists.{Contains-nil}
 use Rattle.models.specs.declared.finding.Found.{Found}
 use Rattle.models.specs.Objects.{IsOneOf, of_table}
 use Rattle.linspec.specs.Ends.{End}
@@ -30,3 +31,11 @@ module _ (S : Type 0) (start : S) (apply : Op → S → List (S × Found)) (e : 
         let x = are.all (f.state, last.found) last.step in
         (x.0, x.1, subst (λ g. Shows t calls (row_led row (at + 1) x.0) g) (sym last.made) (says_with t.states t.founds.items calls once at c here e row shows x.0.0 x.0.1 f.state last.found (row_led row (at + 1) x.0) x.2.0 x.2.1 refl));
   }
+
+-- a call that has no outcome
+pub led_nowhere : (S : Type 0) (start : S) (apply : Op → S → List (S × Found)) (e : End S) (c : PendingOp) (t : Table S) (calls : List PendingOp) (row : List ℕ) (at : ℕ) → AreTo t c.crashed (apply c.op e.state) []
+    → AreLed (of_table S start apply) t calls row at e c []
+led_nowhere S start apply e c t calls row at are = record {
+  each = λ to h. absurd (Contains-nil to h);
+  all = λ f last. let x = are.all (f.state, last.found) last.step in absurd (Contains-nil x.0 x.1);
+}

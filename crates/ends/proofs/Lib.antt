@@ -15,3 +15,4 @@ pub mod Telling
 pub mod Stating
 pub mod Moving
 pub mod Settling
+pub mod Renewing

@@ -12,8 +12,8 @@ use Rattle.models.specs.declared.finding.Found.{Found}
 use Rattle.ends.specs.declared.pending_op.PendingOp.{PendingOp}
 use Rattle.ends.specs.declared.table.Table.{Table}
 use Rattle.ends.specs.declared.moves.Move.{Move}
-use Rattle.ends.specs.declared.moves.Move.TheVariants.{Untried, Tried}
-use Rattle.ends.specs.Moves.{AreMoves, AreTo, IsTo, LeadsTo, known_at}
+use Rattle.ends.specs.declared.moves.Move.TheVariants.{Untried, Nowhere, To, ToEach}
+use Rattle.ends.specs.Moves.{AreMoves, AreTo, IsKnown, IsTo, LeadsTo, known_at, targets_of}
 use Rattle.ends.specs.Tables.{Widens, told_by}
 use Rattle.ends.proofs.Rows.{get_front, one_of, slot_more}
 
@@ -46,6 +46,11 @@ set_there xs now place to d lt is p =
     (λ ne. inl (ap (λ l. get_or l p d) is ∙ get_or-set_other xs place p to d ne))
     (cases_eq p place)
 
+-- a list that is one element, by its length
+pub alone : {X : Type 0} (xs ys : List X) (x : X) → xs ≡ ys ++ x ∷ [] → length xs ≤ 1 → xs ≡ x ∷ []
+alone xs [] x is few = is
+alone xs (y ∷ ys) x is few = absurd (let long : length xs ≡ suc (length ys + 1) = ap length is ∙ ap suc (length-append ys (x ∷ [])) in omega (arith, long, few))
+
 -- what holds anyway
 pub on_ok : {T E P : Type 0} (r : Result T E) → P → OnOk r P
 on_ok (Ok x) p = p
@@ -61,6 +66,22 @@ pub range_new : {X : Type 0} (xs more new : List X) → new ≡ xs ++ more → s
 range_new xs more new is =
     let long : length new ≡ length xs + length more = ap length is ∙ length-append xs more in
     ap (λ l. take (length new - length xs) (drop (length xs) l)) is ∙ ap (take (length new - length xs)) (drop-append_seam xs more) ∙ take_all (length new - length xs) more (omega arith)
+
+-- moves by a list of targets that becomes longer
+known_more : (targets more : List (ℕ × ℕ)) (m : Move) → IsKnown m targets → IsKnown m (targets ++ more)
+known_more targets more Untried h = h
+known_more targets more Nowhere h = h
+known_more targets more (To number slot) h = h
+known_more targets more (ToEach first end) h =
+    let long = length-append targets more in
+    let high : end ≤ length targets = h.1 in
+    (h.0, omega (arith, long, high))
+
+targets_stay : (targets more : List (ℕ × ℕ)) (m : Move) → IsKnown m targets → targets_of m (targets ++ more) ≡ targets_of m targets
+targets_stay targets more Untried h = refl
+targets_stay targets more Nowhere h = refl
+targets_stay targets more (To number slot) h = refl
+targets_stay targets more (ToEach first end) h = range_stays targets more first end h.0 h.1
 
 module _ {S : Type 0} where
   pub to_more : (t u : Table S) (crashed : Bool) (outcome : S × Found) (target : ℕ × ℕ) → Widens t u → IsTo t crashed outcome target → IsTo u crashed outcome target
@@ -90,15 +111,19 @@ module _ {S : Type 0} where
         h;
   }
 
+  -- the targets that were put last
+  pub leads_each : (t : Table S) (crashed : Bool) (outcomes : List (S × Found)) (old more new : List (ℕ × ℕ)) (first end : ℕ) → AreTo t crashed outcomes more → new ≡ old ++ more → first ≡ length old → end ≡ length new
+      → LeadsTo t crashed outcomes new (ToEach first end)
+  leads_each t crashed outcomes old more new first end are longer begins ends =
+      let long : length new ≡ length old + length more = ap length longer ∙ length-append old more in
+      let there : slice_range new first end ≡ more = ap (λ k. slice_range new k end) begins ∙ ap (slice_range new (length old)) ends ∙ range_new old more new longer in
+      ((omega arith, omega arith), subst (AreTo t crashed outcomes) (sym there) are)
+
   leads_more : (t u : Table S) (crashed : Bool) (outcomes : List (S × Found)) (targets more : List (ℕ × ℕ)) (m : Move) → Widens t u → LeadsTo t crashed outcomes targets m → LeadsTo u crashed outcomes (targets ++ more) m
-  leads_more t u crashed outcomes targets more Untried w h = absurd h
-  leads_more t u crashed outcomes targets more (Tried first end) w h =
-      let long = length-append targets more in
-      let low : first ≤ end = h.0.0 in
-      let high : end ≤ length targets = h.0.1 in (
-        (low, omega arith),
-        subst (AreTo u crashed outcomes) (sym (range_stays targets more first end low high)) (are_to_more t u crashed outcomes (slice_range targets first end) w h.1),
-      )
+  leads_more t u crashed outcomes targets more m w h = (
+    known_more targets more m h.0,
+    subst (AreTo u crashed outcomes) (sym (targets_stay targets more m h.0)) (are_to_more t u crashed outcomes (targets_of m targets) w h.1),
+  )
 
   module _ (apply : Op → S → List (S × Found)) (calls : List PendingOp) where
     pub moves_none : (t : Table S) (moves : List Move) (targets : List (ℕ × ℕ)) → moves ≡ [] → AreMoves apply t calls moves targets
@@ -120,12 +145,12 @@ module _ {S : Type 0} where
 
     module _ (t : Table S) (number at : ℕ) (call : PendingOp) (is_call : slice_get calls at ≡ Some call) (s : S) (is_state : slice_get t.states number ≡ Some s) where
       -- one that is known
-      pub known_does : (moves : List Move) (targets : List (ℕ × ℕ)) (first end : ℕ) → AreMoves apply t calls moves targets → Tried first end ≡ known_at moves (length calls) number at
-          → AreTo t call.crashed (apply call.op s) (slice_range targets first end)
-      known_does moves targets first end a told =
+      pub known_does : (moves : List Move) (targets : List (ℕ × ℕ)) (to : Move) → AreMoves apply t calls moves targets → to ≡ known_at moves (length calls) number at → IsKnown to targets
+          → AreTo t call.crashed (apply call.op s) (targets_of to targets)
+      known_does moves targets to a told known =
           ⊎_elim
-          (λ q. let no : Tried first end ≡ Untried = told ∙ q in cc)
-          (λ h. subst (λ x. AreTo t call.crashed (apply call.op x) (slice_range targets first end)) (one_of h.0 s (sym h.1 ∙ is_state)) (subst (LeadsTo t call.crashed (apply call.op h.0) targets) (sym told) h.2).1)
+          (λ q. absurd (subst (λ m. IsKnown m targets) (told ∙ q) known))
+          (λ h. subst (λ x. AreTo t call.crashed (apply call.op x) (targets_of to targets)) (one_of h.0 s (sym h.1 ∙ is_state)) (subst (LeadsTo t call.crashed (apply call.op h.0) targets) (sym told) h.2).1)
           (a number at call is_call)
 
       -- one more

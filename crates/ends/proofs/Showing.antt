@@ -207,6 +207,15 @@ led_more {S} calls first t u row at targets place to ends here states founds sam
           (Adds-change (λ g. f ≡ g) (R to) s.more p.more (λ g e. subst (Shows first calls (row_led row at to)) e shows) (λ g k. one_end first.states first.founds.items calls (row_led row at to) f g shows k) p.adds);
     }
 
+-- none, and one alone
+pub led_none : {S : Type 0} (calls : List PendingOp) (t : Table S) (R : ℕ × ℕ → End S → Type 0) (ends : List (End S)) → AreShown t calls ends → ShownWith t calls ends (Along R [])
+led_none calls t R ends shown = record { more = ends; shown = shown; front = IsFront-itself ends; adds = Adds-start R ends }
+
+pub led_one : {S : Type 0} (calls : List PendingOp) (t u : Table S) (row : List ℕ) (at : ℕ) (to : ℕ × ℕ) (ends : List (End S)) → u.states ≡ t.states → u.founds.items ≡ t.founds.items → (f : End S) → Shows t calls (row_led row at to) f
+    → IsPut (row_led row at to) (rows_of t) (rows_of u) → AreShown t calls ends → ShownWith u calls ends (Along (λ x g. Shows t calls (row_led row at x) g) (to ∷ []))
+led_one calls t u row at to ends states founds f shows put shown =
+    led_more calls t t u row at (to ∷ []) 0 to ends refl refl refl states founds f shows put (led_none calls t (λ x g. Shows t calls (row_led row at x) g) ends shown)
+
 -- which are those that the call leads to
 pub all_led : (o : Object) (calls : List PendingOp) (t u : Table o.State) (row : List ℕ) (at : ℕ) (e : End o.State) (c : PendingOp) (targets : List (ℕ × ℕ)) (ends : List (End o.State)) → AreLed o t calls row at e c targets
     → ShownWith u calls ends (Along (λ x g. Shows t calls (row_led row (at + 1) x) g) targets) → ShownWith u calls ends (TakesLast o e c)

@@ -1,5 +1,5 @@
 -- Invariant: what calls do in states, by numbers
-use Rattle.std.specs.Prelude.{◌≡◌, ◌≤◌, ℕ, ◌+◌, ◌*◌, ◌⊎◌, Bool, Some, List, [], length, slice_get, slice_range, get_or}
+use Rattle.std.specs.Prelude.{◌≡◌, ◌≤◌, ℕ, ◌+◌, ◌*◌, ◌⊎◌, Bool, Some, List, [], ◌∷◌, length, slice_get, slice_range, get_or}
 use Rattle.std.specs.List.{Contains}
 use Rattle.models.specs.declared.operation.Op.{Op}
 use Rattle.models.specs.declared.finding.Found.{Found}
@@ -7,7 +7,7 @@ use Rattle.models.specs.Objects.{IsOneOf}
 use Rattle.ends.specs.declared.pending_op.PendingOp.{PendingOp}
 use Rattle.ends.specs.declared.table.Table.{Table}
 use Rattle.ends.specs.declared.moves.Move.{Move}
-use Rattle.ends.specs.declared.moves.Move.TheVariants.{Untried, Tried}
+use Rattle.ends.specs.declared.moves.Move.TheVariants.{Untried, Nowhere, To, ToEach}
 use Rattle.ends.specs.Tables.{IsSlot, told_by}
 
 -- the target is this outcome: the state with the first number, and what is told of what was found by the second
@@ -28,11 +28,24 @@ pub record AreTo {S : Type 0} (t : Table S) (crashed : Bool) (outcomes : List (S
 abbrev pub AreWithin : ℕ → ℕ → List (ℕ × ℕ) → Type 0
 AreWithin first end targets = (first ≤ end) × (end ≤ length targets)
 
+-- the targets of the move, by the list of those of moves to several outcomes
+abbrev pub targets_of : Move → List (ℕ × ℕ) → List (ℕ × ℕ)
+targets_of Untried targets = []
+targets_of Nowhere targets = []
+targets_of (To number slot) targets = (number, slot) ∷ []
+targets_of (ToEach first end) targets = slice_range targets first end
+
+-- the call was tried, and the places of its targets are there
+abbrev pub IsKnown : Move → List (ℕ × ℕ) → Type 0
+IsKnown Untried targets = ⊥
+IsKnown Nowhere targets = Unit {0}
+IsKnown (To number slot) targets = Unit {0}
+IsKnown (ToEach first end) targets = AreWithin first end targets
+
 -- the move is to these outcomes
 abbrev pub LeadsTo : {S : Type 0} → Table S → Bool → List (S × Found) → List (ℕ × ℕ) → Move → Type 0
-LeadsTo t crashed outcomes targets Untried = ⊥
-LeadsTo t crashed outcomes targets (Tried first end) =
-    AreWithin first end targets × AreTo t crashed outcomes (slice_range targets first end)
+LeadsTo t crashed outcomes targets to =
+    IsKnown to targets × AreTo t crashed outcomes (targets_of to targets)
 
 -- what is known of a call in the state with this number
 abbrev pub known_at : List Move → ℕ → ℕ → ℕ → Move

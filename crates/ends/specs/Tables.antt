@@ -136,6 +136,26 @@ pub record IsSameTable {S : Type 0} (t u : Table S) : Type 0 where
   pub founds : u.founds.items ≡ t.founds.items
   pub rows : rows_of u ≡ rows_of t
 
+-- both show the same ends, by whatever calls
+abbrev pub ShowTheSame : {S : Type 0} → Table S → Table S → Type 0
+ShowTheSame {S} t u =
+    (calls : List PendingOp) (ends : List (End S)) → AreShown t calls ends ↔ AreShown u calls ends
+
+-- the rows have the same numbers but for the first, which stands for the same state
+abbrev pub SaysTheSame : {S : Type 0} → List S → List S → List ℕ → List ℕ → Type 0
+SaysTheSame {S} states others row new =
+    (to : ℕ) × (s : S) × (slice_get states (get_or row 0 0) ≡ Some s)
+    × (slice_get others to ≡ Some s) × (0 < length row) × (new ≡ set row 0 to)
+
+-- the other table has the first rows so, and no more
+pub record SayTheSame {S : Type 0} (t u : Table S) (n : ℕ) : Type 0 where
+  pub founds : u.founds.items ≡ t.founds.items
+  pub once : IsOnceIn u.states
+  pub long : length (rows_of u) ≡ n
+  pub each : (i : ℕ) (row : List ℕ) → i < n → slice_get (rows_of t) i ≡ Some row
+      → (new : List ℕ) × (slice_get (rows_of u) i ≡ Some new)
+      × SaysTheSame t.states u.states row new
+
 -- the rows say what an ok leaves of all ends that the calls lead to from these
 pub record IsAdvanced (o : Object) (t : Table o.State) (calls : List PendingOp)
     (ends : List (End o.State)) (budget id : ℕ) (answer : Answer) : Type 0 where

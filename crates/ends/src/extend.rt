@@ -6,13 +6,13 @@ ghost use Rattle.models.specs.Objects.{of_table};
 ghost use Rattle.history.specs.Events.{IsFront};
 ghost use Rattle.linspec.specs.Ends.{End};
 ghost use Rattle.linspec.specs.Orders.{Pairwise};
-ghost use Rattle.ends.specs.Moves.{AreMoves};
+ghost use Rattle.ends.specs.Moves.{AreMoves, IsKnown, targets_of};
 ghost use Rattle.ends.specs.EndSteps.{Along, AreClosed, TakesLast, Next, ReachesMoreThan, is_in};
 ghost use Rattle.ends.specs.Tables.{AreShown, HasEachOnce, Shows, Widens, row_led, rows_of};
 ghost use Rattle.ends.specs.Tables.{IsAdvanced, ShownWith, ShownGrown, with_rows};
 
 use crate::after;
-use crate::moves::{self, Moves};
+use crate::moves::{self, Move, Moves};
 use crate::pending_op::PendingOp;
 use crate::table::{self, Table};
 use models::{Answer, SeqObject};
@@ -64,18 +64,51 @@ fn put_each<S: Ord + Drop>(
     Ok(())
 }
 
-// Adds what the call at this place leads to from the end of the row that stands here.
+// Puts the row that stands here, with the numbers of each target of the move, behind the others.
+fn put_led<S: Ord + Drop>(
+    table: &mut Table<S>,
+    from: usize,
+    place: usize,
+    to: Move,
+    targets: &[(usize, usize)],
+) -> Result<(), AllocError>
+    requires here { from < length (rows_of table.old) }
+    requires after { 0 < place }
+    requires known { IsKnown to targets.now }
+    requires zero_there { 0 < length (targets_of to targets.now)
+        → slice_get (get_or (rows_of table.old) from []) place ≡ Some 0 }
+    ensures puts { let row = get_or (rows_of table.old) from [] in
+        (calls : List PendingOp) (ends : List (End S)) → AreShown table.old calls ends
+        → ((target : ℕ × ℕ) → Contains (targets_of to targets.now) target
+        → (f : End S) × Shows table.old calls (row_led row place target) f)
+        → OnOk result (ShownWith table.new calls ends
+        (Along (λ target f. Shows table.old calls (row_led row place target) f) (targets_of to targets.now))) }
+    ensures states { table.new.states ≡ table.old.states }
+    ensures founds { table.new.founds ≡ table.old.founds }
+    ensures front { IsFront (rows_of table.old) (rows_of table.new) }
+{
+    match to {
+        Move::To(number, slot) => table.rows.put_next(from, number, place, slot),
+        Move::ToEach(first, end) => put_each(table, from, place, &targets[first..end]),
+        Move::Nowhere => Ok(()),
+        Move::Untried => Ok(()),
+    }
+}
+
+// Adds what the call at this place leads to from the end of the row that stands here, whose state has this number.
 fn grow_at<M: SeqObject>(
     alloc: Global,
     table: &mut Table<M::State>,
     moves: &mut Moves<M::State>,
     from: usize,
+    number: usize,
     calls: &[PendingOp],
     at: usize,
     applied: &mut u64,
 ) -> Result<(), AllocError>
     requires within { at < length calls.now }
     requires here { from < length (rows_of table.old) }
+    requires number { number ≡ get_or (get_or (rows_of table.old) from []) 0 0 }
     ensures moves { AreMoves M.apply_to table.old calls.now moves.old.known.items moves.old.targets.items
         → OnOk result (AreMoves M.apply_to table.new calls.now moves.new.known.items moves.new.targets.items) }
     ensures adds { let object = of_table M.State M.start_state M.apply_to in
@@ -89,8 +122,11 @@ fn grow_at<M: SeqObject>(
     ensures front { IsFront (rows_of table.old) (rows_of table.new) }
     ensures cost { applied.new ≤ applied.old + 1 }
 {
-    let (first, end) = table::led_to::<M>(alloc, table, moves, from, calls, at, applied)?;
-    put_each(table, from, at + 1, &moves.targets[first..end])
+    let to = table::led_to::<M>(alloc, table, moves, from, number, calls, at, applied)?;
+    if let Move::Nowhere = to {
+        return Ok(());
+    }
+    put_led(table, from, at + 1, to, &moves.targets)
 }
 
 // Adds what each call from that place on leads to from the end of the row that stands here.
@@ -117,8 +153,9 @@ fn grow_from<M: SeqObject>(
     ensures front { IsFront (rows_of table.old) (rows_of table.new) }
     ensures cost { applied.new ≤ applied.old + length calls.now }
 {
+    let number = table.rows.number(from, 0);
     for at in first..calls.len() {
-        grow_at::<M>(alloc, table, moves, from, calls, at, applied)?;
+        grow_at::<M>(alloc, table, moves, from, number, calls, at, applied)?;
     }
     Ok(())
 }

@@ -2,6 +2,7 @@
 #![tactic(auto)]
 
 mod after;
+mod copies;
 mod extend;
 mod kept_end;
 mod moves;
@@ -10,8 +11,9 @@ mod states;
 mod table;
 
 pub use after::crashed_ends;
+pub use copies::copied;
 pub use extend::{Room, advance};
 pub use kept_end::KeptEnd;
 pub use pending_op::{PendingOp, copy_calls, crash_call, drop_call, is_read};
 pub use states::States;
-pub use table::{Table, copied, ends_of, of_ends};
+pub use table::{Table, ends_of, of_ends};

@@ -1,8 +1,8 @@
 //! What calls do in states, by numbers.
-ghost use Rattle.std.specs.Prelude.{◌≡◌, ◌+◌, ◌*◌, ◌<◌, ◌≤◌, ◌⊎◌, ℕ, List, [], ◌∷◌, ◌++◌, Some, length, get_or};
-ghost use Rattle.std.specs.Prelude.{slice_get, slice_range};
-ghost use Rattle.std.specs.Prelude.{IfOk, OnOk, IfSome};
-ghost use Rattle.ends.specs.Moves.{AreMoves, AreTo, AreWithin, IsTo, known_at};
+ghost use Rattle.std.specs.Prelude.{◌≡◌, ◌+◌, ◌*◌, ◌<◌, ◌≤◌, ◌⊎◌, ℕ, List, [], ◌++◌, Some, length, get_or};
+ghost use Rattle.std.specs.Prelude.{slice_get};
+ghost use Rattle.std.specs.Prelude.{IfOk, OnOk, IfSome, IsTrue};
+ghost use Rattle.ends.specs.Moves.{AreMoves, AreTo, IsKnown, IsTo, LeadsTo, known_at, targets_of};
 ghost use Rattle.ends.specs.Tables.{Widens, rows_of};
 
 use crate::pending_op::PendingOp;
@@ -17,17 +17,20 @@ const MOST: usize = 1 << 20;
 // The memory of more moves than these is not kept.
 const MOST_KEPT: usize = 1 << 14;
 
-/// What is known of a call in a state.
+/// What is known of a call in a state. A target is the number of a state, and that of what is told of what was found.
 #[derive(Clone, Copy)]
 pub enum Move {
     /// It was not tried yet.
     Untried,
-    /// It leads to the targets from the first place on, up to the second.
-    Tried(usize, usize),
+    /// It cannot take place.
+    Nowhere,
+    /// It leads to this target alone.
+    To(usize, usize),
+    /// It leads to the targets of the list from the first place on, up to the second.
+    ToEach(usize, usize),
 }
 
-/// What is known of calls in states, with memory to try more of them. A target is the number of a state, and that of what is told
-/// of what was found.
+/// What is known of calls in states, with the list of the targets of those that lead to several, and memory to try more of them.
 #[derive(Drop)]
 pub struct Moves<S> {
     known: Vec<Move>,
@@ -66,6 +69,15 @@ pub fn forget<S: Drop>(alloc: Global, moves: &mut Moves<S>)
     }
     moves.known.clear();
     moves.targets.clear();
+}
+
+// Forgets all moves where their targets are very many.
+fn forget_many<S: Drop>(alloc: Global, moves: &mut Moves<S>)
+    ensures { (moves.new ≡ moves.old) ⊎ (moves.new.known.items ≡ []) }
+{
+    if moves.targets.len() > MOST {
+        forget(alloc, moves);
+    }
 }
 
 // What is known of the call at this place in the state with this number.
@@ -109,24 +121,21 @@ fn remember(
     }
 }
 
-// Puts the target that is this outcome behind the others.
-fn put_target<M: SeqObject>(
+// The target that is this outcome.
+fn target_of<M: SeqObject>(
     alloc: Global,
     table: &mut Table<M::State>,
-    targets: &mut Vec<(usize, usize)>,
     crashed: bool,
     state: M::State,
     found: Found,
-) -> Result<(), AllocError>
-    ensures put { OnOk result ((target : ℕ × ℕ) × IsTo table.new crashed (state, found) target
-        × (targets.new.items ≡ targets.old.items ++ target ∷ [])) }
+) -> Result<(usize, usize), AllocError>
+    ensures is { IfOk result (IsTo table.new crashed (state, found)) }
     ensures widens { Widens table.old table.new }
     ensures rows { rows_of table.new ≡ rows_of table.old }
 {
     let number = number_of::<M>(alloc, &mut table.states, state)?;
     let slot = table::slot_at(&mut table.founds, table::told_by(crashed, found))?;
-    targets.push((number, slot))?;
-    Ok(())
+    Ok((number, slot))
 }
 
 // Puts the targets that are these outcomes behind the others.
@@ -144,72 +153,82 @@ fn put_targets<M: SeqObject>(
     ensures rows { rows_of table.new ≡ rows_of table.old }
 {
     while let Some((state, found)) = outcomes.pop() {
-        put_target::<M>(alloc, table, targets, crashed, state, found)?;
+        let target = target_of::<M>(alloc, table, crashed, state, found)?;
+        targets.push(target)?;
     }
     Ok(())
 }
 
-// Where the call at this place leads from the state with this number, where that is known: the places of its targets.
-fn recalled<S>(moves: &Moves<S>, number: usize, at: usize, calls: usize) -> Option<(usize, usize)>
-    ensures known { IfSome result (λ places.
-        Move.Tried places.0 places.1 ≡ known_at moves.now.known.items calls number at) }
-    ensures within { IfSome result (λ places.
-        AreWithin places.0 places.1 moves.now.targets.items) }
+// The move to these outcomes, whose targets are put behind the others.
+fn move_to_each<M: SeqObject>(
+    alloc: Global,
+    table: &mut Table<M::State>,
+    targets: &mut Vec<(usize, usize)>,
+    crashed: bool,
+    outcomes: &mut Vec<(M::State, Found)>,
+) -> Result<Move, AllocError>
+    ensures leads { IfOk result (LeadsTo table.new crashed outcomes.old.items targets.new.items) }
+    ensures more { OnOk result ((more : List (ℕ × ℕ)) × (targets.new.items ≡ targets.old.items ++ more)) }
+    ensures widens { Widens table.old table.new }
+    ensures rows { rows_of table.new ≡ rows_of table.old }
 {
-    match known(&moves.known, number, at, calls) {
-        Move::Tried(first, end) if first <= end && end <= moves.targets.len() => Some((first, end)),
-        _ => None,
+    let first = targets.len();
+    put_targets::<M>(alloc, table, targets, crashed, outcomes)?;
+    Ok(Move::ToEach(first, targets.len()))
+}
+
+// The move to these outcomes. Where there is one, it needs no place in the list of targets.
+fn move_to<M: SeqObject>(
+    alloc: Global,
+    table: &mut Table<M::State>,
+    targets: &mut Vec<(usize, usize)>,
+    crashed: bool,
+    outcomes: &mut Vec<(M::State, Found)>,
+) -> Result<Move, AllocError>
+    ensures leads { IfOk result (LeadsTo table.new crashed outcomes.old.items targets.new.items) }
+    ensures more { OnOk result ((more : List (ℕ × ℕ)) × (targets.new.items ≡ targets.old.items ++ more)) }
+    ensures widens { Widens table.old table.new }
+    ensures rows { rows_of table.new ≡ rows_of table.old }
+{
+    if outcomes.len() > 1 {
+        return move_to_each::<M>(alloc, table, targets, crashed, outcomes);
+    }
+    match outcomes.pop() {
+        Some((state, found)) => {
+            let (number, slot) = target_of::<M>(alloc, table, crashed, state, found)?;
+            Ok(Move::To(number, slot))
+        }
+        None => Ok(Move::Nowhere),
     }
 }
 
-// Tries the call in the state with this number, and remembers where it leads: the places of its targets.
-fn try_call<M: SeqObject>(
-    alloc: Global,
-    table: &mut Table<M::State>,
-    moves: &mut Moves<M::State>,
-    number: usize,
-    calls: &[PendingOp],
-    at: usize,
-    applied: &mut u64,
-) -> Result<(usize, usize), AllocError>
-    requires within { at < length calls.now }
-    ensures moves { AreMoves M.apply_to table.old calls.now moves.old.known.items moves.old.targets.items
-        → OnOk result (AreMoves M.apply_to table.new calls.now moves.new.known.items moves.new.targets.items) }
-    ensures does { (s : M.State) (c : PendingOp) → slice_get table.old.states number ≡ Some s
-        → slice_get calls.now at ≡ Some c
-        → IfOk result (λ places. AreTo table.new c.crashed (M.apply_to c.op s)
-        (slice_range moves.new.targets.items places.0 places.1)) }
-    ensures within { IfOk result (λ places. AreWithin places.0 places.1 moves.new.targets.items) }
-    ensures widens { Widens table.old table.new }
-    ensures rows { rows_of table.new ≡ rows_of table.old }
-    ensures cost { applied.new ≤ applied.old + 1 }
+/// What is known of the call at this place in the state with this number, where it was tried.
+pub fn recalled<S>(moves: &Moves<S>, number: usize, at: usize, calls: usize) -> Option<Move>
+    ensures { IfSome result (λ to. (to ≡ known_at moves.now.known.items calls number at)
+        × IsKnown to moves.now.targets.items) }
 {
-    let first = moves.targets.len();
-    let call = &calls[at];
-    let Some(state) = table.states.get(number) else {
-        return Ok((first, first));
-    };
-    table::step::<M>(alloc, state, &call.op, &mut moves.outcomes, applied)?;
-    put_targets::<M>(
-        alloc,
-        table,
-        &mut moves.targets,
-        call.crashed,
-        &mut moves.outcomes,
-    )?;
-    let end = moves.targets.len();
-    remember(
-        &mut moves.known,
-        number,
-        at,
-        calls.len(),
-        Move::Tried(first, end),
-    )?;
-    Ok((first, end))
+    match known(&moves.known, number, at, calls) {
+        Move::Untried => None,
+        Move::Nowhere => Some(Move::Nowhere),
+        Move::To(number, slot) => Some(Move::To(number, slot)),
+        Move::ToEach(first, end) if first <= end && end <= moves.targets.len() => {
+            Some(Move::ToEach(first, end))
+        }
+        Move::ToEach(_, _) => None,
+    }
 }
 
-/// Where the call at this place leads from the state with this number: the places of its targets. The call is tried there unless
-/// that is known.
+/// Whether it is known that the call cannot take place.
+pub fn is_nowhere(known: &Option<Move>) -> bool
+    ensures { IsTrue result → known.now ≡ Some Move.Nowhere }
+{
+    match known {
+        Some(Move::Nowhere) => true,
+        _ => false,
+    }
+}
+
+/// Tries the call in the state with this number, and remembers where it leads.
 pub fn tried<M: SeqObject>(
     alloc: Global,
     table: &mut Table<M::State>,
@@ -218,25 +237,32 @@ pub fn tried<M: SeqObject>(
     calls: &[PendingOp],
     at: usize,
     applied: &mut u64,
-) -> Result<(usize, usize), AllocError>
+) -> Result<Move, AllocError>
     requires within { at < length calls.now }
     ensures moves { AreMoves M.apply_to table.old calls.now moves.old.known.items moves.old.targets.items
         → OnOk result (AreMoves M.apply_to table.new calls.now moves.new.known.items moves.new.targets.items) }
-    ensures does { AreMoves M.apply_to table.old calls.now moves.old.known.items moves.old.targets.items
-        → (s : M.State) (c : PendingOp) → slice_get table.old.states number ≡ Some s
+    ensures does { (s : M.State) (c : PendingOp) → slice_get table.old.states number ≡ Some s
         → slice_get calls.now at ≡ Some c
-        → IfOk result (λ places. AreTo table.new c.crashed (M.apply_to c.op s)
-        (slice_range moves.new.targets.items places.0 places.1)) }
-    ensures within { IfOk result (λ places. AreWithin places.0 places.1 moves.new.targets.items) }
+        → IfOk result (λ to. AreTo table.new c.crashed (M.apply_to c.op s)
+        (targets_of to moves.new.targets.items)) }
+    ensures known { IfOk result (λ to. IsKnown to moves.new.targets.items) }
     ensures widens { Widens table.old table.new }
     ensures rows { rows_of table.new ≡ rows_of table.old }
     ensures cost { applied.new ≤ applied.old + 1 }
 {
-    if let Some(places) = recalled(moves, number, at, calls.len()) {
-        return Ok(places);
-    }
-    if moves.targets.len() > MOST {
-        forget(alloc, moves);
-    }
-    try_call::<M>(alloc, table, moves, number, calls, at, applied)
+    forget_many(alloc, moves);
+    let call = &calls[at];
+    let Some(state) = table.states.get(number) else {
+        return Ok(Move::Nowhere);
+    };
+    table::step::<M>(alloc, state, &call.op, &mut moves.outcomes, applied)?;
+    let to = move_to::<M>(
+        alloc,
+        table,
+        &mut moves.targets,
+        call.crashed,
+        &mut moves.outcomes,
+    )?;
+    remember(&mut moves.known, number, at, calls.len(), to)?;
+    Ok(to)
 }

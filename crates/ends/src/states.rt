@@ -41,7 +41,8 @@ impl<S: Ord + Drop> States<S> {
 
     /// How many there are.
     pub fn len(&self) -> usize
-        ensures { result ≡ length self.now }
+        ensures is { result ≡ length self.now }
+        ensures once { IsOnceIn self.now }
     {
         self.items.len()
     }

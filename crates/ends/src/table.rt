@@ -1,18 +1,18 @@
 //! Ends as rows of numbers.
-ghost use Rattle.std.specs.Prelude.{◌≡◌, ◌+◌, ◌-◌, ◌^◌, ◌<◌, ◌≤◌, min, Some, slice_get, slice_range, get_or, map, length};
+ghost use Rattle.std.specs.Prelude.{◌≡◌, ◌+◌, ◌-◌, ◌^◌, ◌<◌, ◌≤◌, min, Some, slice_get, get_or, map, length};
 ghost use Rattle.std.specs.Prelude.{IfOk, OnOk, IsSome, IsSomeAnd, option_copied, List, [], ◌∷◌, ◌++◌};
 ghost use Rattle.models.specs.Objects.{of_table};
 ghost use Rattle.history.specs.Events.{IsFront};
 ghost use Rattle.linspec.specs.Ends.{End};
 ghost use Rattle.ends.specs.KeptEnds.{AreIncluded, IsIncluded, end_kept};
 ghost use Rattle.ends.specs.EndSteps.{Along};
-ghost use Rattle.ends.specs.Moves.{AreMoves, AreWithin};
+ghost use Rattle.ends.specs.Moves.{AreMoves, IsKnown, targets_of};
 ghost use Rattle.ends.specs.Tables.{HasEachOnce, IsOnceIn, IsSlot};
-ghost use Rattle.ends.specs.Tables.{AreShown, IsThat, IsToldBefore, IsSameTable, ShownWith, told_by};
+ghost use Rattle.ends.specs.Tables.{AreShown, IsThat, IsToldBefore, ShownWith, told_by};
 ghost use Rattle.ends.specs.Tables.{AreLed, Shows, Widens, found_by, rows_of};
 
 use crate::kept_end::{KeptEnd, found_in, has};
-use crate::moves::{self, Moves};
+use crate::moves::{self, Move, Moves};
 use crate::pending_op::PendingOp;
 use crate::states::{self, States};
 use models::{Found, Op, SeqObject};
@@ -128,19 +128,21 @@ pub fn told_by(crashed: bool, found: Found) -> Found
     if crashed { Found::Unit } else { found }
 }
 
-/// Where the call at this place leads from the end of the row that stands here: the places of its targets. There are none where
-/// it is in that end.
+/// Where the call at this place leads from the end of the row that stands here, whose state has this number: nowhere where it is
+/// in that end.
 pub fn led_to<M: SeqObject>(
     alloc: Global,
     table: &mut Table<M::State>,
     moves: &mut Moves<M::State>,
     from: usize,
+    number: usize,
     calls: &[PendingOp],
     at: usize,
     applied: &mut u64,
-) -> Result<(usize, usize), AllocError>
+) -> Result<Move, AllocError>
     requires within { at < length calls.now }
     requires here { from < length (rows_of table.old) }
+    requires number { number ≡ get_or (get_or (rows_of table.old) from []) 0 0 }
     ensures moves { AreMoves M.apply_to table.old calls.now moves.old.known.items moves.old.targets.items
         → OnOk result (AreMoves M.apply_to table.new calls.now moves.new.known.items moves.new.targets.items) }
     ensures next { let object = of_table M.State M.start_state M.apply_to in
@@ -149,20 +151,27 @@ pub fn led_to<M: SeqObject>(
         → HasEachOnce calls.now
         → (c : PendingOp) (e : End M.State) → slice_get calls.now at ≡ Some c
         → Shows table.old calls.now row e
-        → IfOk result (λ places. AreLed object table.new calls.now row at e c
-        (slice_range moves.new.targets.items places.0 places.1)) }
-    ensures within { IfOk result (λ places. AreWithin places.0 places.1 moves.new.targets.items) }
+        → IfOk result (λ to. AreLed object table.new calls.now row at e c
+        (targets_of to moves.new.targets.items)) }
+    ensures known { IfOk result (λ to. IsKnown to moves.new.targets.items) }
     ensures zero_there { let row = get_or (rows_of table.old) from [] in
-        IfOk result (λ places. places.0 < places.1 → slice_get row (at + 1) ≡ Some 0) }
+        IfOk result (λ to. 0 < length (targets_of to moves.new.targets.items)
+        → slice_get row (at + 1) ≡ Some 0) }
     ensures widens { Widens table.old table.new }
     ensures rows { rows_of table.new ≡ rows_of table.old }
     ensures cost { applied.new ≤ applied.old + 1 }
 {
-    if !table.rows.has_zero(from, at + 1) {
-        return Ok((0, 0));
+    let known = moves::recalled(moves, number, at, calls.len());
+    if moves::is_nowhere(&known) {
+        return Ok(Move::Nowhere);
     }
-    let number = table.rows.number(from, 0);
-    moves::tried::<M>(alloc, table, moves, number, calls, at, applied)
+    if !table.rows.has_zero(from, at + 1) {
+        return Ok(Move::Nowhere);
+    }
+    match known {
+        Some(to) => Ok(to),
+        None => moves::tried::<M>(alloc, table, moves, number, calls, at, applied),
+    }
 }
 
 /// The ends as rows.
@@ -292,32 +301,4 @@ pub fn ends_of<M: SeqObject>(
         push_end::<M>(alloc, &mut ends, table, from, calls)?;
     }
     Ok(ends)
-}
-
-// The same things, with memory of their own.
-fn copied_founds(alloc: Global, founds: &[Found]) -> Result<Vec<Found>, AllocError>
-    ensures { IfOk result (λ copies. copies.items ≡ founds.now) }
-{
-    let mut copies = Vec::with_capacity(alloc, founds.len())?;
-    for found in founds {
-        copies.push(found.copy()?)?;
-    }
-    Ok(copies)
-}
-
-/// The same table, with memory of its own.
-pub fn copied<M: SeqObject>(
-    alloc: Global,
-    table: &Table<M::State>,
-) -> Result<Table<M::State>, AllocError>
-    ensures { IfOk result (λ other. IsSameTable table.now other) }
-{
-    let states = states::copied::<M>(alloc, &table.states)?;
-    let founds = copied_founds(alloc, &table.founds)?;
-    let rows = table.rows.copied()?;
-    Ok(Table {
-        states,
-        founds,
-        rows,
-    })
 }

@@ -14,9 +14,9 @@ use Rattle.frontier.specs.declared.frontier.Frontier.{Frontier}
 use Rattle.frontier.specs.declared.frontier.Step.{Step}
 use Rattle.frontier.specs.declared.frontier.Step.TheVariants.{Alive, Dead, Over}
 use Rattle.ends.specs.KeptEnds.{AreIncluded, ArePending, IsIncluded, IsWellKept, end_kept}
-use Rattle.ends.specs.Tables.{AreShown, IsSameTable, IsSlot, IsThat, Says, Shows, ShownWith, found_by, rows_of, with_rows}
+use Rattle.ends.specs.Tables.{AreShown, IsSlot, IsThat, Says, Shows, ShownWith, found_by, rows_of, with_rows}
 use Rattle.ends.specs.declared.table.Table.{Table}
-use Rattle.ends.proofs.Showing.{included_shown, shown_more, widens_rows}
+use Rattle.ends.proofs.Showing.{included_shown}
 use Rattle.ends.proofs.Rows.{get_last, get_push, has_place, one_of, some_at}
 use Rattle.std.specs.FinMap as finmap
 use Rattle.std.specs.List.{Contains}
@@ -70,15 +70,7 @@ module _ (o : Object) (ends first : List (End o.State)) (adds : Adds (Along IsTh
   pub included_again : (calls : List PendingOp) → AreIncluded calls ends → AreIncluded calls first
   included_again calls included e h = included e (back o [] ends first adds e h)
 
-pub same_back : {S : Type 0} (t u : Table S) → IsSameTable t u → IsSameTable u t
-same_back t u s = record { states = sym s.states; founds = sym s.founds; rows = sym s.rows }
-
 module _ {M : Type 0} (o : Object) where
-  -- one with the same table, of the same calls
-  pub stands_same : (f : Frontier M o.State) (marks : List Mark) (g : Frontier M o.State) → g.calls.items ≡ f.calls.items → g.tried ≡ f.tried → IsSameTable f.table g.table → Lists o f marks → Lists o g marks
-  stands_same f marks g calls tried same stands =
-      stands_too o f marks g calls tried stands (shown_more f.calls.items f.table g.table stands.kept (widens_rows f.table g.table same.states same.founds) same.rows stands.shown)
-
   -- one whose rows say ends in some order
   pub stands_shown : (g : Frontier M o.State) (marks : List Mark) (ends : List (End o.State)) (calls : List PendingOp) → g.calls.items ≡ calls → ShownWith g.table calls [] (Along IsThat ends) → Generates o ends marks → ArePending calls marks
       → Pairwise (λ (c d : PendingOp). c.id ≢ d.id) calls → AreIncluded calls ends → g.tried ≤ length calls → AreClosed o (take g.tried calls) ends → Lists o g marks

@@ -424,7 +424,7 @@ impl<M: SeqObject> Frontier<M> {
             calls: ends::copy_calls(self.alloc, &self.calls)?,
             fresh: change::copied_fresh(&self.fresh)?,
             tried: self.tried,
-            table: ends::copied::<M>(self.alloc, &self.table)?,
+            table: ends::copied::<M>(self.alloc, &self.table, &self.calls)?,
             room: Room::new(self.alloc),
             next: Change::Nothing,
         })

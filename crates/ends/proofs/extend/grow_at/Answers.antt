@@ -1,27 +1,46 @@
-use Rattle.std.proofs.Common.{◌≡◌, [], get_or, slice_range, sym, ap, subst}
+use Rattle.std.proofs.Common.{◌≡◌, ◌+◌, [], get_or, sym, ap, subst}
 use Rattle.std.proofs.lemmas.Result.{on_ok_weaker}
 use Rattle.models.specs.Objects.{of_table}
-use Rattle.ends.specs.Tables.{AreLed, rows_of}
+use Rattle.ends.specs.Moves.{targets_of}
+use Rattle.history.specs.Events.{IsFront}
+use Rattle.ends.specs.Tables.{AreLed, Shows, row_led, rows_of}
+use Rattle.ends.proofs.Adding.{IsFront-itself}
 use Rattle.ends.proofs.Moving.{moves_wider, on_ok}
-use Rattle.ends.proofs.Showing.{all_led, shown_more, widens_rows}
+use Rattle.ends.proofs.Showing.{all_led, led_none, shown_more, widens_on, widens_rows}
 use Rattle.ends.proofs.extend.grow_at.Goals as goal
 
 pub returns-clause-moves : goal.returns-clause-moves
 returns-clause-moves g c known =
-    on_ok c.put_each.result (moves_wider g.M.SeqObject.apply_to c.args.calls.now c.led_to.new.table c.put_each.new.table c.led_to.new.moves.known.items c.led_to.new.moves.targets.items
-    (widens_rows c.led_to.new.table c.put_each.new.table c.put_each.ensures.states (ap (λ v. v.items) c.put_each.ensures.founds)) (c.in_ok-first.ensures.moves known))
+    on_ok c.put_led.result (moves_wider g.M.SeqObject.apply_to c.args.calls.now c.led_to.new.table c.put_led.new.table c.led_to.new.moves.known.items c.led_to.new.moves.targets.items
+    (widens_rows c.led_to.new.table c.put_led.new.table c.put_led.ensures.states (ap (λ v. v.items) c.put_led.ensures.founds)) (c.in_ok-to.ensures.moves known))
 
 pub returns-clause-adds : goal.returns-clause-adds
 returns-clause-adds g c known once call e ends here shows shown =
     let o = of_table g.row.M-State.Denot g.M.SeqObject.start_state g.M.SeqObject.apply_to in
     let calls = c.args.calls.now in
     let row = get_or (rows_of c.led_to.new.table) c.args.from [] in
-    let first = c.in_ok-first.first in
-    let end = c.in_ok-first.end in
-    let same : row ≡ get_or (rows_of c.args.table.now) c.args.from [] = ap (λ l. get_or l c.args.from []) c.in_ok-first.ensures.rows in
-    let led : AreLed o c.led_to.new.table calls row c.args.at e call (slice_range c.deref.result.now first end) =
-    subst (λ r. AreLed o c.led_to.new.table calls r c.args.at e call (slice_range c.deref.result.now first end)) (sym same)
-    (subst (λ l. AreLed o c.led_to.new.table calls (get_or (rows_of c.args.table.now) c.args.from []) c.args.at e call (slice_range l first end)) (sym c.deref.ensures.value) (c.in_ok-first.ensures.next known once call e here shows)) in
-    on_ok_weaker c.put_each.result
-    (all_led o calls c.led_to.new.table c.put_each.new.table row c.args.at e call (slice_range c.deref.result.now first end) ends led)
-    (c.put_each.ensures.puts calls ends (shown_more calls c.args.table.now c.led_to.new.table ends c.in_ok-first.ensures.widens c.in_ok-first.ensures.rows shown) (λ to h. let f = led.each to h in (f.0, f.2)))
+    let targets = targets_of c.in_ok-to.to c.deref.result.now in
+    let same : row ≡ get_or (rows_of c.args.table.now) c.args.from [] = ap (λ l. get_or l c.args.from []) c.in_ok-to.ensures.rows in
+    let led : AreLed o c.led_to.new.table calls row c.args.at e call targets =
+    subst (λ r. AreLed o c.led_to.new.table calls r c.args.at e call targets) (sym same)
+    (subst (λ l. AreLed o c.led_to.new.table calls (get_or (rows_of c.args.table.now) c.args.from []) c.args.at e call (targets_of c.in_ok-to.to l)) (sym c.deref.ensures.value) (c.in_ok-to.ensures.next known once call e here shows)) in
+    on_ok_weaker c.put_led.result
+    (all_led o calls c.led_to.new.table c.put_led.new.table row c.args.at e call targets ends led)
+    (c.put_led.ensures.puts calls ends (shown_more calls c.args.table.now c.led_to.new.table ends c.in_ok-to.ensures.widens c.in_ok-to.ensures.rows shown) (λ to h. let f = led.each to h in (f.0, f.2)))
+
+pub returns-clause-widens : goal.returns-clause-widens
+returns-clause-widens g c = widens_on c.args.table.now c.led_to.new.table c.put_led.new.table c.in_ok-to.ensures.widens (widens_rows c.led_to.new.table c.put_led.new.table c.put_led.ensures.states (ap (λ v. v.items) c.put_led.ensures.founds))
+
+pub returns-in-Nowhere-clause-adds : goal.returns-in-Nowhere-clause-adds
+returns-in-Nowhere-clause-adds g c known once call e ends here shows shown =
+    let o = of_table g.row.M-State.Denot g.M.SeqObject.start_state g.M.SeqObject.apply_to in
+    let calls = c.args.calls.now in
+    let t = c.led_to.new.table in
+    let row = get_or (rows_of c.args.table.now) c.args.from [] in
+    let led : AreLed o t calls row c.args.at e call [] =
+    subst (λ m. AreLed o t calls row c.args.at e call (targets_of m c.led_to.new.moves.targets.items)) c.in-Nowhere.is (c.in_ok-to.ensures.next known once call e here shows) in
+    all_led o calls t t row c.args.at e call [] ends led
+    (led_none calls t (λ x g. Shows t calls (row_led row (c.args.at + 1) x) g) ends (shown_more calls c.args.table.now t ends c.in_ok-to.ensures.widens c.in_ok-to.ensures.rows shown))
+
+pub returns-in-Nowhere-clause-front : goal.returns-in-Nowhere-clause-front
+returns-in-Nowhere-clause-front g c = subst (IsFront (rows_of c.args.table.now)) (sym c.in_ok-to.ensures.rows) (IsFront-itself (rows_of c.args.table.now))

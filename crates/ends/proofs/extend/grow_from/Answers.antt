@@ -1,4 +1,4 @@
-use Rattle.std.proofs.Common.{[], drop, get_or, refl, sym, ◌∙◌, subst, arith}
+use Rattle.std.proofs.Common.{[], drop, get_or, refl, sym, ap, ◌∙◌, subst, arith}
 use Rattle.std.proofs.lemmas.List.{take_all}
 use Rattle.models.specs.Objects.{of_table}
 use Rattle.ends.specs.EndSteps.{Next}
@@ -20,6 +20,9 @@ loop-at-init g c = record {
   upto = omega arith;
   cost = omega arith;
 }
+
+pub grow_at-requires-clause-number : goal.grow_at-requires-clause-number
+grow_at-requires-clause-number g c = c.number-number.ensures ∙ sym (ap (λ row. get_or row 0 0) c.loop-at.invariant.here)
 
 pub loop-at-preserved : goal.loop-at-preserved
 loop-at-preserved g c =

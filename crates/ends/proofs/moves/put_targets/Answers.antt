@@ -15,20 +15,23 @@ pub loop-state-preserved : goal.loop-state-preserved
 loop-state-preserved g c =
     let i = c.loop-state.invariant in
     let p = i.put in
-    let t = c.in_ok-put_target.ensures.put in
+    let t = c.in_ok-target.target in
     let x : g.row.M-State.Denot × Found = (c.in-Some.state, c.in-Some.found) in
     let popped : c.loop-state.outcomes.items ≡ c.pop.new.self.items ++ x ∷ [] = c.in-Some.ensures.items in
     record {
       put = (
         x ∷ p.0,
-        p.1 ++ t.0 ∷ [],
+        p.1 ++ t ∷ [],
         p.2 ∙ ap (λ l. l ++ p.0) popped ∙ append_assoc c.pop.new.self.items (x ∷ []) p.0,
-        are_to_with c.put_target.new.table c.args.crashed x p.0 p.1 t.0 t.1 (are_to_more c.loop-state.table c.put_target.new.table c.args.crashed p.0 p.1 c.in_ok-put_target.ensures.widens p.3),
-        t.2 ∙ ap (λ l. l ++ t.0 ∷ []) p.4 ∙ append_assoc c.args.targets.now.items p.1 (t.0 ∷ []),
+        are_to_with c.target_of.new.table c.args.crashed x p.0 p.1 t c.in_ok-target.ensures.is (are_to_more c.loop-state.table c.target_of.new.table c.args.crashed p.0 p.1 c.in_ok-target.ensures.widens p.3),
+        c.in_ok-push.ensures.items ∙ ap (λ l. l ++ t ∷ []) p.4 ∙ append_assoc c.args.targets.now.items p.1 (t ∷ []),
       );
-      widens = widens_on c.args.table.now c.loop-state.table c.put_target.new.table i.widens c.in_ok-put_target.ensures.widens;
-      rows = c.in_ok-put_target.ensures.rows ∙ i.rows;
+      widens = widens_on c.args.table.now c.loop-state.table c.target_of.new.table i.widens c.in_ok-target.ensures.widens;
+      rows = c.in_ok-target.ensures.rows ∙ i.rows;
     }
 
-pub returns-in_err-put_target-clause-widens : goal.returns-in_err-put_target-clause-widens
-returns-in_err-put_target-clause-widens g c = widens_on c.args.table.now c.loop-state.table c.put_target.new.table c.loop-state.invariant.widens c.in_err-put_target.ensures.widens
+pub returns-in_err-target-clause-widens : goal.returns-in_err-target-clause-widens
+returns-in_err-target-clause-widens g c = widens_on c.args.table.now c.loop-state.table c.target_of.new.table c.loop-state.invariant.widens c.in_err-target.ensures.widens
+
+pub returns-in_err-push-clause-widens : goal.returns-in_err-push-clause-widens
+returns-in_err-push-clause-widens g c = widens_on c.args.table.now c.loop-state.table c.target_of.new.table c.loop-state.invariant.widens c.in_ok-target.ensures.widens

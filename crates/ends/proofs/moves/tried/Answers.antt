@@ -1,18 +1,40 @@
-use Rattle.std.proofs.Common.{sym, subst}
-use Rattle.ends.specs.Moves.{AreMoves}
-use Rattle.ends.proofs.Moving.{known_does, moves_none}
+use Rattle.std.proofs.Common.{rules, ◌≡◌, ⊎_elim, ℕ, List, Bool, Some, length, slice_get, refl, sym, ◌∙◌, subst}
+use Rattle.std.proofs.lemmas.Option.{slice_get_read}
+use Rattle.ends.specs.declared.pending_op.PendingOp.{PendingOp}
+use Rattle.ends.specs.Moves.{AreMoves, AreTo, LeadsTo, targets_of}
+use Rattle.ends.proofs.Moving.{moves_more, moves_none, moves_with}
+use Rattle.ends.proofs.Rows.{get_front, one_of}
 use Rattle.ends.proofs.moves.tried.Goals as goal
-use Rattle.ends.proofs.moves.tried.Goals.{then-len-gt-MOST, else-len-gt-MOST}
-
-pub returns-in-Some-clause-does : goal.returns-in-Some-clause-does
-returns-in-Some-clause-does g c known s call is here =
-    known_does g.M.SeqObject.apply_to c.args.calls.now c.args.table.now c.args.number c.args.at call here s is c.args.moves.now.known.items c.args.moves.now.targets.items c.in-Some.places.0 c.in-Some.places.1 known c.in-Some.ensures.known
 
 pub returns-clause-moves : goal.returns-clause-moves
 returns-clause-moves g c known =
-    c.try_call.ensures.moves
-    (elim c.if-len-gt-MOST.branch [
-      | then-len-gt-MOST w ↦ subst (λ m. AreMoves g.M.SeqObject.apply_to c.args.table.now c.args.calls.now m.known.items m.targets.items) (sym w.moves-is)
-          (moves_none g.M.SeqObject.apply_to c.args.calls.now c.args.table.now w.forget.new.moves.known.items w.forget.new.moves.targets.items w.forget.ensures.known)
-      | else-len-gt-MOST w ↦ subst (λ m. AreMoves g.M.SeqObject.apply_to c.args.table.now c.args.calls.now m.known.items m.targets.items) (sym w.moves-is) known
-    ])
+    let apply = g.M.SeqObject.apply_to in
+    let calls = c.args.calls.now in
+    let t = c.args.table.now in
+    let u = c.move_to.new.table in
+    let call = c.index-calls-at.result in
+    let s = c.in-Some.state.now in
+    let m = c.forget_many.new.moves in
+    let targets = c.move_to.new.targets.items in
+    let to = c.in_ok-to.to in
+    let state : slice_get t.states c.args.number ≡ Some s = search rules in
+    let here : slice_get calls c.args.at ≡ Some call = slice_get_read calls (length calls) c.args.at call refl c.requires.within c.index-calls-at.is in
+    let kept : AreMoves apply t calls m.known.items m.targets.items =
+    ⊎_elim (λ same. subst (λ x. AreMoves apply t calls x.known.items x.targets.items) (sym same) known) (λ none. moves_none apply calls t m.known.items m.targets.items none) c.forget_many.ensures in
+    let more = c.in_ok-to.ensures.more in
+    let leads : LeadsTo u call.crashed (apply call.op s) targets to = subst (λ l. LeadsTo u call.crashed l targets to) c.in_ok-step.ensures.outcomes c.in_ok-to.ensures.leads in
+    moves_with apply calls u c.args.number c.args.at call here s (get_front t.states u.states c.args.number s c.in_ok-to.ensures.widens.states state)
+    m.known.items c.remember.new.moves.items targets to leads c.in_ok-remember.ensures (moves_more apply calls t u m.known.items m.targets.items more.0 targets c.in_ok-to.ensures.widens more.1 kept)
+
+pub returns-clause-does : goal.returns-clause-does
+returns-clause-does g c s call is here =
+    let apply = g.M.SeqObject.apply_to in
+    let u = c.move_to.new.table in
+    let there = c.index-calls-at.result in
+    let targets = c.move_to.new.targets.items in
+    let to = c.in_ok-to.to in
+    let state : slice_get c.args.table.now.states c.args.number ≡ Some c.in-Some.state.now = search rules in
+    let read : slice_get c.args.calls.now c.args.at ≡ Some there = slice_get_read c.args.calls.now (length c.args.calls.now) c.args.at there refl c.requires.within c.index-calls-at.is in
+    let leads : LeadsTo u there.crashed (apply there.op c.in-Some.state.now) targets to = subst (λ l. LeadsTo u there.crashed l targets to) c.in_ok-step.ensures.outcomes c.in_ok-to.ensures.leads in
+    subst (λ (x : PendingOp). AreTo u x.crashed (apply x.op s) (targets_of to targets)) (one_of there call (sym read ∙ here))
+    (subst (λ y. AreTo u there.crashed (apply there.op y) (targets_of to targets)) (one_of c.in-Some.state.now s (sym state ∙ is)) leads.1)

@@ -1,0 +1,104 @@
+//! Copies of tables.
+ghost use Rattle.std.specs.Prelude.{◌≡◌, ◌+◌, ◌<◌, true, length, IfOk, IfSome};
+ghost use Rattle.ends.specs.Tables.{IsSameTable, SayTheSame, ShowTheSame, rows_of};
+
+use crate::pending_op::PendingOp;
+use crate::states::{self, States};
+use crate::table::Table;
+use models::{Found, SeqObject};
+use rows::RowSet;
+use std::alloc::{AllocError, Global};
+
+// The same things, with memory of their own.
+fn copied_founds(alloc: Global, founds: &[Found]) -> Result<Vec<Found>, AllocError>
+    ensures { IfOk result (λ copies. copies.items ≡ founds.now) }
+{
+    let mut copies = Vec::with_capacity(alloc, founds.len())?;
+    for found in founds {
+        copies.push(found.copy()?)?;
+    }
+    Ok(copies)
+}
+
+// The same table, with memory of its own.
+fn copied_whole<M: SeqObject>(
+    alloc: Global,
+    table: &Table<M::State>,
+) -> Result<Table<M::State>, AllocError>
+    ensures { IfOk result (IsSameTable table.now) }
+{
+    let states = states::copied::<M>(alloc, &table.states)?;
+    let founds = copied_founds(alloc, &table.founds)?;
+    let rows = table.rows.copied()?;
+    Ok(Table {
+        states,
+        founds,
+        rows,
+    })
+}
+
+// Puts the row that stands here behind those of the other table, by the number that its state has there. False where it has
+// no state, or is there already.
+fn put_again<M: SeqObject>(
+    alloc: Global,
+    table: &Table<M::State>,
+    from: usize,
+    other: &mut Table<M::State>,
+    row: &mut Vec<usize>,
+) -> Result<bool, AllocError>
+    requires { from < length (rows_of table.now) }
+    ensures { SayTheSame table.now other.old from
+        → IfOk result (λ more. more ≡ true → SayTheSame table.now other.new (from + 1)) }
+{
+    table.rows.read(from, row)?;
+    let Some(state) = table.states.get(table.rows.number(from, 0)) else {
+        return Ok(false);
+    };
+    let number = states::number_of::<M>(alloc, &mut other.states, M::copy(alloc, state)?)?;
+    if row.is_empty() {
+        return Ok(false);
+    }
+    row[0] = number;
+    other.rows.put(row)?;
+    Ok(other.rows.len() > from)
+}
+
+// The table with the states of its rows alone, where it has more states than rows. None where it has no more, and where two
+// rows are one, or one has no state: such rows say no ends.
+fn narrowed<M: SeqObject>(
+    alloc: Global,
+    table: &Table<M::State>,
+    calls: &[PendingOp],
+) -> Result<Option<Table<M::State>>, AllocError>
+    ensures { IfOk result (λ other. IfSome other (ShowTheSame table.now)) }
+{
+    if table.states.len() <= table.rows.len() {
+        return Ok(None);
+    }
+    let mut other = Table {
+        states: States::new(alloc),
+        founds: copied_founds(alloc, &table.founds)?,
+        rows: RowSet::new(alloc, calls.len().saturating_add(1)),
+    };
+    let mut row = Vec::new(alloc);
+    for from in 0..table.rows.len() {
+        if !put_again::<M>(alloc, table, from, &mut other, &mut row)? {
+            return Ok(None);
+        }
+    }
+    Ok(Some(other))
+}
+
+/// A table that shows the same ends, with memory of its own, and with no more states than it has rows.
+pub fn copied<M: SeqObject>(
+    alloc: Global,
+    table: &Table<M::State>,
+    calls: &[PendingOp],
+) -> Result<Table<M::State>, AllocError>
+    ensures { IfOk result (ShowTheSame table.now) }
+{
+    match narrowed::<M>(alloc, table, calls)? {
+        Some(other) => Ok(other),
+        None => copied_whole::<M>(alloc, table),
+    }
+}
