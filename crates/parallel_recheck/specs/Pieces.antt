@@ -1,0 +1,21 @@
+-- Promise: the lines of many keys, each from the events of its piece
+use Rattle.std.specs.Prelude.{ℕ, List, map, length}
+use Rattle.std.specs.Borrow.{Bor}
+use Rattle.history.specs.declared.event.Event.{Event}
+use Rattle.checkpoints.specs.KeyLineView.{KeyHistory, KeyLineView, at_rest, count_on}
+
+-- events that are lent, as they are
+abbrev pub lent : List (ℕ × Bor Event) → List (ℕ × Event)
+lent events = map (λ x. (x.0, x.1.now)) events
+
+-- what is judged of one key
+pub record PieceView : Type 0 where
+  pub key : ℕ
+  pub judged : KeyHistory
+
+abbrev pub piece_of : ℕ → KeyHistory → PieceView
+piece_of key judged = record { key = key; judged = judged }
+
+-- the line of a piece: its events by its kind and budget, each given once to what judges the key
+abbrev pub line_of : PieceView → KeyLineView
+line_of piece = at_rest piece.judged (count_on 0 (length piece.judged.events))

@@ -1,0 +1,38 @@
+-- Invariant: lines that are on their way to their places
+use Rattle.std.specs.Prelude.{◌≡◌, ℕ, ◌<◌, ◌≤◌, ◌%◌, Option, Some, List, length, slice_get}
+use Rattle.std.specs.List.{All, Contains}
+use Rattle.checkpoints.specs.KeyLineView.{KeyLineView}
+use Rattle.parallel_recheck.specs.declared.workers.Placed.{Placed}
+
+-- the line is the one of its place
+abbrev pub IsAmong : List KeyLineView → Placed → Type 0
+IsAmong lines placed = slice_get lines placed.place ≡ Some placed.line
+
+-- one of them is of this place
+abbrev pub HasPlace : List Placed → ℕ → Type 0
+HasPlace all place = (placed : Placed) × Contains all placed × (placed.place ≡ place)
+
+-- lines in their places, and among them those of all places below `count` that are theirs
+pub record IsShare (lines : List KeyLineView) (IsTheirs : ℕ → Type 0) (count : ℕ) (placed : List Placed) : Type 0 where
+  pub among : All (IsAmong lines) placed
+  pub all : (place : ℕ) → place < count → IsTheirs place → HasPlace placed place
+
+-- the place is one of this worker's; it is this worker's or a later one's
+abbrev pub IsOwn : ℕ → ℕ → ℕ → Type 0
+IsOwn worker workers place = place % workers ≡ worker
+
+abbrev pub IsOwnOrLater : ℕ → ℕ → ℕ → Type 0
+IsOwnOrLater worker workers place = worker ≤ place % workers
+
+-- each slot that is filled has the line of its place
+pub record AreSlotsOf (lines : List KeyLineView) (slots : List (Option KeyLineView)) : Type 0 where
+  pub many : length slots ≡ length lines
+  pub filled : (place : ℕ) (line : KeyLineView) → slice_get slots place ≡ Some (Some line)
+      → slice_get lines place ≡ Some line
+
+-- the slot of this place is filled
+abbrev pub IsFilled : List (Option KeyLineView) → ℕ → Type 0
+IsFilled slots place = (line : KeyLineView) × (slice_get slots place ≡ Some (Some line))
+
+abbrev pub AreFilled : List (Option KeyLineView) → Type 0
+AreFilled slots = (place : ℕ) → place < length slots → IsFilled slots place

@@ -1,0 +1,85 @@
+//! The events of one key.
+ghost use Rattle.std.specs.Prelude.{◌≡◌, ◌∷◌, ◌++◌, [], IfOk, OnOk, OnErr};
+ghost use Rattle.history.specs.ProcessRule.{IsHistory};
+ghost use Rattle.checkpoints.specs.KeyLineView.{with_pushed, without_events};
+ghost use Rattle.parallel_recheck.specs.Pieces.{piece_of, line_of};
+
+use checkpoints::KeyLine;
+use history::Event;
+use models::{Key, ModelKind};
+use std::alloc::{AllocError, Global};
+use std::marker::Model;
+
+/// What is judged of one key: its kind of object, its budget, and its events with their indices, in the order in which they
+/// came. The events are lent, so a piece of a long history takes 16 bytes an event.
+#[derive(Drop)]
+pub struct KeyEvents<'a> {
+    key: Key,
+    kind: ModelKind,
+    budget: u32,
+    events: Vec<(u32, &'a Event)>,
+}
+
+impl<'a> Model for KeyEvents<'a> {
+    ghost use Rattle.history.specs.ProcessRule.{IsHistory};
+    ghost use Rattle.parallel_recheck.specs.Pieces.{PieceView, lent};
+
+    ghost Value = { PieceView };
+
+    ghost view = { λ a. record {
+      key = a.key;
+      judged = record { kind = a.kind; budget = a.budget; events = lent a.events.items };
+    } };
+
+    ghost invariant = { λ a. IsHistory (lent a.events.items) };
+}
+
+impl<'a> KeyEvents<'a> {
+    /// No events of this key, to be judged as an object of this kind, by this budget. Takes no memory.
+    pub fn new(alloc: Global, key: Key, kind: ModelKind, budget: u32) -> Self
+        ensures { result ≡ piece_of key (without_events kind budget) }
+    {
+        KeyEvents {
+            key,
+            kind,
+            budget,
+            events: Vec::new(alloc),
+        }
+    }
+
+    /// Adds an event, which the process rule allows after those before it. Its index is its place in the whole history.
+    ///
+    /// # Errors
+    /// `AllocError` where a growth was refused; the events are then as before.
+    pub fn push(&mut self, index: u32, event: &'a Event) -> Result<(), AllocError>
+        requires { IsHistory (self.old.judged.events ++ (index, event.now) ∷ []) }
+        ensures pushed { OnOk result (self.new
+            ≡ piece_of self.old.key (with_pushed index event.now self.old.judged)) }
+        ensures err { OnErr result (self.new ≡ self.old) }
+    {
+        self.events.push((index, event))?;
+        Ok(())
+    }
+
+    /// The key.
+    pub fn key(&self) -> Key
+        ensures { result ≡ self.now.key }
+    {
+        self.key
+    }
+
+    /// The line of the key, which has a copy of each event. It takes the time of a push for each.
+    ///
+    /// # Errors
+    /// `AllocError` where a growth was refused.
+    pub fn line(&self, alloc: Global) -> Result<KeyLine, AllocError>
+        ensures { IfOk result (λ line. line ≡ line_of self.now) }
+    {
+        let mut line = KeyLine::new(alloc, self.kind, self.budget)?;
+        for (index, event) in &self.events {
+            let copy = event.copy()?;
+            line.push(*index, copy)?;
+        }
+        Ok(line)
+    }
+}

@@ -1,0 +1,201 @@
+//! Pieces of work, shared out among threads.
+ghost use Rattle.std.specs.Prelude.{◌≡◌, ◌≢◌, ◌+◌, ◌<◌, ◌≤◌, ℕ, List, None, Some, All, length, map, replicate, slice_get, IfOk, OnOk};
+ghost use denote.Param.Send.{IsSync};
+ghost use Rattle.checkpoints.specs.KeyLineView.{KeyLineView};
+ghost use Rattle.parallel_recheck.specs.Pieces.{line_of};
+ghost use Rattle.parallel_recheck.specs.Placed.{IsAmong, HasPlace, IsShare, IsOwn, IsOwnOrLater, AreSlotsOf, IsFilled, AreFilled};
+
+use crate::key_events::KeyEvents;
+use checkpoints::KeyLine;
+use edn::Gate;
+use std::alloc::{AllocError, Global};
+use std::thread::{Threads, join};
+
+// A line, and the place of its piece.
+#[derive(Drop)]
+struct Placed {
+    place: usize,
+    line: KeyLine,
+}
+
+/// The lines of these pieces, in their order. Piece `i` goes to worker `i mod workers`: the last worker is the calling
+/// thread, and each other one has a thread of its own. A worker whose thread can't be started leaves its pieces to the
+/// calling thread. The lines are the same whatever the number of workers.
+///
+/// The gate is called as each piece begins and as it ends, by its place.
+///
+/// # Errors
+/// `AllocError` where a growth was refused, in whichever thread.
+pub fn recheck<R: Threads + Sync, G: Gate + Sync>(
+    rt: &R,
+    alloc: Global,
+    pieces: &[KeyEvents],
+    workers: u32,
+    gate: &G,
+) -> Result<Vec<KeyLine>, AllocError>
+    requires workers { (1 ≤ workers) × (workers ≤ 64) }
+    ensures lines { IfOk result (λ lines. lines.items ≡ map line_of pieces.now) }
+{
+    let placed = judged_from(rt, alloc, pieces, 0, workers as usize, gate)?;
+    let mut empty = slots_for(alloc, pieces.len())?;
+    let slots = empty.as_mut_slice();
+    fill(slots, placed);
+    in_order(alloc, slots)
+}
+
+// The lines of the workers from this one on. Each but the last one has a thread of its own where one can be started; where none
+// can, the calling thread judges its pieces, once it has judged its own.
+fn judged_from<R: Threads + Sync, G: Gate + Sync>(
+    rt: &R,
+    alloc: Global,
+    pieces: &[KeyEvents],
+    worker: usize,
+    workers: usize,
+    gate: &G,
+) -> Result<Vec<Placed>, AllocError>
+    requires { worker < workers }
+    ensures { IfOk result (λ placed. IsShare (map line_of pieces.now) (IsOwnOrLater worker workers)
+        (length pieces.now) placed.items) }
+{
+    if worker + 1 == workers {
+        return judged_by(alloc, pieces, worker, workers, gate);
+    }
+    let mine = move || -> Result<Vec<Placed>, AllocError>
+        requires { IsSync G.row × (worker < workers) }
+        ensures { IfOk result (λ placed. IsShare (map line_of pieces.entry.now)
+            (IsOwn worker workers) (length pieces.entry.now) placed.items) }
+    { judged_by(alloc, pieces, worker, workers, gate) };
+    let others = move || -> Result<Vec<Placed>, AllocError>
+        requires { IsSync R.row × IsSync G.row × (worker + 1 < workers) }
+        ensures { IfOk result (λ placed. IsShare (map line_of pieces.entry.now)
+            (IsOwnOrLater (worker + 1) workers) (length pieces.entry.now) placed.items) }
+    { judged_from(rt, alloc, pieces, worker + 1, workers, gate) };
+    let (first, rest) = join(rt, mine, others);
+    let mut all = first?;
+    let mut rest = rest?;
+    all.append(&mut rest)?;
+    Ok(all)
+}
+
+// The lines of one worker.
+fn judged_by<G: Gate>(
+    alloc: Global,
+    pieces: &[KeyEvents],
+    worker: usize,
+    workers: usize,
+    gate: &G,
+) -> Result<Vec<Placed>, AllocError>
+    requires { 0 < workers }
+    ensures { IfOk result (λ placed. IsShare (map line_of pieces.now) (IsOwn worker workers)
+        (length pieces.now) placed.items) }
+{
+    let mut placed = Vec::new(alloc);
+    for place in 0..pieces.len() {
+        judge_own(&mut placed, pieces, place, worker, workers, gate)?;
+    }
+    Ok(placed)
+}
+
+// Judges the piece at a place where it is one of this worker's.
+fn judge_own<G: Gate>(
+    placed: &mut Vec<Placed>,
+    pieces: &[KeyEvents],
+    place: usize,
+    worker: usize,
+    workers: usize,
+    gate: &G,
+) -> Result<(), AllocError>
+    requires workers { 0 < workers }
+    requires within { place < length pieces.now }
+    requires before { IsShare (map line_of pieces.now) (IsOwn worker workers) place placed.old.items }
+    ensures { OnOk result (IsShare (map line_of pieces.now) (IsOwn worker workers) (place + 1)
+        placed.new.items) }
+{
+    let is_own = place % workers == worker;
+    if !is_own {
+        return Ok(());
+    }
+    let line = judged_at(*placed.allocator(), pieces, place, gate)?;
+    placed.push(Placed { place, line })?;
+    Ok(())
+}
+
+// The line of the piece at a place. The gate is called round it.
+fn judged_at<G: Gate>(
+    alloc: Global,
+    pieces: &[KeyEvents],
+    place: usize,
+    gate: &G,
+) -> Result<KeyLine, AllocError>
+    requires { place < length pieces.now }
+    ensures { IfOk result (λ line. slice_get (map line_of pieces.now) place ≡ Some line) }
+{
+    let name = u32::try_from(place).unwrap_or(u32::MAX);
+    gate.begin(name);
+    let line = pieces[place].line(alloc);
+    gate.end(name);
+    line
+}
+
+// Empty slots.
+fn slots_for(alloc: Global, count: usize) -> Result<Vec<Option<KeyLine>>, AllocError>
+    ensures { IfOk result (λ slots. slots.items ≡ replicate count None) }
+{
+    let mut slots = Vec::with_capacity(alloc, count)?;
+    for _ in 0..count {
+        slots.push(None)?;
+    }
+    Ok(slots)
+}
+
+// Puts each line into the slot of its place.
+fn fill(slots: &mut [Option<KeyLine>], mut placed: Vec<Placed>)
+    requires { All (λ p. p.place < length slots.old) placed.items }
+    ensures slots { (lines : List KeyLineView) → AreSlotsOf lines slots.old
+        → All (IsAmong lines) placed.items → AreSlotsOf lines slots.new }
+    ensures filled { (place : ℕ) → HasPlace placed.items place → IsFilled slots.new place }
+{
+    while let Some(next) = placed.pop() {
+        put(slots, next);
+    }
+}
+
+// Puts a line into the slot of its place.
+fn put(slots: &mut [Option<KeyLine>], placed: Placed)
+    requires { placed.place < length slots.old }
+    ensures slots { (lines : List KeyLineView) → AreSlotsOf lines slots.old
+        → IsAmong lines placed → AreSlotsOf lines slots.new }
+    ensures filled { IsFilled slots.new placed.place }
+    ensures others { (place : ℕ) → IsFilled slots.old place → IsFilled slots.new place }
+    ensures many { length slots.new ≡ length slots.old }
+{
+    let Placed { place, line } = placed;
+    slots[place] = Some(line);
+}
+
+// The lines of all slots, in order. The slots are then empty.
+fn in_order(alloc: Global, slots: &mut [Option<KeyLine>]) -> Result<Vec<KeyLine>, AllocError>
+    requires { AreFilled slots.old }
+    ensures { (lines : List KeyLineView) → AreSlotsOf lines slots.old
+        → IfOk result (λ taken. taken.items ≡ lines) }
+{
+    let mut lines = Vec::with_capacity(alloc, slots.len())?;
+    for place in 0..slots.len() {
+        let line = line_in(slots, place);
+        lines.push(line)?;
+    }
+    Ok(lines)
+}
+
+// Takes the line out of the slot of a place.
+fn line_in(slots: &mut [Option<KeyLine>], place: usize) -> KeyLine
+    requires { IsFilled slots.old place }
+    ensures line { slice_get slots.old place ≡ Some (Some result) }
+    ensures others { (other : ℕ) → other ≢ place
+        → slice_get slots.new other ≡ slice_get slots.old other }
+{
+    match slots[place].take() {
+        Some(line) => line,
+        None => unreachable!(),
+    }
+}
