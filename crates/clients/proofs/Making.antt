@@ -1,0 +1,117 @@
+-- The calls of a seat, one after the other, and what clients and the nemesis do by them.
+use Rattle.std.proofs.Common.{◌≡◌, ◌⊎◌, ℕ, ◌+◌, List, [], ◌∷◌, ◌++◌, Some, None, Ok, Err, refl, sym, subst, ◌∙◌, inl, inr, arith}
+use Rattle.edn.specs.declared.refusal.Refusal.{Refusal}
+use Rattle.edn.specs.declared.refusal.Refusal.TheVariants.{NotOpen, TapeFull, NoMemory, Stale}
+use Rattle.machine.specs.declared.command.Command.{Command}
+use Rattle.machine.specs.declared.command.Command.TheVariants.{Draw as Draws, Serve, Finish, Nemesis}
+use Rattle.machine.specs.declared.command.Reply.{Reply}
+use Rattle.board.specs.declared.tape.TapeEntry.TheVariants.{Call}
+use Rattle.board.specs.CoreTape.{CoreReply}
+use Rattle.board.proofs.Prefixes.{prefix_self, prefix_trans}
+use Rattle.clients.specs.declared.client.Next.{Next}
+use Rattle.clients.specs.declared.client.Next.TheVariants.{Draw, End}
+use Rattle.clients.specs.Calls.{CoreSeat, Calls, MadeNone, MadeOne, HasMade, MayBeNoCall, IsTold}
+use Rattle.clients.specs.Plays.{Stage, draws, has_ended, IsNext, after_reply, after_refusal, after_answer, Plays, AreStrikes, HasPlayed, HasStruck}
+use Rattle.clients.specs.Playing.{MayBeLost, IsAfterRefusal, StandsAt, CameFrom}
+
+pub none_self : (s : CoreSeat) → MadeNone s s
+none_self s = record { number = refl; seen = prefix_self s.tape; count = refl }
+
+pub none_none : (a b c : CoreSeat) → MadeNone a b → MadeNone b c → MadeNone a c
+none_none a b c p q = record {
+  number = q.number ∙ p.number;
+  seen = prefix_trans a.tape b.tape c.tape p.seen q.seen;
+  count = q.count ∙ p.count;
+}
+
+none_one : (a b c : CoreSeat) (command : Command) (reply : CoreReply) → MadeNone a b → MadeOne b c command reply → MadeOne a c command reply
+none_one a b c command reply p q = record {
+  number = q.number ∙ p.number;
+  entry = (q.entry.0, prefix_trans a.tape b.tape q.entry.0 p.seen q.entry.1, subst (λ (n : ℕ). c.tape ≡ q.entry.0 ++ Call n command reply ∷ []) p.number q.entry.2);
+  count = omega (arith, p.count, q.count);
+}
+
+none_then : (a b c : CoreSeat) (calls : Calls) → MadeNone a b → HasMade b calls c → HasMade a calls c
+none_then a b c [] p q = none_none a b c p q
+none_then a b c (call ∷ calls) p q = (q.0, none_one a b q.0 call.0 call.1 p q.1, q.2)
+
+then_none : (a b c : CoreSeat) (calls : Calls) → HasMade a calls b → MadeNone b c → HasMade a calls c
+then_none a b c [] p q = none_none a b c p q
+then_none a b c (call ∷ calls) p q = (p.0, p.1, then_none p.0 b c calls p.2 q)
+
+made_then : (a b c : CoreSeat) (xs ys : Calls) → HasMade a xs b → HasMade b ys c → HasMade a (xs ++ ys) c
+made_then a b c [] ys p q = none_then a b c ys p q
+made_then a b c (call ∷ xs) ys p q = (p.0, p.1, made_then p.0 b c xs ys p.2 q)
+
+-- Clients
+
+plays_then : (thread : ℕ) (s t u : Stage) (xs ys : Calls) → Plays thread s xs t → Plays thread t ys u → Plays thread s (xs ++ ys) u
+plays_then thread s t u [] ys p q = subst (λ (v : Stage). Plays thread v ys u) (sym p) q
+plays_then thread s t u (call ∷ xs) ys p q = (p.0, plays_then thread (after_answer s call.1) t u xs ys p.1 q)
+
+-- a client that is to draw goes on
+pub came_then : (thread : ℕ) (from : Stage) (a b c : CoreSeat) (next : Next) → CameFrom thread from a b Draw → CameFrom thread draws b c next → CameFrom thread from a c next
+came_then thread from a b c next p q = (
+  p.0 ++ q.0,
+  made_then a b c p.0 q.0 p.1 q.1,
+  (q.2.0, plays_then thread from p.2.0 q.2.0 p.0 q.0 p.2.1 (subst (λ (v : Stage). Plays thread v q.0 q.2.0) (sym p.2.2) q.2.1), q.2.2),
+)
+
+-- it is where it was
+pub came_none : (thread : ℕ) (a b : CoreSeat) → MadeNone a b → CameFrom thread draws a b Draw
+came_none thread a b none = ([], none, (draws, refl, refl))
+
+-- it has nothing more to do
+pub came_to_end : (thread : ℕ) (s : CoreSeat) → CameFrom thread has_ended s s (End None)
+came_to_end thread s = ([], none_self s, (has_ended, refl, inl refl))
+
+-- its call was answered, and it went on from there
+pub answered : (thread : ℕ) (stage : Stage) (a b c : CoreSeat) (command : Command) (reply : Reply) (next : Next) → IsNext thread stage command
+    → IsTold a command (Ok reply) b → CameFrom thread (after_reply stage reply) b c next → CameFrom thread stage a c next
+answered thread stage a b c command reply next is (inl one) rest =
+    ((command, Ok reply) ∷ rest.0, (b, one, rest.1), (rest.2.0, (is, rest.2.1), rest.2.2))
+answered thread stage a b c command reply next is (inr none) rest = absurd none.1
+
+stands_after : (why : Refusal) (next : Next) → IsAfterRefusal why next → StandsAt (after_refusal why) next
+stands_after NotOpen next e = subst (λ (n : Next). StandsAt draws n) (sym e) refl
+stands_after Stale next e = subst (λ (n : Next). StandsAt draws n) (sym e) refl
+stands_after why next e = subst (λ (n : Next). StandsAt has_ended n) (sym e) (inl refl)
+
+stands_lost : (stage : Stage) (why : Refusal) (next : Next) → MayBeNoCall (Err why) → IsAfterRefusal why next → StandsAt stage next
+stands_lost stage TapeFull next may e = subst (λ (n : Next). StandsAt stage n) (sym e) (inr tt)
+stands_lost stage NoMemory next may e = subst (λ (n : Next). StandsAt stage n) (sym e) (inr tt)
+stands_lost stage why next may e = absurd may
+
+-- its call was refused
+pub refused : (thread : ℕ) (stage : Stage) (a b : CoreSeat) (command : Command) (why : Refusal) (next : Next) → IsNext thread stage command
+    → IsTold a command (Err why) b → IsAfterRefusal why next → CameFrom thread stage a b next
+refused thread stage a b command why next is (inl one) after =
+    ((command, Err why) ∷ [], (b, one, none_self b), (after_refusal why, (is, refl), stands_after why next after))
+refused thread stage a b command why next is (inr none) after =
+    ([], none.0, (stage, refl, stands_lost stage why next none.1 after))
+
+-- where none of its commands was lost, it came to its end
+pub has_played : (thread : ℕ) (a b : CoreSeat) (why : _) → CameFrom thread draws a b (End why) → ¬ MayBeLost why → HasPlayed thread a b
+has_played thread a b why came heard = (came.0, came.1, to_end came.2.2) where
+  to_end : (came.2.0 ≡ has_ended) ⊎ MayBeLost why → Plays thread draws came.0 has_ended
+  to_end (inl is) = subst (λ (s : Stage). Plays thread draws came.0 s) is came.2.1
+  to_end (inr lost) = absurd (heard lost)
+
+-- The nemesis
+
+strikes_then : (xs ys : Calls) → AreStrikes xs → AreStrikes ys → AreStrikes (xs ++ ys)
+strikes_then [] ys p q = q
+strikes_then (call ∷ xs) ys p q = (p.0, strikes_then xs ys p.1 q)
+
+pub struck_self : (s : CoreSeat) → HasStruck s s
+struck_self s = ([], none_self s, tt)
+
+pub struck_then : (a b c : CoreSeat) → HasStruck a b → HasStruck b c → HasStruck a c
+struck_then a b c p q = (p.0 ++ q.0, made_then a b c p.0 q.0 p.1 q.1, strikes_then p.0 q.0 p.2 q.2)
+
+pub struck_none : (a b c : CoreSeat) → HasStruck a b → MadeNone b c → HasStruck a c
+struck_none a b c p q = (p.0, then_none a b c p.0 p.1 q, p.2)
+
+pub struck_by : (a b : CoreSeat) (reply : CoreReply) → IsTold a Nemesis reply b → HasStruck a b
+struck_by a b reply (inl one) = ((Nemesis, reply) ∷ [], (b, one, none_self b), (refl, tt))
+struck_by a b reply (inr none) = ([], none.0, tt)
