@@ -4,6 +4,7 @@ use Rattle.std.specs.Prelude.{◌==◌, ◌&&◌, if◌then◌else◌}
 use Rattle.std.proofs.lemmas.Bool.Decides.{nat_tests}
 use mathlib.Core.List.{IsPrefix}
 use Rattle.machine.specs.declared.command.Command.{Command}
+use Rattle.machine.specs.Machine.{Machine}
 use Rattle.board.specs.declared.tape.TapeEntry.{TapeEntry}
 use Rattle.board.specs.declared.tape.TapeEntry.TheVariants.{Opening, Call}
 use Rattle.board.specs.declared.seat.SeatView.{SeatView}
@@ -50,7 +51,7 @@ module _ {S C R : Type 0} (is_such : C → Bool) where
   pub asked_then : (a b c : SeatView S C R) → HasAskedOnly is_such a b → HasAskedOnly is_such b c → HasAskedOnly is_such a c
   asked_then a b c p q =
       let later : c.count + asked is_such a.number b.tape ≤ b.count + asked is_such a.number c.tape =
-          subst (λ n. c.count + asked is_such n b.tape ≤ b.count + asked is_such n c.tape) p.number q.calls in
+      subst (λ n. c.count + asked is_such n b.tape ≤ b.count + asked is_such n c.tape) p.number q.calls in
       record {
         number = q.number ∙ p.number;
         seen = prefix_trans a.tape b.tape c.tape p.seen q.seen;
@@ -68,12 +69,12 @@ module _ (is_such : Command → Bool) where
   asked_once : (old new : CoreSeat) (c : Command) (r : CoreReply) → MadeOne old new c r → is_such c ≡ true → HasAskedOnly is_such old new
   asked_once old new c r made is =
       let e = made.entry in
-      let last : asked is_such old.number new.tape ≡ asked is_such old.number e.0 + asked is_such old.number (one_call _ _ _ old.number c r) =
-          ap (asked is_such old.number) e.2 ∙ asked_append is_such old.number e.0 (one_call _ _ _ old.number c r) in
+      let last : asked is_such old.number new.tape ≡ asked is_such old.number e.0 + asked is_such old.number (one_call Machine Command CoreReply old.number c r) =
+      ap (asked is_such old.number) e.2 ∙ asked_append is_such old.number e.0 (one_call Machine Command CoreReply old.number c r) in
       record {
         number = made.number;
         seen = prefix_trans old.tape e.0 new.tape e.1 (Call old.number c r ∷ [], sym e.2);
-        calls = omega (arith, made.count, last, asked_one _ _ _ is_such old.number c r is, asked_front is_such old.number old.tape e.0 e.1);
+        calls = omega (arith, made.count, last, asked_one Machine Command CoreReply is_such old.number c r is, asked_front is_such old.number old.tape e.0 e.1);
       }
 
   abbrev pub AreSuch : Calls → Type 0

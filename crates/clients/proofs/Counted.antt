@@ -63,11 +63,11 @@ module _ (is_such : Command → Bool) where
       subst (λ (m : ℕ). s.count ≤ asked is_such m tape) number (omega (arith, mine.1, first))
 
   others_counted : (n : ℕ) (s : CoreSeat) (rest : List CoreSeat) → AreCounted n (s ∷ rest) → AreCounted (n + 1) rest
-  others_counted n s rest own k t at = let o = own (suc k) t at in (omega (arith, o.0), o.1)
+  others_counted n s rest own = λ k t at. let o = own (suc k) t at in (omega (arith, o.0), o.1)
 
   others_seen : (tape : CoreTape) (s : CoreSeat) (rest : List CoreSeat) → All (λ (t : CoreSeat). IsPrefix t.tape tape) (s ∷ rest)
       → All (λ (t : CoreSeat). IsPrefix t.tape tape) rest
-  others_seen tape s rest seen k d within = seen (suc k) d (omega (arith, within))
+  others_seen tape s rest seen = λ k d within. seen (suc k) d (omega (arith, within))
 
   -- what the seats count is on the tape
   pub counted : (tape : CoreTape) (n : ℕ) (seats : List CoreSeat) → AreCounted n seats

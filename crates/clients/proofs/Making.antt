@@ -1,9 +1,9 @@
 -- The calls of a seat, one after the other, and what clients and the nemesis do by them.
-use Rattle.std.proofs.Common.{◌≡◌, ◌⊎◌, ℕ, ◌+◌, List, [], ◌∷◌, ◌++◌, Some, None, Ok, Err, refl, sym, subst, ◌∙◌, inl, inr, arith}
+use Rattle.std.proofs.Common.{◌≡◌, ◌⊎◌, ℕ, ◌+◌, List, [], ◌∷◌, ◌++◌, Option, Some, None, Ok, Err, refl, sym, subst, ◌∙◌, inl, inr, arith}
 use Rattle.edn.specs.declared.refusal.Refusal.{Refusal}
 use Rattle.edn.specs.declared.refusal.Refusal.TheVariants.{NotOpen, TapeFull, NoMemory, Stale}
 use Rattle.machine.specs.declared.command.Command.{Command}
-use Rattle.machine.specs.declared.command.Command.TheVariants.{Draw as Draws, Serve, Finish, Nemesis}
+use Rattle.machine.specs.declared.command.Command.TheVariants.{Nemesis}
 use Rattle.machine.specs.declared.command.Reply.{Reply}
 use Rattle.board.specs.declared.tape.TapeEntry.TheVariants.{Call}
 use Rattle.board.specs.CoreTape.{CoreReply}
@@ -91,7 +91,7 @@ refused thread stage a b command why next is (inr none) after =
     ([], none.0, (stage, refl, stands_lost stage why next none.1 after))
 
 -- where none of its commands was lost, it came to its end
-pub has_played : (thread : ℕ) (a b : CoreSeat) (why : _) → CameFrom thread draws a b (End why) → ¬ MayBeLost why → HasPlayed thread a b
+pub has_played : (thread : ℕ) (a b : CoreSeat) (why : Option Refusal) → CameFrom thread draws a b (End why) → ¬ MayBeLost why → HasPlayed thread a b
 has_played thread a b why came heard = (came.0, came.1, to_end came.2.2) where
   to_end : (came.2.0 ≡ has_ended) ⊎ MayBeLost why → Plays thread draws came.0 has_ended
   to_end (inl is) = subst (λ (s : Stage). Plays thread draws came.0 s) is came.2.1

@@ -63,7 +63,7 @@ at_least : (n : ℕ) (old new : CoreSeat) (calls : Calls) → old.number ≡ n �
 at_least n old new calls e made =
     let has = asked_by any old new calls made (all_are calls) in
     let more : new.count + asked any n old.tape ≤ old.count + asked any n new.tape =
-        subst (λ (m : ℕ). new.count + asked any m old.tape ≤ old.count + asked any m new.tape) e has.calls in
+    subst (λ (m : ℕ). new.count + asked any m old.tape ≤ old.count + asked any m new.tape) e has.calls in
     omega (arith, more, made_count old new calls made, as_many n old.tape, as_many n new.tape)
 
 pub just_made : (n : ℕ) (old new : CoreSeat) (calls : Calls) → old.number ≡ n → HasMade old calls new
@@ -83,6 +83,6 @@ just_made n old new (call ∷ calls) e made few =
     let size : length (calls_of n mid.tape) ≡ length (calls_of n entry.0) + 1 = omega (arith, ap length added, length-append (calls_of n entry.0) (call ∷ [])) in
     let longer : length (calls_of n entry.0) ≡ length (calls_of n old.tape) + length front.0 = ap length front.1 ∙ length-append (calls_of n old.tape) front.0 in
     let before : calls_of n entry.0 ≡ calls_of n old.tape = none_more (calls_of n old.tape) (calls_of n entry.0) front.0 front.1 (omega (arith, few, rest, size)) in
-    let then : calls_of n new.tape ≡ calls_of n mid.tape ++ calls = just_made n mid new calls number made.2 (omega (arith, few, size, longer)) in
+    let later : calls_of n new.tape ≡ calls_of n mid.tape ++ calls = just_made n mid new calls number made.2 (omega (arith, few, size, longer)) in
     let at_mid : calls_of n mid.tape ≡ calls_of n old.tape ++ call ∷ [] = added ∙ ap (λ (zs : Calls). zs ++ call ∷ []) before in
-    then ∙ (ap (λ (zs : Calls). zs ++ calls) at_mid ∙ append_assoc (calls_of n old.tape) (call ∷ []) calls)
+    later ∙ (ap (λ (zs : Calls). zs ++ calls) at_mid ∙ append_assoc (calls_of n old.tape) (call ∷ []) calls)

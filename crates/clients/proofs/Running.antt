@@ -63,25 +63,24 @@ module _ {A E : Type 0} (view : A → CoreSeat) (seat_of : E → A) (why_of : E 
     clients place old new before at_old at_new =
         ⊎_elim
         (λ old_there.
-            ⊎_elim
-            (λ new_there. let e = map_get seat_of all place new new_there in one_client front all played well place old e.0 new old_there e.1 e.2)
-            (λ (last_of : (place ≡ length (map seat_of all)) × (struck ≡ new)). absurd (omega (arith, before, size, len, last_of.0, length-map all seat_of)))
-            (last_or_before (map seat_of all) struck new place at_new))
+        ⊎_elim
+        (λ new_there. let e = map_get seat_of all place new new_there in one_client front all played well place old e.0 new old_there e.1 e.2)
+        (λ (last_of : (place ≡ length (map seat_of all)) × (struck ≡ new)). absurd (omega (arith, before, size, len, last_of.0, length-map all seat_of)))
+        (last_or_before (map seat_of all) struck new place at_new))
         (λ (last_of : (place ≡ length front) × (last ≡ old)). absurd (omega (arith, before, size, last_of.0)))
         (last_or_before front last old place at_old)
 
     the_nemesis : (old new : A) → slice_get (front ++ last ∷ []) (length (front ++ last ∷ []) - 1) ≡ Some old
         → slice_get (map seat_of all ++ struck ∷ []) (length (front ++ last ∷ []) - 1) ≡ Some new → HasStruck (view old) (view new)
     the_nemesis old new at_old at_new =
-        let place : ℕ = length (front ++ last ∷ []) - 1 in
         ⊎_elim
         (λ old_there. absurd (omega (arith, size, slice_get_within front (length (front ++ last ∷ []) - 1) old old_there)))
         (λ (mine : (place ≡ length front) × (last ≡ old)).
-            ⊎_elim
-            (λ new_there. absurd (omega (arith, size, len, length-map all seat_of, slice_get_within (map seat_of all) (length (front ++ last ∷ []) - 1) new new_there)))
-            (λ (theirs : (place ≡ length (map seat_of all)) × (struck ≡ new)).
-                subst (λ (x : A). HasStruck (view x) (view new)) mine.1 (subst (λ (x : A). HasStruck (view last) (view x)) theirs.1 nemesis))
-            (last_or_before (map seat_of all) struck new place at_new))
+        ⊎_elim
+        (λ new_there. absurd (omega (arith, size, len, length-map all seat_of, slice_get_within (map seat_of all) (length (front ++ last ∷ []) - 1) new new_there)))
+        (λ (theirs : (place ≡ length (map seat_of all)) × (struck ≡ new)).
+        subst (λ (x : A). HasStruck (view x) (view new)) mine.1 (subst (λ (x : A). HasStruck (view last) (view x)) theirs.1 nemesis))
+        (last_or_before (map seat_of all) struck new place at_new))
         (last_or_before front last old place at_old)
 
 numbered_at : {A : Type 0} (n : ℕ) (xs : List A) (k : ℕ) (d : ℕ × A) → k < length xs → (slice_index_or (enumerate_from n xs) k d).0 ≡ n + k

@@ -103,13 +103,13 @@ module _ (m : Machine) (seats back : List CoreSeat) (fresh : IsFresh (opening_ta
   within k s at = omega (arith, get_within back k s at, run.count)
 
   trials_counted : AreCounted is_of_trial 0 back
-  trials_counted k s at =
+  trials_counted = λ k s at.
       let old = get_some seats k (within k s at) in
       let r = ran seats back k old.0 s run (within k s at) old.1 at in
       from_fresh is_of_trial k m old.0 s (fresh k old.0 old.1) (asked_by is_of_trial old.0 s r.0 r.1 r.2)
 
   all_counted : AreCounted any 0 back
-  all_counted k s at =
+  all_counted = λ k s at.
       let old = get_some seats k (within k s at) in
       let r = ran seats back k old.0 s run (within k s at) old.1 at in
       from_fresh any k m old.0 s (fresh k old.0 old.1) (asked_by any old.0 s r.0 r.1 (all_are r.0))

@@ -59,12 +59,7 @@ fn take_turn<M: SharedBoard, G: Gate, R: Wait>(
 }
 
 // Serves and finishes what was drawn. Where it may draw later, it lets others go on.
-fn carry_out<M: SharedBoard, R: Wait>(
-    rt: &R,
-    board: &M,
-    seat: &mut M::Seat,
-    drawn: Reply,
-) -> Next
+fn carry_out<M: SharedBoard, R: Wait>(rt: &R, board: &M, seat: &mut M::Seat, drawn: Reply) -> Next
     ensures { (thread : ℕ) → CameFrom thread (after_reply draws drawn) (M.view seat.old) (M.view seat.new) result }
 {
     match drawn {

@@ -53,7 +53,13 @@ fn config(alloc: Global, operations: u64, items: Vec<Item>) -> Result<Config, Re
 }
 
 /// A board of two threads and so many seats, whose clients draw so many operations, which are these in turn.
-pub fn blank<R: Abort>(rt: &R, alloc: Global, seats: u32, operations: u64, items: Vec<Item>) -> Blank
+pub fn blank<R: Abort>(
+    rt: &R,
+    alloc: Global,
+    seats: u32,
+    operations: u64,
+    items: Vec<Item>,
+) -> Blank
     ensures { result.seats ≡ seats }
 {
     let Ok(config) = config(alloc, operations, items) else {

@@ -84,7 +84,12 @@ fn carry_out<M: SharedBoard, R: Wait>(
 }
 
 // Does what clients do, and draws again where its operation is open still.
-fn play<M: SharedBoard, R: Wait>(rt: &R, board: &M, thread: u32, mut seat: M::Seat) -> Ended<M::Seat> {
+fn play<M: SharedBoard, R: Wait>(
+    rt: &R,
+    board: &M,
+    thread: u32,
+    mut seat: M::Seat,
+) -> Ended<M::Seat> {
     let mut commits = Commits::new();
     for _ in 0..TURNS {
         let is_well = match ask(rt, board, &mut seat, &mut commits, Command::Draw(thread)) {
@@ -178,7 +183,11 @@ fn cut_under_clients(rt: HostRuntime) {
     run_and_cut::<Brand, _>(&rt, alloc, blank(&rt, alloc, 4, 200, items));
 }
 
-fn run_and_cut<B: Tag + Send + Sync, R: Threads + Wait + Abort + Sync>(rt: &R, alloc: Global, blank: Blank)
+fn run_and_cut<B: Tag + Send + Sync, R: Threads + Wait + Abort + Sync>(
+    rt: &R,
+    alloc: Global,
+    blank: Blank,
+)
     requires names { (blank.word ≡ B.word) × (blank.ledger.name ≡ B.name)
         × (blank.ledger.parts ≡ B.parts) }
     requires seats { blank.seats ≡ 4 }

@@ -55,7 +55,11 @@ where
     let Some((commit, news)) = told else {
         return (first, second, None);
     };
-    let ((second, shown, called), ()) = join(rt, move || learn_there(rt, board, second, news), || ());
+    let ((second, shown, called), ()) = join(
+        rt,
+        move || learn_there(rt, board, second, news),
+        || (),
+    );
     (first, second, Some((commit, shown, called)))
 }
 

@@ -78,7 +78,11 @@ fn clients_overlap(rt: HostRuntime) {
     overlap::<Brand, _>(&rt, alloc, blank(&rt, alloc, 3, 2, items));
 }
 
-fn overlap<B: Tag + Send + Sync, R: Threads + Wait + Abort + Sync>(rt: &R, alloc: Global, blank: Blank)
+fn overlap<B: Tag + Send + Sync, R: Threads + Wait + Abort + Sync>(
+    rt: &R,
+    alloc: Global,
+    blank: Blank,
+)
     requires names { (blank.word ≡ B.word) × (blank.ledger.name ≡ B.name)
         × (blank.ledger.parts ≡ B.parts) }
     requires seats { blank.seats ≡ 3 }

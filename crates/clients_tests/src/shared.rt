@@ -17,7 +17,12 @@ pub trait SharedBoard {
     fn call<R: Wait>(&self, rt: &R, seat: &mut Self::Seat, command: Command) -> Option<Heard>;
 
     /// The commit of a command, and its news.
-    fn tell<R: Wait>(&self, rt: &R, seat: &mut Self::Seat, command: Command) -> Option<(u64, Self::News)>;
+    fn tell<R: Wait>(
+        &self,
+        rt: &R,
+        seat: &mut Self::Seat,
+        command: Command,
+    ) -> Option<(u64, Self::News)>;
 
     /// What a glance shows, once the seat has learned the news.
     fn glance_after(&self, seat: &mut Self::Seat, news: Self::News) -> Option<u64>;
@@ -33,7 +38,12 @@ impl<B: Tag> SharedBoard for Board<B> {
         Some((answered.commit, answered.reply))
     }
 
-    fn tell<R: Wait>(&self, rt: &R, seat: &mut Seat<B>, command: Command) -> Option<(u64, News<B>)> {
+    fn tell<R: Wait>(
+        &self,
+        rt: &R,
+        seat: &mut Seat<B>,
+        command: Command,
+    ) -> Option<(u64, News<B>)> {
         let answered = Board::call(self, rt, seat, command).ok()?;
         Some((answered.commit, answered.news))
     }

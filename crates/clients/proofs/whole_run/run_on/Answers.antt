@@ -11,8 +11,8 @@ returns-in-Ok-clause-run g c =
     let seats = c.in_ok-board.seats.items in
     let back = c.in-Ok.back.items in
     let ours : IsTapeOf (opening_tape m) back (length seats) ended.0 =
-        subst (λ (n : ℕ). IsTapeOf (opening_tape m) back n ended.0) (sym opened.seats.1)
-        (subst (λ (t : CoreTape). IsTapeOf t back g.B.Ledger.parts ended.0) opened.opening ended.2) in
+    subst (λ (n : ℕ). IsTapeOf (opening_tape m) back n ended.0) (sym opened.seats.1)
+    (subst (λ (t : CoreTape). IsTapeOf t back g.B.Ledger.parts ended.0) opened.opening ended.2) in
     record {
       tape = ended.0;
       opens = ours.opens;
