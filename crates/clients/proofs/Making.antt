@@ -5,8 +5,12 @@ use Rattle.edn.specs.declared.refusal.Refusal.TheVariants.{NotOpen, TapeFull, No
 use Rattle.machine.specs.declared.command.Command.{Command}
 use Rattle.machine.specs.declared.command.Command.TheVariants.{Nemesis}
 use Rattle.machine.specs.declared.command.Reply.{Reply}
+use Rattle.machine.specs.declared.command.Reply.TheVariants.{Drawn, Pending}
+use Rattle.machine.specs.Machine.{MayStep}
+use Rattle.harness.specs.CoreView.{MayWantMemory}
 use Rattle.board.specs.declared.tape.TapeEntry.TheVariants.{Call}
-use Rattle.board.specs.CoreTape.{CoreReply}
+use Rattle.board.specs.Tape.{IsNoEntry}
+use Rattle.board.specs.CoreTape.{CoreReply, CoreTape}
 use Rattle.board.proofs.Prefixes.{prefix_self, prefix_trans}
 use Rattle.clients.specs.declared.client.Next.{Next}
 use Rattle.clients.specs.declared.client.Next.TheVariants.{Draw, End}
@@ -43,6 +47,12 @@ made_then : (a b c : CoreSeat) (xs ys : Calls) → HasMade a xs b → HasMade b 
 made_then a b c [] ys p q = none_then a b c ys p q
 made_then a b c (call ∷ xs) ys p q = (p.0, p.1, made_then p.0 b c xs ys p.2 q)
 
+-- what is no entry is told so
+pub told_none : (whole before after : CoreTape) (command : Command) (why : Refusal) → IsNoEntry MayStep MayWantMemory why whole command before after → MayBeNoCall (Err why)
+told_none whole before after command TapeFull cause = tt
+told_none whole before after command NoMemory cause = tt
+told_none whole before after command why cause = absurd cause
+
 -- Clients
 
 plays_then : (thread : ℕ) (s t u : Stage) (xs ys : Calls) → Plays thread s xs t → Plays thread t ys u → Plays thread s (xs ++ ys) u
@@ -61,16 +71,20 @@ came_then thread from a b c next p q = (
 pub came_none : (thread : ℕ) (a b : CoreSeat) → MadeNone a b → CameFrom thread draws a b Draw
 came_none thread a b none = ([], none, (draws, refl, refl))
 
--- it has nothing more to do
-pub came_to_end : (thread : ℕ) (s : CoreSeat) → CameFrom thread has_ended s s (End None)
-came_to_end thread s = ([], none_self s, (has_ended, refl, inl refl))
+-- nothing was drawn, and it has nothing more to do
+pub came_to_none : (thread : ℕ) (s : CoreSeat) (drawn : Reply) → ((ticket index : ℕ) → ¬ (drawn ≡ Drawn ticket index)) → ¬ (drawn ≡ Pending)
+    → CameFrom thread (after_reply draws drawn) s s (End None)
+came_to_none thread s (Drawn ticket index) a b = absurd (a ticket index refl)
+came_to_none thread s Pending a b = absurd (b refl)
+came_to_none thread s drawn a b = ([], none_self s, (has_ended, refl, inl refl))
 
 -- its call was answered, and it went on from there
-pub answered : (thread : ℕ) (stage : Stage) (a b c : CoreSeat) (command : Command) (reply : Reply) (next : Next) → IsNext thread stage command
-    → IsTold a command (Ok reply) b → CameFrom thread (after_reply stage reply) b c next → CameFrom thread stage a c next
-answered thread stage a b c command reply next is (inl one) rest =
-    ((command, Ok reply) ∷ rest.0, (b, one, rest.1), (rest.2.0, (is, rest.2.1), rest.2.2))
-answered thread stage a b c command reply next is (inr none) rest = absurd none.1
+pub answered : (thread : ℕ) (stage : Stage) (a b c : CoreSeat) (command : Command) (reply : Reply) (result : CoreReply) (next : Next) → IsNext thread stage command
+    → result ≡ Ok reply → IsTold a command result b → CameFrom thread (after_reply stage reply) b c next → CameFrom thread stage a c next
+answered thread stage a b c command reply result next is e told rest = go (subst (λ (r : CoreReply). IsTold a command r b) e told) where
+  go : IsTold a command (Ok reply) b → CameFrom thread stage a c next
+  go (inl one) = ((command, Ok reply) ∷ rest.0, (b, one, rest.1), (rest.2.0, (is, rest.2.1), rest.2.2))
+  go (inr none) = absurd none.1
 
 stands_after : (why : Refusal) (next : Next) → IsAfterRefusal why next → StandsAt (after_refusal why) next
 stands_after NotOpen next e = subst (λ (n : Next). StandsAt draws n) (sym e) refl
@@ -82,13 +96,31 @@ stands_lost stage TapeFull next may e = subst (λ (n : Next). StandsAt stage n) 
 stands_lost stage NoMemory next may e = subst (λ (n : Next). StandsAt stage n) (sym e) (inr tt)
 stands_lost stage why next may e = absurd may
 
+-- it goes on from where it draws
+pub came_on : (thread : ℕ) (a b c : CoreSeat) (next then_next : Next) → CameFrom thread draws a b next → next ≡ Draw → CameFrom thread draws b c then_next
+    → CameFrom thread draws a c then_next
+came_on thread a b c next then_next p is q = came_then thread draws a b c then_next (subst (λ (n : Next). CameFrom thread draws a b n) is p) q
+
+pub came_as : (thread : ℕ) (a b : CoreSeat) (next other : Next) → CameFrom thread draws a b next → next ≡ other → CameFrom thread draws a b other
+came_as thread a b next other p is = subst (λ (n : Next). CameFrom thread draws a b n) is p
+
+pub after_others : (why : Refusal) → ¬ (why ≡ NotOpen) → ¬ (why ≡ Stale) → IsAfterRefusal why (End (Some why))
+after_others NotOpen a b = absurd (a refl)
+after_others Stale a b = absurd (b refl)
+after_others why a b = refl
+
+pub heard : (why : Refusal) → ¬ (why ≡ TapeFull) → ¬ (why ≡ NoMemory) → ¬ MayBeLost (Some why)
+heard TapeFull a b lost = a refl
+heard NoMemory a b lost = b refl
+heard why a b lost = lost
+
 -- its call was refused
-pub refused : (thread : ℕ) (stage : Stage) (a b : CoreSeat) (command : Command) (why : Refusal) (next : Next) → IsNext thread stage command
-    → IsTold a command (Err why) b → IsAfterRefusal why next → CameFrom thread stage a b next
-refused thread stage a b command why next is (inl one) after =
-    ((command, Err why) ∷ [], (b, one, none_self b), (after_refusal why, (is, refl), stands_after why next after))
-refused thread stage a b command why next is (inr none) after =
-    ([], none.0, (stage, refl, stands_lost stage why next none.1 after))
+pub refused : (thread : ℕ) (stage : Stage) (a b : CoreSeat) (command : Command) (why : Refusal) (result : CoreReply) (next : Next) → IsNext thread stage command
+    → result ≡ Err why → IsTold a command result b → IsAfterRefusal why next → CameFrom thread stage a b next
+refused thread stage a b command why result next is e told after = go (subst (λ (r : CoreReply). IsTold a command r b) e told) where
+  go : IsTold a command (Err why) b → CameFrom thread stage a b next
+  go (inl one) = ((command, Err why) ∷ [], (b, one, none_self b), (after_refusal why, (is, refl), stands_after why next after))
+  go (inr none) = ([], none.0, (stage, refl, stands_lost stage why next none.1 after))
 
 -- where none of its commands was lost, it came to its end
 pub has_played : (thread : ℕ) (a b : CoreSeat) (why : Option Refusal) → CameFrom thread draws a b (End why) → ¬ MayBeLost why → HasPlayed thread a b

@@ -75,13 +75,13 @@ module _ {A E : Type 0} (view : A → CoreSeat) (seat_of : E → A) (why_of : E 
     the_nemesis old new at_old at_new =
         ⊎_elim
         (λ old_there. absurd (omega (arith, size, slice_get_within front (length (front ++ last ∷ []) - 1) old old_there)))
-        (λ (mine : (place ≡ length front) × (last ≡ old)).
+        (λ (mine : (length (front ++ last ∷ []) - 1 ≡ length front) × (last ≡ old)).
         ⊎_elim
         (λ new_there. absurd (omega (arith, size, len, length-map all seat_of, slice_get_within (map seat_of all) (length (front ++ last ∷ []) - 1) new new_there)))
-        (λ (theirs : (place ≡ length (map seat_of all)) × (struck ≡ new)).
+        (λ (theirs : (length (front ++ last ∷ []) - 1 ≡ length (map seat_of all)) × (struck ≡ new)).
         subst (λ (x : A). HasStruck (view x) (view new)) mine.1 (subst (λ (x : A). HasStruck (view last) (view x)) theirs.1 nemesis))
-        (last_or_before (map seat_of all) struck new place at_new))
-        (last_or_before front last old place at_old)
+        (last_or_before (map seat_of all) struck new (length (front ++ last ∷ []) - 1) at_new))
+        (last_or_before front last old (length (front ++ last ∷ []) - 1) at_old)
 
 numbered_at : {A : Type 0} (n : ℕ) (xs : List A) (k : ℕ) (d : ℕ × A) → k < length xs → (slice_index_or (enumerate_from n xs) k d).0 ≡ n + k
 numbered_at n [] k d within = absurd (omega (arith, within))

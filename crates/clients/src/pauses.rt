@@ -14,8 +14,9 @@ pub(crate) fn let_others_call<M: SharedBoard>(board: &M, seat: &mut M::Seat, cal
     let before = board.commit(seat);
     for _ in 0..TURNS {
         thread::yield_now();
-        if board.commit(seat).saturating_sub(before) >= calls {
-            break;
+        let now = board.commit(seat);
+        if now.saturating_sub(before) >= calls {
+            return;
         }
     }
 }

@@ -156,8 +156,9 @@ fn of_run(why: Option<Refusal>) -> Option<Refusal>
     ensures refused { IfSome result IsOfRun }
     ensures none { result ≡ None → ¬ MayBeLost why }
 {
+    let why = why?;
     match why {
-        Some(Refusal::HistoryFull | Refusal::TapeFull | Refusal::NoMemory) => why,
+        Refusal::HistoryFull | Refusal::TapeFull | Refusal::NoMemory => Some(why),
         _ => None,
     }
 }

@@ -37,7 +37,10 @@ impl<B: Tag> SharedBoard for Board<B> {
         seat: &mut Seat<B>,
         command: Command,
     ) -> Result<Reply, Refusal> {
-        Board::call(self, rt, seat, command)?.reply
+        match Board::call(self, rt, seat, command) {
+            Ok(answered) => answered.reply,
+            Err(why) => Err(why),
+        }
     }
 
     fn commit(&self, seat: &mut Seat<B>) -> u64 {

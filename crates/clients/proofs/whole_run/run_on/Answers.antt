@@ -1,4 +1,4 @@
-use Rattle.std.proofs.Common.{ℕ, length, sym, subst, arith}
+use Rattle.std.proofs.Common.{ℕ, ◌-◌, length, sym, subst, arith}
 use Rattle.board.specs.Tape.{IsTapeOf}
 use Rattle.board.specs.CoreTape.{CoreTape, opening_tape}
 use Rattle.clients.proofs.whole_run.run_on.Goals as goal

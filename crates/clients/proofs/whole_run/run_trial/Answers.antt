@@ -9,7 +9,7 @@ use Rattle.clients.proofs.whole_run.run_trial.Goals as goal
 pub returns-clause-run : goal.returns-clause-run
 returns-clause-run g c =
     let blank = c.in_ok-blank.ensures in
-    let threads : c.in_ok-blank.blank.seats - 1 ≡ c.args.config.concurrency = ? in
+    let threads : c.in_ok-blank.blank.seats - 1 ≡ c.args.config.concurrency = omega (arith, c.in_ok-blank.ensures.seats.0, c.in_ok-blank.ensures.seats.2, c.saturating_add-seats.ensures) in
     ok_then c.run_on.result c.run_on.ensures.run (λ core run.
     subst (λ (n : ℕ). IsRun n (opening (setup_of c.args.config)) core.machine) threads
     (subst (λ (v : CoreView). IsRun (c.in_ok-blank.blank.seats - 1) v.machine core.machine) blank.opened run))
