@@ -4,9 +4,13 @@ pub mod Changing
 pub mod Committing
 pub mod Cutting
 pub mod EachOnce
+pub mod FrontVerdicts
 pub mod Joins
 pub mod KeyPlaces
 pub mod KeyedEvents
+pub mod LoadedLines
+pub mod Opening
+pub mod PiecesOf
 pub mod Places
 pub mod Prepared
 pub mod Preparing

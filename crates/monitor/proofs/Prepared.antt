@@ -9,23 +9,20 @@ use Rattle.models.specs.declared.model_kind.ModelKind.{ModelKind}
 use Rattle.history.specs.declared.event.Event.{Event}
 use Rattle.history.specs.Events.{key_of}
 use Rattle.history.specs.ProcessRule.{IsHistory}
-use Rattle.history.specs.WellFormed.{HistoryView, IsWellFormed, IsHistoryOf, with_next, no_events}
+use Rattle.history.specs.WellFormed.{HistoryView, IsWellFormed, IsHistoryOf, with_next}
 use Rattle.linspec.specs.declared.verdict.KeyStatus.{KeyStatus}
 use Rattle.linspec.specs.declared.verdict.KeyStatus.TheVariants.{Alive}
 use Rattle.linspec.specs.declared.verdict.Verdict.{Verdict}
-use Rattle.linspec.specs.declared.verdict.Verdict.TheVariants.{Legal}
-use Rattle.linspec.specs.Verdicts.{IsJoin}
 use Rattle.checkpoints.specs.KeyLineView.{KeyHistory, KeyLineView, IsStatusOf, at_rest, with_pushed, without_events, judged_by, begins_below}
 use Rattle.checkpoints.specs.KeyLineView.{with_next as line_with_next}
-use Rattle.monitor.specs.JudgedHistory.{JudgedHistory, kind_of, budget_of, opening_of, with_event, with_kind, with_budget, keys_in_order, history_of_key}
+use Rattle.monitor.specs.JudgedHistory.{JudgedHistory, kind_of, budget_of, with_event, with_kind, with_budget, keys_in_order, history_of_key}
 use Rattle.monitor.specs.Settings.{SettingsView, setting_of}
 use Rattle.monitor.specs.Rows.{LinesView, nows, cut_rows, JoinsRows, AreCutAt}
 use Rattle.monitor.specs.Judged.{IsJudged, AreRowsJudgedBy, IsRebuilt}
 use Rattle.monitor.specs.SoundMonitor.{judged_by_parts, IsSoundMonitor}
 use Rattle.monitor.specs.declared.monitor.Prepared.{Prepared}
 use Rattle.monitor.specs.declared.monitor.Change.TheVariants.{Fault, Append, Begin, Rewind, Kind, Budget}
-use Rattle.monitor.proofs.Carried.{sound_at_rest}
-use Rattle.monitor.proofs.Changes.{JudgingLaw, IsLineOf, line_of, keys_of_lines, opened_judged, fault_judged, next_judged, first_judged, kept_first, cut_judged, kind_judged, budget_judged}
+use Rattle.monitor.proofs.Changes.{JudgingLaw, IsLineOf, line_of, keys_of_lines, fault_judged, next_judged, first_judged, kept_first, cut_judged, kind_judged, budget_judged}
 use Rattle.monitor.proofs.KeyedEvents.{events-none}
 use Rattle.monitor.proofs.KeyPlaces.{position_none}
 use Rattle.monitor.proofs.Places.{row_within}
@@ -47,20 +44,6 @@ if_at o x P at p = subst (λ q. IfSome q P) at p
 -- a history grows by an event
 grows : {X : Type 0} (xs : List X) (x : X) → length xs ≤ length (xs ++ x ∷ [])
 grows xs x = omega (arith, length_push xs x)
-
--- the parts at the opening
-pub opened : JudgingLaw → IsJoin [] Legal → (c : ℕ) (kind : ModelKind) (budget : ℕ) (history : HistoryView) (kinds : SettingsView ModelKind) (budgets : SettingsView ℕ) (lines : LinesView)
-    → history ≡ no_events c → kinds.default ≡ kind → kinds.set ≡ [] → budgets.default ≡ budget → budgets.set ≡ [] → lines.rows ≡ [] → IsSoundMonitor history kinds budgets lines Legal None
-opened law none c kind budget history kinds budgets lines none_yet kind_is no_kinds budget_is no_budgets no_lines =
-    sound_at_rest history kinds budgets lines (opening_of c kind budget) [] Legal same (ap nows no_lines) (opened_judged law none c kind budget)
-  where
-    same : judged_by_parts history kinds budgets ≡ opening_of c kind budget
-    same =
-        ap (λ (h : HistoryView). judged_by_parts h kinds budgets) none_yet
-        ∙ ap (λ (k : ModelKind). let h : JudgedHistory = record { concurrency = c; kind = k; budget = budgets.default; kinds = kinds.set; budgets = budgets.set; events = [] } in h) kind_is
-        ∙ ap (λ (s : List (ℕ × ModelKind)). let h : JudgedHistory = record { concurrency = c; kind = kind; budget = budgets.default; kinds = s; budgets = budgets.set; events = [] } in h) no_kinds
-        ∙ ap (λ (b : ℕ). let h : JudgedHistory = record { concurrency = c; kind = kind; budget = b; kinds = []; budgets = budgets.set; events = [] } in h) budget_is
-        ∙ ap (λ (s : List (ℕ × ℕ)). let h : JudgedHistory = record { concurrency = c; kind = kind; budget = budget; kinds = []; budgets = s; events = [] } in h) no_budgets
 
 -- an event that speaks of no operation
 pub fault_ready : JudgingLaw → (history history' : HistoryView) (kinds : SettingsView ModelKind) (budgets : SettingsView ℕ) (lines : LinesView) (v : Verdict) (before : Option Prepared) (e : Event)

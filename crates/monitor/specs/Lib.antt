@@ -1,5 +1,6 @@
 pub mod Judged
 pub mod JudgedHistory
+pub mod Loading
 pub mod Monitors
 pub mod Rows
 pub mod Settings

@@ -1,10 +1,13 @@
 //! The live verdict on a history of many keys, each with its own kind of object and its own budget.
 #![tactic(auto)]
 
+pub mod fronts;
 mod laws;
 mod lines;
+mod loading;
 mod monitor;
 mod parts;
+mod pieces;
 mod settings;
 
 pub use lines::Lines;

@@ -1,13 +1,16 @@
 //! The monitor.
-ghost use Rattle.std.specs.Prelude.{◌≡◌, ◌<◌, ◌≤◌, false, Some, None, length, nat_eq, position, slice_get, IfOk, IfErr, IfSome, IsSome, OnOk, OnErr, IsErrOf};
+ghost use Rattle.std.specs.Prelude.{◌≡◌, ℕ, ◌<◌, ◌≤◌, false, Some, None, length, nat_eq, position, slice_get, IfOk, IfErr, IfSome, IsSome, OnOk, OnErr, IsErrOf};
 ghost use Rattle.history.specs.Events.{key_of};
 ghost use Rattle.history.specs.WellFormed.{IsConcurrency};
+ghost use Rattle.linspec.specs.declared.verdict.Verdict.{Verdict};
 ghost use Rattle.checkpoints.specs.KeyLineView.{IsStatusOf};
 ghost use Rattle.monitor.specs.JudgedHistory.{IsVerdictOn, with_event, rewound, with_kind, with_budget, IsBudget, opening_of, keys_in_order, history_of_key, kind_of, budget_of};
 ghost use Rattle.monitor.specs.Monitors.{at_rest, with_next, Admits, MayDecline, MayNotBegin, MayNotRewind, MayNotSetBudget, replays_by, loses_by};
 ghost use Rattle.monitor.specs.Rows.{nows};
-ghost use Rattle.monitor.specs.Judged.{rows_of};
+ghost use Rattle.monitor.specs.Judged.{rows_of, IsJudged};
+ghost use Rattle.monitor.specs.Loading.{with_all};
 
+use crate::fronts::judged_fronts_law;
 use crate::laws::{judging_law, next_event_law};
 use crate::lines::Lines;
 use crate::parts::{commit_line, first_line, prepare_in_history, prepare_rebuild};
@@ -119,15 +122,32 @@ impl Monitor {
         judging_law();
         no_keys_law();
         let history = History::new(alloc, concurrency)?;
-        Ok(Monitor {
+        let lines = Lines::new(alloc);
+        Ok(Self::of_lines(alloc, history, kind, budget, lines, Verdict::Legal))
+    }
+
+    // The monitor of a history whose keys have these lines, all of this kind and budget, and this verdict.
+    pub(crate) fn of_lines(
+        alloc: Global,
+        history: History,
+        kind: ModelKind,
+        budget: u32,
+        lines: Lines,
+        verdict: Verdict,
+    ) -> Monitor
+        requires { IsJudged (with_all history.concurrency kind budget history.events)
+            (nows lines.rows) verdict }
+        ensures { result ≡ at_rest (with_all history.concurrency kind budget history.events) }
+    {
+        Monitor {
             alloc,
             history,
             kinds: Settings::new(alloc, kind),
             budgets: Settings::new(alloc, budget),
-            lines: Lines::new(alloc),
-            verdict: Verdict::Legal,
+            lines,
+            verdict,
             prepared: None,
-        })
+        }
     }
 
     /// Prepares to append an event, and gives the verdict that [`commit`](Self::commit) will bring. It costs what the
@@ -354,6 +374,14 @@ impl Monitor {
         self.verdict
     }
 
+    /// The history has a verdict at each length: the one that a rewind to it would give. Does nothing.
+    pub fn some_verdicts(&self)
+        ensures { (n : ℕ) → (v : Verdict) × IsVerdictOn (rewound n self.now.now) v }
+    {
+        judged_fronts_law();
+        let _verdict = self.verdict;
+    }
+
     /// The history as it stands. Takes no memory.
     pub fn history(&self) -> &History
         ensures events { result.now.events ≡ self.now.now.events }
@@ -504,7 +532,7 @@ impl Monitor {
 }
 
 // Tests that a budget is within its limits.
-fn test_budget(budget: u32) -> Result<(), Refusal>
+pub(crate) fn test_budget(budget: u32) -> Result<(), Refusal>
     ensures within { OnOk result (IsBudget budget) }
     ensures refused { IsErrOf result Refusal.BadBudget → ¬ IsBudget budget }
     ensures none_else { OnErr result (IsErrOf result Refusal.BadBudget) }

@@ -1,0 +1,10 @@
+use Rattle.std.proofs.Common.{ℕ, subst}
+use Rattle.linspec.specs.declared.verdict.Verdict.{Verdict}
+use Rattle.monitor.specs.JudgedHistory.{IsVerdictOn, rewound}
+use Rattle.monitor.specs.Monitors.{MonitorView}
+use Rattle.monitor.proofs.monitor.Monitor.some_verdicts.Goals as goal
+
+pub returns : goal.returns
+returns c n =
+    subst (λ (s : MonitorView). (v : Verdict) × IsVerdictOn (rewound n s.now) v) c.self.view_is
+    (c.judged_fronts_law.ensures _ _ _ n c.self.invariant.now)

@@ -1,0 +1,130 @@
+//! The monitor of a history that is there already.
+ghost use Rattle.std.specs.Prelude.{◌≡◌, ◌≢◌, ◌<◌, ◌≤◌, None, Some, [], ◌∷◌, ◌++◌, length, map, nat_eq, position, slice_get, OnOk, IfOk, IfErr};
+ghost use Rattle.std.specs.Map.{keys_of};
+ghost use Rattle.linspec.specs.Orders.{Pairwise};
+ghost use Rattle.parallel_recheck.specs.Pieces.{line_of};
+ghost use Rattle.monitor.specs.JudgedHistory.{IsBudget, opening_of};
+ghost use Rattle.monitor.specs.Monitors.{at_rest};
+ghost use Rattle.monitor.specs.Rows.{nows, JoinsRows};
+ghost use Rattle.monitor.specs.Judged.{IsJudged};
+ghost use Rattle.monitor.specs.Loading.{with_events, with_all, row_of, MayNotLoad};
+
+use crate::laws::judging_law;
+use crate::lines::Lines;
+use crate::monitor::{Monitor, test_budget};
+use crate::pieces::pieces_from;
+use checkpoints::KeyLine;
+use edn::{Gate, Refusal};
+use history::History;
+use linspec::Verdict;
+use locality::join_with;
+use locality::laws::no_keys_law;
+use models::{Key, ModelKind};
+use parallel_recheck::{KeyEvents, recheck};
+use std::alloc::{AllocError, Global};
+use std::thread::Threads;
+
+impl Monitor {
+    /// The monitor of a whole history: the one that [`new`](Self::new) opens, after appends of the history's events in turn.
+    ///
+    /// The keys are judged by as many workers as are asked for, 1 to 64, of which the calling thread is one (see
+    /// [`recheck`](parallel_recheck::recheck)); none is given an event before all events are grouped by their keys. The gate
+    /// is called as each key begins and as it ends, by its place in the order of first events. The lines have a copy of each
+    /// event, beside the history's own.
+    ///
+    /// # Errors
+    /// [`Refusal::BadBudget`] where the budget is not 1 to 65,536, else [`Refusal::NoMemory`] where a growth was refused, in
+    /// whichever thread. The history is then dropped.
+    pub fn load<R: Threads + Sync, G: Gate + Sync>(
+        rt: &R,
+        alloc: Global,
+        history: History,
+        kind: ModelKind,
+        budget: u32,
+        workers: u32,
+        gate: &G,
+    ) -> Result<Monitor, Refusal>
+        requires workers { (1 ≤ workers) × (workers ≤ 64) }
+        ensures limits { OnOk result (IsBudget budget) }
+        ensures loaded { IfOk result (λ monitor. monitor
+            ≡ at_rest (with_events history.events (opening_of history.concurrency kind budget))) }
+        ensures refused { IfErr result (MayNotLoad budget) }
+    {
+        test_budget(budget)?;
+        let (lines, verdict) = judged(rt, alloc, &history, kind, budget, workers, gate)?;
+        Ok(Monitor::of_lines(alloc, history, kind, budget, lines, verdict))
+    }
+}
+
+// The lines of the keys of a history, all of this kind and budget, and the verdict. Workers make them.
+fn judged<R: Threads + Sync, G: Gate + Sync>(
+    rt: &R,
+    alloc: Global,
+    history: &History,
+    kind: ModelKind,
+    budget: u32,
+    workers: u32,
+    gate: &G,
+) -> Result<(Lines, Verdict), AllocError>
+    requires workers { (1 ≤ workers) × (workers ≤ 64) }
+    ensures { IfOk result (λ judged. IsJudged
+        (with_all history.now.concurrency kind budget history.now.events)
+        (nows judged.0.rows) judged.1) }
+{
+    judging_law();
+    let _many = history.len();
+    let grouped = pieces_from(alloc, kind, budget, history.events())?;
+    let pieces = grouped.as_slice();
+    let lines = recheck(rt, alloc, pieces, workers, gate)?;
+    joined(alloc, pieces, lines)
+}
+
+// The lines of these pieces, each once, under their keys, and the verdict that joins how they stand.
+fn joined(
+    alloc: Global,
+    pieces: &[KeyEvents],
+    judged: Vec<KeyLine>,
+) -> Result<(Lines, Verdict), AllocError>
+    requires lines { judged.items ≡ map line_of pieces.now }
+    requires apart { Pairwise (λ i j. i ≢ j) (map (λ piece. piece.key) pieces.now) }
+    ensures { IfOk result (λ joined. (nows joined.0.rows ≡ map row_of pieces.now)
+        × JoinsRows (map row_of pieces.now) joined.1) }
+{
+    no_keys_law();
+    let mut lines = Lines::new(alloc);
+    let mut verdict = Verdict::Legal;
+    for line in judged {
+        let piece = piece_at(pieces, lines.len());
+        let key = piece.key();
+        let next = add_line(&mut lines, verdict, key, line)?;
+        verdict = next;
+    }
+    Ok((lines, verdict))
+}
+
+// The piece at a place.
+fn piece_at<'a, 'b>(pieces: &'b [KeyEvents<'a>], place: usize) -> &'b KeyEvents<'a>
+    requires { place < length pieces.now }
+    ensures { slice_get pieces.now place ≡ Some result.now }
+{
+    &pieces[place]
+}
+
+// Adds the line of a key that has none yet, and gives the verdict that joins how it stands to this one.
+fn add_line(
+    lines: &mut Lines,
+    verdict: Verdict,
+    key: Key,
+    line: KeyLine,
+) -> Result<Verdict, AllocError>
+    requires { position (nat_eq key) (keys_of lines.old.rows) ≡ None }
+    ensures rows { OnOk result
+        (nows lines.new.rows ≡ nows lines.old.rows ++ (key, line.now) ∷ []) }
+    ensures joined { JoinsRows (nows lines.old.rows) verdict
+        → IfOk result (λ next. JoinsRows (nows lines.old.rows ++ (key, line.now) ∷ []) next) }
+{
+    let next = join_with(verdict, key, line.status());
+    lines.reserve()?;
+    lines.add(key, line);
+    Ok(next)
+}

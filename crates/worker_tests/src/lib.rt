@@ -1,0 +1,12 @@
+//! What workers judge, and that they run at once: pieces and histories of which each answer is worked out by hand. It has
+//! tests alone.
+#![tactic(auto)]
+
+#[cfg(test)]
+mod events;
+#[cfg(test)]
+mod gates;
+#[cfg(test)]
+mod loads;
+#[cfg(test)]
+mod pieces;
