@@ -4,6 +4,7 @@ pub mod Changing
 pub mod Committing
 pub mod Cutting
 pub mod EachOnce
+pub mod JoinOf
 pub mod Joins
 pub mod KeyPlaces
 pub mod KeyedEvents

@@ -1,0 +1,41 @@
+//! The line that says a verdict.
+ghost use Rattle.std.specs.Prelude.{◌≡◌, ◌++◌, IfOk, OnOk, OnErr, string_bytes};
+ghost use Rattle.report.specs.VerdictLine.{verdict_line};
+
+use linspec::Verdict;
+use std::alloc::{AllocError, Global};
+
+/// The line of a verdict with its line feed, as `illegal key 7 index 3`.
+///
+/// # Errors
+///
+/// Where memory is refused.
+pub fn verdict_text(alloc: Global, verdict: &Verdict) -> Result<String, AllocError>
+    ensures { IfOk result (λ text. string_bytes text ≡ verdict_line verdict.now) }
+{
+    match verdict {
+        Verdict::Legal => format!(in alloc; "legal\n"),
+        Verdict::Illegal { key, index } => format!(in alloc; "illegal key {key} index {index}\n"),
+        Verdict::Unknown { key, index } => format!(in alloc; "unknown key {key} index {index}\n"),
+    }
+}
+
+/// Appends the line of a verdict to a reply.
+///
+/// # Errors
+///
+/// Where memory is refused, and then the reply is as it was.
+pub fn append_verdict(
+    alloc: Global,
+    reply: &mut Vec<u8>,
+    verdict: &Verdict,
+) -> Result<(), AllocError>
+    ensures ok { OnOk result (reply.new.items ≡ reply.old.items ++ verdict_line verdict.now) }
+    ensures err { OnErr result (reply.new.items ≡ reply.old.items) }
+{
+    if let Verdict::Legal = verdict {
+        return reply.extend_from_slice(b"legal\n");
+    }
+    let line = verdict_text(alloc, verdict)?;
+    reply.extend_from_slice(line.as_bytes())
+}
