@@ -186,12 +186,12 @@ def run_slow_check(terminal, pause):
 
 def run_progress():
     """A check of more than a second says on a terminal how far it has come, from then on, also while it reads; a shorter one
-    says nothing, nor does one whose standard error is no terminal. Standard output has the verdict alone."""
-    verdict = b"illegal key 7 index 5\n"
+    says nothing, nor does one whose standard error is no terminal. Standard output has the report alone."""
+    report = b"key 7 model register budget 4096 events 6 status dead 5\nillegal key 7 index 5\n"
     faults = []
     for terminal, pause, want in ((True, 1.2, b"\r511 bytes were read\r\n"), (True, 0, b""), (False, 1.2, b"")):
         got = run_slow_check(terminal, pause)
-        if got != (verdict, want, 1):
+        if got != (report, want, 1):
             faults.append(f"on a {'terminal' if terminal else 'pipe'}, with a pause of {pause} s, it ended with {got!r}")
     return faults
 

@@ -1,13 +1,14 @@
 //! The words of the command line.
 ghost use Rattle.std.specs.Prelude.{◌≡◌, length, IfOk, Ok};
-ghost use Rattle.harness.specs.Setups.{HasLimits};
-ghost use Rattle.jepmon.specs.CommandLine.{default_settings, IsWithinLimits};
+ghost use Rattle.harness.specs.Setups.{setup_of, IsSetup};
+ghost use Rattle.harness.specs.declared.config.Config.{Config};
+ghost use Rattle.jepmon.specs.CommandLine.{default_setup, IsWithinLimits};
 
 use crate::help;
 use clap::error::ErrorKind;
 use clap::{Arg, ArgMatches, Command};
 use edn::Refusal;
-use harness::Judging;
+use harness::Config;
 use models::ModelKind;
 use std::alloc::{AllocError, Global};
 
@@ -18,7 +19,7 @@ const MOST_WORKERS: u32 = 64;
 #[derive(Drop)]
 pub enum Order {
     /// Answers the lines of standard input.
-    Script(Judging),
+    Script(Config),
     /// Judges a recorded history.
     Check {
         /// The file that it stands in.
@@ -26,7 +27,7 @@ pub enum Order {
         /// Threads that judge its keys.
         workers: u32,
         /// How the one-thread object is opened.
-        settings: Judging,
+        config: Config,
     },
 }
 
@@ -49,15 +50,12 @@ pub enum Stop {
 /// number, and for a model of another name. `Refused` for a number out of its limits: `BadBudget` first, then
 /// `BadConcurrency`; and where memory is refused.
 pub fn order_of(alloc: Global, words: &[String]) -> Result<Order, Stop>
-    ensures defaults { length words.now ≡ 0 → result ≡ Ok (Order.Script default_settings) }
+    ensures defaults { length words.now ≡ 0 → (config : Config)
+        × (result ≡ Ok (Order.Script config)) × (setup_of config ≡ default_setup) }
     ensures within { IfOk result IsWithinLimits }
 {
     if words.is_empty() {
-        return Ok(Order::Script(Judging {
-            concurrency: 2,
-            kind: ModelKind::Register,
-            budget: 4096,
-        }));
+        return Ok(Order::Script(Config::to_judge(alloc, 2, ModelKind::Register, 4096)));
     }
     let mut command = program(alloc)?;
     let matches = match command.try_get_matches_from_mut(words) {
@@ -67,18 +65,18 @@ pub fn order_of(alloc: Global, words: &[String]) -> Result<Order, Stop>
     let Some((name, options)) = matches.subcommand() else {
         return Err(usage(&mut command, "no command was given"));
     };
-    let settings = settings_of(alloc, name, options)?;
-    settings.check()?;
+    let config = config_of(alloc, name, options)?;
+    config.check()?;
     if name == "check" {
-        check_of(alloc, options, settings)
+        check_of(alloc, options, config)
     } else {
-        Ok(Order::Script(settings))
+        Ok(Order::Script(config))
     }
 }
 
 // The order to judge a recorded history.
-fn check_of(alloc: Global, options: &ArgMatches, settings: Judging) -> Result<Order, Stop>
-    requires { HasLimits settings }
+fn check_of(alloc: Global, options: &ArgMatches, config: Config) -> Result<Order, Stop>
+    requires { IsSetup (setup_of config) }
     ensures { IfOk result IsWithinLimits }
 {
     let Some(path) = options.get_str("FILE") else {
@@ -88,14 +86,14 @@ fn check_of(alloc: Global, options: &ArgMatches, settings: Judging) -> Result<Or
         Some(workers) if (1..=MOST_WORKERS).contains(&workers) => Ok(Order::Check {
             path: String::from_str(alloc, path)?,
             workers,
-            settings,
+            config,
         }),
         _ => Err(usage_of(alloc, "check", "--workers takes a number, 1 to 64")),
     }
 }
 
-// How the options of the command of this name open the one-thread object. Their limits are not tested yet.
-fn settings_of(alloc: Global, name: &str, options: &ArgMatches) -> Result<Judging, Stop> {
+// How the options of the command of this name have a history judged. Their limits are not tested yet.
+fn config_of(alloc: Global, name: &str, options: &ArgMatches) -> Result<Config, Stop> {
     let Some(budget) = number(options, "budget") else {
         return Err(usage_of(alloc, name, "--budget takes a number, 1 to 65536"));
     };
@@ -105,11 +103,7 @@ fn settings_of(alloc: Global, name: &str, options: &ArgMatches) -> Result<Judgin
     let Some(kind) = options.get_str("model").and_then(ModelKind::of_name) else {
         return Err(usage_of(alloc, name, help::NO_MODEL));
     };
-    Ok(Judging {
-        concurrency,
-        kind,
-        budget,
-    })
+    Ok(Config::to_judge(alloc, concurrency, kind, budget))
 }
 
 /// Why there is no order of words that are no text.
@@ -120,26 +114,45 @@ pub fn no_text(alloc: Global) -> Stop {
     }
 }
 
-// A command with the options by which the one-thread object is opened.
-fn with_settings<'a>(alloc: Global, command: Command<'a>) -> Result<Command<'a>, AllocError> {
-    let concurrency = Arg::new(alloc, "concurrency")
-        .long("concurrency")
+// An option that takes a number.
+fn a_number<'a>(
+    alloc: Global,
+    name: &'static str,
+    default: &'static str,
+    help: &'static str,
+) -> Arg<'a> {
+    Arg::new(alloc, name)
+        .long(name)
         .value_name("N")
-        .default_value("2")
+        .default_value(default)
         .allow_negative_numbers(true)
-        .help(help::CONCURRENCY);
-    let model = Arg::new(alloc, "model")
-        .long("model")
+        .help(help)
+}
+
+// An option that takes a name.
+fn a_name<'a>(
+    alloc: Global,
+    name: &'static str,
+    default: &'static str,
+    help: &'static str,
+) -> Arg<'a> {
+    Arg::new(alloc, name)
+        .long(name)
         .value_name("NAME")
-        .default_value("register")
-        .help(help::MODEL);
-    let budget = Arg::new(alloc, "budget")
-        .long("budget")
-        .value_name("N")
-        .default_value("4096")
-        .allow_negative_numbers(true)
-        .help(help::BUDGET);
-    command.arg(concurrency)?.arg(model)?.arg(budget)
+        .default_value(default)
+        .help(help)
+}
+
+// A command with the options by which a history is judged.
+fn with_settings<'a>(
+    alloc: Global,
+    command: Command<'a>,
+    concurrency: &'static str,
+) -> Result<Command<'a>, AllocError> {
+    command
+        .arg(a_number(alloc, "concurrency", "2", concurrency))?
+        .arg(a_name(alloc, "model", "register", help::MODEL))?
+        .arg(a_number(alloc, "budget", "4096", help::BUDGET))
 }
 
 // The command `script`, with its options and their help.
@@ -149,26 +162,20 @@ fn script<'a>(alloc: Global) -> Result<Command<'a>, AllocError> {
         .long_about(help::SCRIPT_LONG)
         .after_help(help::STATUS)
         .after_long_help(help::SCRIPT_FORMS);
-    with_settings(alloc, command)
+    with_settings(alloc, command, help::CONCURRENCY)
 }
 
 // The command `check`, with its options and their help.
 fn check<'a>(alloc: Global) -> Result<Command<'a>, AllocError> {
     let file = Arg::new(alloc, "FILE").required(true).help(help::FILE);
-    let workers = Arg::new(alloc, "workers")
-        .long("workers")
-        .value_name("N")
-        .default_value("1")
-        .allow_negative_numbers(true)
-        .help(help::WORKERS);
     let command = Command::new(alloc, "check")
         .about(help::CHECK)
         .long_about(help::CHECK_LONG)
         .after_help(help::STATUS)
         .after_long_help(help::CHECK_FORMS)
         .arg(file)?
-        .arg(workers)?;
-    with_settings(alloc, command)
+        .arg(a_number(alloc, "workers", "1", help::WORKERS))?;
+    with_settings(alloc, command, help::CONCURRENCY)
 }
 
 // The program's commands.
@@ -202,10 +209,9 @@ fn number(options: &ArgMatches, id: &str) -> Option<u32> {
 
 // A usage fault of the command of this name, with this message.
 fn usage_of(alloc: Global, name: &str, message: &str) -> Stop {
-    let command = if name == "check" {
-        check(alloc)
-    } else {
-        script(alloc)
+    let command = match name {
+        "check" => check(alloc),
+        _ => script(alloc),
     };
     match named(alloc, name, command) {
         Ok(mut command) => usage(&mut command, message),

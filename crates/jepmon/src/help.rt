@@ -27,11 +27,18 @@ A line that is refused changes nothing and is answered by `refused NUMBER NAME`.
 pub const CHECK: &str = "Judges a recorded history, whose elements are events";
 
 pub const CHECK_LONG: &str =
-    "Reads a file of events, one after the other, judges all of them, and prints one line:
+    "Reads a file of events, one after the other, and judges all of them. It prints a line for each key
+that has events, in the order of their first events, and then the verdict:
 
+  key K model M budget B events E status alive
+                               or dead I, where event I is the first of the key's that shows it; or
+                               over I, where the budget of the key did not suffice at event I
   legal                        the history is linearizable
   illegal key K index I        it is not, and event I of key K is the first that shows it
   unknown key K index I        the budget of key K did not suffice at event I
+
+or, in place of all that,
+
   refused NUMBER NAME event I  event I is none that may come there
   refused NUMBER NAME          the file can't be read, or is no text";
 

@@ -11,7 +11,6 @@ mod help;
 pub mod laws;
 pub mod recorded;
 pub mod script;
-pub mod verdict_line;
 
 use check::check_file;
 use command_line::{Order, Stop, no_text, order_of};
@@ -48,10 +47,10 @@ fn main(rt: HostRuntime) -> ExitCode {
     let alloc: Global = rt.alloc();
     let terminal = OnTerminal::new(&rt, rt.stderr().is_terminal());
     let status = match order_given(&rt) {
-        Ok(Order::Script(settings)) => {
+        Ok(Order::Script(config)) => {
             let mut reader = Watched::new(rt.stdin());
             let mut writer = Watched::new(rt.stdout());
-            let outcome = run_script(&rt, alloc, settings, &mut reader, &mut writer, &terminal);
+            let outcome = run_script(&rt, alloc, config, &mut reader, &mut writer, &terminal);
             terminal.end();
             status_after(&rt, alloc, outcome, &terminal)
         }
@@ -59,7 +58,7 @@ fn main(rt: HostRuntime) -> ExitCode {
             Order::Check {
                 path,
                 workers,
-                settings,
+                config,
             },
         ) => {
             let mut writer = Watched::new(rt.stdout());
@@ -67,7 +66,7 @@ fn main(rt: HostRuntime) -> ExitCode {
                 &rt,
                 alloc,
                 path.as_str(),
-                settings,
+                config,
                 workers,
                 &mut writer,
                 &terminal,
