@@ -1,0 +1,148 @@
+-- Where all seats of a board come back from clients and the nemesis, its tape has calls of trials alone, and of each client just
+-- what it did.
+use Rattle.std.proofs.Common.{◌≡◌, ℕ, zero, suc, ◌+◌, ◌-◌, ◌<◌, ◌≤◌, Bool, true, false, List, [], ◌∷◌, ◌++◌, length, Some, refl, sym, ap, subst, ◌∙◌, arith, length-append}
+use Rattle.std.specs.Prelude.{slice_get, slice_index_or, nat_lt, not, ◌&&◌}
+use Rattle.std.proofs.lemmas.Bool.{false≢true}
+use Rattle.std.proofs.lemmas.Bool.Decides.{nat_tests}
+use Rattle.std.proofs.lemmas.Option.{get_or_from_slice_get}
+use mathlib.Core.List.{IsPrefix}
+use Rattle.machine.specs.declared.command.Command.{Command}
+use Rattle.machine.specs.declared.command.Command.TheVariants.{Append, Rewind, SetModel, SetBudget, Verdict as Ask, Draw, Serve, Finish, Nemesis}
+use Rattle.machine.specs.Machine.{Machine, IsOfTrial, AreOfTrial}
+use Rattle.board.specs.declared.tape.TapeEntry.TheVariants.{Opening, Call}
+use Rattle.board.specs.Tape.{IsTapeOf}
+use Rattle.board.specs.Seat.{IsFresh}
+use Rattle.board.specs.CoreTape.{CoreTape, opening_tape, calls_on}
+use Rattle.clients.specs.Calls.{CoreSeat, Calls, HasMade}
+use Rattle.clients.specs.Plays.{Stage, draws, serves, finishes, has_ended, IsNext, after_answer, Plays, AreStrikes, HaveRun}
+use Rattle.clients.specs.Runs.{calls_of, ArePlayed}
+use Rattle.clients.proofs.Asking.{one_if, asked, HasAskedOnly, AreSuch, asked_by}
+use Rattle.clients.proofs.Counted.{one_at_most, few_calls, such_from, few_such, AreCounted, counted, counted_but}
+use Rattle.clients.proofs.OwnCalls.{any, all_are, as_many, calls_front, none_more, made_count, just_made}
+
+abbrev is_of_trial : Command → Bool
+is_of_trial (Append event) = false
+is_of_trial (Rewind n) = false
+is_of_trial (SetModel key kind) = false
+is_of_trial command = true
+
+trial_is : (c : Command) → is_of_trial c ≡ true → IsOfTrial c
+trial_is (Append event) is = absurd (false≢true is)
+trial_is (Rewind n) is = absurd (false≢true is)
+trial_is (SetModel key kind) is = absurd (false≢true is)
+trial_is (SetBudget key n) is = tt
+trial_is Ask is = tt
+trial_is (Draw thread) is = tt
+trial_is (Serve number) is = tt
+trial_is (Finish number) is = tt
+trial_is Nemesis is = tt
+
+next_is : (thread : ℕ) (stage : Stage) (c : Command) → IsNext thread stage c → is_of_trial c ≡ true
+next_is thread draws c e = subst (λ (x : Command). is_of_trial x ≡ true) (sym e) refl
+next_is thread (serves ticket) c e = subst (λ (x : Command). is_of_trial x ≡ true) (sym e) refl
+next_is thread (finishes ticket) c e = subst (λ (x : Command). is_of_trial x ≡ true) (sym e) refl
+next_is thread has_ended c e = absurd e
+
+plays_are : (thread : ℕ) (stage end : Stage) (calls : Calls) → Plays thread stage calls end → AreSuch is_of_trial calls
+plays_are thread stage end [] p = tt
+plays_are thread stage end (call ∷ calls) p =
+    (next_is thread stage call.0 p.0, plays_are thread (after_answer stage call.1) end calls p.1)
+
+strikes_are : (calls : Calls) → AreStrikes calls → AreSuch is_of_trial calls
+strikes_are [] p = tt
+strikes_are (call ∷ calls) p = (subst (λ (x : Command). is_of_trial x ≡ true) (sym p.0) refl, strikes_are calls p.1)
+
+-- what each seat that ran has made, which belongs to trials alone
+ran : (seats back : List CoreSeat) (place : ℕ) (old new : CoreSeat) → HaveRun (λ (s : CoreSeat). s) seats back → place < length seats
+    → slice_get seats place ≡ Some old → slice_get back place ≡ Some new → (calls : Calls) × HasMade old calls new × AreSuch is_of_trial calls
+ran seats back place old new run within at_old at_new = go (nat_lt (place + 1) (length seats)) refl where
+  go : (b : Bool) → nat_lt (place + 1) (length seats) ≡ b → (calls : Calls) × HasMade old calls new × AreSuch is_of_trial calls
+  go true e =
+      let before : place + 1 < length seats = grind (arith, nat_tests) in
+      let p = run.clients place old new before at_old at_new in
+      (p.0, p.1, plays_are place draws has_ended p.0 p.2)
+  go false e =
+      let last : place ≡ length seats - 1 = grind (arith, nat_tests) in
+      let p = run.nemesis old new (subst (λ (k : ℕ). slice_get seats k ≡ Some old) last at_old) (subst (λ (k : ℕ). slice_get back k ≡ Some new) last at_new) in
+      (p.0, p.1, strikes_are p.0 p.2)
+
+both_true : (a b : Bool) → 1 ≤ one_if (a && b) → b ≡ true
+both_true false b is = absurd (omega arith)
+both_true true false is = absurd (omega arith)
+both_true true true is = refl
+
+-- where each call is counted, each is one of a trial
+all_trials : (n : ℕ) (tape : CoreTape) → length (calls_on tape) ≤ such_from is_of_trial n tape → AreOfTrial (calls_on tape)
+all_trials n [] many = tt
+all_trials n (Opening m ∷ rest) many = all_trials n rest many
+all_trials n (Call k c r ∷ rest) many = (
+  trial_is c (both_true (not (nat_lt k n)) (is_of_trial c) (omega (arith, many, few_such is_of_trial n rest))),
+  all_trials n rest (omega (arith, many, one_at_most (not (nat_lt k n) && is_of_trial c))),
+)
+
+-- a seat that was new counts what it has asked
+from_fresh : (is_such : Command → Bool) (place : ℕ) (m : Machine) (old new : CoreSeat) → (old.number ≡ place) × (old.count ≡ 0) × (old.tape ≡ opening_tape m)
+    → HasAskedOnly is_such old new → (new.number ≡ 0 + place) × (new.count ≤ asked is_such new.number new.tape)
+from_fresh is_such place m old new fresh has =
+    let none : asked is_such old.number old.tape ≡ 0 = rw fresh.2 refl in
+    let number : new.number ≡ place = has.number ∙ fresh.0 in
+    (omega (arith, number), subst (λ (k : ℕ). new.count ≤ asked is_such k new.tape) (sym has.number) (omega (arith, has.calls, fresh.1, none)))
+
+get_some : {A : Type 0} (xs : List A) (k : ℕ) → k < length xs → (x : A) × (slice_get xs k ≡ Some x)
+get_some [] k within = absurd (omega (arith, within))
+get_some (x ∷ xs) zero within = (x, refl)
+get_some (x ∷ xs) (suc k) within = get_some xs k (omega (arith, within))
+
+get_within : {A : Type 0} (xs : List A) (k : ℕ) (x : A) → slice_get xs k ≡ Some x → k < length xs
+get_within [] k x e = absurd (cc e)
+get_within (y ∷ ys) zero x e = omega arith
+get_within (y ∷ ys) (suc k) x e = omega (arith, get_within ys k x e)
+
+module _ (m : Machine) (seats back : List CoreSeat) (fresh : IsFresh (opening_tape m) seats) (run : HaveRun (λ (s : CoreSeat). s) seats back) where
+  within : (k : ℕ) (s : CoreSeat) → slice_get back k ≡ Some s → k < length seats
+  within k s at = omega (arith, get_within back k s at, run.count)
+
+  trials_counted : AreCounted is_of_trial 0 back
+  trials_counted = λ k s at.
+      let old = get_some seats k (within k s at) in
+      let r = ran seats back k old.0 s run (within k s at) old.1 at in
+      from_fresh is_of_trial k m old.0 s (fresh k old.0 old.1) (asked_by is_of_trial old.0 s r.0 r.1 r.2)
+
+  all_counted : AreCounted any 0 back
+  all_counted = λ k s at.
+      let old = get_some seats k (within k s at) in
+      let r = ran seats back k old.0 s run (within k s at) old.1 at in
+      from_fresh any k m old.0 s (fresh k old.0 old.1) (asked_by any old.0 s r.0 r.1 (all_are r.0))
+
+  pub trials_alone : (tape : CoreTape) → IsTapeOf (opening_tape m) back (length seats) tape → AreOfTrial (calls_on tape)
+  trials_alone [] is = absurd (cc is.opens.1)
+  trials_alone (Call k c r ∷ rest) is = absurd (cc is.opens.1)
+  trials_alone (Opening o ∷ rest) is =
+      all_trials 0 (Opening o ∷ rest) (omega (arith, is.calls run.count, counted is_of_trial (Opening o ∷ rest) 0 back trials_counted is.seen, few_calls rest))
+
+  -- of no seat are there more calls on the tape than it counts
+  no_more : (tape : CoreTape) → IsTapeOf (opening_tape m) back (length seats) tape → (k : ℕ) (s : CoreSeat) → slice_get back k ≡ Some s
+      → length (calls_of k tape) ≤ s.count
+  no_more [] is k s at = absurd (cc is.opens.1)
+  no_more (Call j c r ∷ rest) is k s at = absurd (cc is.opens.1)
+  no_more (Opening o ∷ rest) is k s at =
+      let here : asked any (0 + k) (Opening o ∷ rest) ≡ asked any k (Opening o ∷ rest) = ap (λ (n : ℕ). asked any n (Opening o ∷ rest)) (omega arith) in
+      omega (arith, is.calls run.count, counted_but any (Opening o ∷ rest) 0 back all_counted is.seen k s at, few_such any 0 (Opening o ∷ rest), few_calls rest, here, as_many k (Opening o ∷ rest))
+
+  pub all_played : (threads : ℕ) → threads + 1 ≤ length seats → (tape : CoreTape) → IsTapeOf (opening_tape m) back (length seats) tape → ArePlayed threads tape
+  all_played threads enough tape is thread below =
+      let old = get_some seats thread (omega (arith, below, enough)) in
+      let new = get_some back thread (omega (arith, below, enough, run.count)) in
+      let p = run.clients thread old.0 new.0 (omega (arith, below, enough)) old.1 new.1 in
+      let f = fresh thread old.0 old.1 in
+      let count = made_count old.0 new.0 p.0 p.1 in
+      let most = no_more tape is thread new.0 new.1 in
+      let seen : IsPrefix new.0.tape tape = subst (λ (s : CoreSeat). IsPrefix s.tape tape) (get_or_from_slice_get back thread new.0 new.0 new.1) (is.seen thread new.0 (omega (arith, below, enough, run.count))) in
+      let front = calls_front thread new.0.tape tape seen in
+      let longer : length (calls_of thread tape) ≡ length (calls_of thread new.0.tape) + length front.0 = ap length front.1 ∙ length-append (calls_of thread new.0.tape) front.0 in
+      let none : calls_of thread old.0.tape ≡ [] = rw f.2 refl in
+      let nothing : length (calls_of thread old.0.tape) ≡ 0 = rw none refl in
+      let just : calls_of thread new.0.tape ≡ calls_of thread old.0.tape ++ p.0 = just_made thread old.0 new.0 p.0 f.0 p.1 (omega (arith, most, longer, count, f.1, nothing)) in
+      let own : calls_of thread new.0.tape ≡ p.0 = just ∙ ap (λ (zs : Calls). zs ++ p.0) none in
+      let whole : calls_of thread tape ≡ calls_of thread new.0.tape = none_more (calls_of thread new.0.tape) (calls_of thread tape) front.0 front.1 (omega (arith, most, count, f.1, ap length own)) in
+      subst (λ (calls : Calls). Plays thread draws calls has_ended) (sym (whole ∙ own)) p.2

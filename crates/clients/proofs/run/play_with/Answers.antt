@@ -1,0 +1,5 @@
+use Rattle.clients.proofs.Making.{has_played}
+use Rattle.clients.proofs.run.play_with.Goals as goal
+
+pub returns-clause-played : goal.returns-clause-played
+returns-clause-played g c = λ none. has_played _ _ _ _ c.play-why.ensures (c.of_run.ensures.none none)

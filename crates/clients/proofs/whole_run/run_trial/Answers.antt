@@ -1,0 +1,29 @@
+use Rattle.std.proofs.Common.{◌≡◌, ℕ, ◌-◌, subst, arith}
+use Rattle.harness.specs.CoreView.{CoreView}
+use Rattle.harness.specs.Setups.{setup_of}
+use Rattle.machine.specs.Machine.{opening}
+use Rattle.clients.specs.Runs.{IsRun}
+use Rattle.clients.proofs.Results.{ok_then}
+use Rattle.clients.proofs.whole_run.run_trial.Goals as goal
+
+pub returns-clause-run : goal.returns-clause-run
+returns-clause-run g c =
+    let blank = c.in_ok-blank.ensures in
+    let threads : c.in_ok-blank.blank.seats - 1 ≡ c.args.config.concurrency = omega (arith, c.in_ok-blank.ensures.seats.0, c.in_ok-blank.ensures.seats.2, c.saturating_add-seats.ensures) in
+    ok_then c.run_on.result c.run_on.ensures.run (λ core run.
+    subst (λ (n : ℕ). IsRun n (opening (setup_of c.args.config)) core.machine) threads
+    (subst (λ (v : CoreView). IsRun (c.in_ok-blank.blank.seats - 1) v.machine core.machine) blank.opened run))
+
+pub returns-clause-linearizable : goal.returns-clause-linearizable
+returns-clause-linearizable g c = λ strict.
+    let blank = c.in_ok-blank.ensures in
+    ok_then c.run_on.result c.run_on.ensures.run (λ core run.
+    c.no_false_alarm_in_a_run.ensures.linearizable (setup_of c.args.config) (c.in_ok-blank.blank.seats - 1) core.machine strict blank.limits.2.0
+    (subst (λ (v : CoreView). IsRun (c.in_ok-blank.blank.seats - 1) v.machine core.machine) blank.opened run))
+
+pub returns-clause-never_illegal : goal.returns-clause-never_illegal
+returns-clause-never_illegal g c = λ strict.
+    let blank = c.in_ok-blank.ensures in
+    ok_then c.run_on.result c.run_on.ensures.run (λ core run key index.
+    c.no_false_alarm_in_a_run.ensures.verdict (setup_of c.args.config) (c.in_ok-blank.blank.seats - 1) core.machine key index strict blank.limits.2.0
+    (subst (λ (v : CoreView). IsRun (c.in_ok-blank.blank.seats - 1) v.machine core.machine) blank.opened run))

@@ -1,0 +1,4 @@
+pub mod Calls
+pub mod Plays
+pub mod Playing
+pub mod Runs

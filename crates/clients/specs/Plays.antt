@@ -1,0 +1,79 @@
+-- Promise: what clients and the nemesis do (this project's own)
+use Rattle.std.specs.Prelude.{◌≡◌, ℕ, ◌+◌, ◌-◌, ◌<◌, List, [], ◌∷◌, length, Ok, Err, Some, slice_get}
+use Rattle.edn.specs.declared.refusal.Refusal.{Refusal}
+use Rattle.edn.specs.declared.refusal.Refusal.TheVariants.{NotOpen, HistoryFull, TapeFull, NoMemory, Stale}
+use Rattle.machine.specs.declared.command.Command.{Command}
+use Rattle.machine.specs.declared.command.Command.TheVariants.{Draw, Serve, Finish, Nemesis}
+use Rattle.machine.specs.declared.command.Reply.{Reply}
+use Rattle.machine.specs.declared.command.Reply.TheVariants.{Drawn, Pending}
+use Rattle.board.specs.CoreTape.{CoreReply}
+use Rattle.clients.specs.Calls.{CoreSeat, Calls, HasMade}
+
+-- what a client does next: it draws, serves a ticket, finishes a ticket, or nothing more
+pub data Stage : Type 0 where
+  draws : Stage
+  serves : ℕ → Stage
+  finishes : ℕ → Stage
+  has_ended : Stage
+
+-- that is the command of the client of this thread
+abbrev pub IsNext : ℕ → Stage → Command → Type 0
+IsNext thread draws command = command ≡ Draw thread
+IsNext thread (serves ticket) command = command ≡ Serve ticket
+IsNext thread (finishes ticket) command = command ≡ Finish ticket
+IsNext thread has_ended command = ⊥
+
+-- it serves what it drew, finishes what it served, and then draws again; so it does where there may be an operation later.
+-- Where there is none for it, it ends
+abbrev pub after_reply : Stage → Reply → Stage
+after_reply draws (Drawn ticket index) = serves ticket
+after_reply draws Pending = draws
+after_reply draws reply = has_ended
+after_reply (serves ticket) reply = finishes ticket
+after_reply (finishes ticket) reply = draws
+after_reply has_ended reply = has_ended
+
+-- where others completed or cut its operation, it draws again. Any other refusal ends it
+abbrev pub after_refusal : Refusal → Stage
+after_refusal NotOpen = draws
+after_refusal Stale = draws
+after_refusal why = has_ended
+
+abbrev pub after_answer : Stage → CoreReply → Stage
+after_answer stage (Ok reply) = after_reply stage reply
+after_answer stage (Err why) = after_refusal why
+
+-- these calls of the client of this thread lead from the one stage to the other
+abbrev pub Plays : ℕ → Stage → Calls → Stage → Type 0
+Plays thread stage [] end = stage ≡ end
+Plays thread stage (call ∷ calls) end =
+    IsNext thread stage call.0 × Plays thread (after_answer stage call.1) calls end
+
+-- since the seat was so, it was that of the client of this thread, from its first draw to its end
+abbrev pub HasPlayed : ℕ → CoreSeat → CoreSeat → Type 0
+HasPlayed thread old new =
+    (calls : Calls) × HasMade old calls new × Plays thread draws calls has_ended
+
+abbrev pub AreStrikes : Calls → Type 0
+AreStrikes [] = Unit {0}
+AreStrikes (call ∷ calls) = (call.0 ≡ Nemesis) × AreStrikes calls
+
+-- since the seat was so, it was that of the nemesis
+abbrev pub HasStruck : CoreSeat → CoreSeat → Type 0
+HasStruck old new = (calls : Calls) × HasMade old calls new × AreStrikes calls
+
+-- the same seats came back, in order: the last was the nemesis's, and each before it that of the client of its place
+pub record HaveRun {A : Type 0} (view : A → CoreSeat) (seats back : List A) : Type 0 where
+  pub count : length back ≡ length seats
+  pub clients : (thread : ℕ) (old new : A) → thread + 1 < length seats
+      → slice_get seats thread ≡ Some old → slice_get back thread ≡ Some new
+      → HasPlayed thread (view old) (view new)
+  pub nemesis : (old new : A) → slice_get seats (length seats - 1) ≡ Some old
+      → slice_get back (length seats - 1) ≡ Some new → HasStruck (view old) (view new)
+
+-- why a run is refused: its history is full, its tape is, or memory ran out
+abbrev pub IsOfRun : Refusal → Type 0
+IsOfRun HistoryFull = Unit {0}
+IsOfRun TapeFull = Unit {0}
+IsOfRun NoMemory = Unit {0}
+IsOfRun why = ⊥

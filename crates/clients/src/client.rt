@@ -1,0 +1,106 @@
+//! What a client does.
+ghost use Rattle.std.specs.Prelude.{ℕ};
+ghost use Rattle.clients.specs.Plays.{draws, serves, finishes, after_reply};
+ghost use Rattle.clients.specs.Playing.{CameFrom, IsAfterRefusal};
+
+use crate::pauses::let_others_call;
+use crate::shared_board::SharedBoard;
+use edn::{Gate, OpenGate, Refusal};
+use harness::{Command, Reply};
+use std::sync::Wait;
+
+/// What a client does next.
+#[derive(Drop)]
+pub(crate) enum Next {
+    /// It draws.
+    Draw,
+    /// It ends, where it was refused with the refusal.
+    End(Option<Refusal>),
+}
+
+/// The client of a thread: it draws, serves and finishes, one operation after the other, until there is none for it or it
+/// is refused, and then gives the refusal. The gate begins before its first command and ends after the answer to that.
+pub(crate) fn play<M: SharedBoard, G: Gate, R: Wait>(
+    rt: &R,
+    board: &M,
+    gate: &G,
+    thread: u32,
+    seat: &mut M::Seat,
+) -> Option<Refusal>
+    ensures { CameFrom thread draws (M.view seat.old) (M.view seat.new) (Next.End result) }
+{
+    let mut next = take_turn(rt, board, gate, thread, seat);
+    for _ in rt.forever() {
+        match next {
+            Next::Draw => next = take_turn(rt, board, &OpenGate, thread, seat),
+            Next::End(why) => return why,
+        }
+    }
+    unreachable!()
+}
+
+// Draws, and goes on by the answer.
+fn take_turn<M: SharedBoard, G: Gate, R: Wait>(
+    rt: &R,
+    board: &M,
+    gate: &G,
+    thread: u32,
+    seat: &mut M::Seat,
+) -> Next
+    ensures { CameFrom thread draws (M.view seat.old) (M.view seat.new) result }
+{
+    gate.begin(thread);
+    let drawn = board.call(rt, seat, Command::Draw(thread));
+    gate.end(thread);
+    match drawn {
+        Ok(reply) => carry_out(rt, board, seat, reply),
+        Err(why) => after_refusal(why),
+    }
+}
+
+// Serves and finishes what was drawn. Where it may draw later, it lets others go on.
+fn carry_out<M: SharedBoard, R: Wait>(rt: &R, board: &M, seat: &mut M::Seat, drawn: Reply) -> Next
+    ensures { (thread : ℕ) → CameFrom thread (after_reply draws drawn) (M.view seat.old) (M.view seat.new) result }
+{
+    match drawn {
+        Reply::Drawn { ticket, .. } => serve_and_finish(rt, board, seat, ticket),
+        Reply::Pending => {
+            let_others_call(board, seat, 1);
+            Next::Draw
+        }
+        _ => Next::End(None),
+    }
+}
+
+fn serve_and_finish<M: SharedBoard, R: Wait>(
+    rt: &R,
+    board: &M,
+    seat: &mut M::Seat,
+    ticket: u32,
+) -> Next
+    ensures { (thread : ℕ) → CameFrom thread (serves ticket) (M.view seat.old) (M.view seat.new) result }
+{
+    match board.call(rt, seat, Command::Serve(ticket)) {
+        Ok(_) => finish(rt, board, seat, ticket),
+        Err(why) => after_refusal(why),
+    }
+}
+
+fn finish<M: SharedBoard, R: Wait>(rt: &R, board: &M, seat: &mut M::Seat, ticket: u32) -> Next
+    ensures { (thread : ℕ) → CameFrom thread (finishes ticket) (M.view seat.old) (M.view seat.new) result }
+{
+    match board.call(rt, seat, Command::Finish(ticket)) {
+        Ok(_) => Next::Draw,
+        Err(why) => after_refusal(why),
+    }
+}
+
+// Where others completed or cut its operation, it draws again.
+fn after_refusal(why: Refusal) -> Next
+    ensures { IsAfterRefusal why result }
+{
+    match why {
+        Refusal::NotOpen | Refusal::Stale => Next::Draw,
+        why => Next::End(Some(why)),
+    }
+}

@@ -1,0 +1,43 @@
+//! Laws of runs.
+ghost use Rattle.std.specs.Prelude.{◌≡◌, ◌+◌, ◌≤◌, ℕ, List, length};
+ghost use Rattle.history.specs.Events.{marks};
+ghost use Rattle.linspec.specs.Orders.{IsLinearizable, product};
+ghost use Rattle.linspec.specs.declared.verdict.Verdict.{Verdict};
+ghost use Rattle.test_store.specs.declared.outcome.Mode.TheVariants.{Strict};
+ghost use Rattle.test_store.specs.Store.{IsCount};
+ghost use Rattle.monitor.specs.JudgedHistory.{kind_of, entries_in, IsVerdictOn};
+ghost use Rattle.machine.specs.Machine.{Machine, Setup, opening, AreOfTrial};
+ghost use Rattle.board.specs.Tape.{IsTapeOf};
+ghost use Rattle.board.specs.Seat.{IsFresh};
+ghost use Rattle.board.specs.CoreTape.{CoreTape, opening_tape, calls_on};
+ghost use Rattle.clients.specs.Calls.{CoreSeat};
+ghost use Rattle.clients.specs.Plays.{HaveRun};
+ghost use Rattle.clients.specs.Runs.{ArePlayed, IsRun};
+
+use machine::no_false_alarm;
+
+/// Where all seats of a board went to clients and the nemesis when they were new, and came back, the board's tape has calls of
+/// trials alone: each call of these seats is on it, once, and nothing else is. So each client has there just the calls that it
+/// made, from its first draw to its end.
+pub fn trials_alone()
+    ensures trials { (m : Machine) (seats back : List CoreSeat) (tape : CoreTape)
+        → IsFresh (opening_tape m) seats → HaveRun (λ seat. seat) seats back
+        → IsTapeOf (opening_tape m) back (length seats) tape → AreOfTrial (calls_on tape) }
+    ensures played { (m : Machine) (threads : ℕ) (seats back : List CoreSeat) (tape : CoreTape)
+        → threads + 1 ≤ length seats → IsFresh (opening_tape m) seats
+        → HaveRun (λ seat. seat) seats back
+        → IsTapeOf (opening_tape m) back (length seats) tape → ArePlayed threads tape }
+{}
+
+/// No run of a strict store is a false alarm: the history to which it leads is linearizable, over all keys together. So no
+/// verdict on it is Illegal.
+pub fn no_false_alarm_in_a_run()
+    ensures linearizable { (setup : Setup) (threads : ℕ) (m : Machine) → setup.mode ≡ Strict
+        → IsCount setup.replicas → IsRun threads (opening setup) m
+        → IsLinearizable (product (kind_of m.judged)) (marks (entries_in m.judged)) }
+    ensures verdict { (setup : Setup) (threads : ℕ) (m : Machine) (key index : ℕ) → setup.mode ≡ Strict
+        → IsCount setup.replicas → IsRun threads (opening setup) m
+        → ¬ IsVerdictOn m.judged (Verdict.Illegal key index) }
+{
+    no_false_alarm();
+}

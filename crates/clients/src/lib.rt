@@ -1,0 +1,14 @@
+//! Client threads: each has a seat of a board, and carries out what it draws against the store, while one more seat has the
+//! nemesis strike.
+#![tactic(auto)]
+
+mod client;
+pub mod laws;
+mod nemesis;
+mod pauses;
+mod run;
+mod shared_board;
+mod whole_run;
+
+pub use run::run_clients;
+pub use whole_run::{run_on, run_trial};

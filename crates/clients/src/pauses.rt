@@ -1,0 +1,22 @@
+//! What those do who have nothing to do now.
+ghost use Rattle.clients.specs.Calls.{MadeNone};
+
+use crate::shared_board::SharedBoard;
+use std::thread;
+
+// The turns after which who waits tries again, whatever others do.
+const TURNS: u32 = 1000;
+
+/// Lets others go on until they have made so many calls, or for some turns where they don't. It takes no lock.
+pub(crate) fn let_others_call<M: SharedBoard>(board: &M, seat: &mut M::Seat, calls: u64)
+    ensures { MadeNone (M.view seat.old) (M.view seat.new) }
+{
+    let before = board.commit(seat);
+    for _ in 0..TURNS {
+        thread::yield_now();
+        let now = board.commit(seat);
+        if now.saturating_sub(before) >= calls {
+            return;
+        }
+    }
+}

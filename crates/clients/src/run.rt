@@ -1,0 +1,210 @@
+//! Clients and the nemesis, each in a thread of its own.
+ghost use Rattle.std.specs.Prelude.{◌≡◌, ◌<◌, ◌≤◌, ◌^◌, ◌++◌, ◌∷◌, [], None, length, map, IfOk, IfErr, IfSome};
+ghost use Rattle.std.specs.List.{All, enumerate_from};
+ghost use Rattle.clients.specs.Plays.{HasPlayed, HasStruck, HaveRun, IsOfRun};
+ghost use Rattle.clients.specs.Playing.{HavePlayed, MayBeLost};
+
+use crate::client::play;
+use crate::nemesis::strike;
+use crate::shared_board::SharedBoard;
+use board::{Board, Seat, Tag};
+use edn::{Gate, Refusal};
+use std::alloc::{AllocError, Global};
+use std::sync::Wait;
+use std::sync::atomic::{AtomicBool, Ordering};
+use std::thread;
+use std::thread::{Threads, join};
+
+// A seat whose thread has ended, and the refusal that it met, where that is one of the run.
+#[derive(Drop)]
+struct Ended<S> {
+    seat: S,
+    why: Option<Refusal>,
+}
+
+/// Runs clients, each in a thread of its own: the seat at place `i` is that of the client of thread `i`, and the last one
+/// that of the nemesis. So it takes a seat more than there are threads.
+///
+/// A client draws, serves and finishes, one operation after the other, until there is none for it; where others completed
+/// or cut its operation, it draws again, and where there may be one later, it lets others go on before that. The nemesis
+/// strikes until all clients have ended; where no fault is due, it lets others make some calls first. The gate begins by the
+/// place of a client before its first command, and ends after the answer to that; it is called outside the lock.
+///
+/// A client whose thread can't be started runs in the thread that was to start it, and so does the nemesis, once the clients
+/// have ended, which leaves its seat unused.
+///
+/// # Errors
+/// [`Refusal::HistoryFull`], [`Refusal::TapeFull`] or [`Refusal::NoMemory`], where a seat met it: that of the lowest place.
+/// And `NoMemory` where a growth was refused. The seats are then dropped. Any other refusal ends the seat's own part alone.
+pub fn run_clients<B: Tag + Send + Sync, G: Gate + Sync, R: Threads + Wait + Sync>(
+    rt: &R,
+    alloc: Global,
+    board: &Board<B>,
+    seats: Vec<Seat<B>>,
+    gate: &G,
+) -> Result<Vec<Seat<B>>, Refusal>
+    requires { (1 ≤ length seats.items) × (length seats.items ≤ 64) }
+    ensures back { IfOk result (λ back. HaveRun (λ seat. seat) seats.items back.items) }
+    ensures refused { IfErr result IsOfRun }
+{
+    run_all(rt, alloc, board, seats, gate)
+}
+
+// Clients on all seats but the last, which is the nemesis's.
+fn run_all<M: SharedBoard + Sync, G: Gate + Sync, R: Threads + Wait + Sync>(
+    rt: &R,
+    alloc: Global,
+    board: &M,
+    seats: Vec<M::Seat>,
+    gate: &G,
+) -> Result<Vec<M::Seat>, Refusal>
+where
+    M::Seat: Send + Drop,
+    requires { (1 ≤ length seats.items) × (length seats.items ≤ 64) }
+    ensures back { IfOk result (λ back. HaveRun M.view seats.items back.items) }
+    ensures refused { IfErr result IsOfRun }
+{
+    let mut clients = seats;
+    let last = clients.pop().unwrap();
+    let clients = numbered(alloc, clients)?;
+    let over = AtomicBool::new(false);
+    let ended = &over;
+    let strike = move || -> Ended<M::Seat>
+        ensures struck { HasStruck (M.view last) (M.view result.seat) }
+        ensures refused { IfSome result.why IsOfRun }
+    { strike_with(rt, board, last, ended) };
+    let play = move || -> Result<Vec<Ended<M::Seat>>, AllocError>
+        requires { All (λ client. client.0 < 2 ^ 32) clients.items }
+        ensures played { IfOk result (λ all.
+            HavePlayed M.view (λ ended. ended.seat) (λ ended. ended.why) clients.items all.items) }
+        ensures refused { IfOk result (λ all. All (λ ended. IfSome ended.why IsOfRun) all.items) }
+    { play_all(rt, board, clients, gate, ended) };
+    let (struck, played) = join(rt, strike, play);
+    come_back(alloc, played?, struck)
+}
+
+// All seats, where none met a refusal of the run; else that of the first that did.
+fn come_back<S: Drop>(
+    alloc: Global,
+    played: Vec<Ended<S>>,
+    struck: Ended<S>,
+) -> Result<Vec<S>, Refusal>
+    requires played { All (λ ended. IfSome ended.why IsOfRun) played.items }
+    requires struck { IfSome struck.why IsOfRun }
+    ensures back { IfOk result (λ seats.
+        seats.items ≡ map (λ ended. ended.seat) played.items ++ struck.seat ∷ []) }
+    ensures well { IfOk result (λ seats. All (λ ended. ended.why ≡ None) played.items) }
+    ensures refused { IfErr result IsOfRun }
+{
+    if let Some(why) = first_refusal(played.as_slice()) {
+        return Err(why);
+    }
+    if let Some(why) = struck.why {
+        return Err(why);
+    }
+    let mut back = seats_of(alloc, played)?;
+    back.push(struck.seat)?;
+    Ok(back)
+}
+
+// The seats, each with its place.
+fn numbered<S: Drop>(alloc: Global, seats: Vec<S>) -> Result<Vec<(usize, S)>, AllocError>
+    ensures { IfOk result (λ all. all.items ≡ enumerate_from 0 seats.items) }
+{
+    seats.into_iter().enumerate().collect(alloc)
+}
+
+// The nemesis, with its seat.
+fn strike_with<M: SharedBoard, R: Wait>(
+    rt: &R,
+    board: &M,
+    seat: M::Seat,
+    ended: &AtomicBool,
+) -> Ended<M::Seat>
+    ensures struck { HasStruck (M.view seat) (M.view result.seat) }
+    ensures refused { IfSome result.why IsOfRun }
+{
+    let mut seat = seat;
+    let why = strike(rt, board, &mut seat, ended);
+    Ended {
+        seat,
+        why: of_run(why),
+    }
+}
+
+// A client, by its thread and its seat.
+fn play_with<M: SharedBoard, G: Gate, R: Wait>(
+    rt: &R,
+    board: &M,
+    gate: &G,
+    client: (usize, M::Seat),
+) -> Ended<M::Seat>
+    requires { client.0 < 2 ^ 32 }
+    ensures played { result.why ≡ None → HasPlayed client.0 (M.view client.1) (M.view result.seat) }
+    ensures refused { IfSome result.why IsOfRun }
+{
+    let (thread, mut seat) = client;
+    let why = play(rt, board, gate, thread as u32, &mut seat);
+    Ended {
+        seat,
+        why: of_run(why),
+    }
+}
+
+// The refusal, where it is one that a run is refused for: a full history, a full tape, or want of memory.
+fn of_run(why: Option<Refusal>) -> Option<Refusal>
+    ensures refused { IfSome result IsOfRun }
+    ensures none { result ≡ None → ¬ MayBeLost why }
+{
+    let why = why?;
+    match why {
+        Refusal::HistoryFull | Refusal::TapeFull | Refusal::NoMemory => Some(why),
+        _ => None,
+    }
+}
+
+// The clients, each in a thread of its own where one can be made. Then they have all ended.
+fn play_all<M: SharedBoard + Sync, G: Gate + Sync, R: Threads + Wait + Sync>(
+    rt: &R,
+    board: &M,
+    clients: Vec<(usize, M::Seat)>,
+    gate: &G,
+    ended: &AtomicBool,
+) -> Result<Vec<Ended<M::Seat>>, AllocError>
+where
+    M::Seat: Send + Drop,
+    requires { All (λ client. client.0 < 2 ^ 32) clients.items }
+    ensures played { IfOk result (λ all.
+        HavePlayed M.view (λ ended. ended.seat) (λ ended. ended.why) clients.items all.items) }
+    ensures refused { IfOk result (λ all. All (λ ended. IfSome ended.why IsOfRun) all.items) }
+{
+    let play = |client: (usize, M::Seat)| -> Ended<M::Seat>
+        requires { client.0 < 2 ^ 32 }
+        ensures played { result.why ≡ None → HasPlayed client.0 (M.view client.1) (M.view result.seat) }
+        ensures refused { IfSome result.why IsOfRun }
+    { play_with(rt, board, gate, client) };
+    let played = thread::map_vec(rt, clients, &play);
+    ended.store(true, Ordering::SeqCst);
+    played
+}
+
+// The refusal of the first that met one of the run.
+fn first_refusal<S>(played: &[Ended<S>]) -> Option<Refusal>
+    requires { All (λ ended. IfSome ended.why IsOfRun) played.now }
+    ensures refused { IfSome result IsOfRun }
+    ensures none { result ≡ None → All (λ ended. ended.why ≡ None) played.now }
+{
+    for ended in played {
+        if ended.why.is_some() {
+            return ended.why;
+        }
+    }
+    None
+}
+
+// The seats alone.
+fn seats_of<S: Drop>(alloc: Global, played: Vec<Ended<S>>) -> Result<Vec<S>, AllocError>
+    ensures { IfOk result (λ seats. seats.items ≡ map (λ ended. ended.seat) played.items) }
+{
+    played.into_iter().map(|ended| ended.seat).collect(alloc)
+}

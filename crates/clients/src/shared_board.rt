@@ -1,0 +1,52 @@
+//! A board, as threads see it that share it.
+ghost use Rattle.clients.specs.Calls.{CoreSeat, MadeNone, IsTold};
+
+use board::{Board, Seat, Tag};
+use edn::Refusal;
+use harness::{Command, Reply};
+use std::sync::Wait;
+
+/// A board that threads share, each by a seat of its own.
+pub trait SharedBoard {
+    type Seat;
+
+    ghost view: { Self.Seat → CoreSeat };
+
+    /// Carries out a command. It is refused where the command is, or where the call is no entry.
+    fn call<R: Wait>(
+        &self,
+        rt: &R,
+        seat: &mut Self::Seat,
+        command: Command,
+    ) -> Result<Reply, Refusal>
+        ensures { IsTold (view seat.old) command result (view seat.new) };
+
+    /// How many calls had been made, by what was last published. It takes no lock and waits for nobody.
+    fn commit(&self, seat: &mut Self::Seat) -> u64
+        ensures { MadeNone (view seat.old) (view seat.new) };
+}
+
+impl<B: Tag> SharedBoard for Board<B> {
+    type Seat = Seat<B>;
+
+    ghost view = { λ seat. seat };
+
+    fn call<R: Wait>(
+        &self,
+        rt: &R,
+        seat: &mut Seat<B>,
+        command: Command,
+    ) -> Result<Reply, Refusal> {
+        match Board::call(self, rt, seat, command) {
+            Ok(answered) => answered.reply,
+            Err(why) => Err(why),
+        }
+    }
+
+    fn commit(&self, seat: &mut Seat<B>) -> u64 {
+        match self.glance(seat) {
+            Some(glance) => glance.commit,
+            None => 0,
+        }
+    }
+}

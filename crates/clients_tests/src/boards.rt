@@ -1,0 +1,72 @@
+//! Boards whose clients write and read one key.
+ghost use Rattle.std.specs.Prelude.{◌≡◌};
+
+use board::Blank;
+use edn::Refusal;
+use generators::{Cycle, Gen, Item};
+use harness::{Config, Judging};
+use models::{ModelKind, Name, Op, Part};
+use std::alloc::Global;
+use std::process::Abort;
+use std::sync::atomic::{AtomicBool, Ordering};
+use std::thread;
+
+pub const TWO: Judging = Judging {
+    concurrency: 2,
+    kind: ModelKind::Register,
+    budget: 4096,
+};
+
+/// The turns that a thread waits for another.
+pub const TURNS: u32 = 1_000_000;
+
+/// Whether another thread sets the flag within so many turns.
+pub fn comes(flag: &AtomicBool) -> bool {
+    for _ in 0..TURNS {
+        if flag.load(Ordering::SeqCst) {
+            return true;
+        }
+        thread::yield_now();
+    }
+    false
+}
+
+fn item(name: Name, part: Part) -> Item {
+    Item::Op(Op { name, key: 0, part })
+}
+
+pub fn read() -> Item {
+    item(Name::Read, Part::Nil)
+}
+
+pub fn write() -> Item {
+    item(Name::Write, Part::Int(1))
+}
+
+// So many operations, which are these in turn.
+fn config(alloc: Global, operations: u64, items: Vec<Item>) -> Result<Config, Refusal> {
+    let child = Box::new(alloc, Gen::Ops(Cycle::new(items)))?;
+    Ok(Config {
+        generator: Gen::Limit(operations, child),
+        ..TWO.config(alloc)
+    })
+}
+
+/// A board of two threads and so many seats, whose clients draw so many operations, which are these in turn.
+pub fn blank<R: Abort>(
+    rt: &R,
+    alloc: Global,
+    seats: u32,
+    operations: u64,
+    items: Vec<Item>,
+) -> Blank
+    ensures { result.seats ≡ seats }
+{
+    let Ok(config) = config(alloc, operations, items) else {
+        panic!(rt; "no memory")
+    };
+    match Blank::new(alloc, config, seats) {
+        Ok(blank) => blank,
+        Err(_) => panic!(rt; "no board"),
+    }
+}
