@@ -5,3 +5,4 @@ pub mod Reply
 pub mod Unopened
 pub mod Recorded
 pub mod Checks
+pub mod RunText

@@ -1,19 +1,30 @@
 //! The words of the command line.
-ghost use Rattle.std.specs.Prelude.{◌≡◌, length, IfOk, Ok};
+ghost use Rattle.std.specs.Prelude.{◌≡◌, ◌≤◌, length, IfOk, IfSome, Ok};
 ghost use Rattle.harness.specs.Setups.{setup_of, IsSetup};
 ghost use Rattle.harness.specs.declared.config.Config.{Config};
 ghost use Rattle.jepmon.specs.CommandLine.{default_setup, IsWithinLimits};
 
 use crate::help;
+use crate::run_plan::RunPlan;
 use clap::error::ErrorKind;
 use clap::{Arg, ArgMatches, Command};
 use edn::Refusal;
 use harness::Config;
 use models::ModelKind;
 use std::alloc::{AllocError, Global};
+use test_store::Mode;
 
 // Workers at most.
 const MOST_WORKERS: u32 = 64;
+
+// Clients of a run at most: of the 64 seats of a board the nemesis takes one.
+const MOST_CLIENTS: u32 = 63;
+
+const MOST_SEED: u64 = 0x7fff_ffff_ffff_ffff;
+
+const MOST_OPERATIONS: u64 = 100_000;
+
+const MOST_KEYS: u64 = 64;
 
 /// What the words ask the program to do.
 #[derive(Drop)]
@@ -29,6 +40,8 @@ pub enum Order {
         /// How the one-thread object is opened.
         config: Config,
     },
+    /// Runs clients against a store in the process.
+    Run(Config),
 }
 
 /// Why there is no order.
@@ -47,8 +60,9 @@ pub enum Stop {
 /// # Errors
 ///
 /// `Help` where help or the version is asked for. `Usage` for words that are none of the program's, for a value that is no
-/// number, and for a model of another name. `Refused` for a number out of its limits: `BadBudget` first, then
-/// `BadConcurrency`; and where memory is refused.
+/// number, for a model, a mode or faults of another name, and for a seed, a number of operations, of keys or of workers out of
+/// its limits. `Refused` for another number out of its limits: `BadBudget` first, then `BadConcurrency`, then
+/// `NoSuchReplica`; and where memory is refused.
 pub fn order_of(alloc: Global, words: &[String]) -> Result<Order, Stop>
     ensures defaults { length words.now ≡ 0 → (config : Config)
         × (result ≡ Ok (Order.Script config)) × (setup_of config ≡ default_setup) }
@@ -69,6 +83,8 @@ pub fn order_of(alloc: Global, words: &[String]) -> Result<Order, Stop>
     config.check()?;
     if name == "check" {
         check_of(alloc, options, config)
+    } else if name == "run" {
+        run_of(alloc, options, config)
     } else {
         Ok(Order::Script(config))
     }
@@ -89,6 +105,71 @@ fn check_of(alloc: Global, options: &ArgMatches, config: Config) -> Result<Order
             config,
         }),
         _ => Err(usage_of(alloc, "check", "--workers takes a number, 1 to 64")),
+    }
+}
+
+// The order to run clients, which else judge as this configuration says.
+fn run_of(alloc: Global, options: &ArgMatches, judging: Config) -> Result<Order, Stop>
+    ensures { IfOk result IsWithinLimits }
+{
+    let plan = plan_of(alloc, options)?;
+    if judging.concurrency > MOST_CLIENTS {
+        return Err(Stop::Refused(Refusal::BadConcurrency));
+    }
+    let config = plan.config(alloc, judging)?;
+    config.check()?;
+    Ok(Order::Run(config))
+}
+
+// What the options of a run say. The limits of the replicas are not tested yet.
+fn plan_of(alloc: Global, options: &ArgMatches) -> Result<RunPlan, Stop> {
+    let Some(seed) = within(options, "seed", 0, MOST_SEED) else {
+        return Err(usage_of(
+            alloc,
+            "run",
+            "--seed takes a number, 0 to 9223372036854775807",
+        ));
+    };
+    let Some(operations) = within(options, "ops", 0, MOST_OPERATIONS) else {
+        return Err(usage_of(alloc, "run", "--ops takes a number, 0 to 100000"));
+    };
+    let Some(keys) = within(options, "keys", 1, MOST_KEYS) else {
+        return Err(usage_of(alloc, "run", "--keys takes a number, 1 to 64"));
+    };
+    let Some(replicas) = number(options, "replicas") else {
+        return Err(usage_of(alloc, "run", "--replicas takes a number, 1 to 7"));
+    };
+    let Some(mode) = mode_of(options) else {
+        return Err(usage_of(alloc, "run", "--mode takes one of strict, sloppy"));
+    };
+    let Some(has_faults) = faults_of(options) else {
+        return Err(usage_of(alloc, "run", "--faults takes one of off, on"));
+    };
+    Ok(RunPlan {
+        seed,
+        operations: operations as u32,
+        keys: keys as u16,
+        replicas: u8::try_from(replicas).unwrap_or(u8::MAX),
+        mode,
+        has_faults,
+    })
+}
+
+// How the replicas serve.
+fn mode_of(options: &ArgMatches) -> Option<Mode> {
+    match options.get_str("mode")? {
+        "strict" => Some(Mode::Strict),
+        "sloppy" => Some(Mode::Sloppy),
+        _ => None,
+    }
+}
+
+// Whether faults strike.
+fn faults_of(options: &ArgMatches) -> Option<bool> {
+    match options.get_str("faults")? {
+        "on" => Some(true),
+        "off" => Some(false),
+        _ => None,
     }
 }
 
@@ -178,6 +259,22 @@ fn check<'a>(alloc: Global) -> Result<Command<'a>, AllocError> {
     with_settings(alloc, command, help::CONCURRENCY)
 }
 
+// The command `run`, with its options and their help.
+fn run<'a>(alloc: Global) -> Result<Command<'a>, AllocError> {
+    let command = Command::new(alloc, "run")
+        .about(help::RUN)
+        .long_about(help::RUN_LONG)
+        .after_help(help::STATUS)
+        .after_long_help(help::RUN_FORMS)
+        .arg(a_number(alloc, "seed", "0", help::SEED))?
+        .arg(a_number(alloc, "ops", "100", help::OPERATIONS))?
+        .arg(a_number(alloc, "keys", "1", help::KEYS))?
+        .arg(a_number(alloc, "replicas", "3", help::REPLICAS))?
+        .arg(a_name(alloc, "mode", "strict", help::MODE))?
+        .arg(a_name(alloc, "faults", "off", help::FAULTS))?;
+    with_settings(alloc, command, help::CLIENTS)
+}
+
 // The program's commands.
 fn program<'a>(alloc: Global) -> Result<Command<'a>, AllocError> {
     Command::new(alloc, "jepmon")
@@ -187,7 +284,20 @@ fn program<'a>(alloc: Global) -> Result<Command<'a>, AllocError> {
         .about(help::ABOUT)
         .after_help(help::MORE)
         .subcommand(script(alloc)?)?
-        .subcommand(check(alloc)?)
+        .subcommand(check(alloc)?)?
+        .subcommand(run(alloc)?)
+}
+
+// The value of an option that is a number from the least to the most.
+fn within(options: &ArgMatches, id: &str, least: u64, most: u64) -> Option<u64>
+    ensures { IfSome result (λ value. (least ≤ value) × (value ≤ most)) }
+{
+    let value = options.get_str(id)?.parse::<u64>().ok()?;
+    if (least..=most).contains(&value) {
+        Some(value)
+    } else {
+        None
+    }
 }
 
 // The value of an option that is a number, however long. One past the ends of 0 to 2^32 - 1 counts as that end, which
@@ -211,6 +321,7 @@ fn number(options: &ArgMatches, id: &str) -> Option<u32> {
 fn usage_of(alloc: Global, name: &str, message: &str) -> Stop {
     let command = match name {
         "check" => check(alloc),
+        "run" => run(alloc),
         _ => script(alloc),
     };
     match named(alloc, name, command) {

@@ -1,6 +1,6 @@
 //! `jepmon script` reads events of a store's clients, a line each, and answers each by the verdict on all of them:
 //! whether what the clients saw is linearizable (Herlihy and Wing, TOPLAS 1990). `jepmon check FILE` judges a recorded
-//! history.
+//! history, and `jepmon run` what clients see of a store in the process, under faults.
 #![tactic(auto)]
 
 pub mod check;
@@ -10,6 +10,8 @@ pub mod exit_status;
 mod help;
 pub mod laws;
 pub mod recorded;
+pub mod run;
+pub mod run_plan;
 pub mod script;
 
 use check::check_file;
@@ -18,6 +20,7 @@ use edn::Refusal;
 use exit_status::{status_after, status_of_stop};
 pub use line_loop::{Failed, Watched};
 use onlookers::OnTerminal;
+use run::run_store;
 use script::run_script;
 use std::alloc::{AllocError, Global};
 use std::env;
@@ -74,6 +77,12 @@ fn main(rt: HostRuntime) -> ExitCode {
             terminal.end();
             status
         },
+        Ok(Order::Run(config)) => {
+            let mut writer = Watched::new(rt.stdout());
+            let status = run_store(&rt, alloc, config, &mut writer, &terminal);
+            terminal.end();
+            status
+        }
         Err(stop) => status_of_stop(&rt, alloc, &stop, &terminal),
     };
     ExitCode::from(status)
