@@ -19,5 +19,5 @@ pub record IsRunText (m : Machine) (text : List ℕ) (status : ℕ) : Type 0 whe
 -- what a run says: what it came to, or why there was none
 abbrev pub MaySay : Setup → List ℕ → ℕ → Type 0
 MaySay setup text status =
-    ((m : Machine) × IsRun (opening setup) m × IsRunText m text status)
+    ((m : Machine) × IsRun setup.concurrency (opening setup) m × IsRunText m text status)
     ⊎ ((why : Refusal) × (text ≡ refusal_line why) × (status ≡ 3))
