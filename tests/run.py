@@ -9,8 +9,10 @@ has its history.edn beside them. A file memory is the limit on the program's mem
 The live cases are a session through two pipes: a line is sent only when the reply to the one before has come.
 With words, it runs the cases of these names alone.
 """
+import itertools
 import os
 import pathlib
+import re
 import resource
 import select
 import socket
@@ -186,12 +188,12 @@ def run_slow_check(terminal, pause):
 
 def run_progress():
     """A check of more than a second says on a terminal how far it has come, from then on, also while it reads; a shorter one
-    says nothing, nor does one whose standard error is no terminal. Standard output has the verdict alone."""
-    verdict = b"illegal key 7 index 5\n"
+    says nothing, nor does one whose standard error is no terminal. Standard output has the report alone."""
+    report = b"key 7 model register budget 4096 events 6 status dead 5\nillegal key 7 index 5\n"
     faults = []
     for terminal, pause, want in ((True, 1.2, b"\r511 bytes were read\r\n"), (True, 0, b""), (False, 1.2, b"")):
         got = run_slow_check(terminal, pause)
-        if got != (verdict, want, 1):
+        if got != (report, want, 1):
             faults.append(f"on a {'terminal' if terminal else 'pipe'}, with a pause of {pause} s, it ended with {got!r}")
     return faults
 
@@ -253,6 +255,21 @@ WORDS = [
     ("script --model", (), b"", 3, b"error: "),
     ("script --seed 1", (), b"", 3, b"error: "),
     ("watch", (), b"", 3, b"error: "),
+    ("run --concurrency 64", (), b"", 3, b"refused 10 BadConcurrency\n"),
+    ("run --concurrency 0 --replicas 0", (), b"", 3, b"refused 10 BadConcurrency\n"),
+    ("run --concurrency 64 --replicas 8", (), b"", 3, b"refused 10 BadConcurrency\n"),
+    ("run --budget 65537 --concurrency 64", (), b"", 3, b"refused 9 BadBudget\n"),
+    ("run --replicas 0", (), b"", 3, b"refused 18 NoSuchReplica\n"),
+    ("run --replicas 8", (), b"", 3, b"refused 18 NoSuchReplica\n"),
+    ("run --seed -1", (), b"", 3, b"error: --seed takes a number, 0 to 9223372036854775807\n"),
+    ("run --seed 9223372036854775808", (), b"", 3, b"error: --seed takes a number, 0 to 9223372036854775807\n"),
+    ("run --ops 100001", (), b"", 3, b"error: --ops takes a number, 0 to 100000\n"),
+    ("run --keys 0", (), b"", 3, b"error: --keys takes a number, 1 to 64\n"),
+    ("run --keys 65", (), b"", 3, b"error: --keys takes a number, 1 to 64\n"),
+    ("run --mode loose", (), b"", 3, b"error: --mode takes one of strict, sloppy\n"),
+    ("run --faults maybe", (), b"", 3, b"error: --faults takes one of off, on\n"),
+    ("run --workers 2", (), b"", 3, b"error: "),
+    ("run --seed 9223372036854775807 --ops 0 --keys 64 --replicas 7 --concurrency 63", (), b"legal\n", 0, b""),
 ]
 
 
@@ -272,6 +289,127 @@ def run_words():
         if ran.returncode != 0 or b"script" not in ran.stdout or ran.stderr:
             faults.append(f"{words!r} ended with {(ran.returncode, ran.stdout[:200], ran.stderr[:200])!r}")
     return faults
+
+
+ROW = re.compile(r"key (\d+) model ([a-z-]+) budget (\d+) events (\d+) status (alive|dead \d+|over \d+)")
+KINDS = ("register", "cas-register", "mutex", "fifo-queue", "set", "unordered-queue")
+
+
+def run_of(words):
+    """A run: its lines, its status, and what went to standard error."""
+    ran = subprocess.run([str(PROGRAM), "run"] + words.split(), stdin=subprocess.DEVNULL, stdout=subprocess.PIPE,
+                         stderr=subprocess.PIPE, timeout=60)
+    return ran.stdout.decode().splitlines(), ran.returncode, ran.stderr
+
+
+def run_counts_events():
+    """For every seed the 100 operations are invoked and completed: 200 events of key 0."""
+    report = ["key 0 model register budget 4096 events 200 status alive", "legal"]
+    faults = []
+    for seed in range(20):
+        got = run_of(f"--seed {seed}")
+        if got != (report, 0, b""):
+            faults.append(f"seed {seed}: {got!r}")
+    return faults
+
+
+def run_under_faults():
+    """A strict store under faults shows nothing that is not linearizable, whatever the seed."""
+    faults = []
+    for seed in range(20):
+        lines, status, errors = run_of(f"--faults on --seed {seed}")
+        if (lines[-1:], status, errors) != (["legal"], 0, b""):
+            faults.append(f"seed {seed}: {(lines, status, errors)!r}")
+    return faults
+
+
+def told_of_run(lines, kind, events):
+    """What is wrong with the lines of a run that drew keys of this kind: each line but the last is of a key, each once, and
+    together they have so many events."""
+    rows = [ROW.fullmatch(line) for line in lines[:-1]]
+    if None in rows:
+        return [f"a line is none of a key: {lines!r}"]
+    keys = [int(row[1]) for row in rows]
+    if len(set(keys)) < len(keys) or {(row[2], row[3]) for row in rows} - {(kind, "4096")}:
+        return [f"the keys' lines are {lines!r}"]
+    told = sum(int(row[4]) for row in rows)
+    return [] if told == events else [f"{told} events in place of {events}: {lines!r}"]
+
+
+def run_of_each_kind():
+    """Each kind of object, with faults and without, strict: legal; sloppy: legal or illegal. One client: legal."""
+    faults = []
+    for kind in KINDS:
+        for switch in ("off", "on"):
+            for mode, clients, statuses in (("strict", 3, (0,)), ("sloppy", 3, (0, 1)), ("sloppy", 1, (0,))):
+                words = f"--model {kind} --faults {switch} --mode {mode} --concurrency {clients} --keys 4 --ops 50 --seed 5"
+                lines, status, errors = run_of(words)
+                verdict = {0: "legal", 1: "illegal"}.get(status)
+                wrong = told_of_run(lines, kind, 100)
+                if status not in statuses or errors or lines[-1].split()[0] != verdict:
+                    wrong.append(f"ended with {status}, {errors!r}: {lines!r}")
+                faults += [f"{words}: {fault}" for fault in wrong]
+    return faults
+
+
+def quarters(block):
+    """The four numbers of each quarter round of ChaCha's double round, over a block's sixteen words."""
+    for _ in range(block):
+        for turn in (0, 1):
+            for column in range(4):
+                yield column, *(row * 4 + (column + turn * row) % 4 for row in (1, 2, 3))
+
+
+def words_of(seed):
+    """The random words of a seed: those of ChaCha8 by the key that rand_core makes of it."""
+    key = []
+    for _ in range(8):
+        seed = (seed * 6364136223846793005 + 11634580027462260723) % 2**64
+        mixed, turn = (seed >> 18 ^ seed) >> 27 & 0xffffffff, seed >> 59
+        key.append((mixed >> turn | mixed << (32 - turn) % 32) & 0xffffffff)
+    for number in range(2**32):
+        begin = [0x61707865, 0x3320646e, 0x79622d32, 0x6b206574, *key, number, 0, 0, 0]
+        state = list(begin)
+        for a, b, c, d in quarters(4):
+            for x, y, z, turn in ((a, b, d, 16), (c, d, b, 12), (a, b, d, 8), (c, d, b, 7)):
+                state[x] = state[x] + state[y] & 0xffffffff
+                state[z] ^= state[x]
+                state[z] = (state[z] << turn | state[z] >> 32 - turn) & 0xffffffff
+        yield from (x + y & 0xffffffff for x, y in zip(state, begin))
+
+
+def run_of_one_client_follows_the_seed():
+    """One client's keys follow from the seed: each word gives the next operation's child, two or three of which are a key's."""
+    faults = []
+    for kind in KINDS:
+        children = 3 if kind == "cas-register" else 2
+        for seed in range(5):
+            drawn = [word % (5 * children) // children for word in itertools.islice(words_of(seed), 40)]
+            report = [f"key {key} model {kind} budget 4096 events {2 * drawn.count(key)} status alive"
+                      for key in dict.fromkeys(drawn)]
+            got = run_of(f"--model {kind} --concurrency 1 --keys 5 --ops 40 --seed {seed}")
+            if got != (report + ["legal"], 0, b""):
+                faults.append(f"{kind}, seed {seed}: {got!r} in place of {report!r}")
+    return faults
+
+
+def run_sloppy_is_caught():
+    """Of the seeds 0 to 99 some sloppy runs under faults show what is not linearizable. How many, and which, follows from the
+    order in which the threads ran: one alone would be legal."""
+    words = "--mode sloppy --faults on --model fifo-queue --keys 3 --ops 5000 --concurrency 3"
+    ended = [run_of(f"{words} --seed {seed}") for seed in range(100)]
+    odd = [got for got in ended if got[1] not in (0, 1) or got[2]]
+    caught = sum(status == 1 for _, status, _ in ended)
+    print(f"  {caught} of 100 sloppy runs ended illegal")
+    return [f"a run ended with {got!r}" for got in odd[:3]] + ([] if caught else ["none ended illegal"])
+
+
+def run_without_memory():
+    """A run that outgrows the memory is refused on standard output, in place of a report: status 3."""
+    ran = subprocess.run([str(PROGRAM), "run", "--ops", "100000"], stdin=subprocess.DEVNULL, stdout=subprocess.PIPE,
+                         stderr=subprocess.PIPE, timeout=60, preexec_fn=limited(48 << 10))
+    got = (ran.returncode, ran.stdout, ran.stderr)
+    return [] if got == (3, b"refused 13 NoMemory\n", b"") else [f"it ended with {got!r}"]
 
 
 def run_no_text():
@@ -302,7 +440,11 @@ def all_cases():
               ("reader_breaks_off", run_broken_reader), ("failing_writer", run_failing_writer),
               ("writer_takes_ten_bytes", run_narrow_writer), ("script_without_memory", run_script_without_memory),
               ("check_on_a_full_device", run_full_check), ("check_shows_how_far_it_is", run_progress),
-              ("words_of_the_command_line", run_words), ("words_that_are_no_text", run_no_text)]
+              ("words_of_the_command_line", run_words), ("words_that_are_no_text", run_no_text),
+              ("run_counts_events", run_counts_events), ("run_under_faults", run_under_faults),
+              ("run_of_each_kind", run_of_each_kind),
+              ("run_of_one_client_follows_the_seed", run_of_one_client_follows_the_seed), ("run_sloppy_is_caught", run_sloppy_is_caught),
+              ("run_without_memory", run_without_memory)]
     return cases
 
 

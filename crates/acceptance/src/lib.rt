@@ -16,3 +16,5 @@ mod monitors;
 mod one_thread;
 #[cfg(test)]
 mod plain;
+#[cfg(test)]
+mod reports;

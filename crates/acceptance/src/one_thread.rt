@@ -1,7 +1,7 @@
 //! The two halves of a command on a `Core`, and the refusals of its opening.
 use crate::plain::{Said, event, plain_of, refused};
 use edn::Refusal;
-use harness::{Command, Core, Judging, Reply};
+use harness::{Command, Config, Core, Reply};
 use history::EventKind;
 use history::EventKind::{Invoke, Ok as Done};
 use models::{ModelKind, Name, Part};
@@ -42,12 +42,8 @@ fn prepares_and_commits(core: &mut Core) -> bool {
 
 #[test]
 fn prepared_commands(rt: HostRuntime) -> Result<(), Fail> {
-    let settings = Judging {
-        concurrency: 1,
-        kind: ModelKind::Register,
-        budget: 1,
-    };
-    let mut core = Core::to_judge(rt.alloc(), settings)?;
+    let config = Config::to_judge(rt.alloc(), 1, ModelKind::Register, 1);
+    let mut core = Core::new(rt.alloc(), config)?;
     assert!(rt; prepares_and_commits(&mut core));
     let blown = Said::Unknown(7, 1);
     let done = prepared(&mut core, write(0, Done, 4));
@@ -59,12 +55,8 @@ fn prepared_commands(rt: HostRuntime) -> Result<(), Fail> {
 #[test]
 fn openings(rt: HostRuntime) {
     for (concurrency, budget, why) in [(0, 0, 9), (65, 65_537, 9), (0, 1, 10), (65, 1, 10)] {
-        let settings = Judging {
-            concurrency,
-            kind: ModelKind::Register,
-            budget,
-        };
-        let refused = match Core::to_judge(rt.alloc(), settings) {
+        let config = Config::to_judge(rt.alloc(), concurrency, ModelKind::Register, budget);
+        let refused = match Core::new(rt.alloc(), config) {
             Ok(_) => 0,
             Err(refusal) => refusal.number(),
         };

@@ -4,7 +4,7 @@ ghost use Rattle.std.specs.Prelude.{◌≡◌};
 use crate::plans::{Calls, Plan};
 use crate::runs::{Count, Done, count_calls, run_plan};
 use board::{Blank, Tag};
-use harness::{Core, Judging};
+use harness::{Config, Core};
 use models::ModelKind;
 use std::alloc::Global;
 use std::marker::Brand;
@@ -13,12 +13,10 @@ use std::sync::{Mutex, Wait};
 use std::thread::Threads;
 use std::time::Duration;
 
-/// How a core is opened here.
-pub const OPENED: Judging = Judging {
-    concurrency: 8,
-    kind: ModelKind::Register,
-    budget: 4096,
-};
+// How a core is opened here.
+fn opened(alloc: Global) -> Config {
+    Config::to_judge(alloc, 8, ModelKind::Register, 4096)
+}
 
 /// A run on a board.
 pub fn on_board<R: Threads + Wait + Clock + Sync>(
@@ -26,7 +24,7 @@ pub fn on_board<R: Threads + Wait + Clock + Sync>(
     alloc: Global,
     plan: Plan,
 ) -> Option<Done> {
-    let blank = Blank::new(alloc, OPENED.config(alloc), plan.readers.saturating_add(1)).ok()?;
+    let blank = Blank::new(alloc, opened(alloc), plan.readers.saturating_add(1)).ok()?;
     run_on::<Brand, R>(rt, alloc, blank, plan)
 }
 
@@ -53,7 +51,7 @@ pub fn calls_on_board<R: Wait + Clock>(
     calls: Calls,
     length: Duration,
 ) -> Option<Count> {
-    let blank = Blank::new(alloc, OPENED.config(alloc), seats).ok()?;
+    let blank = Blank::new(alloc, opened(alloc), seats).ok()?;
     call_on::<Brand, R>(rt, alloc, blank, calls, length)
 }
 
@@ -77,7 +75,7 @@ fn call_on<B: Tag, R: Wait + Clock>(
 }
 
 fn locked(alloc: Global) -> Option<Mutex<Core>> {
-    Some(Mutex::new(Core::to_judge(alloc, OPENED).ok()?))
+    Some(Mutex::new(Core::new(alloc, opened(alloc)).ok()?))
 }
 
 /// A run under a lock.

@@ -2,7 +2,7 @@
 ghost use Rattle.std.specs.Prelude.{◌≡◌};
 
 use board::Blank;
-use harness::{Command, Judging};
+use harness::{Command, Config};
 use history::{Body, Event, EventKind, Process};
 use models::{Key, ModelKind, Name, Op, Part};
 use std::alloc::Global;
@@ -10,11 +10,10 @@ use std::process::Abort;
 use std::sync::atomic::{AtomicBool, Ordering};
 use std::thread;
 
-pub const TWO: Judging = Judging {
-    concurrency: 2,
-    kind: ModelKind::Register,
-    budget: 4096,
-};
+/// How a board of two threads is opened.
+pub fn two(alloc: Global) -> Config {
+    Config::to_judge(alloc, 2, ModelKind::Register, 4096)
+}
 
 /// The turns that a thread waits for another.
 pub const TURNS: u32 = 1_000_000;
@@ -33,7 +32,7 @@ pub fn comes(flag: &AtomicBool, turns: u32) -> bool {
 pub fn blank<R: Abort>(rt: &R, alloc: Global, seats: u32) -> Blank
     ensures { result.seats ≡ seats }
 {
-    match Blank::new(alloc, TWO.config(alloc), seats) {
+    match Blank::new(alloc, two(alloc), seats) {
         Ok(blank) => blank,
         Err(_) => panic!(rt; "no board"),
     }

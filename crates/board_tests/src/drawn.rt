@@ -1,7 +1,7 @@
 //! A trial through a board.
 ghost use Rattle.std.specs.Prelude.{◌≡◌};
 
-use crate::boards::TWO;
+use crate::boards::two;
 use crate::said::{Said, answer_of};
 use board::{Blank, Tag};
 use edn::Refusal;
@@ -30,7 +30,7 @@ fn clients(alloc: Global) -> Result<Config, Refusal> {
     let generator = write_and_read(alloc)?;
     Ok(Config {
         generator,
-        ..TWO.config(alloc)
+        ..two(alloc)
     })
 }
 

@@ -1,10 +1,11 @@
 //! Opening a board.
 ghost use Rattle.std.specs.Prelude.{◌≡◌};
 
-use crate::boards::{TWO, blank};
+use crate::boards::{blank, two};
 use crate::said::{Said, answer_of, seen_of};
 use board::{Blank, Tag};
-use harness::{Command, Config, Judging};
+use harness::{Command, Config};
+use models::ModelKind;
 use std::alloc::Global;
 use std::marker::Brand;
 use std::process::Abort;
@@ -21,27 +22,22 @@ fn refusal_of(alloc: Global, config: Config, seats: u32) -> u8 {
 /// Seats are 1 to 64, and what the object refuses comes first.
 #[test]
 fn refusals_in_order(rt: HostRuntime) {
-    let no_budget = Judging { budget: 0, ..TWO };
-    let no_thread = Judging {
-        concurrency: 0,
-        ..TWO
-    };
-    for (settings, seats, why) in [
-        (TWO, 0, 19),
-        (TWO, 1, 0),
-        (TWO, 64, 0),
-        (TWO, 65, 19),
-        (no_budget, 0, 9),
-        (no_budget, 2, 9),
-        (no_thread, 65, 10),
-        (no_thread, 2, 10),
+    for (concurrency, budget, seats, why) in [
+        (2, 4096, 0, 19),
+        (2, 4096, 1, 0),
+        (2, 4096, 64, 0),
+        (2, 4096, 65, 19),
+        (2, 0, 0, 9),
+        (2, 0, 2, 9),
+        (0, 4096, 65, 10),
+        (0, 4096, 2, 10),
     ] {
-        let config = settings.config(rt.alloc());
+        let config = Config::to_judge(rt.alloc(), concurrency, ModelKind::Register, budget);
         assert_eq!(rt; refusal_of(rt.alloc(), config, seats), why);
     }
     let no_replica = Config {
         replicas: 0,
-        ..TWO.config(rt.alloc())
+        ..two(rt.alloc())
     };
     assert_eq!(rt; refusal_of(rt.alloc(), no_replica, 65), 18);
 }

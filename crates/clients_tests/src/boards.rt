@@ -4,18 +4,12 @@ ghost use Rattle.std.specs.Prelude.{◌≡◌};
 use board::Blank;
 use edn::Refusal;
 use generators::{Cycle, Gen, Item};
-use harness::{Config, Judging};
+use harness::Config;
 use models::{ModelKind, Name, Op, Part};
 use std::alloc::Global;
 use std::process::Abort;
 use std::sync::atomic::{AtomicBool, Ordering};
 use std::thread;
-
-pub const TWO: Judging = Judging {
-    concurrency: 2,
-    kind: ModelKind::Register,
-    budget: 4096,
-};
 
 /// The turns that a thread waits for another.
 pub const TURNS: u32 = 1_000_000;
@@ -48,7 +42,7 @@ fn config(alloc: Global, operations: u64, items: Vec<Item>) -> Result<Config, Re
     let child = Box::new(alloc, Gen::Ops(Cycle::new(items)))?;
     Ok(Config {
         generator: Gen::Limit(operations, child),
-        ..TWO.config(alloc)
+        ..Config::to_judge(alloc, 2, ModelKind::Register, 4096)
     })
 }
 

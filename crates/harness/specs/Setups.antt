@@ -1,17 +1,16 @@
 -- Promise: how the one-thread object is opened, and why it is not (this project's own)
-use Rattle.std.specs.Prelude.{[]}
+use Rattle.std.specs.Prelude.{ℕ, []}
 use Rattle.edn.specs.declared.refusal.Refusal.{Refusal}
 use Rattle.edn.specs.declared.refusal.Refusal.TheVariants.{BadValue, BadBudget, BadConcurrency, NoMemory, NoSuchReplica}
 use Rattle.history.specs.WellFormed.{IsConcurrency}
 use Rattle.generators.specs.Generators.{generator_of, AllItems, Each}
 use Rattle.test_store.specs.Store.{IsCount}
 use Rattle.monitor.specs.JudgedHistory.{IsBudget}
-use Rattle.monitor.specs.Monitors.{MayNotBegin}
+use Rattle.models.specs.declared.model_kind.ModelKind.{ModelKind}
 use Rattle.machine.specs.Machine.{Setup}
 use Rattle.test_store.specs.declared.outcome.Mode.TheVariants.{Strict}
 use Rattle.generators.specs.Generators.{ops}
 use Rattle.harness.specs.declared.config.Config.{Config}
-use Rattle.harness.specs.declared.judging.Judging.{Judging}
 use Rattle.harness.specs.declared.fitness.Test.{Test}
 use Rattle.harness.specs.declared.fitness.Test.TheVariants.{IsPresent, IsInTables}
 use Rattle.harness.specs.Fitness.{FaultPasses, Passes}
@@ -55,23 +54,15 @@ MayNotOpen setup BadValue =
 MayNotOpen setup NoMemory = IsSetup setup
 MayNotOpen setup _ = ⊥
 
--- Where it only judges: no operation to draw and no fault to come, one replica, strict, and seed 0
-abbrev pub judging : Judging → Setup
-judging j = record {
-  concurrency = j.concurrency;
-  kind = j.kind;
-  budget = j.budget;
+-- where it only judges: no operation to draw and no fault to come, one replica, strict, and seed 0
+abbrev pub judging : ℕ → ModelKind → ℕ → Setup
+judging concurrency kind budget = record {
+  concurrency = concurrency;
+  kind = kind;
+  budget = budget;
   generator = ops [];
   seed = 0;
   schedule = [];
   replicas = 1;
   mode = Strict;
 }
-
--- each number is within its limits
-abbrev pub HasLimits : Judging → Type 0
-HasLimits j = IsBudget j.budget × IsConcurrency j.concurrency
-
--- why it is not opened: the budget is tested first
-abbrev pub MayNotJudge : Judging → Refusal → Type 0
-MayNotJudge j why = MayNotBegin j.concurrency j.budget why

@@ -1,19 +1,20 @@
 //! How the one-thread object is opened.
-ghost use Rattle.std.specs.Prelude.{◌↔◌, IsTrue, OnOk, IfErr};
-ghost use Rattle.harness.specs.Setups.{setup_of, AllPass, IsSetup, MayNotOpen};
+ghost use Rattle.std.specs.Prelude.{◌≡◌, ◌↔◌, IsTrue, OnOk, IfErr};
+ghost use Rattle.harness.specs.Setups.{setup_of, judging, AllPass, IsSetup, MayNotOpen};
 
 use crate::fitness::{Test, all_items_pass, all_scheduled_pass};
 use edn::Refusal;
-use generators::Gen;
+use generators::{Cycle, Gen};
 use models::ModelKind;
 use nemesis::Schedule;
+use std::alloc::Global;
 use test_store::Mode;
 
-/// The greatest budget.
-pub(crate) const MOST_ENDS: u32 = 65_536;
+// The greatest budget.
+const MOST_ENDS: u32 = 65_536;
 
-/// The greatest concurrency.
-pub(crate) const MOST_THREADS: u32 = 64;
+// The greatest concurrency.
+const MOST_THREADS: u32 = 64;
 
 // The most replicas.
 const MOST_REPLICAS: u8 = 7;
@@ -40,6 +41,23 @@ pub struct Config {
 }
 
 impl Config {
+    /// How it is opened where it only judges a history that others make: no operation to draw and no fault to come, one
+    /// replica, strict, and seed 0. The numbers are not tested here. Takes no memory.
+    pub fn to_judge(alloc: Global, concurrency: u32, kind: ModelKind, budget: u32) -> Config
+        ensures { setup_of result ≡ judging concurrency kind budget }
+    {
+        Config {
+            concurrency,
+            kind,
+            budget,
+            replicas: 1,
+            mode: Mode::Strict,
+            generator: Gen::Ops(Cycle::new(Vec::new(alloc))),
+            schedule: Schedule::new(Vec::new(alloc)),
+            seed: 0,
+        }
+    }
+
     /// Tests that its numbers are within their limits, and that each operation and fault that may come is one that history
     /// and store take. Takes no memory, and the time of the generator and the schedule.
     ///

@@ -9,12 +9,11 @@ ghost use Rattle.monitor.specs.JudgedHistory.{IsVerdictOn, kind_of, entries_in};
 ghost use Rattle.machine.specs.declared.command.Command.{Command};
 ghost use Rattle.machine.specs.declared.command.Reply.{Reply};
 ghost use Rattle.machine.specs.Machine.{Setup, opening, MayStep, Runs, AreOfTrial};
-ghost use Rattle.harness.specs.Setups.{setup_of, judging, IsSetup, MayNotOpen, HasLimits, MayNotJudge};
+ghost use Rattle.harness.specs.Setups.{setup_of, IsSetup, MayNotOpen};
 ghost use Rattle.harness.specs.CoreView.{at_rest, IsPrepared, MayWantMemory};
 
 use crate::config::Config;
 use crate::inner::Inner;
-use crate::judging::Judging;
 use edn::Refusal;
 use linspec::Verdict;
 use machine::{Command, Reply, no_false_alarm};
@@ -61,19 +60,6 @@ impl Core {
         Ok(Core {
             inner: Box::new(alloc, inner)?,
         })
-    }
-
-    /// Opens it to judge alone, as [`Judging::config`] says: nothing is drawn, and nothing strikes.
-    ///
-    /// # Errors
-    /// [`Refusal::BadBudget`] where the budget is not 1 to 65,536, else [`Refusal::BadConcurrency`] where the
-    /// concurrency is not 1 to 64, else [`Refusal::NoMemory`] where a growth was refused.
-    pub fn to_judge(alloc: Global, settings: Judging) -> Result<Core, Refusal>
-        ensures limits { OnOk result (HasLimits settings) }
-        ensures opened { IfOk result (λ core. core ≡ at_rest (opening (judging settings))) }
-        ensures refused { IfErr result (MayNotJudge settings) }
-    {
-        Core::new(alloc, settings.config(alloc))
     }
 
     /// Prepares a command, and gives its reply and the verdict that [`commit`](Core::commit) will bring. The machine stays as

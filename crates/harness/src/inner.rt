@@ -9,7 +9,7 @@ ghost use Rattle.monitor.specs.JudgedHistory.{IsVerdictOn, kind_of, entries_in};
 ghost use Rattle.machine.specs.declared.command.Command.{Command};
 ghost use Rattle.machine.specs.declared.command.Reply.{Reply};
 ghost use Rattle.machine.specs.Machine.{Setup, opening, first_due, MayStep, Runs, AreOfTrial};
-ghost use Rattle.harness.specs.Setups.{setup_of, judging, IsSetup, MayNotOpen, HasLimits, MayNotJudge};
+ghost use Rattle.harness.specs.Setups.{setup_of, IsSetup, MayNotOpen};
 ghost use Rattle.harness.specs.CoreView.{at_rest, with_next, IsPrepared, MayWantMemory, MayDecline};
 
 use crate::asking::{Drew, draw_fault, draw_op, why_full};

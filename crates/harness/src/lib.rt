@@ -7,12 +7,10 @@ pub mod config;
 pub mod core_object;
 mod fitness;
 mod inner;
-pub mod judging;
 pub mod laws;
 mod parts;
 mod tickets;
 
 pub use config::Config;
 pub use core_object::Core;
-pub use judging::Judging;
 pub use machine::{Command, Reply};

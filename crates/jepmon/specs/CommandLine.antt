@@ -1,15 +1,17 @@
 -- Promise: what the words of the command line ask for
 use Rattle.std.specs.Prelude.{◌≤◌}
 use Rattle.models.specs.declared.model_kind.ModelKind.TheVariants.{Register}
-use Rattle.harness.specs.Setups.{HasLimits}
-use Rattle.harness.specs.declared.judging.Judging.{Judging}
+use Rattle.machine.specs.Machine.{Setup}
+use Rattle.harness.specs.Setups.{IsSetup, setup_of, judging}
 use Rattle.jepmon.specs.declared.command_line.Order.{Order}
-use Rattle.jepmon.specs.declared.command_line.Order.TheVariants.{Script, Check}
+use Rattle.jepmon.specs.declared.command_line.Order.TheVariants.{Script, Check, Run}
 
-abbrev pub default_settings : Judging
-default_settings = record { concurrency = 2; kind = Register; budget = 4096 }
+-- how the object is opened where no option says otherwise
+abbrev pub default_setup : Setup
+default_setup = judging 2 Register 4096
 
--- its numbers are within their limits
+-- its numbers are within their limits. Of the 64 seats of a run the nemesis takes one
 abbrev pub IsWithinLimits : Order → Type 0
-IsWithinLimits (Script settings) = HasLimits settings
-IsWithinLimits (Check path workers settings) = HasLimits settings × (1 ≤ workers) × (workers ≤ 64)
+IsWithinLimits (Script config) = IsSetup (setup_of config)
+IsWithinLimits (Check path workers config) = IsSetup (setup_of config) × (1 ≤ workers) × (workers ≤ 64)
+IsWithinLimits (Run config) = IsSetup (setup_of config) × (config.concurrency ≤ 63)

@@ -6,17 +6,16 @@ use Rattle.edn.specs.Text.{IsText}
 use Rattle.edn.specs.Elements.{count_of}
 use Rattle.edn.specs.Refusals.{number_of, name_of, IsWhy}
 use Rattle.edn.specs.declared.refusal.Refusal.{Refusal}
-use Rattle.edn.specs.declared.refusal.Refusal.TheVariants.{BadValue}
+use Rattle.edn.specs.declared.refusal.Refusal.TheVariants.{BadValue, NoMemory}
 use Rattle.history.specs.declared.event.Event.{Event}
 use Rattle.history.specs.Spelling.{Spells}
-use Rattle.machine.specs.Machine.{Machine, MayStep, opening}
-use Rattle.harness.specs.Setups.{judging, MayNotJudge}
+use Rattle.machine.specs.Machine.{Machine, Setup, MayStep, opening}
+use Rattle.harness.specs.Setups.{MayNotOpen}
 use Rattle.monitor.specs.JudgedHistory.{IsVerdictOn}
-use Rattle.harness.specs.declared.judging.Judging.{Judging}
 use Rattle.machine.specs.declared.command.Command.TheVariants.{Append}
 use Rattle.machine.specs.declared.command.Reply.{Reply}
 use Rattle.line_loop.specs.RefusalLine.{line_of, refusal_line}
-use Rattle.jepmon.specs.VerdictLine.{verdict_line}
+use Rattle.report.specs.Report.{IsReport}
 use Rattle.jepmon.specs.ExitStatus.{status_of}
 use Rattle.jepmon.specs.declared.recorded.Findings.{Findings}
 use Rattle.jepmon.specs.declared.recorded.Findings.TheVariants.{Judged, RefusedEvent, Refused}
@@ -37,36 +36,46 @@ TakesAll old none new = new ≡ old
 TakesAll old (more v vs) new = (mid : Machine) × TakesElement old v mid × TakesAll mid vs new
 
 -- the bytes are a text; its first i elements are taken, and the next one is refused for this
-pub record IsRefusedAt (settings : Judging) (bytes : List ℕ) (i : ℕ) (why : Refusal) : Type 0 where
+pub record IsRefusedAt (setup : Setup) (bytes : List ℕ) (i : ℕ) (why : Refusal) : Type 0 where
   pub taken : Values
   pub next : Value
   pub later : Values
   pub text : IsText bytes (joined taken (more next later))
   pub counted : count_of taken ≡ i
   pub machine : Machine
-  pub takes : TakesAll (opening (judging settings)) taken machine
+  pub takes : TakesAll (opening setup) taken machine
   pub refuses : RefusesElement machine next why
 
 -- the bytes are a text; all its elements are taken
-pub record IsTaken (settings : Judging) (bytes : List ℕ) (end : Machine) : Type 0 where
+pub record IsTaken (setup : Setup) (bytes : List ℕ) (end : Machine) : Type 0 where
   pub values : Values
   pub text : IsText bytes values
-  pub takes : TakesAll (opening (judging settings)) values end
+  pub takes : TakesAll (opening setup) values end
+
+-- what is found where this machine has taken all: the verdict and the report, from scratch; or memory ran out
+abbrev pub Finds : Machine → Findings → Type 0
+Finds end (Judged verdict text) = IsVerdictOn end.judged verdict × IsReport end.judged text.items
+Finds end (RefusedEvent i why) = ⊥
+Finds end (Refused why) = why ≡ NoMemory
 
 -- what the bytes come to. Memory may run out; else bytes that are no text are refused, whatever their elements are
-abbrev pub ComesTo : Judging → List ℕ → Findings → Type 0
-ComesTo settings bytes (Judged verdict) = (end : Machine) × IsTaken settings bytes end × IsVerdictOn end.judged verdict
-ComesTo settings bytes (RefusedEvent i why) = IsRefusedAt settings bytes i why
-ComesTo settings bytes (Refused why) = IsWhy bytes why ⊎ MayNotJudge settings why
+abbrev pub ComesTo : Setup → List ℕ → Findings → Type 0
+ComesTo setup bytes (Judged verdict text) = (end : Machine) × IsTaken setup bytes end × Finds end (Judged verdict text)
+ComesTo setup bytes (RefusedEvent i why) = IsRefusedAt setup bytes i why
+ComesTo setup bytes (Refused why) = IsWhy bytes why ⊎ MayNotOpen setup why
 
--- the line that says it
-abbrev pub findings_line : Findings → List ℕ
-findings_line (Judged verdict) = verdict_line verdict
-findings_line (RefusedEvent i why) = line_of (codes "refused " ∷ decimal (number_of why) ∷ codes " " ∷ name_of why ∷ codes " event " ∷ decimal i ∷ [])
-findings_line (Refused why) = refusal_line why
+-- the line of an event that is refused
+abbrev pub event_line : ℕ → Refusal → List ℕ
+event_line i why = line_of (codes "refused " ∷ decimal (number_of why) ∷ codes " " ∷ name_of why ∷ codes " event " ∷ decimal i ∷ [])
+
+-- the text that says it
+abbrev pub findings_text : Findings → List ℕ
+findings_text (Judged verdict text) = text.items
+findings_text (RefusedEvent i why) = event_line i why
+findings_text (Refused why) = refusal_line why
 
 -- the exit status that it gives
 abbrev pub findings_status : Findings → ℕ
-findings_status (Judged verdict) = status_of verdict
+findings_status (Judged verdict text) = status_of verdict
 findings_status (RefusedEvent i why) = 3
 findings_status (Refused why) = 3

@@ -8,7 +8,7 @@ use Rattle.machine.specs.declared.command.Reply.TheVariants.{Verdict as Says}
 use Rattle.linspec.specs.declared.verdict.Verdict.{Verdict}
 use Rattle.line_loop.specs.RefusalLine.{refusal_line}
 use Rattle.jepmon.specs.Command.{Asks}
-use Rattle.jepmon.specs.VerdictLine.{verdict_line}
+use Rattle.report.specs.VerdictLine.{verdict_line}
 
 -- the machine carries a command out, and the text is the line of what came of it: the command is answered by a verdict, or
 -- refused. Want of memory has no line: the script stops there

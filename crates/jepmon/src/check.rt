@@ -1,15 +1,16 @@
-//! A recorded history, from its bytes to the line that says what it comes to.
+//! A recorded history, from its bytes to the text that says what it comes to.
 ghost use Rattle.std.specs.Prelude.{◌≡◌, ◌⊎◌, false};
 ghost use Rattle.jepmon.specs.declared.recorded.Findings.{Findings};
-ghost use Rattle.jepmon.specs.Checks.{Checks, IsPut, IsTold};
+ghost use Rattle.harness.specs.Setups.{setup_of};
+ghost use Rattle.jepmon.specs.Checks.{Checks, IsPut, IsTold, line_or_no_memory};
 
-use crate::exit_status::REFUSED;
-use crate::recorded::{Findings, findings_text, judge_text, status_of_findings};
+use crate::exit_status::{REFUSED, status_of_verdict};
+use crate::recorded::{Findings, event_text, judge_text};
 use edn::Refusal;
-use harness::Judging;
-use line_loop::{Failed, Watched, flush_all, read_whole, write_text};
+use harness::Config;
+use line_loop::{Failed, Watched, flush_all, read_whole, refusal_text, write_text};
 use onlookers::Onlooker;
-use std::alloc::Global;
+use std::alloc::{AllocError, Global};
 use std::fs::Files;
 use std::io::{Read, Write};
 use std::sync::Wait;
@@ -18,17 +19,17 @@ use std::{fs, io};
 // The line of want of memory, for which none may be left.
 const NO_MEMORY: &[u8] = b"refused 13 NoMemory\n";
 
-/// Reads a recorded history to its end, judges it, writes one line, and gives the exit status.
+/// Reads a recorded history to its end, judges it, writes what it comes to, and gives the exit status.
 ///
-/// The line is that of the verdict; or `refused NUMBER NAME event I`, where I elements were taken and the next one was
-/// refused; or `refused NUMBER NAME` for what is no element's refusal: `ReadFailed` where the reader has failed,
-/// `Unreadable` with its place, `NoMemory`. The status is that of the verdict, else 3, and 3 too where the writer has
+/// That is the report, whose last line is that of the verdict; or one line: `refused NUMBER NAME event I`, where I elements
+/// were taken and the next one was refused, or `refused NUMBER NAME` for what is no element's refusal: `ReadFailed` where the
+/// reader has failed, `Unreadable` with its place, `NoMemory`. The status is that of the verdict, else 3, and 3 too where the writer has
 /// failed. The bytes are held once, and one element at a time. The onlooker is told how many events are taken on the way; the
 /// number of workers, 1 to 64, changes nothing: one thread judges.
 pub fn check_text<X: Wait, R: Read + Failed, W: Write + Failed, L: Onlooker>(
     rt: &X,
     alloc: Global,
-    settings: Judging,
+    config: Config,
     _workers: u32,
     reader: &mut R,
     writer: &mut W,
@@ -36,12 +37,12 @@ pub fn check_text<X: Wait, R: Read + Failed, W: Write + Failed, L: Onlooker>(
 ) -> u8
     requires reads { R.has_failed reader.old ≡ false }
     requires writes { W.has_failed writer.old ≡ false }
-    ensures { Checks settings
+    ensures { Checks (setup_of config)
         (R.remaining reader.old) (R.remaining reader.new) (R.has_failed reader.new)
         (W.contents writer.old) (W.contents writer.new) (W.has_failed writer.new) result }
 {
     let findings = match read_whole(rt, alloc, reader) {
-        Ok(bytes) => judge_text(alloc, settings, bytes.as_slice(), onlooker),
+        Ok(bytes) => judge_text(alloc, config, bytes.as_slice(), onlooker),
         Err(refusal) => {
             onlooker.refused(&refusal);
             Findings::Refused(refusal)
@@ -56,7 +57,7 @@ pub fn check_file<X: Wait + Files, W: Write + Failed, L: Onlooker>(
     rt: &X,
     alloc: Global,
     path: &str,
-    settings: Judging,
+    config: Config,
     workers: u32,
     writer: &mut W,
     onlooker: &L,
@@ -70,7 +71,7 @@ pub fn check_file<X: Wait + Files, W: Write + Failed, L: Onlooker>(
                 path,
                 onlooker,
             });
-            check_text(rt, alloc, settings, workers, &mut reader, writer, onlooker)
+            check_text(rt, alloc, config, workers, &mut reader, writer, onlooker)
         }
         Err(reason) => {
             onlooker.unread(path, &reason);
@@ -105,8 +106,8 @@ impl<'a, R: Read, L: Onlooker> Read for SeenFile<'a, R, L> {
     }
 }
 
-// Writes the line of what was found, or that of want of memory where there is none for it, and gives the exit status: 3
-// where the writer has failed.
+// Writes what was found, or the line of want of memory where there is none for it, and gives the exit status: 3 where the
+// writer has failed.
 fn tell<X: Wait, W: Write + Failed>(
     rt: &X,
     alloc: Global,
@@ -118,18 +119,43 @@ fn tell<X: Wait, W: Write + Failed>(
         × IsTold told
         (W.contents writer.old) (W.contents writer.new) (W.has_failed writer.new) result }
 {
-    match findings_text(alloc, findings) {
-        Ok(line) => put_line(rt, line.as_bytes(), status_of_findings(findings), writer),
-        Err(_) => put_line(rt, NO_MEMORY, REFUSED, writer),
+    match findings {
+        Findings::Judged(verdict, text) => {
+            put_text(rt, text.as_slice(), status_of_verdict(verdict), writer)
+        }
+        Findings::RefusedEvent(taken, refusal) => {
+            put_refused(rt, event_text(alloc, *taken, refusal), writer)
+        }
+        Findings::Refused(refusal) => put_refused(rt, refusal_text(alloc, refusal), writer),
     }
 }
 
-// Writes a line whole, and gives this status; or 3, where the writer has failed.
-fn put_line<X: Wait, W: Write + Failed>(rt: &X, line: &[u8], status: u8, writer: &mut W) -> u8
-    ensures { IsPut line.now status
+// Writes the line of a refusal, or that of want of memory where there was none for it, and gives 3.
+pub(crate) fn put_refused<X: Wait, W: Write + Failed>(
+    rt: &X,
+    line: Result<String, AllocError>,
+    writer: &mut W,
+) -> u8
+    ensures { IsPut (line_or_no_memory line) 3
         (W.contents writer.old) (W.contents writer.new) (W.has_failed writer.new) result }
 {
-    if write_text(rt, writer, line).is_err() {
+    match line {
+        Ok(line) => put_text(rt, line.as_bytes(), REFUSED, writer),
+        Err(_) => put_text(rt, NO_MEMORY, REFUSED, writer),
+    }
+}
+
+// Writes a text whole, and gives this status; or 3, where the writer has failed.
+pub(crate) fn put_text<X: Wait, W: Write + Failed>(
+    rt: &X,
+    text: &[u8],
+    status: u8,
+    writer: &mut W,
+) -> u8
+    ensures { IsPut text.now status
+        (W.contents writer.old) (W.contents writer.new) (W.has_failed writer.new) result }
+{
+    if write_text(rt, writer, text).is_err() {
         return REFUSED;
     }
     if flush_all(rt, writer).is_err() {

@@ -1,24 +1,36 @@
 //! The words of the command line.
-ghost use Rattle.std.specs.Prelude.{◌≡◌, length, IfOk, Ok};
-ghost use Rattle.harness.specs.Setups.{HasLimits};
-ghost use Rattle.jepmon.specs.CommandLine.{default_settings, IsWithinLimits};
+ghost use Rattle.std.specs.Prelude.{◌≡◌, ◌≤◌, length, IfOk, IfSome, Ok};
+ghost use Rattle.harness.specs.Setups.{setup_of, IsSetup};
+ghost use Rattle.harness.specs.declared.config.Config.{Config};
+ghost use Rattle.jepmon.specs.CommandLine.{default_setup, IsWithinLimits};
 
 use crate::help;
+use crate::run_plan::RunPlan;
 use clap::error::ErrorKind;
 use clap::{Arg, ArgMatches, Command};
 use edn::Refusal;
-use harness::Judging;
+use harness::Config;
 use models::ModelKind;
 use std::alloc::{AllocError, Global};
+use test_store::Mode;
 
 // Workers at most.
 const MOST_WORKERS: u32 = 64;
+
+// Clients of a run at most: of the 64 seats of a board the nemesis takes one.
+const MOST_CLIENTS: u32 = 63;
+
+const MOST_SEED: u64 = 0x7fff_ffff_ffff_ffff;
+
+const MOST_OPERATIONS: u64 = 100_000;
+
+const MOST_KEYS: u64 = 64;
 
 /// What the words ask the program to do.
 #[derive(Drop)]
 pub enum Order {
     /// Answers the lines of standard input.
-    Script(Judging),
+    Script(Config),
     /// Judges a recorded history.
     Check {
         /// The file that it stands in.
@@ -26,8 +38,10 @@ pub enum Order {
         /// Threads that judge its keys.
         workers: u32,
         /// How the one-thread object is opened.
-        settings: Judging,
+        config: Config,
     },
+    /// Runs clients against a store in the process.
+    Run(Config),
 }
 
 /// Why there is no order.
@@ -46,18 +60,16 @@ pub enum Stop {
 /// # Errors
 ///
 /// `Help` where help or the version is asked for. `Usage` for words that are none of the program's, for a value that is no
-/// number, and for a model of another name. `Refused` for a number out of its limits: `BadBudget` first, then
-/// `BadConcurrency`; and where memory is refused.
+/// number, for a model, a mode or faults of another name, and for a seed, a number of operations, of keys or of workers out of
+/// its limits. `Refused` for another number out of its limits: `BadBudget` first, then `BadConcurrency`, then
+/// `NoSuchReplica`; and where memory is refused.
 pub fn order_of(alloc: Global, words: &[String]) -> Result<Order, Stop>
-    ensures defaults { length words.now ≡ 0 → result ≡ Ok (Order.Script default_settings) }
+    ensures defaults { length words.now ≡ 0 → (config : Config)
+        × (result ≡ Ok (Order.Script config)) × (setup_of config ≡ default_setup) }
     ensures within { IfOk result IsWithinLimits }
 {
     if words.is_empty() {
-        return Ok(Order::Script(Judging {
-            concurrency: 2,
-            kind: ModelKind::Register,
-            budget: 4096,
-        }));
+        return Ok(Order::Script(Config::to_judge(alloc, 2, ModelKind::Register, 4096)));
     }
     let mut command = program(alloc)?;
     let matches = match command.try_get_matches_from_mut(words) {
@@ -67,18 +79,20 @@ pub fn order_of(alloc: Global, words: &[String]) -> Result<Order, Stop>
     let Some((name, options)) = matches.subcommand() else {
         return Err(usage(&mut command, "no command was given"));
     };
-    let settings = settings_of(alloc, name, options)?;
-    settings.check()?;
+    let config = config_of(alloc, name, options)?;
+    config.check()?;
     if name == "check" {
-        check_of(alloc, options, settings)
+        check_of(alloc, options, config)
+    } else if name == "run" {
+        run_of(alloc, options, config)
     } else {
-        Ok(Order::Script(settings))
+        Ok(Order::Script(config))
     }
 }
 
 // The order to judge a recorded history.
-fn check_of(alloc: Global, options: &ArgMatches, settings: Judging) -> Result<Order, Stop>
-    requires { HasLimits settings }
+fn check_of(alloc: Global, options: &ArgMatches, config: Config) -> Result<Order, Stop>
+    requires { IsSetup (setup_of config) }
     ensures { IfOk result IsWithinLimits }
 {
     let Some(path) = options.get_str("FILE") else {
@@ -88,14 +102,79 @@ fn check_of(alloc: Global, options: &ArgMatches, settings: Judging) -> Result<Or
         Some(workers) if (1..=MOST_WORKERS).contains(&workers) => Ok(Order::Check {
             path: String::from_str(alloc, path)?,
             workers,
-            settings,
+            config,
         }),
         _ => Err(usage_of(alloc, "check", "--workers takes a number, 1 to 64")),
     }
 }
 
-// How the options of the command of this name open the one-thread object. Their limits are not tested yet.
-fn settings_of(alloc: Global, name: &str, options: &ArgMatches) -> Result<Judging, Stop> {
+// The order to run clients, which else judge as this configuration says.
+fn run_of(alloc: Global, options: &ArgMatches, judging: Config) -> Result<Order, Stop>
+    ensures { IfOk result IsWithinLimits }
+{
+    let plan = plan_of(alloc, options)?;
+    if judging.concurrency > MOST_CLIENTS {
+        return Err(Stop::Refused(Refusal::BadConcurrency));
+    }
+    let config = plan.config(alloc, judging)?;
+    config.check()?;
+    Ok(Order::Run(config))
+}
+
+// What the options of a run say. The limits of the replicas are not tested yet.
+fn plan_of(alloc: Global, options: &ArgMatches) -> Result<RunPlan, Stop> {
+    let Some(seed) = within(options, "seed", 0, MOST_SEED) else {
+        return Err(usage_of(
+            alloc,
+            "run",
+            "--seed takes a number, 0 to 9223372036854775807",
+        ));
+    };
+    let Some(operations) = within(options, "ops", 0, MOST_OPERATIONS) else {
+        return Err(usage_of(alloc, "run", "--ops takes a number, 0 to 100000"));
+    };
+    let Some(keys) = within(options, "keys", 1, MOST_KEYS) else {
+        return Err(usage_of(alloc, "run", "--keys takes a number, 1 to 64"));
+    };
+    let Some(replicas) = number(options, "replicas") else {
+        return Err(usage_of(alloc, "run", "--replicas takes a number, 1 to 7"));
+    };
+    let Some(mode) = mode_of(options) else {
+        return Err(usage_of(alloc, "run", "--mode takes one of strict, sloppy"));
+    };
+    let Some(has_faults) = faults_of(options) else {
+        return Err(usage_of(alloc, "run", "--faults takes one of off, on"));
+    };
+    Ok(RunPlan {
+        seed,
+        operations: operations as u32,
+        keys: keys as u16,
+        replicas: u8::try_from(replicas).unwrap_or(u8::MAX),
+        mode,
+        has_faults,
+    })
+}
+
+// How the replicas serve.
+fn mode_of(options: &ArgMatches) -> Option<Mode> {
+    match options.get_str("mode")? {
+        "strict" => Some(Mode::Strict),
+        "sloppy" => Some(Mode::Sloppy),
+        _ => None,
+    }
+}
+
+// Whether faults strike.
+fn faults_of(options: &ArgMatches) -> Option<bool> {
+    match options.get_str("faults")? {
+        "on" => Some(true),
+        "off" => Some(false),
+        _ => None,
+    }
+}
+
+// How the options of the command of this name have a history judged. Their limits are not tested yet.
+fn config_of(alloc: Global, name: &str, options: &ArgMatches) -> Result<Config, Stop> {
     let Some(budget) = number(options, "budget") else {
         return Err(usage_of(alloc, name, "--budget takes a number, 1 to 65536"));
     };
@@ -105,11 +184,7 @@ fn settings_of(alloc: Global, name: &str, options: &ArgMatches) -> Result<Judgin
     let Some(kind) = options.get_str("model").and_then(ModelKind::of_name) else {
         return Err(usage_of(alloc, name, help::NO_MODEL));
     };
-    Ok(Judging {
-        concurrency,
-        kind,
-        budget,
-    })
+    Ok(Config::to_judge(alloc, concurrency, kind, budget))
 }
 
 /// Why there is no order of words that are no text.
@@ -120,26 +195,45 @@ pub fn no_text(alloc: Global) -> Stop {
     }
 }
 
-// A command with the options by which the one-thread object is opened.
-fn with_settings<'a>(alloc: Global, command: Command<'a>) -> Result<Command<'a>, AllocError> {
-    let concurrency = Arg::new(alloc, "concurrency")
-        .long("concurrency")
+// An option that takes a number.
+fn a_number<'a>(
+    alloc: Global,
+    name: &'static str,
+    default: &'static str,
+    help: &'static str,
+) -> Arg<'a> {
+    Arg::new(alloc, name)
+        .long(name)
         .value_name("N")
-        .default_value("2")
+        .default_value(default)
         .allow_negative_numbers(true)
-        .help(help::CONCURRENCY);
-    let model = Arg::new(alloc, "model")
-        .long("model")
+        .help(help)
+}
+
+// An option that takes a name.
+fn a_name<'a>(
+    alloc: Global,
+    name: &'static str,
+    default: &'static str,
+    help: &'static str,
+) -> Arg<'a> {
+    Arg::new(alloc, name)
+        .long(name)
         .value_name("NAME")
-        .default_value("register")
-        .help(help::MODEL);
-    let budget = Arg::new(alloc, "budget")
-        .long("budget")
-        .value_name("N")
-        .default_value("4096")
-        .allow_negative_numbers(true)
-        .help(help::BUDGET);
-    command.arg(concurrency)?.arg(model)?.arg(budget)
+        .default_value(default)
+        .help(help)
+}
+
+// A command with the options by which a history is judged.
+fn with_settings<'a>(
+    alloc: Global,
+    command: Command<'a>,
+    concurrency: &'static str,
+) -> Result<Command<'a>, AllocError> {
+    command
+        .arg(a_number(alloc, "concurrency", "2", concurrency))?
+        .arg(a_name(alloc, "model", "register", help::MODEL))?
+        .arg(a_number(alloc, "budget", "4096", help::BUDGET))
 }
 
 // The command `script`, with its options and their help.
@@ -149,26 +243,36 @@ fn script<'a>(alloc: Global) -> Result<Command<'a>, AllocError> {
         .long_about(help::SCRIPT_LONG)
         .after_help(help::STATUS)
         .after_long_help(help::SCRIPT_FORMS);
-    with_settings(alloc, command)
+    with_settings(alloc, command, help::CONCURRENCY)
 }
 
 // The command `check`, with its options and their help.
 fn check<'a>(alloc: Global) -> Result<Command<'a>, AllocError> {
     let file = Arg::new(alloc, "FILE").required(true).help(help::FILE);
-    let workers = Arg::new(alloc, "workers")
-        .long("workers")
-        .value_name("N")
-        .default_value("1")
-        .allow_negative_numbers(true)
-        .help(help::WORKERS);
     let command = Command::new(alloc, "check")
         .about(help::CHECK)
         .long_about(help::CHECK_LONG)
         .after_help(help::STATUS)
         .after_long_help(help::CHECK_FORMS)
         .arg(file)?
-        .arg(workers)?;
-    with_settings(alloc, command)
+        .arg(a_number(alloc, "workers", "1", help::WORKERS))?;
+    with_settings(alloc, command, help::CONCURRENCY)
+}
+
+// The command `run`, with its options and their help.
+fn run<'a>(alloc: Global) -> Result<Command<'a>, AllocError> {
+    let command = Command::new(alloc, "run")
+        .about(help::RUN)
+        .long_about(help::RUN_LONG)
+        .after_help(help::STATUS)
+        .after_long_help(help::RUN_FORMS)
+        .arg(a_number(alloc, "seed", "0", help::SEED))?
+        .arg(a_number(alloc, "ops", "100", help::OPERATIONS))?
+        .arg(a_number(alloc, "keys", "1", help::KEYS))?
+        .arg(a_number(alloc, "replicas", "3", help::REPLICAS))?
+        .arg(a_name(alloc, "mode", "strict", help::MODE))?
+        .arg(a_name(alloc, "faults", "off", help::FAULTS))?;
+    with_settings(alloc, command, help::CLIENTS)
 }
 
 // The program's commands.
@@ -180,7 +284,20 @@ fn program<'a>(alloc: Global) -> Result<Command<'a>, AllocError> {
         .about(help::ABOUT)
         .after_help(help::MORE)
         .subcommand(script(alloc)?)?
-        .subcommand(check(alloc)?)
+        .subcommand(check(alloc)?)?
+        .subcommand(run(alloc)?)
+}
+
+// The value of an option that is a number from the least to the most.
+fn within(options: &ArgMatches, id: &str, least: u64, most: u64) -> Option<u64>
+    ensures { IfSome result (λ value. (least ≤ value) × (value ≤ most)) }
+{
+    let value = options.get_str(id)?.parse::<u64>().ok()?;
+    if (least..=most).contains(&value) {
+        Some(value)
+    } else {
+        None
+    }
 }
 
 // The value of an option that is a number, however long. One past the ends of 0 to 2^32 - 1 counts as that end, which
@@ -202,10 +319,10 @@ fn number(options: &ArgMatches, id: &str) -> Option<u32> {
 
 // A usage fault of the command of this name, with this message.
 fn usage_of(alloc: Global, name: &str, message: &str) -> Stop {
-    let command = if name == "check" {
-        check(alloc)
-    } else {
-        script(alloc)
+    let command = match name {
+        "check" => check(alloc),
+        "run" => run(alloc),
+        _ => script(alloc),
     };
     match named(alloc, name, command) {
         Ok(mut command) => usage(&mut command, message),

@@ -27,13 +27,48 @@ A line that is refused changes nothing and is answered by `refused NUMBER NAME`.
 pub const CHECK: &str = "Judges a recorded history, whose elements are events";
 
 pub const CHECK_LONG: &str =
-    "Reads a file of events, one after the other, judges all of them, and prints one line:
+    "Reads a file of events, one after the other, and judges all of them. It prints a line for each key
+that has events, in the order of their first events, and then the verdict:
 
+  key K model M budget B events E status alive
+                               or dead I, where event I is the first of the key's that shows it; or
+                               over I, where the budget of the key did not suffice at event I
   legal                        the history is linearizable
   illegal key K index I        it is not, and event I of key K is the first that shows it
   unknown key K index I        the budget of key K did not suffice at event I
+
+or, in place of all that,
+
   refused NUMBER NAME event I  event I is none that may come there
   refused NUMBER NAME          the file can't be read, or is no text";
+
+pub const RUN: &str = "Runs clients against a store in the process, and judges what they saw";
+
+pub const RUN_LONG: &str =
+    "Runs clients against a replicated store in the process, each in a thread of its own, with faults on
+the way where they are wanted, and judges what the clients saw. It prints a line for each key that
+has events, in the order of their first events, and then the verdict, as check does:
+
+  key K model M budget B events E status alive
+                               or dead I, where event I is the first of the key's that shows it; or
+                               over I, where the budget of the key did not suffice at event I
+  legal                        what the clients saw is linearizable
+  illegal key K index I        it is not, and event I of key K is the first that shows it
+  unknown key K index I        the budget of key K did not suffice at event I
+
+or, in place of all that, `refused NUMBER NAME`. What a strict store shows is never illegal. What
+clients draw follows from the seed; in which order they come does not, save with one client.";
+
+pub const RUN_FORMS: &str =
+    "Each operation is drawn at random from those that the keys' object has: reads, or writes of 1, 2 and
+3 in turn, of a register; these and cas from 1 to 2, 2 to 3 and 3 to 1 of a cas-register; acquires and
+releases of a mutex; enqueues of 1, 2 and 3 in turn, and dequeues, of a queue; adds of 1, 2 and 3 in
+turn, and reads, of a set.
+
+With --faults on, replica 0 is parted from the others once there are 20 events, and the network heals
+at 40; a reply is lost at 60; replica 0 crashes at 80, and starts again at 100.
+
+Exit status: 0 legal, 1 illegal, 2 unknown, 3 refused";
 
 pub const STATUS: &str = "Exit status: 0 legal, 1 illegal, 2 unknown, 3 refused";
 
@@ -84,6 +119,21 @@ pub const FILE: &str =
     "The file, or /dev/stdin; its events stand in it as in script, cut into lines or not";
 
 pub const WORKERS: &str = "Threads that judge keys, 1 to 64; for now one does it";
+
+pub const SEED: &str = "The seed of what clients draw, 0 to 9223372036854775807";
+
+pub const OPERATIONS: &str = "Operations that are drawn, 0 to 100000";
+
+pub const KEYS: &str = "Keys that they are on, 1 to 64";
+
+pub const REPLICAS: &str = "Replicas of the store, 1 to 7";
+
+pub const MODE: &str =
+    "How they serve: strict (a majority has each operation) or sloppy (one replica alone has it)";
+
+pub const FAULTS: &str = "Whether faults strike: off, on";
+
+pub const CLIENTS: &str = "Clients, each in a thread of its own, 1 to 63";
 
 pub const CONCURRENCY: &str =
     "Threads of the clients, 1 to 64; process P belongs to thread P mod N";

@@ -1,6 +1,6 @@
 //! `jepmon script` reads events of a store's clients, a line each, and answers each by the verdict on all of them:
 //! whether what the clients saw is linearizable (Herlihy and Wing, TOPLAS 1990). `jepmon check FILE` judges a recorded
-//! history.
+//! history, and `jepmon run` what clients see of a store in the process, under faults.
 #![tactic(auto)]
 
 pub mod check;
@@ -10,8 +10,9 @@ pub mod exit_status;
 mod help;
 pub mod laws;
 pub mod recorded;
+pub mod run;
+pub mod run_plan;
 pub mod script;
-pub mod verdict_line;
 
 use check::check_file;
 use command_line::{Order, Stop, no_text, order_of};
@@ -19,6 +20,7 @@ use edn::Refusal;
 use exit_status::{status_after, status_of_stop};
 pub use line_loop::{Failed, Watched};
 use onlookers::OnTerminal;
+use run::run_store;
 use script::run_script;
 use std::alloc::{AllocError, Global};
 use std::env;
@@ -48,10 +50,10 @@ fn main(rt: HostRuntime) -> ExitCode {
     let alloc: Global = rt.alloc();
     let terminal = OnTerminal::new(&rt, rt.stderr().is_terminal());
     let status = match order_given(&rt) {
-        Ok(Order::Script(settings)) => {
+        Ok(Order::Script(config)) => {
             let mut reader = Watched::new(rt.stdin());
             let mut writer = Watched::new(rt.stdout());
-            let outcome = run_script(&rt, alloc, settings, &mut reader, &mut writer, &terminal);
+            let outcome = run_script(&rt, alloc, config, &mut reader, &mut writer, &terminal);
             terminal.end();
             status_after(&rt, alloc, outcome, &terminal)
         }
@@ -59,7 +61,7 @@ fn main(rt: HostRuntime) -> ExitCode {
             Order::Check {
                 path,
                 workers,
-                settings,
+                config,
             },
         ) => {
             let mut writer = Watched::new(rt.stdout());
@@ -67,7 +69,7 @@ fn main(rt: HostRuntime) -> ExitCode {
                 &rt,
                 alloc,
                 path.as_str(),
-                settings,
+                config,
                 workers,
                 &mut writer,
                 &terminal,
@@ -75,6 +77,12 @@ fn main(rt: HostRuntime) -> ExitCode {
             terminal.end();
             status
         },
+        Ok(Order::Run(config)) => {
+            let mut writer = Watched::new(rt.stdout());
+            let status = run_store(&rt, alloc, config, &mut writer, &terminal);
+            terminal.end();
+            status
+        }
         Err(stop) => status_of_stop(&rt, alloc, &stop, &terminal),
     };
     ExitCode::from(status)

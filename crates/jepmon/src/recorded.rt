@@ -3,28 +3,25 @@ ghost use Rattle.std.specs.Prelude.{◌≡◌, ◌≢◌, ◌⊎◌, IfOk, IfErr
 ghost use Rattle.edn.specs.Value.{Values};
 ghost use Rattle.edn.specs.Text.{IsText};
 ghost use Rattle.edn.specs.View.{value_of};
-ghost use Rattle.machine.specs.Machine.{opening};
-ghost use Rattle.harness.specs.Setups.{judging};
+ghost use Rattle.machine.specs.Machine.{Setup, opening};
+ghost use Rattle.harness.specs.Setups.{setup_of};
 ghost use Rattle.harness.specs.CoreView.{at_rest};
-ghost use Rattle.monitor.specs.JudgedHistory.{IsVerdictOn};
 ghost use Rattle.jepmon.specs.declared.recorded.Findings.{Findings};
-ghost use Rattle.jepmon.specs.Recorded.{TakesElement, RefusesElement, ComesTo, findings_line, findings_status};
+ghost use Rattle.jepmon.specs.Recorded.{TakesElement, RefusesElement, ComesTo, Finds, event_line};
 
-use crate::exit_status::{REFUSED, status_of_verdict};
-use crate::verdict_line::verdict_text;
 use edn::{Edn, Elements, Refusal, check_text};
-use harness::{Command, Core, Judging};
+use harness::{Command, Config, Core};
 use history::from_edn;
-use line_loop::refusal_text;
 use linspec::Verdict;
 use onlookers::Onlooker;
+use report::report;
 use std::alloc::{AllocError, Global};
 
 /// What a recorded history comes to.
 #[derive(Drop)]
 pub enum Findings {
-    /// Every element was taken: the verdict on all events.
-    Judged(Verdict),
+    /// Every element was taken: the verdict on all events, and the report.
+    Judged(Verdict, Vec<u8>),
     /// So many elements were taken, and the next one was refused.
     RefusedEvent(usize, Refusal),
     /// What is no element's refusal.
@@ -38,14 +35,14 @@ pub enum Findings {
 /// the way how many are taken.
 pub fn judge_text<L: Onlooker>(
     alloc: Global,
-    settings: Judging,
+    config: Config,
     bytes: &[u8],
     onlooker: &L,
 ) -> Findings
-    ensures { ComesTo settings bytes.now result }
+    ensures { ComesTo (setup_of config) bytes.now result }
 {
     match check_text(alloc, bytes) {
-        Ok(events) => judge_elements(alloc, settings, bytes, events, onlooker),
+        Ok(events) => judge_elements(alloc, config, bytes, events, onlooker),
         Err(refusal) => {
             onlooker.refused_text(bytes, &refusal);
             Findings::Refused(refusal)
@@ -56,15 +53,15 @@ pub fn judge_text<L: Onlooker>(
 // The same of bytes that are a text of so many events.
 fn judge_elements<L: Onlooker>(
     alloc: Global,
-    settings: Judging,
+    config: Config,
     bytes: &[u8],
     events: usize,
     onlooker: &L,
 ) -> Findings
     requires { (values : Values) × IsText bytes.now values }
-    ensures { ComesTo settings bytes.now result }
+    ensures { ComesTo (setup_of config) bytes.now result }
 {
-    match Core::to_judge(alloc, settings) {
+    match Core::new(alloc, config) {
         Ok(mut core) => judge_with(alloc, &mut core, bytes, events, onlooker),
         Err(refusal) => {
             onlooker.refused(&refusal);
@@ -82,15 +79,15 @@ fn judge_with<L: Onlooker>(
     onlooker: &L,
 ) -> Findings
     requires { (values : Values) × IsText bytes.now values }
-    ensures { (settings : Judging) → core.old ≡ at_rest (opening (judging settings))
-        → ComesTo settings bytes.now result }
+    ensures { (setup : Setup) → core.old ≡ at_rest (opening setup)
+        → ComesTo setup bytes.now result }
 {
     let mut elements = Elements::new(bytes);
     let mut taken: usize = 0;
     'elements: loop {
         let element = match elements.next(alloc) {
             Ok(Some(element)) => element,
-            Ok(None) => return Findings::Judged(judged(core, onlooker)),
+            Ok(None) => return judged(alloc, core, onlooker),
             Err(refusal) => {
                 onlooker.refused(&refusal);
                 return Findings::Refused(refusal);
@@ -109,13 +106,22 @@ fn judge_with<L: Onlooker>(
     }
 }
 
-// The verdict on all that was taken.
-fn judged<L: Onlooker>(core: &Core, onlooker: &L) -> Verdict
-    ensures { IsVerdictOn core.now.machine.judged result }
+// The verdict on all that was taken, and the report.
+fn judged<L: Onlooker>(alloc: Global, core: &Core, onlooker: &L) -> Findings
+    ensures { Finds core.now.machine result }
 {
-    let verdict = core.verdict();
-    onlooker.judged(core.monitor(), &verdict);
-    verdict
+    let mut text = Vec::new(alloc);
+    match report(alloc, core.monitor(), &mut text) {
+        Ok(()) => {
+            let verdict = core.verdict();
+            onlooker.judged(core.monitor(), &verdict);
+            Findings::Judged(verdict, text)
+        }
+        Err(_) => {
+            onlooker.refused(&Refusal::NoMemory);
+            Findings::Refused(Refusal::NoMemory)
+        }
+    }
 }
 
 // Appends the event that the element spells.
@@ -141,31 +147,15 @@ fn refused_at(taken: usize, refusal: Refusal) -> Findings
     }
 }
 
-/// The line that says what was found, with its line feed, as `illegal key 7 index 5` or `refused 6 BadIndex event 1`.
+/// The line of an event that is refused, where so many were taken before it, as `refused 6 BadIndex event 1`.
 ///
 /// # Errors
 ///
 /// Where memory is refused.
-pub fn findings_text(alloc: Global, findings: &Findings) -> Result<String, AllocError>
-    ensures { IfOk result (λ text. string_bytes text ≡ findings_line findings.now) }
+pub fn event_text(alloc: Global, taken: usize, refusal: &Refusal) -> Result<String, AllocError>
+    ensures { IfOk result (λ text. string_bytes text ≡ event_line taken refusal.now) }
 {
-    match findings {
-        Findings::Judged(verdict) => verdict_text(alloc, verdict),
-        Findings::RefusedEvent(index, refusal) => {
-            let number = refusal.number();
-            let name = refusal.name();
-            format!(in alloc; "refused {number} {name} event {index}\n")
-        }
-        Findings::Refused(refusal) => refusal_text(alloc, refusal),
-    }
-}
-
-/// The exit status that it gives: that of the verdict, or 3.
-pub fn status_of_findings(findings: &Findings) -> u8
-    ensures { result ≡ findings_status findings.now }
-{
-    match findings {
-        Findings::Judged(verdict) => status_of_verdict(verdict),
-        Findings::RefusedEvent(_, _) | Findings::Refused(_) => REFUSED,
-    }
+    let number = refusal.number();
+    let name = refusal.name();
+    format!(in alloc; "refused {number} {name} event {taken}\n")
 }

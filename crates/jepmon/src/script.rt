@@ -1,7 +1,7 @@
 //! The monitor, driven by lines.
 ghost use Rattle.std.specs.Prelude.{◌≡◌, ◌≢◌, ◌⊎◌, ℕ, List, [], IfOk, OnOk, IfErr, IsErrAnd, Ok, Err, Some, false, true};
 ghost use Rattle.machine.specs.Machine.{Machine, opening};
-ghost use Rattle.harness.specs.Setups.{judging, HasLimits, MayNotJudge};
+ghost use Rattle.harness.specs.Setups.{setup_of, IsSetup, MayNotOpen};
 ghost use Rattle.monitor.specs.JudgedHistory.{IsVerdictOn};
 ghost use Rattle.line_loop.specs.RefusalLine.{refusal_line};
 ghost use Rattle.line_loop.specs.Stopping.{MayStop, Finishes, Stops, KeepsUp};
@@ -10,12 +10,12 @@ ghost use Rattle.jepmon.specs.Reply.{CarriesOut, MayReply};
 ghost use Rattle.jepmon.specs.Unopened.{IsUnopened};
 
 use crate::command::read_command;
-use crate::verdict_line::append_verdict;
 use edn::Refusal;
-use harness::{Command, Core, Judging, Reply};
+use harness::{Command, Config, Core, Reply};
 use line_loop::{Failed, LineMachine, answer_lines, append_refusal};
 use linspec::Verdict;
 use onlookers::Onlooker;
+use report::append_verdict;
 use std::alloc::{AllocError, Global};
 use std::io::{Read, Write};
 use std::marker::Model;
@@ -145,41 +145,41 @@ fn reply_refusal<L: Onlooker>(
 ///
 /// # Errors
 ///
-/// What [`Core::to_judge`] refuses, before anything is read. Else `ReadFailed` where the reader failed, `WriteFailed` where
+/// What [`Core::new`] refuses, before anything is read. Else `ReadFailed` where the reader failed, `WriteFailed` where
 /// the writer failed or took none of some bytes, and `NoMemory`: the writer has then taken a beginning of the replies.
 pub fn run_script<X: Wait, R: Read + Failed, W: Write + Failed, L: Onlooker>(
     rt: &X,
     alloc: Global,
-    settings: Judging,
+    config: Config,
     reader: &mut R,
     writer: &mut W,
     onlooker: &L,
 ) -> Result<Verdict, Refusal>
     requires reads { R.has_failed reader.old ≡ false }
     requires writes { W.has_failed writer.old ≡ false }
-    // Settings out of their limits are refused before anything is read or written.
-    ensures limits { HasLimits settings
-        ⊎ IsErrAnd result (IsUnopened settings reader.old reader.new writer.old writer.new) }
+    // A configuration out of its limits is refused before anything is read or written.
+    ensures limits { IsSetup (setup_of config)
+        ⊎ IsErrAnd result (IsUnopened (setup_of config) reader.old reader.new writer.old writer.new) }
     // All that the reader had is consumed, the writer grew by a reply text of it, and the verdict is that of the end.
     ensures done { IfOk result (λ verdict. (end : Machine) × IsVerdictOn end.judged verdict
-        × Finishes MayReply (opening (judging settings)) end (R.remaining reader.old) (R.remaining reader.new)
+        × Finishes MayReply (opening (setup_of config)) end (R.remaining reader.old) (R.remaining reader.new)
         (W.contents writer.old) (W.contents writer.new)) }
     ensures unfailed { OnOk result ((R.has_failed reader.new ≡ false)
         × (W.has_failed writer.new ≡ false)) }
     // Nothing was read or written; or the writer grew by a beginning of a reply text of the lines read to their end.
     ensures stopped { IfErr result (λ e.
-        IsUnopened settings reader.old reader.new writer.old writer.new e
-        ⊎ Stops MayReply (opening (judging settings)) (R.remaining reader.old) (R.remaining reader.new)
+        IsUnopened (setup_of config) reader.old reader.new writer.old writer.new e
+        ⊎ Stops MayReply (opening (setup_of config)) (R.remaining reader.old) (R.remaining reader.new)
         (W.contents writer.old) (W.contents writer.new) e) }
     // Where the reader failed, all lines that were read to their line feed had their replies.
-    ensures live { result ≡ Err Refusal.ReadFailed → KeepsUp MayReply (opening (judging settings))
+    ensures live { result ≡ Err Refusal.ReadFailed → KeepsUp MayReply (opening (setup_of config))
         (R.remaining reader.old) (R.remaining reader.new)
         (W.contents writer.old) (W.contents writer.new) }
-    ensures kinds { IfErr result (λ e. MayNotJudge settings e ⊎ MayStop e) }
+    ensures kinds { IfErr result (λ e. MayNotOpen (setup_of config) e ⊎ MayStop e) }
     ensures read { result ≡ Err Refusal.ReadFailed → R.has_failed reader.new ≡ true }
     ensures wrote { result ≡ Err Refusal.WriteFailed → W.has_failed writer.new ≡ true }
 {
-    let core = Core::to_judge(alloc, settings)?;
+    let core = Core::new(alloc, config)?;
     let machine = ScriptMachine {
         alloc,
         core,

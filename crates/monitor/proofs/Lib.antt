@@ -5,6 +5,7 @@ pub mod Committing
 pub mod Cutting
 pub mod EachOnce
 pub mod FrontVerdicts
+pub mod JoinOf
 pub mod Joins
 pub mod KeyPlaces
 pub mod KeyedEvents

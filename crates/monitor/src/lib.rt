@@ -2,6 +2,7 @@
 #![tactic(auto)]
 
 pub mod fronts;
+pub mod joined;
 mod laws;
 mod lines;
 mod loading;

@@ -15,7 +15,7 @@ macro_rules! each_hint {
             7 "HistoryFull" "The history has 1048576 events: at a quiet moment begin another one, with new keys.",
             8 "NoSuchIndex" "A rewind keeps at most as many events as there are.",
             9 "BadBudget" "A budget is a number, 1 to 65536.",
-            10 "BadConcurrency" "--concurrency takes a number, 1 to 64.",
+            10 "BadConcurrency" "--concurrency takes a number, 1 to 64, and of run 1 to 63.",
             11 "Unreadable" "After so many bytes it is no text. Floats, tags, symbols, lists, gzip and UTF-16 are not read.",
             13 "NoMemory" "The memory did not suffice. Judge fewer events at a time, or with a smaller budget.",
             20 "ReadFailed" "The input can't be read. Is the path right, is it no directory, and may it be read?",
@@ -34,7 +34,13 @@ macro_rules! hint_at {
     };
 }
 
+// What `run` alone is refused for.
+const REPLICAS: &str = "--replicas takes a number, 1 to 7.";
+
 /// What is usually the cause of the refusal of this number, as a sentence or two.
 pub fn hint_of(number: u8) -> Option<&'static str> {
-    each_hint!(hint_at; number)
+    match number {
+        18 => Some(REPLICAS),
+        number => each_hint!(hint_at; number),
+    }
 }

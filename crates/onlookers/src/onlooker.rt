@@ -31,6 +31,9 @@ pub trait Onlooker {
     /// The input was taken to its end, and this is the verdict.
     fn judged(&self, monitor: &Monitor, verdict: &Verdict);
 
+    /// A run of clients has ended, and this is the verdict.
+    fn ran(&self, monitor: &Monitor, verdict: &Verdict);
+
     /// The program stops for this.
     fn stopped(&self, refusal: &Refusal);
 }

@@ -232,6 +232,12 @@ impl<'a, X: Clock + Eprint> Onlooker for OnTerminal<'a, X> {
         self.remark.set(remark);
     }
 
+    fn ran(&self, monitor: &Monitor, verdict: &Verdict) {
+        if self.is_terminal {
+            self.remark.set(remark_on(monitor, verdict));
+        }
+    }
+
     fn stopped(&self, refusal: &Refusal) {
         self.say_hint(refusal);
     }

@@ -1,6 +1,6 @@
 //! The line that says a verdict.
 ghost use Rattle.std.specs.Prelude.{◌≡◌, ◌++◌, IfOk, OnOk, OnErr, string_bytes};
-ghost use Rattle.jepmon.specs.VerdictLine.{verdict_line};
+ghost use Rattle.report.specs.VerdictLine.{verdict_line};
 
 use linspec::Verdict;
 use std::alloc::{AllocError, Global};

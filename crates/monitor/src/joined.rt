@@ -1,0 +1,27 @@
+//! What the verdict on a history is to how its keys stand.
+ghost use Rattle.std.specs.Prelude.{◌≡◌, ℕ, List, map};
+ghost use Rattle.std.specs.List.{All};
+ghost use Rattle.history.specs.WellFormed.{IsHistoryOf};
+ghost use Rattle.linspec.specs.declared.verdict.KeyStatus.{KeyStatus};
+ghost use Rattle.linspec.specs.declared.verdict.Verdict.{Verdict};
+ghost use Rattle.linspec.specs.Verdicts.{IsJoin};
+ghost use Rattle.checkpoints.specs.KeyLineView.{IsStatusOf};
+ghost use Rattle.monitor.specs.JudgedHistory.{JudgedHistory, IsVerdictOn, keys_in_order, history_of_key};
+
+use crate::laws::judging_law;
+use linspec::laws::{one_answer_law, places_rise};
+
+/// The verdict on a history joins how its keys stand: the least index at which a key is dead, else the least at which one is
+/// over its budget, else legal. So whoever knows how each key with events stands, in the order of first events, knows the
+/// verdict from scratch, and the other way round.
+pub fn verdict_joins_law()
+    ensures { (h : JudgedHistory) (statuses : List (ℕ × KeyStatus)) (v : Verdict) →
+        IsHistoryOf h.concurrency h.events
+        → map (λ status. status.0) statuses ≡ keys_in_order h.events
+        → All (λ status. IsStatusOf (history_of_key h status.0) status.1) statuses
+        → IsVerdictOn h v → IsJoin statuses v }
+{
+    judging_law();
+    one_answer_law();
+    places_rise();
+}

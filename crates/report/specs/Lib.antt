@@ -1,0 +1,3 @@
+pub mod KeyLine
+pub mod Report
+pub mod VerdictLine

@@ -1,0 +1,9 @@
+//! What a monitor knows, as text: a line for each key that has events, and the line of the verdict.
+#![tactic(auto)]
+
+mod key_line;
+mod verdict_line;
+mod whole;
+
+pub use verdict_line::{append_verdict, verdict_text};
+pub use whole::report;
