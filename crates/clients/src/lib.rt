@@ -4,10 +4,10 @@
 
 mod client;
 pub mod laws;
-mod nemesis;
 mod pauses;
 mod run;
 mod shared_board;
+mod striking;
 mod whole_run;
 
 pub use run::run_clients;

@@ -5,8 +5,8 @@ ghost use Rattle.clients.specs.Plays.{HasPlayed, HasStruck, HaveRun, IsOfRun};
 ghost use Rattle.clients.specs.Playing.{HavePlayed, MayBeLost};
 
 use crate::client::play;
-use crate::nemesis::strike;
 use crate::shared_board::SharedBoard;
+use crate::striking::strike;
 use board::{Board, Seat, Tag};
 use edn::{Gate, Refusal};
 use std::alloc::{AllocError, Global};

@@ -1,6 +1,6 @@
 -- The seat was that of the nemesis.
 use Rattle.clients.specs.Plays.{HasStruck}
-use Rattle.clients.proofs.nemesis.strike.Given as goal
+use Rattle.clients.proofs.striking.strike.Given as goal
 
 abbrev pub invariant-loop : goal.invariant-loop
 invariant-loop g l =

@@ -1,6 +1,6 @@
 use Rattle.std.proofs.Common.{rules}
 use Rattle.clients.proofs.Making.{struck_self, struck_then}
-use Rattle.clients.proofs.nemesis.strike.Goals as goal
+use Rattle.clients.proofs.striking.strike.Goals as goal
 
 pub loop-init : goal.loop-init
 loop-init g c = (struck_self _, tt, tt)

@@ -1,6 +1,6 @@
 use Rattle.clients.proofs.Making.{struck_by, struck_none}
-use Rattle.clients.proofs.nemesis.try_once.Goals as goal
-use Rattle.clients.proofs.nemesis.try_once.Goals.{in-Ok, in-Err-Idle, in-Err}
+use Rattle.clients.proofs.striking.try_once.Goals as goal
+use Rattle.clients.proofs.striking.try_once.Goals.{in-Ok, in-Err-Idle, in-Err}
 
 pub returns : goal.returns
 returns g c =
