@@ -598,23 +598,33 @@ def the_log_is_judged_again() -> None:
     assert isinstance(error, Illegal) and ran.stdout.decode().splitlines()[-1] == error.reply and ran.returncode == 1
 
 
+def exit_statuses() -> None:
+    """Each exception has the exit status that jepmon has for it."""
+    assert (Illegal("").status, Unknown("").status, Refused("").status) == (1, 2, 3)
+
+
 def no_program() -> None:
     raised(FileNotFoundError, lambda: Monitor("/nowhere/jepmon"))
     raised(FileNotFoundError, lambda: Monitor(pathlib.Path("/nowhere/jepmon")))
 
 
-def example(name: str, *words: str) -> "subprocess.CompletedProcess[str]":
+def example(name: str, *words: str, **environment: str) -> "subprocess.CompletedProcess[str]":
     return subprocess.run([sys.executable, str(TOP / "examples" / "python" / name), *words], stdout=subprocess.PIPE,
-                          stderr=subprocess.PIPE, universal_newlines=True, timeout=60, env=dict(os.environ, JEPMON=PROGRAM))
+                          stderr=subprocess.PIPE, universal_newlines=True, timeout=60,
+                          env=dict(os.environ, JEPMON=PROGRAM, **environment))
 
 
 def the_examples() -> None:
-    """The example finds the stale read; those that need a redis-server are only asked for their help."""
+    """The example finds the stale read; those that need a redis-server are asked for their help, and say where there is none."""
     ran = example("stale_read.py")
     assert ran.returncode == 1 and "\njepmon.Illegal: illegal key " in ran.stderr, ran
     for name in ("redis_stale.py", "redis_lock.py"):
         ran = example(name, "--help")
         assert ran.returncode == 0 and "--jepmon" in ran.stdout and not ran.stderr, ran
+        ran = example(name, PATH="/nowhere")
+        assert ran.returncode == 3 and ran.stderr.endswith(f"{name}: redis-server is not installed\n"), ran
+        ran = example(name, "--jepmon", "/nowhere/jepmon")
+        assert ran.returncode == 3 and "No such file or directory: '/nowhere/jepmon'" in ran.stderr, ran
 
 
 TESTS = [a_linearizable_store_is_legal, a_stale_read_is_illegal, each_thread_is_stopped, lost_writes_are_illegal,
@@ -624,7 +634,7 @@ TESTS = [a_linearizable_store_is_legal, a_stale_read_is_illegal, each_thread_is_
          the_program_gives_no_reply, a_line_longer_than_a_pipe, an_exchange_that_is_broken_off, a_test_that_is_interrupted,
          another_model, coroutines,
          each_block_has_its_operation, nothing_is_left_open, a_session_of_its_own, a_closed_monitor, the_log_is_judged_again,
-         no_program, the_examples]
+         exit_statuses, no_program, the_examples]
 
 
 def main(names: List[str]) -> int:

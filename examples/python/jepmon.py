@@ -72,7 +72,9 @@ class Failed(Exception):
 
 class NotLegal(Exception):
     """A reply of jepmon that is not `legal`, its key and index where it names them, the last events of the key, and, where it
-    is not empty, a hint: what may have been meant."""
+    is not empty, a hint: what may have been meant. Its status is the exit status that jepmon has for it."""
+
+    status = 3
 
     def __init__(
         self,
@@ -92,9 +94,13 @@ class NotLegal(Exception):
 class Illegal(NotLegal, AssertionError):
     """The history is not linearizable: the store has answered wrongly, unless the model was the wrong one (see the hint)."""
 
+    status = 1
+
 
 class Unknown(NotLegal):
     """A key has had too many operations open or timed out at once: nothing is known of it from here on."""
+
+    status = 2
 
 
 class Refused(NotLegal):
