@@ -347,6 +347,19 @@ def a_key_over_its_budget() -> None:
     assert str(error).endswith("or raise the budget"), error
 
 
+def a_queue_over_its_budget() -> None:
+    """A backlog of messages that were sent two at a time: no timeout is at fault, and the hint says so."""
+    def no_consumer() -> None:
+        with Monitor(PROGRAM, model="fifo-queue") as monitor:
+            for value in range(0, 100, 2):
+                with monitor.enqueue(0, value), monitor.enqueue(0, value + 1):
+                    pass
+
+    error = raised(Unknown, no_consumer)
+    assert isinstance(error, Unknown) and error.index == 42, error
+    assert error.hint.startswith("20 enqueues and 0 dequeues had completed: let the queue be shorter"), error
+
+
 def what_is_refused() -> None:
     def model() -> None:
         with Monitor(PROGRAM) as monitor:
@@ -630,11 +643,10 @@ def the_examples() -> None:
 TESTS = [a_linearizable_store_is_legal, a_stale_read_is_illegal, each_thread_is_stopped, lost_writes_are_illegal,
          a_missing_key_is_legal, a_timeout_is_an_info, an_unexpected_exception_goes_on, what_failed_did_not_take_place,
          a_cas_register, a_lock_that_two_hold, queues_and_sets, what_is_no_integer, too_many_at_once, a_key_over_its_budget,
-         what_is_refused, options_out_of_their_limits, programs_that_are_no_jepmon, the_program_ends, the_program_wants_memory,
-         the_program_gives_no_reply, a_line_longer_than_a_pipe, an_exchange_that_is_broken_off, a_test_that_is_interrupted,
-         another_model, coroutines,
-         each_block_has_its_operation, nothing_is_left_open, a_session_of_its_own, a_closed_monitor, the_log_is_judged_again,
-         exit_statuses, no_program, the_examples]
+         a_queue_over_its_budget, what_is_refused, options_out_of_their_limits, programs_that_are_no_jepmon, the_program_ends,
+         the_program_wants_memory, the_program_gives_no_reply, a_line_longer_than_a_pipe, an_exchange_that_is_broken_off,
+         a_test_that_is_interrupted, another_model, coroutines, each_block_has_its_operation, nothing_is_left_open,
+         a_session_of_its_own, a_closed_monitor, the_log_is_judged_again, exit_statuses, no_program, the_examples]
 
 
 def main(names: List[str]) -> int:

@@ -61,6 +61,10 @@ HINTS = {  # beside a refusal, by its name
     "TooLong": "a line has 65536 bytes at most: let the sets that are read be smaller",
 }
 UNKNOWN_HINT = "let fewer clients use one key, go on with a new key after some timeouts, or raise the budget"
+UNKNOWN_QUEUE_HINT = (
+    "{} enqueues and {} dequeues had completed: let the queue be shorter, let fewer consumers wait on it and fewer producers "
+    "send at once, split it into several keys, or raise the budget"
+)
 
 Value = Union[None, int, Iterable[int]]
 ErrorType = Optional[Type[BaseException]]
@@ -143,6 +147,7 @@ class Monitor:
         self._begun: Set[int] = set()
         self._numbers: Dict[Hashable, int] = {}
         self._events: Dict[int, Deque[Tuple[int, int, str]]] = {}  # the last ones of each key: index, process and text
+        self._completed: "collections.Counter[Tuple[int, str]]" = collections.Counter()  # of a key and an operation: the oks
         self._names: Dict[int, Set[str]] = {}  # of the operations that each key has seen, but for the write that begins it
         words = [_found(program), "script", "--concurrency", str(concurrency), "--model", model, "--budget", str(budget)]
         self._program = _Program(words, timeout)
@@ -274,6 +279,7 @@ class Monitor:
             self._current[thread] += self.concurrency
         self._free.add(thread)
         self._tell(kind, process, name, key, part)
+        self._completed[key, name] += kind == "ok"
 
     def _tell(self, kind: str, process: int, name: str, key: int, part: str) -> None:
         self._test_running()
@@ -321,7 +327,7 @@ class Monitor:
         at_key, index = int(verdict.group(2)), int(verdict.group(3))
         events = self._last_events(at_key, index)
         if verdict.group(1) == "unknown":
-            self.failure = Unknown(reply, at_key, index, events, UNKNOWN_HINT)
+            self.failure = Unknown(reply, at_key, index, events, self._hint_of_unknown(at_key))
             raise copy.copy(self.failure)
         self.failure = Illegal(reply, at_key, index, events)
         self.failure = Illegal(reply, at_key, index, events, self._other_model(at_key))
@@ -338,6 +344,12 @@ class Monitor:
             return f"key {key} is judged as a {model}, where no {' and no '.join(strange)} can take place: {meant}"
         fitting = " or ".join(other for other in others if self._is_legal_as(key, other))
         return f"key {key} is judged as a {model}, and is legal as {fitting}: was that meant?" if fitting else ""
+
+    def _hint_of_unknown(self, key: int) -> str:
+        """What may be done about a key over its budget. Of a queue it says how much was in."""
+        if "enqueue" not in self._names.get(key, ()):
+            return UNKNOWN_HINT
+        return UNKNOWN_QUEUE_HINT.format(self._completed[key, "enqueue"], self._completed[key, "dequeue"])
 
     def _is_legal_as(self, key: int, model: str) -> bool:
         try:
