@@ -236,6 +236,22 @@ def what_failed_did_not_take_place() -> None:
     assert kinds_told(log, "write") == ["ok", "fail", "fail", "info"]
 
 
+def counts_of_outcomes() -> None:
+    """What was judged can be counted: a lock that is never granted is legal."""
+    with Monitor(PROGRAM, model="mutex", expected=(TimeoutError,)) as monitor:
+        assert monitor.counts == {}
+        for key in range(3):
+            with monitor.acquire(key):
+                raise Failed
+        with monitor.acquire(0):
+            raise TimeoutError
+        monitor.set_model(7, "register")
+        with monitor.write(7, 1):
+            pass
+    assert monitor.counts == {"acquire": {"fail": 3, "info": 1}, "write": {"ok": 1}}, monitor.counts
+    assert monitor.counts["acquire"]["ok"] == 0
+
+
 def a_cas_register() -> None:
     store = Store()
     store.put(0, 0)
@@ -642,7 +658,7 @@ def the_examples() -> None:
 
 TESTS = [a_linearizable_store_is_legal, a_stale_read_is_illegal, each_thread_is_stopped, lost_writes_are_illegal,
          a_missing_key_is_legal, a_timeout_is_an_info, an_unexpected_exception_goes_on, what_failed_did_not_take_place,
-         a_cas_register, a_lock_that_two_hold, queues_and_sets, what_is_no_integer, too_many_at_once, a_key_over_its_budget,
+         counts_of_outcomes, a_cas_register, a_lock_that_two_hold, queues_and_sets, what_is_no_integer, too_many_at_once, a_key_over_its_budget,
          a_queue_over_its_budget, what_is_refused, options_out_of_their_limits, programs_that_are_no_jepmon, the_program_ends,
          the_program_wants_memory, the_program_gives_no_reply, a_line_longer_than_a_pipe, an_exchange_that_is_broken_off,
          a_test_that_is_interrupted, another_model, coroutines, each_block_has_its_operation, nothing_is_left_open,

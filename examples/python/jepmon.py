@@ -147,7 +147,7 @@ class Monitor:
         self._begun: Set[int] = set()
         self._numbers: Dict[Hashable, int] = {}
         self._events: Dict[int, Deque[Tuple[int, int, str]]] = {}  # the last ones of each key: index, process and text
-        self._completed: "collections.Counter[Tuple[int, str]]" = collections.Counter()  # of a key and an operation: the oks
+        self._outcomes: "collections.Counter[Tuple[int, str, str]]" = collections.Counter()  # of a key, by operation and outcome
         self._names: Dict[int, Set[str]] = {}  # of the operations that each key has seen, but for the write that begins it
         words = [_found(program), "script", "--concurrency", str(concurrency), "--model", model, "--budget", str(budget)]
         self._program = _Program(words, timeout)
@@ -222,6 +222,16 @@ class Monitor:
         with self._lock:
             return self._numbers.setdefault(thing, len(self._numbers))
 
+    @property
+    def counts(self) -> "Dict[str, collections.Counter[str]]":
+        """How the operations ended, by name: {"read": Counter(ok=4, info=1), ..}. Only an ok is judged, so look at it at the end:
+        a lock that is never granted is legal. The writes by which keys begin do not count."""
+        with self._lock:
+            counts: "Dict[str, collections.Counter[str]]" = {}
+            for (_, name, outcome), count in self._outcomes.items():
+                counts.setdefault(name, collections.Counter())[outcome] += count
+            return counts
+
     # The end.
 
     def close(self) -> str:
@@ -279,7 +289,7 @@ class Monitor:
             self._current[thread] += self.concurrency
         self._free.add(thread)
         self._tell(kind, process, name, key, part)
-        self._completed[key, name] += kind == "ok"
+        self._outcomes[key, name, kind] += 1
 
     def _tell(self, kind: str, process: int, name: str, key: int, part: str) -> None:
         self._test_running()
@@ -349,7 +359,7 @@ class Monitor:
         """What may be done about a key over its budget. Of a queue it says how much was in."""
         if "enqueue" not in self._names.get(key, ()):
             return UNKNOWN_HINT
-        return UNKNOWN_QUEUE_HINT.format(self._completed[key, "enqueue"], self._completed[key, "dequeue"])
+        return UNKNOWN_QUEUE_HINT.format(self._outcomes[key, "enqueue", "ok"], self._outcomes[key, "dequeue", "ok"])
 
     def _is_legal_as(self, key: int, model: str) -> bool:
         try:
