@@ -232,8 +232,43 @@ def what_failed_did_not_take_place() -> None:
             with monitor.read(0) as op:
                 op.value = 2
 
-    raised(Illegal, read_what_failed)
+    error = raised(Illegal, read_what_failed)
     assert kinds_told(log, "write") == ["ok", "fail", "fail", "info"]
+    assert str(error).endswith("\n2 was written by process 0 in events 4-5, told as a fail: did it take place? Then it is an info, or "
+                               "the store's fault"), error
+
+
+def where_an_answer_comes_from() -> None:
+    """A value that nobody is told to have brought in, or only by an operation that failed, is named with what may be done."""
+    def hint(model: str, work: Callable[[Monitor], object]) -> str:
+        def acts() -> None:
+            with Monitor(PROGRAM, model=model) as monitor:
+                work(monitor)
+
+        error = raised(Illegal, acts)
+        assert isinstance(error, Illegal)
+        return error.hint
+
+    def read(value: object, name: str = "read") -> Callable[[Monitor], object]:
+        def act(monitor: Monitor) -> None:
+            with getattr(monitor, name)(3) as op:
+                op.value = value
+        return act
+
+    def fails(name: str, *values: int) -> Callable[[Monitor], object]:
+        def act(monitor: Monitor) -> None:
+            with getattr(monitor, name)(3, *values):
+                raise Failed
+            read({values[-1]} if name == "add" else values[-1], "dequeue" if name == "enqueue" else "read")(monitor)
+        return act
+
+    assert hint("register", read(77)) == (
+        "no operation that was told brought 77 in: did key 3 hold it before? monitor.begin(3, value)")
+    assert hint("unordered-queue", read(5, "dequeue")) == "no operation that was told brought 5 in: did key 3 hold it before?"
+    assert hint("set", read({-4})).startswith("no operation that was told brought -4 in: ")
+    assert hint("cas-register", fails("cas", 1, 2)).startswith("2 was set by process 0 in events 2-3, told as a fail: did it take")
+    assert hint("fifo-queue", fails("enqueue", 9)).startswith("9 was enqueued by process 0 in events 0-1, told as a fail: did")
+    assert hint("set", fails("add", 8)).startswith("8 was added by process 0 in events 0-1, told as a fail: did it take place?")
 
 
 def counts_of_outcomes() -> None:
@@ -657,7 +692,7 @@ def the_examples() -> None:
 
 
 TESTS = [a_linearizable_store_is_legal, a_stale_read_is_illegal, each_thread_is_stopped, lost_writes_are_illegal,
-         a_missing_key_is_legal, a_timeout_is_an_info, an_unexpected_exception_goes_on, what_failed_did_not_take_place,
+         a_missing_key_is_legal, a_timeout_is_an_info, an_unexpected_exception_goes_on, what_failed_did_not_take_place, where_an_answer_comes_from,
          counts_of_outcomes, a_cas_register, a_lock_that_two_hold, queues_and_sets, what_is_no_integer, too_many_at_once, a_key_over_its_budget,
          a_queue_over_its_budget, what_is_refused, options_out_of_their_limits, programs_that_are_no_jepmon, the_program_ends,
          the_program_wants_memory, the_program_gives_no_reply, a_line_longer_than_a_pipe, an_exchange_that_is_broken_off,

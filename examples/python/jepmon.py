@@ -146,6 +146,7 @@ class Monitor:
         self._models: Dict[int, str] = {}  # of keys that have another one
         self._begun: Set[int] = set()
         self._numbers: Dict[Hashable, int] = {}
+        self._sources = _Sources()
         self._events: Dict[int, Deque[Tuple[int, int, str]]] = {}  # the last ones of each key: index, process and text
         self._outcomes: "collections.Counter[Tuple[int, str, str]]" = collections.Counter()  # of a key, by operation and outcome
         self._names: Dict[int, Set[str]] = {}  # of the operations that each key has seen, but for the write that begins it
@@ -295,6 +296,7 @@ class Monitor:
         self._test_running()
         line = f"{{:type :{kind}, :process {process}, :f :{name}, :value [{key} {part}]}}"
         self._events.setdefault(key, collections.deque(maxlen=LAST_EVENTS)).append((self.length, process, line))
+        self._sources.tell(kind, process, name, key, part, self.length)
         self.length += 1
         self._ask(line, key)
         if kind == "fail":
@@ -340,7 +342,8 @@ class Monitor:
             self.failure = Unknown(reply, at_key, index, events, self._hint_of_unknown(at_key))
             raise copy.copy(self.failure)
         self.failure = Illegal(reply, at_key, index, events)
-        self.failure = Illegal(reply, at_key, index, events, self._other_model(at_key))
+        hints = (self._sources.hint(line), self._other_model(at_key))
+        self.failure = Illegal(reply, at_key, index, events, "\n".join(hint for hint in hints if hint))
         raise copy.copy(self.failure)
 
     def _other_model(self, key: int) -> str:
@@ -379,6 +382,48 @@ class Monitor:
         except NotLegal as failure:
             return failure.reply
         return "legal"
+
+
+class _Sources:
+    """Where a value that a key answers may come from: which operations of it brought which values in, and which of them failed."""
+
+    VERBS = {"write": "written", "cas": "set", "add": "added", "enqueue": "enqueued"}
+    ANSWER = re.compile(r"\{:type :ok, :process [0-9]+, :f :(read|dequeue), :value \[([0-9]+) ([^\]]*)\]\}")
+
+    def __init__(self) -> None:
+        self._brought: "collections.Counter[Tuple[int, str]]" = collections.Counter()  # how often, by what did not fail
+        self._failed: Dict[Tuple[int, str], str] = {}  # the last operation that failed, in words
+        self._began: Dict[int, int] = {}  # the index at which a process has invoked
+
+    def tell(self, kind: str, process: int, name: str, key: int, part: str, index: int) -> None:
+        began = self._began.pop(process, index)
+        if kind == "invoke":
+            self._began[process] = index
+        if name not in self.VERBS or kind not in ("invoke", "fail"):
+            return
+        brought = key, part.strip("[]").split()[-1]
+        self._brought[brought] += 1 if kind == "invoke" else -1
+        if kind == "fail":
+            self._failed[brought] = f"{self.VERBS[name]} by process {process} in events {began}-{index}, told as a fail"
+
+    def hint(self, line: str) -> str:
+        """What is strange in the answer that this line tells, if anything."""
+        answer = self.ANSWER.fullmatch(line)
+        if answer is None:
+            return ""
+        name, key, values = answer.group(1), int(answer.group(2)), re.findall("-?[0-9]+", answer.group(3))
+        if answer.group(3).startswith("#"):  # of many members those alone that no other operation brought in
+            values = [value for value in values if self._brought[key, value] == 0]
+        hints = (self._hint_of_value(name, key, value) for value in values)
+        return "\n".join([hint for hint in hints if hint][:LAST_EVENTS])
+
+    def _hint_of_value(self, name: str, key: int, value: str) -> str:
+        if (key, value) in self._failed:
+            return f"{value} was {self._failed[key, value]}: did it take place? Then it is an info, or the store's fault"
+        if self._brought[key, value] > 0 or value == str(ABSENT):
+            return ""
+        begin = "" if name == "dequeue" else f" monitor.begin({key}, value)"
+        return f"no operation that was told brought {value} in: did key {key} hold it before?{begin}"
 
 
 class _Program:
