@@ -398,6 +398,82 @@ def a_key_over_its_budget() -> None:
     assert str(error).endswith("or raise the budget"), error
 
 
+def a_key_that_is_dropped() -> None:
+    """The others go on, and are judged; the end of the block raises nothing, and close tells it."""
+    log = io.StringIO()
+
+    def write_two_at_once(key: int) -> Tuple[bool, bool]:
+        with monitor.write(key, 1) as first, monitor.write(key, 2) as second:
+            pass
+        return first.told, second.told
+
+    with Monitor(PROGRAM, budget=3, unknown="drop", log=log) as monitor:
+        assert write_two_at_once(0) == (True, True) and list(monitor.dropped) == [0]
+        assert monitor.dropped[0].reply == "unknown key 0 index 4" and monitor.dropped[0].index == 4
+        length = monitor.length
+        assert write_two_at_once(0) == (False, False)
+        with monitor.read(0) as op:
+            op.value = 77
+        assert (op.outcome, op.told, monitor.length) == ("ok", False, length)
+        with monitor.write(1, 1):
+            pass
+        assert write_two_at_once(2) == (True, True) and list(monitor.dropped) == [0, 2]
+        with monitor.read(1) as op:
+            op.value = 1
+        assert monitor.counts == {"write": {"info": 4, "ok": 1}, "read": {"ok": 1}}, monitor.counts
+    assert monitor.failure is None and monitor.close() == "unknown key 0 index 4"
+    ran = subprocess.run([PROGRAM, "script", "--concurrency", "64", "--budget", "3"], input=log.getvalue().encode(),
+                         stdout=subprocess.PIPE)
+    replies = ran.stdout.decode().splitlines()
+    assert replies[-1] == "legal" and sum(reply.startswith("unknown key") for reply in replies) == 2, replies
+
+    def lose_a_write() -> None:
+        with monitor.write(1, 2):
+            pass
+        with monitor.read(1) as op:
+            op.value = 1
+
+    monitor = Monitor(PROGRAM, budget=3, unknown="drop")
+    write_two_at_once(0)
+    error = raised(Illegal, lose_a_write)
+    assert monitor.close() == str(error).splitlines()[0] and error.args[1] == 1
+    with Monitor(PROGRAM, budget=1, unknown="drop") as monitor:
+        assert write_two_at_once(5) == (False, False) and 5 in monitor.dropped  # by the write that begins it
+    raised(ValueError, lambda: Monitor(PROGRAM, unknown="ignore"))
+
+
+def what_timed_out_is_counted() -> None:
+    with Monitor(PROGRAM, expected=(TimeoutError,)) as monitor:
+        for operation in (monitor.write(1, 2), monitor.read(1), monitor.write(1, 3), monitor.write(2, 4)):
+            with operation:
+                raise TimeoutError
+        assert [monitor.timeouts(key) for key in range(4)] == [0, 2, 1, 0]
+
+
+def a_client_that_raises() -> None:
+    """It ends the others at their next operation; what it raised is raised; and the monitor may be used again."""
+    ended: List[str] = []
+
+    def client(number: int) -> None:
+        value = 0
+        try:
+            while True:
+                with monitor.write(number, value):
+                    value += 1
+                if number == 2 and value == 5:
+                    raise KeyError("of the test")
+        except Refused as error:
+            ended.append(str(error))
+            raise
+
+    with Monitor(PROGRAM) as monitor:
+        raised(KeyError, lambda: monitor.run(client, THREADS))
+        assert ended == ["the test was broken off: another client has raised KeyError('of the test')"] * (THREADS - 1), ended
+        with monitor.write(9, 1):
+            pass
+    assert monitor.close() == "legal"
+
+
 def a_queue_over_its_budget() -> None:
     """A backlog of messages that were sent two at a time: no timeout is at fault, and the hint says so."""
     def no_consumer() -> None:
@@ -692,12 +768,14 @@ def the_examples() -> None:
 
 
 TESTS = [a_linearizable_store_is_legal, a_stale_read_is_illegal, each_thread_is_stopped, lost_writes_are_illegal,
-         a_missing_key_is_legal, a_timeout_is_an_info, an_unexpected_exception_goes_on, what_failed_did_not_take_place, where_an_answer_comes_from,
-         counts_of_outcomes, a_cas_register, a_lock_that_two_hold, queues_and_sets, what_is_no_integer, too_many_at_once, a_key_over_its_budget,
-         a_queue_over_its_budget, what_is_refused, options_out_of_their_limits, programs_that_are_no_jepmon, the_program_ends,
-         the_program_wants_memory, the_program_gives_no_reply, a_line_longer_than_a_pipe, an_exchange_that_is_broken_off,
-         a_test_that_is_interrupted, another_model, coroutines, each_block_has_its_operation, nothing_is_left_open,
-         a_session_of_its_own, a_closed_monitor, the_log_is_judged_again, exit_statuses, no_program, the_examples]
+         a_missing_key_is_legal, a_timeout_is_an_info, an_unexpected_exception_goes_on, what_failed_did_not_take_place,
+         where_an_answer_comes_from, counts_of_outcomes, a_cas_register, a_lock_that_two_hold, queues_and_sets,
+         what_is_no_integer, too_many_at_once, a_key_over_its_budget, a_key_that_is_dropped, what_timed_out_is_counted,
+         a_client_that_raises, a_queue_over_its_budget, what_is_refused, options_out_of_their_limits,
+         programs_that_are_no_jepmon, the_program_ends, the_program_wants_memory, the_program_gives_no_reply,
+         a_line_longer_than_a_pipe, an_exchange_that_is_broken_off, a_test_that_is_interrupted, another_model, coroutines,
+         each_block_has_its_operation, nothing_is_left_open, a_session_of_its_own, a_closed_monitor, the_log_is_judged_again,
+         exit_statuses, no_program, the_examples]
 
 
 def main(names: List[str]) -> int:

@@ -36,7 +36,7 @@ import subprocess
 import tempfile
 import threading
 import time
-from concurrent.futures import ThreadPoolExecutor, wait
+from concurrent.futures import FIRST_EXCEPTION, ThreadPoolExecutor, wait
 from types import TracebackType
 from typing import Any, Callable, Deque, Dict, Hashable, Iterable, List, NoReturn, Optional, Set, TextIO, Tuple, Type, Union
 
@@ -49,6 +49,7 @@ MODELS = {
     "unordered-queue": {"enqueue", "dequeue"},
     "set": {"add", "read"},
 }
+OPERATIONS: Set[str] = set().union(*MODELS.values())
 REGISTERS = ("register", "cas-register")
 LAST_EVENTS = 16  # of a key, in the text of an exception
 PATIENCE = 10.0  # seconds for what is not worth more: another model that is tried, the end of the program
@@ -120,7 +121,10 @@ class Monitor:
     concurrency  1 to 64
     budget       how many outcomes of a key are followed before it is Unknown, 1 to 65536
     expected     exceptions that end an operation as :info and go no further, as (TimeoutError, ConnectionError)
-    log          gets each line that tells something; `jepmon script` with the same options judges it again
+    unknown      "raise": a key over its budget ends the test by Unknown. "drop": it is judged up to there, its later operations
+                 are not told any more, the other keys go on, and nothing is raised; see dropped
+    log          gets each line that tells something; `jepmon script` with the same options judges it again. A file is best
+                 open(path, "w", buffering=1), by lines: so it is whole where the test is killed
     timeout      seconds that a reply may take, mostly microseconds; after them jepmon is killed and what was asked is Refused
     """
 
@@ -133,10 +137,15 @@ class Monitor:
         expected: Tuple[Type[BaseException], ...] = (),
         log: Optional[TextIO] = None,
         timeout: float = 60.0,
+        unknown: str = "raise",
     ) -> None:
-        self.concurrency, self.expected, self.log = concurrency, expected, log
+        if unknown not in ("raise", "drop"):
+            raise ValueError(f"unknown is 'raise' or 'drop', not {unknown!r}")
+        self.concurrency, self.expected, self.log, self.unknown = concurrency, expected, log, unknown
+        self.dropped: Dict[int, Unknown] = {}  # keys over their budget that are not told any more, and what was said of them
         self.length = 0  # events that jepmon has taken
         self.failure: Optional[NotLegal] = None
+        self._broken_off: Optional[Refused] = None  # while run() waits for the clients, of which one has raised an exception
         self._verdict: Optional[str] = None
         self._lock = threading.Lock()  # one pipe: the order of its lines is the history
         self._free = set(range(concurrency))  # threads of jepmon without an open operation
@@ -184,21 +193,27 @@ class Monitor:
         return Operation(self, "release", key)
 
     def run(self, work: Callable[[int], object], threads: int) -> None:
-        """Does work(0) to work(threads - 1), each in a thread of its own. Raises what is not legal, else what one raised.
-        Ctrl-C ends each of them at its next operation."""
+        """Does work(0) to work(threads - 1), each in a thread of its own. Raises what is not legal, else what one raised first.
+        An exception in one of them, and Ctrl-C, end each other one at its next operation."""
         pool = ThreadPoolExecutor(threads)
+        raised: Optional[BaseException] = None
         try:
             tasks = [pool.submit(work, number) for number in range(threads)]
+            done, _ = wait(tasks, return_when=FIRST_EXCEPTION)
+            raised = next((task.exception() for task in done if task.exception() is not None), None)
+            if raised is not None:
+                self._broken_off = Refused(f"the test was broken off: another client has raised {raised!r}")
             wait(tasks)
         except BaseException:
             self.failure = self.failure or Refused("the test was broken off")
             raise
         finally:
             pool.shutdown()
+            self._broken_off = None
         if self.failure is not None:
             raise copy.copy(self.failure)
-        for task in tasks:
-            task.result()
+        if raised is not None:
+            raise raised
 
     # What is said of a key.
 
@@ -233,10 +248,16 @@ class Monitor:
                 counts.setdefault(name, collections.Counter())[outcome] += count
             return counts
 
+    def timeouts(self, key: int) -> int:
+        """How many operations of the key have ended as :info and may yet take place; reads do not count. After some it is time
+        for a new key."""
+        with self._lock:
+            return sum(self._outcomes[key, name, "info"] for name in OPERATIONS - {"read"})
+
     # The end.
 
     def close(self) -> str:
-        """Ends the program. Gives the final verdict: `legal`, or the reply that was not."""
+        """Ends the program. Gives the final verdict: `legal`, or the reply that was not; of keys that were dropped the first one."""
         with self._lock:
             if self._verdict is None:
                 try:
@@ -259,9 +280,8 @@ class Monitor:
         if key not in self._begun:
             self._begun.add(key)
             thread = self._take_thread()
-            for kind in ("invoke", "ok"):
-                self._tell(kind, self._current[thread], "write", key, part)
-            self._free.add(thread)
+            self._tell("invoke", self._current[thread], "write", key, part)
+            self._complete("ok", thread, "write", key, part, part)
 
     def _is_register(self, key: int) -> bool:
         return self._models.get(key, self._model) in REGISTERS
@@ -274,23 +294,46 @@ class Monitor:
         self._free.remove(thread)
         return thread
 
-    def _invoke(self, name: str, key: int, part: str) -> int:
-        """Tells an invocation, and gives the thread of jepmon that it is on."""
-        if self._is_register(key):
+    def _invoke(self, name: str, key: int, part: str) -> Optional[int]:
+        """Tells an invocation, and gives the thread of jepmon that it is on; none where the key was dropped."""
+        self._test_running()
+        if self._broken_off is not None:
+            raise copy.copy(self._broken_off)
+        if key not in self.dropped and self._is_register(key):
             self._begin(key, _edn(ABSENT))
+        if key in self.dropped:
+            return None
         thread = self._take_thread()
         self._names.setdefault(key, set()).add(name)
         self._tell("invoke", self._current[thread], name, key, part)
         return thread
 
-    def _complete(self, kind: str, thread: int, name: str, key: int, part: str) -> None:
-        """Tells a completion. After an :info the process is gone, and its thread goes on with process + concurrency."""
+    def _complete(self, kind: str, thread: int, name: str, key: int, part: str, invoked: str) -> str:
+        """Tells a completion, and gives the outcome that was told. After an :info the process is gone, and its thread goes on
+        with process + concurrency. Of a key that was dropped an :ok is told as an :info, which brings no further outcomes."""
+        if kind == "ok" and key in self.dropped:
+            kind, part = "info", invoked
         process = self._current[thread]
         if kind == "info":
             self._current[thread] += self.concurrency
         self._free.add(thread)
-        self._tell(kind, process, name, key, part)
-        self._outcomes[key, name, kind] += 1
+        try:
+            self._tell(kind, process, name, key, part)
+        except Unknown as unknown:
+            if self.unknown != "drop" or (unknown.key, unknown.index) != (key, self.length - 1):
+                raise
+            self._drop(unknown, key)
+            return self._complete("ok", thread, name, key, part, invoked)
+        return kind
+
+    def _drop(self, unknown: "Unknown", key: int) -> None:
+        """Takes the last event back, the ok that met too many outcomes. So the key is legal up to there, with its operation open,
+        and the verdict is that of the other keys again."""
+        self.failure = None
+        self.dropped[key] = unknown
+        self.length -= 1
+        self._events[key].pop()
+        self._ask(f"[:rewind {self.length}]")
 
     def _tell(self, kind: str, process: int, name: str, key: int, part: str) -> None:
         self._test_running()
@@ -381,7 +424,7 @@ class Monitor:
             self._ask("[:verdict]")
         except NotLegal as failure:
             return failure.reply
-        return "legal"
+        return next((unknown.reply for unknown in self.dropped.values()), "legal")
 
 
 class _Sources:
@@ -534,7 +577,9 @@ class Operation:
         self.value: Value = self._UNSET  # of a read or a dequeue: what it answered
         self.outcome: Optional[str] = None  # "ok", "fail" or "info", once the block has ended
         self._monitor, self._name, self._key, self._part = monitor, name, _key(key), part
+        self.told = False  # whether jepmon was told of it: not where its key was dropped before
         self._said: Optional[str] = None
+        self._has_begun = False
         self._thread: Optional[int] = None  # of jepmon, once the block has begun
 
     def fail(self) -> None:
@@ -546,10 +591,11 @@ class Operation:
         self._said = "info"
 
     def __enter__(self) -> "Operation":
-        if self._thread is not None:
+        if self._has_begun:
             raise ValueError(f"this {self._name} has had its block already: call Monitor.{self._name} for each block")
         with self._monitor._lock:
             self._thread = self._monitor._invoke(self._name, self._key, self._part)
+            self._has_begun, self.told = True, self._thread is not None
         return self
 
     def __exit__(self, kind: ErrorType, error: Optional[BaseException], trace: Optional[TracebackType]) -> bool:
@@ -587,9 +633,12 @@ class Operation:
 
     def _complete(self, outcome: str, part: str) -> None:
         self.outcome = outcome
-        assert self._thread is not None, "no block has begun"
+        assert self._has_begun, "no block has begun"
+        if self._thread is None:
+            return
         with self._monitor._lock:
-            self._monitor._complete(outcome, self._thread, self._name, self._key, part)
+            told = self._monitor._complete(outcome, self._thread, self._name, self._key, part, self._part)
+            self._monitor._outcomes[self._key, self._name, told] += 1
 
 
 def _told(value: Any) -> Any:
