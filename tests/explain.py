@@ -74,7 +74,8 @@ def run_faults_of_words() -> List[str]:
     """What jepmon check says of an option comes through, with its status."""
     ran = explained(["-", "--concurrency", "65"])
     other = explained(["-", "--seed", "1"])
-    return (differing("what came", (ran.stdout, ran.stderr, ran.returncode), (b"", b"refused 10 BadConcurrency\n", 3))
+    want = b"refused 10 BadConcurrency\nexplain: 64 is the limit; examples/from-jepsen numbers the processes anew, so that 64 "
+    return (differing("what came", (ran.stdout, ran.stderr[:len(want)], ran.returncode), (b"", want, 3))
             + differing("what came of a word of no option", (other.stdout, other.returncode), (b"", 3)))
 
 
