@@ -758,6 +758,11 @@ def the_examples() -> None:
     """The example finds the stale read; those that need a redis-server are asked for their help, and say where there is none."""
     ran = example("stale_read.py")
     assert ran.returncode == 1 and "\njepmon.Illegal: illegal key " in ran.stderr, ran
+    ran = example("queue_drain.py")
+    assert ran.returncode == 1 and ran.stdout.endswith(": legal, and 8 messages are lost\n") and not ran.stderr, ran
+    ran = example("queue_drain.py", "--lose", "0")
+    assert (ran.returncode, ran.stdout) == (0, "sent 400, received 400, timed out 0: legal, and 0 messages are lost\n"), ran
+    assert example("queue_drain.py", "--jepmon", "/nowhere/jepmon").returncode == 3
     for name in ("redis_stale.py", "redis_lock.py"):
         ran = example(name, "--help")
         assert ran.returncode == 0 and "--jepmon" in ran.stdout and not ran.stderr, ran
