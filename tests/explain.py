@@ -111,7 +111,8 @@ def run_full_device() -> List[str]:
     with open("/dev/full", "wb") as full:
         ran = subprocess.run([sys.executable, str(EXPLAIN), str(CASES / "stale_read" / "history.edn")], stdout=full,
                              stderr=subprocess.PIPE, timeout=LIMIT, env=dict(os.environ, JEPMON=PROGRAM))
-    return differing("status", ran.returncode, 3)
+    return differing("what came", (ran.returncode, ran.stderr.splitlines()[:1]),
+                     (3, [b"explain: the output can't be written: No space left on device"]))
 
 
 def all_cases() -> List[Tuple[str, Callable[[], List[str]]]]:

@@ -234,8 +234,8 @@ def what_failed_did_not_take_place() -> None:
 
     error = raised(Illegal, read_what_failed)
     assert kinds_told(log, "write") == ["ok", "fail", "fail", "info"]
-    assert str(error).endswith("\n2 was written by process 0 in events 4-5, told as a fail: did it take place? Then it is an info, or "
-                               "the store's fault"), error
+    assert str(error).endswith("\n2 was written by process 0 in events 4-5, told as a fail: did it take place? Then it is an info, "
+                               "or the store's fault"), error
 
 
 def where_an_answer_comes_from() -> None:
@@ -468,7 +468,8 @@ def a_client_that_raises() -> None:
 
     with Monitor(PROGRAM) as monitor:
         raised(KeyError, lambda: monitor.run(client, THREADS))
-        assert len(ended) == THREADS - 1 and all("another client has raised KeyError('of the test'" in text for text in ended), ended
+        assert len(ended) == THREADS - 1, ended
+        assert all("another client has raised KeyError('of the test'" in text for text in ended), ended
         with monitor.write(9, 1):
             pass
     assert monitor.close() == "legal"

@@ -122,7 +122,7 @@ class Monitor:
     budget       how many outcomes of a key are followed before it is Unknown, 1 to 65536
     expected     exceptions that end an operation as :info and go no further, as (TimeoutError, ConnectionError)
     unknown      "raise": a key over its budget ends the test by Unknown. "drop": it is judged up to there, its later operations
-                 are not told any more, the other keys go on, and nothing is raised; see dropped
+                 are not told any more, the other keys go on, and nothing is raised; see dropped. The log has it taken back
     log          gets each line that tells something; `jepmon script` with the same options judges it again. A file is best
                  open(path, "w", buffering=1), by lines: so it is whole where the test is killed
     timeout      seconds that a reply may take, mostly microseconds; after them jepmon is killed and what was asked is Refused
@@ -257,7 +257,7 @@ class Monitor:
     # The end.
 
     def close(self) -> str:
-        """Ends the program. Gives the final verdict: `legal`, or the reply that was not; of keys that were dropped the first one."""
+        """Ends the program. Gives the final verdict: `legal`, or the reply that was not; of dropped keys that of the first one."""
         with self._lock:
             if self._verdict is None:
                 try:
