@@ -752,13 +752,15 @@ def no_program() -> None:
 def example(name: str, *words: str, **environment: str) -> "subprocess.CompletedProcess[str]":
     return subprocess.run([sys.executable, str(TOP / "examples" / "python" / name), *words], stdout=subprocess.PIPE,
                           stderr=subprocess.PIPE, universal_newlines=True, timeout=60,
-                          env=dict(os.environ, JEPMON=PROGRAM, **environment))
+                          env={**os.environ, "JEPMON": PROGRAM, **environment})
 
 
 def the_examples() -> None:
     """The example finds the stale read; those that need a redis-server are asked for their help, and say where there is none."""
     ran = example("stale_read.py")
     assert ran.returncode == 1 and "\njepmon.Illegal: illegal key " in ran.stderr, ran
+    ran = example("stale_read.py", JEPMON="/nowhere/jepmon")
+    assert ran.returncode == 3 and "No such file or directory: '/nowhere/jepmon'" in ran.stderr, ran
     ran = example("queue_drain.py")
     assert ran.returncode == 1 and ran.stdout.endswith(": legal, and 8 messages are lost\n") and not ran.stderr, ran
     ran = example("queue_drain.py", "--lose", "0")

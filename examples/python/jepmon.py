@@ -673,5 +673,5 @@ def _found(program: "Union[str, os.PathLike[str], None]") -> str:
     built = pathlib.Path(__file__).resolve().parents[2] / "crates" / "jepmon" / "out" / "jepmon"
     path = str(built) if built.exists() else shutil.which("jepmon")
     if path is None:
-        raise FileNotFoundError("there is no jepmon: install it by ./jepmon install DIR, or name it by Monitor(program) or JEPMON")
+        raise FileNotFoundError("there is no jepmon: `./jepmon install DIR`, put DIR on the PATH, or set JEPMON")
     return path
