@@ -8,8 +8,10 @@ that is printed, and the status, must be those of jepmon check itself. With word
 import functools
 import os
 import pathlib
+import shutil
 import subprocess
 import sys
+import tempfile
 from typing import Callable, Dict, List, Tuple
 
 TOP = pathlib.Path(__file__).resolve().parent.parent
@@ -35,8 +37,8 @@ def given(case: pathlib.Path) -> bytes:
     return subprocess.run([sys.executable, str(script)], stdout=subprocess.PIPE, check=True, timeout=LIMIT).stdout
 
 
-def explained(arguments: List[str], text: bytes = b"") -> "subprocess.CompletedProcess[bytes]":
-    environment: Dict[str, str] = dict(os.environ, JEPMON=PROGRAM)
+def explained(arguments: List[str], text: bytes = b"", program: str = PROGRAM) -> "subprocess.CompletedProcess[bytes]":
+    environment: Dict[str, str] = dict(os.environ, JEPMON=program)
     return subprocess.run([sys.executable, str(EXPLAIN)] + arguments, input=text, stdout=subprocess.PIPE,
                           stderr=subprocess.PIPE, timeout=LIMIT, env=environment)
 
@@ -72,14 +74,52 @@ def run_faults_of_words() -> List[str]:
     """What jepmon check says of an option comes through, with its status."""
     ran = explained(["-", "--concurrency", "65"])
     other = explained(["-", "--seed", "1"])
-    return (differing("what came", (ran.stdout, ran.stderr, ran.returncode), (b"", b"refused 10 BadConcurrency\n", 3))
+    want = b"refused 10 BadConcurrency\nexplain: 64 is the limit; examples/from-jepsen numbers the processes anew, so that 64 "
+    return (differing("what came", (ran.stdout, ran.stderr[:len(want)], ran.returncode), (b"", want, 3))
             + differing("what came of a word of no option", (other.stdout, other.returncode), (b"", 3)))
+
+
+def run_no_verdict() -> List[str]:
+    """What is no verdict of jepmon ends with 3, and says why."""
+    case = CASES / "stale_read" / "history.edn"
+    faults = []
+    for program, why in (("/nowhere/jepmon", b"explain: /nowhere/jepmon can't be run: No such file or directory"),
+                         (str(TOP), b"can't be run: Permission denied"),
+                         ("/bin/true", b"explain: /bin/true gave no verdict: it printed nothing, and its status was 0; is it"),
+                         ("/bin/false", b"gave no verdict: it printed nothing, and its status was 1"),
+                         ("/bin/echo", b"gave no verdict: its last line was 'check /dev/stdin', and its status was 0")):
+        ran = explained([str(case)], program=program)
+        faults += differing(f"the status with {program}", (ran.returncode, ran.stdout, why in ran.stderr), (3, b"", True))
+    return faults
+
+
+def run_no_program() -> List[str]:
+    """Where no program is built, named or on the PATH."""
+    with tempfile.TemporaryDirectory() as folder:
+        alone = pathlib.Path(folder, "examples", "explain")
+        alone.parent.mkdir()
+        shutil.copy(str(EXPLAIN), str(alone))
+        environment = {name: value for name, value in os.environ.items() if name != "JEPMON"}
+        ran = subprocess.run([sys.executable, str(alone), str(CASES / "stale_read" / "history.edn")], stdout=subprocess.PIPE,
+                             stderr=subprocess.PIPE, timeout=LIMIT, env=dict(environment, PATH=folder))
+    want = b"explain: there is no jepmon: `./jepmon install DIR`, put DIR on the PATH, or set JEPMON\n"
+    return differing("what came", (ran.stdout, ran.stderr, ran.returncode), (b"", want, 3))
+
+
+def run_full_device() -> List[str]:
+    """A verdict that can't be written is none."""
+    with open("/dev/full", "wb") as full:
+        ran = subprocess.run([sys.executable, str(EXPLAIN), str(CASES / "stale_read" / "history.edn")], stdout=full,
+                             stderr=subprocess.PIPE, timeout=LIMIT, env=dict(os.environ, JEPMON=PROGRAM))
+    return differing("what came", (ran.returncode, ran.stderr.splitlines()[:1]),
+                     (3, [b"explain: the output can't be written: No space left on device"]))
 
 
 def all_cases() -> List[Tuple[str, Callable[[], List[str]]]]:
     """Each case by its name."""
     cases = [(case.name, functools.partial(run_case, case)) for case in sorted(CASES.iterdir()) if case.is_dir()]
-    return cases + [("a_file", run_file), ("a_missing_file", run_missing_file), ("faults_of_words", run_faults_of_words)]
+    return cases + [("a_file", run_file), ("a_missing_file", run_missing_file), ("faults_of_words", run_faults_of_words),
+                    ("no_verdict", run_no_verdict), ("no_program", run_no_program), ("a_full_device", run_full_device)]
 
 
 def main(names: List[str]) -> int:

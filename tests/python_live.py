@@ -232,8 +232,59 @@ def what_failed_did_not_take_place() -> None:
             with monitor.read(0) as op:
                 op.value = 2
 
-    raised(Illegal, read_what_failed)
+    error = raised(Illegal, read_what_failed)
     assert kinds_told(log, "write") == ["ok", "fail", "fail", "info"]
+    assert str(error).endswith("\n2 was written by process 0 in events 4-5, told as a fail: did it take place? Then it is an info, "
+                               "or the store's fault"), error
+
+
+def where_an_answer_comes_from() -> None:
+    """A value that nobody is told to have brought in, or only by an operation that failed, is named with what may be done."""
+    def hint(model: str, work: Callable[[Monitor], object]) -> str:
+        def acts() -> None:
+            with Monitor(PROGRAM, model=model) as monitor:
+                work(monitor)
+
+        error = raised(Illegal, acts)
+        assert isinstance(error, Illegal)
+        return error.hint
+
+    def read(value: object, name: str = "read") -> Callable[[Monitor], object]:
+        def act(monitor: Monitor) -> None:
+            with getattr(monitor, name)(3) as op:
+                op.value = value
+        return act
+
+    def fails(name: str, *values: int) -> Callable[[Monitor], object]:
+        def act(monitor: Monitor) -> None:
+            with getattr(monitor, name)(3, *values):
+                raise Failed
+            read({values[-1]} if name == "add" else values[-1], "dequeue" if name == "enqueue" else "read")(monitor)
+        return act
+
+    assert hint("register", read(77)) == (
+        "no operation that was told brought 77 in: did key 3 hold it before? monitor.begin(3, value)")
+    assert hint("unordered-queue", read(5, "dequeue")) == "no operation that was told brought 5 in: did key 3 hold it before?"
+    assert hint("set", read({-4})).startswith("no operation that was told brought -4 in: ")
+    assert hint("cas-register", fails("cas", 1, 2)).startswith("2 was set by process 0 in events 2-3, told as a fail: did it take")
+    assert hint("fifo-queue", fails("enqueue", 9)).startswith("9 was enqueued by process 0 in events 0-1, told as a fail: did")
+    assert hint("set", fails("add", 8)).startswith("8 was added by process 0 in events 0-1, told as a fail: did it take place?")
+
+
+def counts_of_outcomes() -> None:
+    """What was judged can be counted: a lock that is never granted is legal."""
+    with Monitor(PROGRAM, model="mutex", expected=(TimeoutError,)) as monitor:
+        assert monitor.counts == {}
+        for key in range(3):
+            with monitor.acquire(key):
+                raise Failed
+        with monitor.acquire(0):
+            raise TimeoutError
+        monitor.set_model(7, "register")
+        with monitor.write(7, 1):
+            pass
+    assert monitor.counts == {"acquire": {"fail": 3, "info": 1}, "write": {"ok": 1}}, monitor.counts
+    assert monitor.counts["acquire"]["ok"] == 0
 
 
 def a_cas_register() -> None:
@@ -345,6 +396,96 @@ def a_key_over_its_budget() -> None:
     error = raised(Unknown, two_at_once)
     assert isinstance(error, Unknown) and error.reply == f"unknown key 0 index {error.index}" and len(error.events) == 2, error
     assert str(error).endswith("or raise the budget"), error
+
+
+def a_key_that_is_dropped() -> None:
+    """The others go on, and are judged; the end of the block raises nothing, and close tells it."""
+    log = io.StringIO()
+
+    def write_two_at_once(key: int) -> Tuple[bool, bool]:
+        with monitor.write(key, 1) as first, monitor.write(key, 2) as second:
+            pass
+        return first.told, second.told
+
+    with Monitor(PROGRAM, budget=3, unknown="drop", log=log) as monitor:
+        assert write_two_at_once(0) == (True, True) and list(monitor.dropped) == [0]
+        assert monitor.dropped[0].reply == "unknown key 0 index 4" and monitor.dropped[0].index == 4
+        length = monitor.length
+        assert write_two_at_once(0) == (False, False)
+        with monitor.read(0) as op:
+            op.value = 77
+        assert (op.outcome, op.told, monitor.length) == ("ok", False, length)
+        with monitor.write(1, 1):
+            pass
+        assert write_two_at_once(2) == (True, True) and list(monitor.dropped) == [0, 2]
+        with monitor.read(1) as op:
+            op.value = 1
+        assert monitor.counts == {"write": {"info": 4, "ok": 1}, "read": {"ok": 1}}, monitor.counts
+    assert monitor.failure is None and monitor.close() == "unknown key 0 index 4"
+    ran = subprocess.run([PROGRAM, "script", "--concurrency", "64", "--budget", "3"], input=log.getvalue().encode(),
+                         stdout=subprocess.PIPE)
+    replies = ran.stdout.decode().splitlines()
+    assert replies[-1] == "legal" and sum(reply.startswith("unknown key") for reply in replies) == 2, replies
+
+    def lose_a_write() -> None:
+        with monitor.write(1, 2):
+            pass
+        with monitor.read(1) as op:
+            op.value = 1
+
+    monitor = Monitor(PROGRAM, budget=3, unknown="drop")
+    write_two_at_once(0)
+    error = raised(Illegal, lose_a_write)
+    assert monitor.close() == str(error).splitlines()[0] and error.args[1] == 1
+    with Monitor(PROGRAM, budget=1, unknown="drop") as monitor:
+        assert write_two_at_once(5) == (False, False) and 5 in monitor.dropped  # by the write that begins it
+    raised(ValueError, lambda: Monitor(PROGRAM, unknown="ignore"))
+
+
+def what_timed_out_is_counted() -> None:
+    with Monitor(PROGRAM, expected=(TimeoutError,)) as monitor:
+        for operation in (monitor.write(1, 2), monitor.read(1), monitor.write(1, 3), monitor.write(2, 4)):
+            with operation:
+                raise TimeoutError
+        assert [monitor.timeouts(key) for key in range(4)] == [0, 2, 1, 0]
+
+
+def a_client_that_raises() -> None:
+    """It ends the others at their next operation; what it raised is raised; and the monitor may be used again."""
+    ended: List[str] = []
+
+    def client(number: int) -> None:
+        value = 0
+        try:
+            while True:
+                with monitor.write(number, value):
+                    value += 1
+                if number == 2 and value == 5:
+                    raise KeyError("of the test")
+        except Refused as error:
+            ended.append(str(error))
+            raise
+
+    with Monitor(PROGRAM) as monitor:
+        raised(KeyError, lambda: monitor.run(client, THREADS))
+        assert len(ended) == THREADS - 1, ended
+        assert all("another client has raised KeyError('of the test'" in text for text in ended), ended
+        with monitor.write(9, 1):
+            pass
+    assert monitor.close() == "legal"
+
+
+def a_queue_over_its_budget() -> None:
+    """A backlog of messages that were sent two at a time: no timeout is at fault, and the hint says so."""
+    def no_consumer() -> None:
+        with Monitor(PROGRAM, model="fifo-queue") as monitor:
+            for value in range(0, 100, 2):
+                with monitor.enqueue(0, value), monitor.enqueue(0, value + 1):
+                    pass
+
+    error = raised(Unknown, no_consumer)
+    assert isinstance(error, Unknown) and error.index == 42, error
+    assert error.hint.startswith("20 enqueues and 0 dequeues had completed: let the queue be shorter"), error
 
 
 def what_is_refused() -> None:
@@ -598,33 +739,51 @@ def the_log_is_judged_again() -> None:
     assert isinstance(error, Illegal) and ran.stdout.decode().splitlines()[-1] == error.reply and ran.returncode == 1
 
 
+def exit_statuses() -> None:
+    """Each exception has the exit status that jepmon has for it."""
+    assert (Illegal("").status, Unknown("").status, Refused("").status) == (1, 2, 3)
+
+
 def no_program() -> None:
     raised(FileNotFoundError, lambda: Monitor("/nowhere/jepmon"))
     raised(FileNotFoundError, lambda: Monitor(pathlib.Path("/nowhere/jepmon")))
 
 
-def example(name: str, *words: str) -> "subprocess.CompletedProcess[str]":
+def example(name: str, *words: str, **environment: str) -> "subprocess.CompletedProcess[str]":
     return subprocess.run([sys.executable, str(TOP / "examples" / "python" / name), *words], stdout=subprocess.PIPE,
-                          stderr=subprocess.PIPE, universal_newlines=True, timeout=60, env=dict(os.environ, JEPMON=PROGRAM))
+                          stderr=subprocess.PIPE, universal_newlines=True, timeout=60,
+                          env={**os.environ, "JEPMON": PROGRAM, **environment})
 
 
 def the_examples() -> None:
-    """The example finds the stale read; those that need a redis-server are only asked for their help."""
+    """The example finds the stale read; those that need a redis-server are asked for their help, and say where there is none."""
     ran = example("stale_read.py")
     assert ran.returncode == 1 and "\njepmon.Illegal: illegal key " in ran.stderr, ran
+    ran = example("stale_read.py", JEPMON="/nowhere/jepmon")
+    assert ran.returncode == 3 and "No such file or directory: '/nowhere/jepmon'" in ran.stderr, ran
+    ran = example("queue_drain.py")
+    assert ran.returncode == 1 and ran.stdout.endswith(": legal, and 8 messages are lost\n") and not ran.stderr, ran
+    ran = example("queue_drain.py", "--lose", "0")
+    assert (ran.returncode, ran.stdout) == (0, "sent 400, received 400, timed out 0: legal, and 0 messages are lost\n"), ran
+    assert example("queue_drain.py", "--jepmon", "/nowhere/jepmon").returncode == 3
     for name in ("redis_stale.py", "redis_lock.py"):
         ran = example(name, "--help")
         assert ran.returncode == 0 and "--jepmon" in ran.stdout and not ran.stderr, ran
+        ran = example(name, PATH="/nowhere")
+        assert ran.returncode == 3 and ran.stderr.endswith(f"{name}: redis-server is not installed\n"), ran
+        ran = example(name, "--jepmon", "/nowhere/jepmon")
+        assert ran.returncode == 3 and "No such file or directory: '/nowhere/jepmon'" in ran.stderr, ran
 
 
 TESTS = [a_linearizable_store_is_legal, a_stale_read_is_illegal, each_thread_is_stopped, lost_writes_are_illegal,
          a_missing_key_is_legal, a_timeout_is_an_info, an_unexpected_exception_goes_on, what_failed_did_not_take_place,
-         a_cas_register, a_lock_that_two_hold, queues_and_sets, what_is_no_integer, too_many_at_once, a_key_over_its_budget,
-         what_is_refused, options_out_of_their_limits, programs_that_are_no_jepmon, the_program_ends, the_program_wants_memory,
-         the_program_gives_no_reply, a_line_longer_than_a_pipe, an_exchange_that_is_broken_off, a_test_that_is_interrupted,
-         another_model, coroutines,
+         where_an_answer_comes_from, counts_of_outcomes, a_cas_register, a_lock_that_two_hold, queues_and_sets,
+         what_is_no_integer, too_many_at_once, a_key_over_its_budget, a_key_that_is_dropped, what_timed_out_is_counted,
+         a_client_that_raises, a_queue_over_its_budget, what_is_refused, options_out_of_their_limits,
+         programs_that_are_no_jepmon, the_program_ends, the_program_wants_memory, the_program_gives_no_reply,
+         a_line_longer_than_a_pipe, an_exchange_that_is_broken_off, a_test_that_is_interrupted, another_model, coroutines,
          each_block_has_its_operation, nothing_is_left_open, a_session_of_its_own, a_closed_monitor, the_log_is_judged_again,
-         no_program, the_examples]
+         exit_statuses, no_program, the_examples]
 
 
 def main(names: List[str]) -> int:

@@ -12,9 +12,9 @@
 
 A block that ends is an :ok. An exception in it is an :info: the operation may have taken place, or may yet. `raise Failed` in
 it, or op.fail(), is a :fail: it certainly did not take place. The first event after which the history is not linearizable
-raises Illegal in the thread that told it, and in each later operation of the others; so does a key over its budget (Unknown),
-and what jepmon refuses (Refused). Their text has the last events of the key, and what may have been meant. The end of
-`with Monitor()` raises them again, where nothing else was raised in it.
+raises Illegal in the thread that told it, and in each later operation of the others; so does a key over its budget (Unknown,
+but with unknown="drop" not), and what jepmon refuses (Refused). Their text has the last events of the key, without operations
+that failed, and what may have been meant. The end of `with Monitor()` raises them again, where nothing else was raised in it.
 
 jepmon takes an answer of nil to say nothing, so that a store which loses every write would pass. Here a missing key is a value,
 ABSENT: each key of a register begins with it, and a read that answers None tells it. monitor.write(key, ABSENT) is a deletion.
@@ -36,7 +36,7 @@ import subprocess
 import tempfile
 import threading
 import time
-from concurrent.futures import ThreadPoolExecutor, wait
+from concurrent.futures import FIRST_EXCEPTION, ThreadPoolExecutor, wait
 from types import TracebackType
 from typing import Any, Callable, Deque, Dict, Hashable, Iterable, List, NoReturn, Optional, Set, TextIO, Tuple, Type, Union
 
@@ -49,6 +49,7 @@ MODELS = {
     "unordered-queue": {"enqueue", "dequeue"},
     "set": {"add", "read"},
 }
+OPERATIONS: Set[str] = set().union(*MODELS.values())
 REGISTERS = ("register", "cas-register")
 LAST_EVENTS = 16  # of a key, in the text of an exception
 PATIENCE = 10.0  # seconds for what is not worth more: another model that is tried, the end of the program
@@ -61,6 +62,10 @@ HINTS = {  # beside a refusal, by its name
     "TooLong": "a line has 65536 bytes at most: let the sets that are read be smaller",
 }
 UNKNOWN_HINT = "let fewer clients use one key, go on with a new key after some timeouts, or raise the budget"
+UNKNOWN_QUEUE_HINT = (
+    "{} enqueues and {} dequeues had completed: let the queue be shorter, let fewer consumers wait on it and fewer producers "
+    "send at once, split it into several keys, or raise the budget"
+)
 
 Value = Union[None, int, Iterable[int]]
 ErrorType = Optional[Type[BaseException]]
@@ -72,7 +77,9 @@ class Failed(Exception):
 
 class NotLegal(Exception):
     """A reply of jepmon that is not `legal`, its key and index where it names them, the last events of the key, and, where it
-    is not empty, a hint: what may have been meant."""
+    is not empty, a hint: what may have been meant. Its status is the exit status that jepmon has for it."""
+
+    status = 3
 
     def __init__(
         self,
@@ -92,9 +99,13 @@ class NotLegal(Exception):
 class Illegal(NotLegal, AssertionError):
     """The history is not linearizable: the store has answered wrongly, unless the model was the wrong one (see the hint)."""
 
+    status = 1
+
 
 class Unknown(NotLegal):
     """A key has had too many operations open or timed out at once: nothing is known of it from here on."""
+
+    status = 2
 
 
 class Refused(NotLegal):
@@ -110,7 +121,10 @@ class Monitor:
     concurrency  1 to 64
     budget       how many outcomes of a key are followed before it is Unknown, 1 to 65536
     expected     exceptions that end an operation as :info and go no further, as (TimeoutError, ConnectionError)
-    log          gets each line that tells something; `jepmon script` with the same options judges it again
+    unknown      "raise": a key over its budget ends the test by Unknown. "drop": it is judged up to there, its later operations
+                 are not told any more, the other keys go on, and nothing is raised; see dropped. The log has it taken back
+    log          gets each line that tells something; `jepmon script` with the same options judges it again. A file is best
+                 open(path, "w", buffering=1), by lines: so it is whole where the test is killed
     timeout      seconds that a reply may take, mostly microseconds; after them jepmon is killed and what was asked is Refused
     """
 
@@ -123,10 +137,15 @@ class Monitor:
         expected: Tuple[Type[BaseException], ...] = (),
         log: Optional[TextIO] = None,
         timeout: float = 60.0,
+        unknown: str = "raise",
     ) -> None:
-        self.concurrency, self.expected, self.log = concurrency, expected, log
+        if unknown not in ("raise", "drop"):
+            raise ValueError(f"unknown is 'raise' or 'drop', not {unknown!r}")
+        self.concurrency, self.expected, self.log, self.unknown = concurrency, expected, log, unknown
+        self.dropped: Dict[int, Unknown] = {}  # keys over their budget that are not told any more, and what was said of them
         self.length = 0  # events that jepmon has taken
         self.failure: Optional[NotLegal] = None
+        self._broken_off: Optional[Refused] = None  # while run() waits for the clients, of which one has raised an exception
         self._verdict: Optional[str] = None
         self._lock = threading.Lock()  # one pipe: the order of its lines is the history
         self._free = set(range(concurrency))  # threads of jepmon without an open operation
@@ -136,7 +155,9 @@ class Monitor:
         self._models: Dict[int, str] = {}  # of keys that have another one
         self._begun: Set[int] = set()
         self._numbers: Dict[Hashable, int] = {}
+        self._sources = _Sources()
         self._events: Dict[int, Deque[Tuple[int, int, str]]] = {}  # the last ones of each key: index, process and text
+        self._outcomes: "collections.Counter[Tuple[int, str, str]]" = collections.Counter()  # of a key, by operation and outcome
         self._names: Dict[int, Set[str]] = {}  # of the operations that each key has seen, but for the write that begins it
         words = [_found(program), "script", "--concurrency", str(concurrency), "--model", model, "--budget", str(budget)]
         self._program = _Program(words, timeout)
@@ -172,21 +193,27 @@ class Monitor:
         return Operation(self, "release", key)
 
     def run(self, work: Callable[[int], object], threads: int) -> None:
-        """Does work(0) to work(threads - 1), each in a thread of its own. Raises what is not legal, else what one raised.
-        Ctrl-C ends each of them at its next operation."""
+        """Does work(0) to work(threads - 1), each in a thread of its own. Raises what is not legal, else what one raised first.
+        An exception in one of them, and Ctrl-C, end each other one at its next operation."""
         pool = ThreadPoolExecutor(threads)
+        raised: Optional[BaseException] = None
         try:
             tasks = [pool.submit(work, number) for number in range(threads)]
+            done, _ = wait(tasks, return_when=FIRST_EXCEPTION)
+            raised = next((task.exception() for task in done if task.exception() is not None), None)
+            if raised is not None:
+                self._broken_off = Refused(f"the test was broken off: another client has raised {raised!r}")
             wait(tasks)
         except BaseException:
             self.failure = self.failure or Refused("the test was broken off")
             raise
         finally:
             pool.shutdown()
+            self._broken_off = None
         if self.failure is not None:
             raise copy.copy(self.failure)
-        for task in tasks:
-            task.result()
+        if raised is not None:
+            raise raised
 
     # What is said of a key.
 
@@ -211,10 +238,26 @@ class Monitor:
         with self._lock:
             return self._numbers.setdefault(thing, len(self._numbers))
 
+    @property
+    def counts(self) -> "Dict[str, collections.Counter[str]]":
+        """How the operations ended, by name: {"read": Counter(ok=4, info=1), ..}. Only an ok is judged, so look at it at the end:
+        a lock that is never granted is legal. The writes by which keys begin do not count."""
+        with self._lock:
+            counts: "Dict[str, collections.Counter[str]]" = {}
+            for (_, name, outcome), count in self._outcomes.items():
+                counts.setdefault(name, collections.Counter())[outcome] += count
+            return counts
+
+    def timeouts(self, key: int) -> int:
+        """How many operations of the key have ended as :info and may yet take place; reads do not count. After some it is time
+        for a new key."""
+        with self._lock:
+            return sum(self._outcomes[key, name, "info"] for name in OPERATIONS - {"read"})
+
     # The end.
 
     def close(self) -> str:
-        """Ends the program. Gives the final verdict: `legal`, or the reply that was not."""
+        """Ends the program. Gives the final verdict: `legal`, or the reply that was not; of dropped keys that of the first one."""
         with self._lock:
             if self._verdict is None:
                 try:
@@ -237,9 +280,8 @@ class Monitor:
         if key not in self._begun:
             self._begun.add(key)
             thread = self._take_thread()
-            for kind in ("invoke", "ok"):
-                self._tell(kind, self._current[thread], "write", key, part)
-            self._free.add(thread)
+            self._tell("invoke", self._current[thread], "write", key, part)
+            self._complete("ok", thread, "write", key, part, part)
 
     def _is_register(self, key: int) -> bool:
         return self._models.get(key, self._model) in REGISTERS
@@ -252,27 +294,52 @@ class Monitor:
         self._free.remove(thread)
         return thread
 
-    def _invoke(self, name: str, key: int, part: str) -> int:
-        """Tells an invocation, and gives the thread of jepmon that it is on."""
-        if self._is_register(key):
+    def _invoke(self, name: str, key: int, part: str) -> Optional[int]:
+        """Tells an invocation, and gives the thread of jepmon that it is on; none where the key was dropped."""
+        self._test_running()
+        if self._broken_off is not None:
+            raise copy.copy(self._broken_off)
+        if key not in self.dropped and self._is_register(key):
             self._begin(key, _edn(ABSENT))
+        if key in self.dropped:
+            return None
         thread = self._take_thread()
         self._names.setdefault(key, set()).add(name)
         self._tell("invoke", self._current[thread], name, key, part)
         return thread
 
-    def _complete(self, kind: str, thread: int, name: str, key: int, part: str) -> None:
-        """Tells a completion. After an :info the process is gone, and its thread goes on with process + concurrency."""
+    def _complete(self, kind: str, thread: int, name: str, key: int, part: str, invoked: str) -> str:
+        """Tells a completion, and gives the outcome that was told. After an :info the process is gone, and its thread goes on
+        with process + concurrency. Of a key that was dropped an :ok is told as an :info, which brings no further outcomes."""
+        if kind == "ok" and key in self.dropped:
+            kind, part = "info", invoked
         process = self._current[thread]
         if kind == "info":
             self._current[thread] += self.concurrency
         self._free.add(thread)
-        self._tell(kind, process, name, key, part)
+        try:
+            self._tell(kind, process, name, key, part)
+        except Unknown as unknown:
+            if self.unknown != "drop" or (unknown.key, unknown.index) != (key, self.length - 1):
+                raise
+            self._drop(unknown, key)
+            return self._complete("ok", thread, name, key, part, invoked)
+        return kind
+
+    def _drop(self, unknown: "Unknown", key: int) -> None:
+        """Takes the last event back, the ok that met too many outcomes. So the key is legal up to there, with its operation open,
+        and the verdict is that of the other keys again."""
+        self.failure = None
+        self.dropped[key] = unknown
+        self.length -= 1
+        self._events[key].pop()
+        self._ask(f"[:rewind {self.length}]")
 
     def _tell(self, kind: str, process: int, name: str, key: int, part: str) -> None:
         self._test_running()
         line = f"{{:type :{kind}, :process {process}, :f :{name}, :value [{key} {part}]}}"
         self._events.setdefault(key, collections.deque(maxlen=LAST_EVENTS)).append((self.length, process, line))
+        self._sources.tell(kind, process, name, key, part, self.length)
         self.length += 1
         self._ask(line, key)
         if kind == "fail":
@@ -315,10 +382,11 @@ class Monitor:
         at_key, index = int(verdict.group(2)), int(verdict.group(3))
         events = self._last_events(at_key, index)
         if verdict.group(1) == "unknown":
-            self.failure = Unknown(reply, at_key, index, events, UNKNOWN_HINT)
+            self.failure = Unknown(reply, at_key, index, events, self._hint_of_unknown(at_key))
             raise copy.copy(self.failure)
         self.failure = Illegal(reply, at_key, index, events)
-        self.failure = Illegal(reply, at_key, index, events, self._other_model(at_key))
+        hints = (self._sources.hint(line), self._other_model(at_key))
+        self.failure = Illegal(reply, at_key, index, events, "\n".join(hint for hint in hints if hint))
         raise copy.copy(self.failure)
 
     def _other_model(self, key: int) -> str:
@@ -332,6 +400,12 @@ class Monitor:
             return f"key {key} is judged as a {model}, where no {' and no '.join(strange)} can take place: {meant}"
         fitting = " or ".join(other for other in others if self._is_legal_as(key, other))
         return f"key {key} is judged as a {model}, and is legal as {fitting}: was that meant?" if fitting else ""
+
+    def _hint_of_unknown(self, key: int) -> str:
+        """What may be done about a key over its budget. Of a queue it says how much was in."""
+        if "enqueue" not in self._names.get(key, ()):
+            return UNKNOWN_HINT
+        return UNKNOWN_QUEUE_HINT.format(self._outcomes[key, "enqueue", "ok"], self._outcomes[key, "dequeue", "ok"])
 
     def _is_legal_as(self, key: int, model: str) -> bool:
         try:
@@ -350,7 +424,49 @@ class Monitor:
             self._ask("[:verdict]")
         except NotLegal as failure:
             return failure.reply
-        return "legal"
+        return next((unknown.reply for unknown in self.dropped.values()), "legal")
+
+
+class _Sources:
+    """Where a value that a key answers may come from: which operations of it brought which values in, and which of them failed."""
+
+    VERBS = {"write": "written", "cas": "set", "add": "added", "enqueue": "enqueued"}
+    ANSWER = re.compile(r"\{:type :ok, :process [0-9]+, :f :(read|dequeue), :value \[([0-9]+) ([^\]]*)\]\}")
+
+    def __init__(self) -> None:
+        self._brought: "collections.Counter[Tuple[int, str]]" = collections.Counter()  # how often, by what did not fail
+        self._failed: Dict[Tuple[int, str], str] = {}  # the last operation that failed, in words
+        self._began: Dict[int, int] = {}  # the index at which a process has invoked
+
+    def tell(self, kind: str, process: int, name: str, key: int, part: str, index: int) -> None:
+        began = self._began.pop(process, index)
+        if kind == "invoke":
+            self._began[process] = index
+        if name not in self.VERBS or kind not in ("invoke", "fail"):
+            return
+        brought = key, part.strip("[]").split()[-1]
+        self._brought[brought] += 1 if kind == "invoke" else -1
+        if kind == "fail":
+            self._failed[brought] = f"{self.VERBS[name]} by process {process} in events {began}-{index}, told as a fail"
+
+    def hint(self, line: str) -> str:
+        """What is strange in the answer that this line tells, if anything."""
+        answer = self.ANSWER.fullmatch(line)
+        if answer is None:
+            return ""
+        name, key, values = answer.group(1), int(answer.group(2)), re.findall("-?[0-9]+", answer.group(3))
+        if answer.group(3).startswith("#"):  # of many members those alone that no other operation brought in
+            values = [value for value in values if self._brought[key, value] == 0]
+        hints = (self._hint_of_value(name, key, value) for value in values)
+        return "\n".join([hint for hint in hints if hint][:LAST_EVENTS])
+
+    def _hint_of_value(self, name: str, key: int, value: str) -> str:
+        if (key, value) in self._failed:
+            return f"{value} was {self._failed[key, value]}: did it take place? Then it is an info, or the store's fault"
+        if self._brought[key, value] > 0 or value == str(ABSENT):
+            return ""
+        begin = "" if name == "dequeue" else f" monitor.begin({key}, value)"
+        return f"no operation that was told brought {value} in: did key {key} hold it before?{begin}"
 
 
 class _Program:
@@ -461,7 +577,9 @@ class Operation:
         self.value: Value = self._UNSET  # of a read or a dequeue: what it answered
         self.outcome: Optional[str] = None  # "ok", "fail" or "info", once the block has ended
         self._monitor, self._name, self._key, self._part = monitor, name, _key(key), part
+        self.told = False  # whether jepmon was told of it: not where its key was dropped before
         self._said: Optional[str] = None
+        self._has_begun = False
         self._thread: Optional[int] = None  # of jepmon, once the block has begun
 
     def fail(self) -> None:
@@ -473,10 +591,11 @@ class Operation:
         self._said = "info"
 
     def __enter__(self) -> "Operation":
-        if self._thread is not None:
+        if self._has_begun:
             raise ValueError(f"this {self._name} has had its block already: call Monitor.{self._name} for each block")
         with self._monitor._lock:
             self._thread = self._monitor._invoke(self._name, self._key, self._part)
+            self._has_begun, self.told = True, self._thread is not None
         return self
 
     def __exit__(self, kind: ErrorType, error: Optional[BaseException], trace: Optional[TracebackType]) -> bool:
@@ -514,9 +633,12 @@ class Operation:
 
     def _complete(self, outcome: str, part: str) -> None:
         self.outcome = outcome
-        assert self._thread is not None, "no block has begun"
+        assert self._has_begun, "no block has begun"
+        if self._thread is None:
+            return
         with self._monitor._lock:
-            self._monitor._complete(outcome, self._thread, self._name, self._key, part)
+            told = self._monitor._complete(outcome, self._thread, self._name, self._key, part, self._part)
+            self._monitor._outcomes[self._key, self._name, told] += 1
 
 
 def _told(value: Any) -> Any:
@@ -551,5 +673,5 @@ def _found(program: "Union[str, os.PathLike[str], None]") -> str:
     built = pathlib.Path(__file__).resolve().parents[2] / "crates" / "jepmon" / "out" / "jepmon"
     path = str(built) if built.exists() else shutil.which("jepmon")
     if path is None:
-        raise FileNotFoundError("there is no jepmon: install it by ./jepmon install DIR, or name it by Monitor(program) or JEPMON")
+        raise FileNotFoundError("there is no jepmon: `./jepmon install DIR`, put DIR on the PATH, or set JEPMON")
     return path

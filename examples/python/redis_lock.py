@@ -4,7 +4,8 @@
     examples/python/redis_lock.py                      # a lease of 20 ms, work of up to 40 ms: two clients hold the lock
     examples/python/redis_lock.py --lease 5000         # legal
 
-It starts a redis-server of its own on this machine, and stops it. Status: 0 legal, 1 not.
+It starts a redis-server of its own on this machine, and stops it. Status: 0 legal, 1 illegal,
+2 unknown, 3 where it could not judge, as without Redis.
 """
 import argparse
 import random
@@ -13,7 +14,7 @@ import time
 import uuid
 
 from jepmon import Monitor, NotLegal
-from redis_server import Client, Server
+from redis_server import Client, Server, status_of
 
 CLIENTS = 4
 RELEASE = "if redis.call('get', KEYS[1]) == ARGV[1] then return redis.call('del', KEYS[1]) else return 0 end"
@@ -55,10 +56,10 @@ def main() -> int:
             monitor.run(lambda number: client(monitor, number, server.port, given.lease, given.work, end), CLIENTS)
     except NotLegal as found:
         print(f"{monitor.length} events: {found}")
-        return 1
+        return found.status
     print(f"{monitor.length} events: legal")
     return 0
 
 
 if __name__ == "__main__":
-    sys.exit(main())
+    sys.exit(status_of(main))

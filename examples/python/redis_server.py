@@ -6,14 +6,21 @@ on the PATH, and no package.
         client.call("SET", "x", 5)
         client.call("GET", "x")                      # b"5"
 """
+import shutil
 import socket
 import subprocess
+import sys
 import tempfile
 import time
+import traceback
 from types import TracebackType
-from typing import Any, Optional, Type, Union
+from typing import Any, Callable, Optional, Type, Union
 
 ADDRESS = "127.0.0.1"
+
+
+class NotInstalled(Exception):
+    """There is no redis-server on the PATH."""
 
 
 class RedisError(Exception):
@@ -74,6 +81,8 @@ class Server:
     """A redis-server that keeps nothing on the disk, a replica where another one is named. It ends with its block."""
 
     def __init__(self, primary: Optional["Server"] = None) -> None:
+        if shutil.which("redis-server") is None:
+            raise NotInstalled("redis-server is not installed")
         self.port = free_port()
         self.folder = tempfile.TemporaryDirectory()
         words = ["redis-server", "--port", str(self.port), "--bind", ADDRESS, "--save", "", "--appendonly", "no",
@@ -117,3 +126,14 @@ def free_port() -> int:
     with socket.socket() as probe:
         probe.bind((ADDRESS, 0))
         return int(probe.getsockname()[1])
+
+
+def status_of(example: Callable[[], int]) -> int:
+    """The exit status of an example: its own, and 3 where it could not judge, with the reason on standard error."""
+    try:
+        return example()
+    except (NotInstalled, FileNotFoundError) as fault:
+        print(f"{sys.argv[0]}: {fault}", file=sys.stderr)
+    except Exception:
+        traceback.print_exc()
+    return 3

@@ -4,7 +4,8 @@
     examples/python/redis_stale.py                     # readers at the replica: a stale read is found
     examples/python/redis_stale.py --read-at primary   # legal
 
-It starts two redis-servers of its own on this machine, and stops them. Status: 0 legal, 1 not.
+It starts two redis-servers of its own on this machine, and stops them. Status: 0 legal, 1 illegal,
+2 unknown, 3 where it could not judge, as without Redis.
 """
 import argparse
 import itertools
@@ -13,7 +14,7 @@ import sys
 import time
 
 from jepmon import Monitor, NotLegal
-from redis_server import Client, Server
+from redis_server import Client, Server, status_of
 
 CLIENTS = 5
 KEYS = 3
@@ -55,10 +56,10 @@ def main() -> int:
             monitor.run(lambda number: client(monitor, number, values, primary.port, reader, end), CLIENTS)
     except NotLegal as found:
         print(f"{monitor.length} events: {found}")
-        return 1
+        return found.status
     print(f"{monitor.length} events: legal")
     return 0
 
 
 if __name__ == "__main__":
-    sys.exit(main())
+    sys.exit(status_of(main))

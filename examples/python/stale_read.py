@@ -1,6 +1,10 @@
 #!/usr/bin/env python3
-"""A test that catches a stale read, for pytest or by itself. It fails, as it should: the store that it tests is at fault."""
+"""A test that catches a stale read, for pytest or by itself. It fails, as it should: the store that it tests is at fault.
+
+By itself it ends with 1 where the store is at fault, 2 where jepmon does not know, and 3 where nothing was judged."""
+import sys
 import threading
+import traceback
 from typing import Dict, Optional
 
 from jepmon import Monitor
@@ -41,4 +45,8 @@ def test_reads_are_not_stale() -> None:
 
 
 if __name__ == "__main__":
-    test_reads_are_not_stale()
+    try:
+        test_reads_are_not_stale()
+    except Exception as fault:
+        traceback.print_exc()
+        sys.exit(getattr(fault, "status", 3))  # of NotLegal: that of jepmon

@@ -1,0 +1,96 @@
+#!/usr/bin/env python3
+"""Does a queue without an order lose messages? No wrong answer shows it, so the test drains the queue at its end, and counts.
+
+    examples/python/queue_drain.py             # a queue that loses one message of fifty: legal, and 8 are lost
+    examples/python/queue_drain.py --lose 0    # none is lost
+
+The queue lives in this process; put your broker's client in the place of Queue. Status: 0 legal and nothing lost, 1 illegal or
+lost, 2 unknown, 3 where it could not judge.
+"""
+import argparse
+import collections
+import sys
+import threading
+import traceback
+from typing import Deque, Dict, Optional, Set
+
+from jepmon import Monitor, NotLegal
+
+QUEUES = 4  # keys: few clients on each, so that no budget is exceeded
+MESSAGES = 100  # to each
+
+
+class Queue:
+    """The queue under test. It loses each message whose number is the last of so many, or none where that is 0."""
+
+    def __init__(self, lose: int) -> None:
+        self.lock = threading.Lock()
+        self.lose = lose
+        self.held: Dict[int, Deque[int]] = {key: collections.deque() for key in range(QUEUES)}
+
+    def send(self, key: int, message: int) -> None:
+        with self.lock:
+            if self.lose == 0 or message % self.lose != self.lose - 1:
+                self.held[key].append(message)
+
+    def receive(self, key: int) -> Optional[int]:
+        """The next message; None where there is none."""
+        with self.lock:
+            return self.held[key].popleft() if self.held[key] else None
+
+
+def receive(monitor: Monitor, queue: Queue, key: int, received: Set[int]) -> bool:
+    """Receives a message, where there is one. No message is a :fail, of which nothing is judged."""
+    with monitor.dequeue(key) as op:
+        op.value = queue.receive(key)
+    if op.outcome == "ok":
+        received.add(op.value)  # type: ignore[arg-type]
+    return op.outcome == "ok"
+
+
+def client(monitor: Monitor, queue: Queue, number: int, sent: Set[int], received: Set[int]) -> None:
+    """One of a producer and a consumer of each queue."""
+    key = number // 2
+    for message in range(key * MESSAGES, (key + 1) * MESSAGES):
+        if number % 2 == 0:
+            with monitor.enqueue(key, message):
+                queue.send(key, message)
+            sent.add(message)
+        else:
+            receive(monitor, queue, key, received)
+
+
+def words() -> argparse.Namespace:
+    parser = argparse.ArgumentParser(description=__doc__, formatter_class=argparse.RawDescriptionHelpFormatter)
+    parser.add_argument("--lose", type=int, default=50, help="one message of so many; 0 for none")
+    parser.add_argument("--jepmon", metavar="PROGRAM", help="its path, where it is not built in this repository")
+    return parser.parse_args()
+
+
+def main() -> int:
+    given = words()
+    queue, sent, received = Queue(given.lose), set(), set()  # type: Queue, Set[int], Set[int]
+    monitor = Monitor(given.jepmon, model="unordered-queue", expected=(OSError,))
+    try:
+        with monitor:
+            monitor.run(lambda number: client(monitor, queue, number, sent, received), 2 * QUEUES)
+            for key in range(QUEUES):
+                while receive(monitor, queue, key, received):  # until it is empty
+                    pass
+    except NotLegal as found:
+        print(found)
+        return found.status
+    # what timed out may have been put in, or taken out, so that so many are no loss
+    timed_out = sum(monitor.timeouts(key) for key in range(QUEUES))
+    lost = sent - received
+    print(f"sent {len(sent)}, received {len(received)}, timed out {timed_out}: legal, and {len(lost)} messages are lost")
+    return 1 if len(lost) > timed_out else 0
+
+
+if __name__ == "__main__":
+    try:
+        status = main()
+    except Exception:
+        traceback.print_exc()
+        status = 3
+    sys.exit(status)
