@@ -218,7 +218,8 @@ def run_broken_reader():
     with given:
         process = subprocess.Popen([str(PROGRAM), "script"], stdin=given, stdout=subprocess.PIPE, stderr=subprocess.PIPE)
     with client:
-        client.sendall(b"[:verdict]\n[:verdict]\n[:verd")
+        lines = read(TOP / "tests" / "cases" / "write_then_read" / "stdin").splitlines(True)
+        client.sendall(lines[0] + lines[1] + lines[2][:30])
         replies = process.stdout.readline() + process.stdout.readline()
         client.setsockopt(socket.SOL_SOCKET, socket.SO_LINGER, struct.pack("ii", 1, 0))
     more, errors = process.communicate(timeout=10)
@@ -226,19 +227,54 @@ def run_broken_reader():
     return [] if got == (3, b"legal\nlegal\n", b"refused 20 ReadFailed\n") else [f"it ended with {got!r}"]
 
 
+def by_bytes(command, given):
+    """Runs it with its input one byte a read: a pipe made so hands over one write at a time. The status, what was written."""
+    out, into = os.pipe2(os.O_DIRECT)
+    with tempfile.TemporaryFile() as written:
+        process = subprocess.Popen(command, stdin=out, stdout=written, stderr=subprocess.DEVNULL, cwd=TOP)
+        os.close(out)
+        try:
+            for i in range(len(given)):
+                os.write(into, given[i:i + 1])
+        except BrokenPipeError:  # it ended before it had read all
+            pass
+        os.close(into)
+        status = process.wait(timeout=120)
+        written.seek(0)
+        return status, written.read()
+
+
+def is_script(case):
+    """Whether a case is one of `script` alone, whose input is not too long to be given byte by byte."""
+    plain = not any((case / name).exists() for name in ("memory", "terminal"))
+    return plain and words(case)[:1] in ([], ["script"]) and 0 < len(stream(case, "stdin")) < 200_000
+
+
 def run_any_cutting():
-    """The replies are the same where the input comes byte by byte."""
-    text = b"[:verdict]\n\n; none\n{:type :invoke\n[:verdict] 1\n[:verdict]"
-    want = b"legal\nrefused 11 Unreadable 0\nrefused 5 BadValue\nlegal\n"
+    """Each case of `script` gives the same, status and replies, where its input comes byte by byte."""
+    faults, tried = [], 0
+    for case in sorted((TOP / "tests" / "cases").iterdir()):
+        if case.is_dir() and is_script(case):
+            got = by_bytes([str(PROGRAM)] + words(case), stream(case, "stdin"))
+            want = int(read(case / "status", b"0")), stream(case, "stdout")
+            tried += 1
+            if got != want:
+                faults.append(f"{case.name}: it ended with {got[0]}, {got[1][:400]!r}")
+    return faults if tried >= 50 else [f"only {tried} cases were tried"]
+
+
+def run_cut_off_at_each_byte():
+    """A write and a read, cut off at each byte: whole lines are legal, and a last one that lacks its brace is refused 11."""
+    lines = read(TOP / "tests" / "cases" / "write_then_read" / "stdin")
     faults = []
-    for pause in (None, 0.001):
-        process = subprocess.Popen([str(PROGRAM)], stdin=subprocess.PIPE, stdout=subprocess.PIPE, bufsize=0)
-        for piece in [text] if pause is None else [text[i:i + 1] for i in range(len(text))]:
-            process.stdin.write(piece)
-            time.sleep(pause or 0)
-        got = process.communicate(timeout=10)[0]
-        if got != want or process.returncode != 0:
-            faults.append(f"with pauses of {pause} s it wrote {got!r} and ended with {process.returncode}")
+    for n in range(len(lines) + 1):
+        whole, _, last = lines[:n].rpartition(b"\n")
+        want = b"legal\n" * lines[:n].count(b"\n")
+        if last:
+            want += b"legal\n" if last.endswith(b"}") else b"refused 11 Unreadable 0\n"
+        ran = subprocess.run([str(PROGRAM), "script"], input=lines[:n], stdout=subprocess.PIPE, stderr=subprocess.PIPE, timeout=60)
+        if (ran.returncode, ran.stdout, ran.stderr) != (0, want, b""):
+            faults.append(f"cut off after {n} bytes it ended with {ran.returncode}, {ran.stdout!r}")
     return faults
 
 
@@ -436,7 +472,8 @@ def all_cases():
     """Each case by its name."""
     cases = [(c.name, lambda c=c: run_case(c)) for c in sorted((TOP / "tests" / "cases").iterdir()) if c.is_dir()]
     cases += [("replies_are_live", run_live), ("starts_in_milliseconds", run_start),
-              ("any_cutting", run_any_cutting), ("failing_reader", run_failing_reader),
+              ("any_cutting", run_any_cutting), ("cut_off_at_each_byte", run_cut_off_at_each_byte),
+              ("failing_reader", run_failing_reader),
               ("reader_breaks_off", run_broken_reader), ("failing_writer", run_failing_writer),
               ("writer_takes_ten_bytes", run_narrow_writer), ("script_without_memory", run_script_without_memory),
               ("check_on_a_full_device", run_full_check), ("check_shows_how_far_it_is", run_progress),

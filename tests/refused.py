@@ -1,0 +1,88 @@
+#!/usr/bin/env python3
+"""Refuses each allocation of the program in turn, and looks at what is left of the run.
+
+For each n from 1 to the last allocation a run is made again in which the nth one is refused (tests/refuse.py). `script` has then
+written a beginning of the replies and ended with status 3; `check` and `run` the line of want of memory, or nothing where even
+that line found none. Or the run was as with memory, where the program can do without. No run ends otherwise, and where fewer were
+refused than is known of the case it has failed. The last line is how many passed and failed.
+"""
+import concurrent.futures
+import os
+import sys
+
+import refuse
+import run as cases
+
+# Cases of tests/cases, each with the least number of allocations that are refused.
+SCRIPTS = {
+    "set_members": 100, "set_members_by_model": 100, "model_changes": 100, "five_ends": 100, "illegal_beside_blown": 100,
+    "rewind_brings_processes_back": 100, "refusals_in_order": 100, "unreadable_places": 20,
+}
+CHECKS = {"check_finds_a_stale_read": 50, "check_of_failed_and_crashed": 50}
+
+# Words of runs of one client, whose report the seed tells; more clients come in any order.
+RUNS = {"run --ops 4 --concurrency 1": 50, "run --ops 10 --concurrency 1 --faults on --model set": 50}
+
+
+def is_script_cut_short(got, want):
+    return got.status == 3 and want.startswith(got.written)
+
+
+def is_line_of_no_memory(got, want):
+    return got.status == 3 and got.written in (b"", b"refused 13 NoMemory\n")
+
+
+def refused_in_turn(program, words, given, is_refused):
+    """With each allocation refused in turn: how many refusals told, how many runs were as with memory, and what was wrong."""
+    whole = refuse.run(program, words, given, 0)
+    refused, spared, faults = 0, 0, []
+    for nth in range(1, whole.allocations + 1):
+        got = refuse.run(program, words, given, nth)
+        if (got.status, got.written) == (whole.status, whole.written):
+            spared += 1
+        elif is_refused(got, whole.written):
+            refused += 1
+        else:
+            faults.append(f"with allocation {nth} refused it ended with {got.status}, {got.written[-200:]!r}")
+    return refused, spared, faults
+
+
+def of_case(name, is_refused):
+    case = cases.TOP / "tests" / "cases" / name
+    return cases.PROGRAM, cases.words(case), cases.stream(case, "stdin"), is_refused
+
+
+def all_runs():
+    """Each run by its name: its arguments for `refused_in_turn`, and how many refusals there are at least."""
+    runs = {f"case {name}": (of_case(name, is_script_cut_short), least) for name, least in SCRIPTS.items()}
+    runs |= {f"case {name}": (of_case(name, is_line_of_no_memory), least) for name, least in CHECKS.items()}
+    runs |= {words: ((cases.PROGRAM, words.split(), b"", is_line_of_no_memory), least) for words, least in RUNS.items()}
+    return runs
+
+
+def tried(run):
+    (arguments, least) = run
+    try:
+        refused, spared, faults = refused_in_turn(*arguments)
+    except refuse.CannotTrace as why:
+        return 0, 0, [f"this machine does not let a program be traced: {why}"]
+    if refused < least:
+        faults.append(f"fewer than {least} allocations were refused")
+    return refused, spared, faults
+
+
+def main():
+    os.chdir(cases.TOP)
+    runs, failed = all_runs(), 0
+    with concurrent.futures.ProcessPoolExecutor() as pool:
+        for name, (refused, spared, faults) in zip(runs, pool.map(tried, runs.values())):
+            print(f"{name}: {refused} allocations refused, {spared} not needed: {'FAILED' if faults else 'ok'}")
+            for fault in faults[:5]:
+                print(f"  {fault}")
+            failed += bool(faults)
+    print(f"{len(runs) - failed} passed, {failed} failed")
+    return 1 if failed else 0
+
+
+if __name__ == "__main__":
+    sys.exit(main())
