@@ -20,7 +20,7 @@ use Rattle.line_loop.specs.RefusalLine.{refusal_line}
 use Rattle.line_loop.proofs.OneCut.{one_reply_text_law}
 use Rattle.jepmon.specs.Command.{Appends, ElementAsks, AskFor, Asks}
 use Rattle.jepmon.specs.Reply.{CarriesOut, AnswersTo, MayReply}
-use Rattle.jepmon.specs.VerdictLine.{verdict_line}
+use Rattle.report.specs.VerdictLine.{verdict_line}
 
 -- what a line may be read into
 abbrev Outcome : Type 0
