@@ -1,7 +1,8 @@
-//! Times a glance and a call from inside, on a board and under a plain lock, and the commands of a trial. Without words that it
-//! knows it only says how it is run.
+//! Times a glance and a call from inside, on a board and under a plain lock, the commands of a trial, and loads by workers.
+//! Without words that it knows it only says how it is run.
 #![tactic(auto)]
 
+pub mod load_runs;
 pub mod monitors;
 pub mod plans;
 pub mod runs;
@@ -9,6 +10,7 @@ pub mod setups;
 pub mod tables;
 pub mod trial_runs;
 
+use load_runs::print_loads;
 use std::alloc::{AllocError, Global};
 use std::env::Args;
 use std::rt::Env;
@@ -18,7 +20,8 @@ use tables::print_table;
 use trial_runs::print_trials;
 
 const USAGE: &str = "bench glance MILLISECONDS: times glances and calls, each for so long
-bench trials ROUNDS: times draws, serves and completions, for so many rounds";
+bench trials ROUNDS: times draws, serves and completions, for so many rounds
+bench workers ROUNDS: times loads of a history of so many rounds, of 120 events each, by 1, 2 and 4 workers";
 
 // What was asked for.
 #[derive(Clone, Copy)]
@@ -27,6 +30,8 @@ enum Wish {
     Glances(u32),
     // Trials of so many rounds.
     Trials(u32),
+    // Loads of a history of so many rounds.
+    Loads(u32),
 }
 
 // The words after the program's name.
@@ -39,6 +44,7 @@ fn wish_of(word: &str, number: &str) -> Option<Wish> {
     match word {
         "glance" => Some(Wish::Glances(number)),
         "trials" => Some(Wish::Trials(number)),
+        "workers" => Some(Wish::Loads(number)),
         _ => None,
     }
 }
@@ -57,6 +63,7 @@ fn main(rt: HostRuntime) -> io::Result<()> {
             print_table(&rt, rt.alloc(), Duration::from_millis(u64::from(length)))
         }
         Some(Wish::Trials(rounds)) => print_trials(&rt, rt.alloc(), rounds),
+        Some(Wish::Loads(rounds)) => print_loads(&rt, rt.alloc(), rounds),
         None => println!(rt; "{USAGE}"),
     }
 }
