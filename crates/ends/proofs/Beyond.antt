@@ -1,5 +1,5 @@
 -- more ends than the budget
-use Rattle.std.proofs.Common.{◌≡◌, ◌≢◌, ◌+◌, ◌↔◌, ◌<◌, ◌≤◌, ℕ, zero, suc, ⊎_elim, IsTrue, Bool, true, false, Some, List, [], ◌∷◌, length, map, get_or, slice_get, refl, sym, ap, ◌∙◌, subst, arith}
+use Rattle.std.proofs.Common.{◌≡◌, ◌≢◌, ◌+◌, ◌↔◌, ◌<◌, ◌≤◌, ℕ, suc, ⊎_elim, IsTrue, Bool, false, Some, List, [], ◌∷◌, length, map, get_or, slice_get, refl, sym, ap, ◌∙◌, subst, arith}
 use Rattle.std.specs.List.{AllPairs, Contains}
 use Rattle.std.proofs.lemmas.Bool.{cases_lt, true≢false}
 use Rattle.std.proofs.lemmas.List.{length-map}
@@ -18,7 +18,7 @@ use Rattle.ends.specs.EndSteps.{Grows, IsReached, ReachesMoreThan, TakesLast, is
 use Rattle.ends.specs.Tables.{Shows, found_by}
 use Rattle.ends.proofs.Leading.{takes}
 use Rattle.ends.proofs.Reaching.{closed_has, reached_next}
-use Rattle.ends.proofs.Rows.{has_place, not_in_by, with_state, zero_none}
+use Rattle.ends.proofs.Rows.{not_in_by, with_state, zero_none}
 
 -- where f tells all elements apart, nothing stands among what it makes of them twice
 mapped_once : {X Y : Type 0} (f : X → Y) (xs : List X) → AllPairs (λ x y. f x ≢ f y) xs → Pairwise (λ d e. d ≢ e) (map f xs)
@@ -56,7 +56,7 @@ few_by b most n test is = ⊎_elim (λ lt. absurd (true≢false (sym (test.1 lt)
 -- a call whose place in the row is zero is not in
 pub not_in_row : {S : Type 0} (t : Table S) (calls : List PendingOp) (row : List ℕ) (e : End S) (at : ℕ) (c : PendingOp) → slice_get calls at ≡ Some c → Shows t calls row e → slice_get row (at + 1) ≡ Some 0 → is_in e c.id c.crashed ≡ false
 not_in_row t calls row e at c here shows none =
-    not_in_by e c.id c.crashed (zero_none t.founds.items (get_or row (at + 1) 0) (found_by e c) (get_or_from_slice_get row (at + 1) 0 0 none) (shows.slots at c here))
+    not_in_by e c.id c.crashed (zero_none t.founds (get_or row (at + 1) 0) (found_by e c) (get_or_from_slice_get row (at + 1) 0 0 none) (shows.slots at c here))
 
 module _ (o : Object) (calls : List PendingOp) (ends : List (End o.State)) (budget : ℕ) where
   -- from an end that is reached

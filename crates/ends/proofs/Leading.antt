@@ -26,10 +26,10 @@ module _ (S : Type 0) (start : S) (apply : Op → S → List (S × Found)) (e : 
   are_led t calls row at targets once here shows are = record {
     each = λ to h.
         let o = are.each to h in
-        (with_call e c.id c.crashed o.0.1 o.0.0, takes o.0.0 o.0.1 o.1, says_with t.states t.founds.items calls once at c here e row shows to.0 to.1 o.0.0 o.0.1 (row_led row (at + 1) to) o.2.0 o.2.1 refl);
+        (with_call e c.id c.crashed o.0.1 o.0.0, takes o.0.0 o.0.1 o.1, says_with t.states t.founds calls once at c here e row shows to.0 to.1 o.0.0 o.0.1 (row_led row (at + 1) to) o.2.0 o.2.1 refl);
     all = λ f last.
         let x = are.all (f.state, last.found) last.step in
-        (x.0, x.1, subst (λ g. Shows t calls (row_led row (at + 1) x.0) g) (sym last.made) (says_with t.states t.founds.items calls once at c here e row shows x.0.0 x.0.1 f.state last.found (row_led row (at + 1) x.0) x.2.0 x.2.1 refl));
+        (x.0, x.1, subst (λ g. Shows t calls (row_led row (at + 1) x.0) g) (sym last.made) (says_with t.states t.founds calls once at c here e row shows x.0.0 x.0.1 f.state last.found (row_led row (at + 1) x.0) x.2.0 x.2.1 refl));
   }
 
 -- a call that has no outcome

@@ -16,3 +16,4 @@ pub mod Stating
 pub mod Moving
 pub mod Settling
 pub mod Renewing
+pub mod Founding

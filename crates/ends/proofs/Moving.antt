@@ -85,7 +85,7 @@ targets_stay targets more (ToEach first end) h = range_stays targets more first 
 
 module _ {S : Type 0} where
   pub to_more : (t u : Table S) (crashed : Bool) (outcome : S × Found) (target : ℕ × ℕ) → Widens t u → IsTo t crashed outcome target → IsTo u crashed outcome target
-  to_more t u crashed outcome target w h = (get_front t.states u.states target.0 outcome.0 w.states h.0, slot_more t.founds.items u.founds.items target.1 (Some (told_by crashed outcome.1)) w.founds h.1)
+  to_more t u crashed outcome target w h = (get_front t.states u.states target.0 outcome.0 w.states h.0, slot_more t.founds u.founds target.1 (Some (told_by crashed outcome.1)) w.founds h.1)
 
   pub are_to_more : (t u : Table S) (crashed : Bool) (outcomes : List (S × Found)) (targets : List (ℕ × ℕ)) → Widens t u → AreTo t crashed outcomes targets → AreTo u crashed outcomes targets
   are_to_more t u crashed outcomes targets w are = record {

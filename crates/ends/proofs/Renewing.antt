@@ -50,8 +50,8 @@ module _ {S : Type 0} (t u : Table S) (same : SayTheSame t u (length (rows_of t)
         let lt : i < length (rows_of t) = (let b = slice_get_within (rows_of u) i new h in let l = same.long in omega (arith, b, l)) in
         let r = some_at (rows_of t) i lt in
         let x = same.each i r.0 lt r.1 in
-        subst (λ l. Says u.states u.founds.items calls l e) (one_of x.0 new (sym x.1 ∙ h))
-        (subst (λ f. Says u.states f calls x.0 e) (sym same.founds) (says_again t.states u.states t.founds.items calls r.0 x.0 e x.2 (a.each i r.0 e r.1 k)));
+        subst (λ l. Says u.states u.founds calls l e) (one_of x.0 new (sym x.1 ∙ h))
+        (subst (λ f. Says u.states f calls x.0 e) (sym same.founds) (says_again t.states u.states t.founds calls r.0 x.0 e x.2 (a.each i r.0 e r.1 k)));
   }
 
   pub shown_before : IsOnceIn t.states → AreShown u calls ends → AreShown t calls ends
@@ -61,11 +61,11 @@ module _ {S : Type 0} (t u : Table S) (same : SayTheSame t u (length (rows_of t)
     long = sym same.long ∙ a.long;
     each = λ i row e h k.
         let x = same.each i row (slice_get_within (rows_of t) i row h) h in
-        says_before t.states u.states t.founds.items calls row x.0 e x.2 (subst (λ f. Says u.states f calls x.0 e) same.founds (a.each i x.0 e x.1 k));
+        says_before t.states u.states t.founds calls row x.0 e x.2 (subst (λ f. Says u.states f calls x.0 e) same.founds (a.each i x.0 e x.1 k));
   }
 
 -- a row more
-module _ {S : Type 0} (t u v : Table S) (n : ℕ) (row new : List ℕ) (a : SayTheSame t u n) (here : slice_get (rows_of t) n ≡ Some row) (founds : v.founds.items ≡ u.founds.items) (front : IsFront u.states v.states) (once : IsOnceIn v.states)
+module _ {S : Type 0} (t u v : Table S) (n : ℕ) (row new : List ℕ) (a : SayTheSame t u n) (here : slice_get (rows_of t) n ≡ Some row) (founds : v.founds ≡ u.founds) (front : IsFront u.states v.states) (once : IsOnceIn v.states)
     (says : SaysTheSame t.states v.states row new) (put : IsPut new (rows_of u) (rows_of v)) (more : n < length (rows_of v)) where
   pushed : rows_of v ≡ rows_of u ++ new ∷ []
   pushed = ⊎_elim (λ p. absurd (let l = ap length p.1 in let k = a.long in omega (arith, l, k, more))) (λ p. p.1) put

@@ -1,5 +1,5 @@
 -- lists of ends that rows say
-use Rattle.std.proofs.Common.{◌≡◌, ℕ, ◌+◌, ◌<◌, ◌≤◌, inl, inr, ⊎_elim, Some, List, [], ◌∷◌, ◌++◌, length, take, drop, zero, suc, slice_get, get_or, Vec, Global, refl, sym, ap, ◌∙◌, subst, arith, length-append}
+use Rattle.std.proofs.Common.{◌≡◌, ℕ, ◌+◌, ◌<◌, ◌≤◌, inl, inr, ⊎_elim, Some, List, [], ◌∷◌, ◌++◌, length, take, drop, zero, suc, slice_get, get_or, refl, sym, ap, ◌∙◌, subst, arith, length-append}
 use Rattle.std.specs.List.{Contains}
 use Rattle.std.proofs.lemmas.List.{get_or_append_left, take-append-le, take_all}
 use Rattle.std.proofs.lemmas.List.Elements.{Contains-push_cases}
@@ -20,12 +20,12 @@ use Rattle.ends.proofs.Rows.{clash, one_end, one_row, says_more, place_of, has_p
 
 -- tables that widen
 pub widens_itself : {S : Type 0} (t : Table S) → Widens t t
-widens_itself t = record { states = IsFront-itself t.states; founds = IsFront-itself t.founds.items; states_once = λ h. h; founds_once = λ h. h }
+widens_itself t = record { states = IsFront-itself t.states; founds = IsFront-itself t.founds; states_once = λ h. h; founds_once = λ h. h }
 
 pub widens_on : {S : Type 0} (t u v : Table S) → Widens t u → Widens u v → Widens t v
 widens_on t u v a b = record {
   states = IsFront-trans t.states u.states v.states a.states b.states;
-  founds = IsFront-trans t.founds.items u.founds.items v.founds.items a.founds b.founds;
+  founds = IsFront-trans t.founds u.founds v.founds a.founds b.founds;
   states_once = λ h. b.states_once (a.states_once h);
   founds_once = λ h. b.founds_once (a.founds_once h);
 }
@@ -39,18 +39,18 @@ widens_states t u states w front once = record {
   founds_once = w.founds_once;
 }
 
-pub widens_founds : {S : Type 0} (t u : Table S) (founds : Vec Found Global) → Widens t u → IsFront u.founds.items founds.items → (IsOnceIn u.founds.items → IsOnceIn founds.items) → Widens t (record { states = u.states; founds = founds; rows = u.rows })
+pub widens_founds : {S : Type 0} (t u : Table S) (founds : List Found) → Widens t u → IsFront u.founds founds → (IsOnceIn u.founds → IsOnceIn founds) → Widens t (record { states = u.states; founds = founds; rows = u.rows })
 widens_founds t u founds w front once = record {
   states = w.states;
-  founds = IsFront-trans t.founds.items u.founds.items founds.items w.founds front;
+  founds = IsFront-trans t.founds u.founds founds w.founds front;
   states_once = w.states_once;
   founds_once = λ h. once (w.founds_once h);
 }
 
-pub widens_rows : {S : Type 0} (t u : Table S) → u.states ≡ t.states → u.founds.items ≡ t.founds.items → Widens t u
+pub widens_rows : {S : Type 0} (t u : Table S) → u.states ≡ t.states → u.founds ≡ t.founds → Widens t u
 widens_rows t u a b = record {
   states = subst (IsFront t.states) (sym a) (IsFront-itself t.states);
-  founds = subst (IsFront t.founds.items) (sym b) (IsFront-itself t.founds.items);
+  founds = subst (IsFront t.founds) (sym b) (IsFront-itself t.founds);
   states_once = λ h. subst IsOnceIn (sym a) h;
   founds_once = λ h. subst IsOnceIn (sym b) h;
 }
@@ -59,10 +59,10 @@ widens_rows t u a b = record {
 pub no_get : {X : Type 0} (xs : List X) (i : ℕ) (x : X) → xs ≡ [] → slice_get xs i ≡ Some x → ⊥
 no_get xs i x none h = clash x _ (ap (λ l. slice_get l i) none) h
 
-pub shown_none : {S : Type 0} (calls : List PendingOp) (t : Table S) → t.states ≡ [] → t.founds.items ≡ [] → rows_of t ≡ [] → AreShown t calls []
+pub shown_none : {S : Type 0} (calls : List PendingOp) (t : Table S) → t.states ≡ [] → t.founds ≡ [] → rows_of t ≡ [] → AreShown t calls []
 shown_none calls t a b c = record {
   states_once = λ i j x h k. absurd (no_get t.states i x a h);
-  founds_once = λ i j x h k. absurd (no_get t.founds.items i x b h);
+  founds_once = λ i j x h k. absurd (no_get t.founds i x b h);
   long = ap length c;
   each = λ i row e h k. absurd (no_get (rows_of t) i row c h);
 }
@@ -81,7 +81,7 @@ shown_first calls t R a = record { more = []; shown = a; front = IsFront-itself 
 
 module _ {S : Type 0} (calls : List PendingOp) (t u : Table S) where
   pub shows_more : (row : List ℕ) (e : End S) → Widens t u → Shows t calls row e → Shows u calls row e
-  shows_more row e w a = says_more t.states t.founds.items calls u.states u.founds.items row e w.states w.founds a
+  shows_more row e w a = says_more t.states t.founds calls u.states u.founds row e w.states w.founds a
 
   pub shown_more : (ends : List (End S)) → Widens t u → rows_of u ≡ rows_of t → AreShown t calls ends → AreShown u calls ends
   shown_more ends w same a = record {
@@ -98,14 +98,14 @@ module _ {S : Type 0} (calls : List PendingOp) (t u : Table S) where
         let p = place_of (rows_of t) row h in
         let lt : p.0 < length ends = (let b = slice_get_within (rows_of t) p.0 row p.1 in let l = a.long in omega (arith, b, l)) in
         let e = some_at ends p.0 lt in
-        subst (Contains ends) (one_end t.states t.founds.items calls row e.0 f (a.each p.0 row e.0 p.1 e.1) shows) (has_place ends p.0 e.0 e.1)
+        subst (Contains ends) (one_end t.states t.founds calls row e.0 f (a.each p.0 row e.0 p.1 e.1) shows) (has_place ends p.0 e.0 e.1)
 
     back : Contains ends f → Contains (rows_of t) row
     back h =
         let p = place_of ends f h in
         let lt : p.0 < length (rows_of t) = (let b = slice_get_within ends p.0 f p.1 in let l = a.long in omega (arith, b, l)) in
         let r = some_at (rows_of t) p.0 lt in
-        subst (Contains (rows_of t)) (one_row t.states t.founds.items calls a.states_once a.founds_once r.0 row f (a.each p.0 r.0 f r.1 p.1) shows) (has_place (rows_of t) p.0 r.0 r.1)
+        subst (Contains (rows_of t)) (one_row t.states t.founds calls a.states_once a.founds_once r.0 row f (a.each p.0 r.0 f r.1 p.1) shows) (has_place (rows_of t) p.0 r.0 r.1)
 
     pushed : rows_of u ≡ rows_of t ++ row ∷ [] → (i : ℕ) (r : List ℕ) (e : End S) → slice_get (rows_of u) i ≡ Some r → slice_get (ends ++ f ∷ []) i ≡ Some e → Shows u calls r e
     pushed push i r e h k =
@@ -159,12 +159,12 @@ front_by old same new row is put =
     (⊎_elim (λ h. subst (IsFront same) (sym h.1) (IsFront-itself same)) (λ h. subst (IsFront same) (sym h.1) (IsFront-push same row)) put)
 
 -- the row of the end at a place
-pub end_here : {S : Type 0} (calls : List PendingOp) (t : Table S) (ends : List (End S)) → AreShown t calls ends → (i : ℕ) (e : End S) → slice_get ends i ≡ Some e → Says t.states t.founds.items calls (get_or (rows_of t) i []) e
+pub end_here : {S : Type 0} (calls : List PendingOp) (t : Table S) (ends : List (End S)) → AreShown t calls ends → (i : ℕ) (e : End S) → slice_get ends i ≡ Some e → Says t.states t.founds calls (get_or (rows_of t) i []) e
 end_here calls t ends a i e h =
     let b = slice_get_within ends i e h in
     let l = a.long in
     let r = some_at (rows_of t) i (omega (arith, b, l)) in
-    subst (λ row. Says t.states t.founds.items calls row e) (sym (get_or_from_slice_get (rows_of t) i r.0 [] r.1)) (a.each i r.0 e r.1 h)
+    subst (λ row. Says t.states t.founds calls row e) (sym (get_or_from_slice_get (rows_of t) i r.0 [] r.1)) (a.each i r.0 e r.1 h)
 
 -- the calls include what the ends do
 pub included_shown : {S : Type 0} (calls : List PendingOp) (t : Table S) (ends : List (End S)) → AreShown t calls ends → AreIncluded calls ends
@@ -192,7 +192,7 @@ module _ (o : Object) (calls : List PendingOp) (e : End o.State) (ends : List (E
 
 -- rows by targets, put one after another
 pub led_more : {S : Type 0} (calls : List PendingOp) (first t u : Table S) (row : List ℕ) (at : ℕ) (targets : List (ℕ × ℕ)) (place : ℕ) (to : ℕ × ℕ) (ends : List (End S)) → slice_get targets place ≡ Some to
-    → t.states ≡ first.states → t.founds.items ≡ first.founds.items → u.states ≡ t.states → u.founds.items ≡ t.founds.items → (f : End S) → Shows first calls (row_led row at to) f
+    → t.states ≡ first.states → t.founds ≡ first.founds → u.states ≡ t.states → u.founds ≡ t.founds → (f : End S) → Shows first calls (row_led row at to) f
     → IsPut (row_led row at to) (rows_of t) (rows_of u) → ShownWith t calls ends (Along (λ x g. Shows first calls (row_led row at x) g) (take place targets))
     → ShownWith u calls ends (Along (λ x g. Shows first calls (row_led row at x) g) (take (place + 1) targets))
 led_more {S} calls first t u row at targets place to ends here states founds same_states same_founds f shows put s =
@@ -204,14 +204,14 @@ led_more {S} calls first t u row at targets place to ends here states founds sam
       shown = p.shown;
       front = IsFront-trans ends s.more p.more s.front p.front;
       adds = Adds-more R targets ends s.more p.more place to (slice_get_within targets place to here) (sym (get_or_from_slice_get targets place to to here)) s.adds
-          (Adds-change (λ g. f ≡ g) (R to) s.more p.more (λ g e. subst (Shows first calls (row_led row at to)) e shows) (λ g k. one_end first.states first.founds.items calls (row_led row at to) f g shows k) p.adds);
+          (Adds-change (λ g. f ≡ g) (R to) s.more p.more (λ g e. subst (Shows first calls (row_led row at to)) e shows) (λ g k. one_end first.states first.founds calls (row_led row at to) f g shows k) p.adds);
     }
 
 -- none, and one alone
 pub led_none : {S : Type 0} (calls : List PendingOp) (t : Table S) (R : ℕ × ℕ → End S → Type 0) (ends : List (End S)) → AreShown t calls ends → ShownWith t calls ends (Along R [])
 led_none calls t R ends shown = record { more = ends; shown = shown; front = IsFront-itself ends; adds = Adds-start R ends }
 
-pub led_one : {S : Type 0} (calls : List PendingOp) (t u : Table S) (row : List ℕ) (at : ℕ) (to : ℕ × ℕ) (ends : List (End S)) → u.states ≡ t.states → u.founds.items ≡ t.founds.items → (f : End S) → Shows t calls (row_led row at to) f
+pub led_one : {S : Type 0} (calls : List PendingOp) (t u : Table S) (row : List ℕ) (at : ℕ) (to : ℕ × ℕ) (ends : List (End S)) → u.states ≡ t.states → u.founds ≡ t.founds → (f : End S) → Shows t calls (row_led row at to) f
     → IsPut (row_led row at to) (rows_of t) (rows_of u) → AreShown t calls ends → ShownWith u calls ends (Along (λ x g. Shows t calls (row_led row at x) g) (to ∷ []))
 led_one calls t u row at to ends states founds f shows put shown =
     led_more calls t t u row at (to ∷ []) 0 to ends refl refl refl states founds f shows put (led_none calls t (λ x g. Shows t calls (row_led row at x) g) ends shown)
@@ -224,7 +224,7 @@ all_led o calls t u row at e c targets ends led s = record {
   shown = s.shown;
   front = s.front;
   adds = Adds-change (Along (λ x g. Shows t calls (row_led row (at + 1) x) g) targets) (TakesLast o e c) ends s.more
-      (λ g h. let f = led.each h.0 h.1 in subst (TakesLast o e c) (one_end t.states t.founds.items calls (row_led row (at + 1) h.0) f.0 g f.2 h.2) f.1)
+      (λ g h. let f = led.each h.0 h.1 in subst (TakesLast o e c) (one_end t.states t.founds calls (row_led row (at + 1) h.0) f.0 g f.2 h.2) f.1)
       (λ g last. led.all g last) s.adds;
 }
 

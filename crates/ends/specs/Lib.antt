@@ -3,3 +3,5 @@ pub mod EndSteps
 pub mod Tables
 pub mod States
 pub mod Moves
+pub mod FoundKeys
+pub mod Founds

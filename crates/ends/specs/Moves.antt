@@ -14,7 +14,7 @@ use Rattle.ends.specs.Tables.{IsSlot, told_by}
 abbrev pub IsTo : {S : Type 0} → Table S → Bool → S × Found → ℕ × ℕ → Type 0
 IsTo t crashed outcome target =
     (slice_get t.states target.0 ≡ Some outcome.0)
-    × IsSlot t.founds.items target.1 (Some (told_by crashed outcome.1))
+    × IsSlot t.founds target.1 (Some (told_by crashed outcome.1))
 
 -- the targets are these outcomes
 pub record AreTo {S : Type 0} (t : Table S) (crashed : Bool) (outcomes : List (S × Found))

@@ -64,7 +64,7 @@ pub record Says {S : Type 0} (states : List S) (founds : List Found) (calls : Li
   pub included : IsIncluded calls e
 
 abbrev pub Shows : {S : Type 0} → Table S → List PendingOp → List ℕ → End S → Type 0
-Shows t calls row e = Says t.states t.founds.items calls row e
+Shows t calls row e = Says t.states t.founds calls row e
 
 abbrev pub rows_of : {S : Type 0} → Table S → List (List ℕ)
 rows_of t = t.rows
@@ -73,7 +73,7 @@ rows_of t = t.rows
 pub record AreShown {S : Type 0} (t : Table S) (calls : List PendingOp) (ends : List (End S))
     : Type 0 where
   pub states_once : IsOnceIn t.states
-  pub founds_once : IsOnceIn t.founds.items
+  pub founds_once : IsOnceIn t.founds
   pub long : length (rows_of t) ≡ length ends
   pub each : (i : ℕ) (row : List ℕ) (e : End S) → slice_get (rows_of t) i ≡ Some row →
       slice_get ends i ≡ Some e → Shows t calls row e
@@ -81,9 +81,9 @@ pub record AreShown {S : Type 0} (t : Table S) (calls : List PendingOp) (ends : 
 -- more stands there than before, and what stood there stays
 pub record Widens {S : Type 0} (old new : Table S) : Type 0 where
   pub states : IsFront old.states new.states
-  pub founds : IsFront old.founds.items new.founds.items
+  pub founds : IsFront old.founds new.founds
   pub states_once : IsOnceIn old.states → IsOnceIn new.states
-  pub founds_once : IsOnceIn old.founds.items → IsOnceIn new.founds.items
+  pub founds_once : IsOnceIn old.founds → IsOnceIn new.founds
 
 -- the row with these numbers of a state and at this place
 abbrev pub row_led : List ℕ → ℕ → ℕ × ℕ → List ℕ
@@ -133,7 +133,7 @@ with_rows t rows = record { states = t.states; founds = t.founds; rows = rows }
 -- both have the same states, found things and rows
 pub record IsSameTable {S : Type 0} (t u : Table S) : Type 0 where
   pub states : u.states ≡ t.states
-  pub founds : u.founds.items ≡ t.founds.items
+  pub founds : u.founds ≡ t.founds
   pub rows : rows_of u ≡ rows_of t
 
 -- both show the same ends, by whatever calls
@@ -149,7 +149,7 @@ SaysTheSame {S} states others row new =
 
 -- the other table has the first rows so, and no more
 pub record SayTheSame {S : Type 0} (t u : Table S) (n : ℕ) : Type 0 where
-  pub founds : u.founds.items ≡ t.founds.items
+  pub founds : u.founds ≡ t.founds
   pub once : IsOnceIn u.states
   pub long : length (rows_of u) ≡ n
   pub each : (i : ℕ) (row : List ℕ) → i < n → slice_get (rows_of t) i ≡ Some row

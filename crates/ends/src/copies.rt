@@ -2,23 +2,13 @@
 ghost use Rattle.std.specs.Prelude.{◌≡◌, ◌+◌, ◌<◌, true, length, IfOk, IfSome};
 ghost use Rattle.ends.specs.Tables.{IsSameTable, SayTheSame, ShowTheSame, rows_of};
 
+use crate::founds;
 use crate::pending_op::PendingOp;
 use crate::states::{self, States};
 use crate::table::Table;
-use models::{Found, SeqObject};
+use models::SeqObject;
 use rows::RowSet;
 use std::alloc::{AllocError, Global};
-
-// The same things, with memory of their own.
-fn copied_founds(alloc: Global, founds: &[Found]) -> Result<Vec<Found>, AllocError>
-    ensures { IfOk result (λ copies. copies.items ≡ founds.now) }
-{
-    let mut copies = Vec::with_capacity(alloc, founds.len())?;
-    for found in founds {
-        copies.push(found.copy()?)?;
-    }
-    Ok(copies)
-}
 
 // The same table, with memory of its own.
 fn copied_whole<M: SeqObject>(
@@ -28,7 +18,7 @@ fn copied_whole<M: SeqObject>(
     ensures { IfOk result (IsSameTable table.now) }
 {
     let states = states::copied::<M>(alloc, &table.states)?;
-    let founds = copied_founds(alloc, &table.founds)?;
+    let founds = founds::copied(alloc, &table.founds)?;
     let rows = table.rows.copied()?;
     Ok(Table {
         states,
@@ -77,7 +67,7 @@ fn narrowed<M: SeqObject>(
     }
     let mut other = Table {
         states: States::new(alloc),
-        founds: copied_founds(alloc, &table.founds)?,
+        founds: founds::copied(alloc, &table.founds)?,
         rows: RowSet::new(alloc, calls.len().saturating_add(1)),
     };
     let mut row = Vec::new(alloc);

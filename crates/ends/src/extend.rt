@@ -129,17 +129,19 @@ fn grow_at<M: SeqObject>(
     put_led(table, from, at + 1, to, &moves.targets)
 }
 
-// Adds what each call from that place on leads to from the end of the row that stands here.
+// Adds what each call from that place on leads to from the end of the row that stands here, whose state has this number.
 fn grow_from<M: SeqObject>(
     alloc: Global,
     table: &mut Table<M::State>,
     moves: &mut Moves<M::State>,
     from: usize,
+    number: usize,
     calls: &[PendingOp],
     first: usize,
     applied: &mut u64,
 ) -> Result<(), AllocError>
-    requires { from < length (rows_of table.old) }
+    requires here { from < length (rows_of table.old) }
+    requires number { number ≡ get_or (get_or (rows_of table.old) from []) 0 0 }
     ensures moves { AreMoves M.apply_to table.old calls.now moves.old.known.items moves.old.targets.items
         → OnOk result (AreMoves M.apply_to table.new calls.now moves.new.known.items moves.new.targets.items) }
     ensures adds { let object = of_table M.State M.start_state M.apply_to in
@@ -153,7 +155,6 @@ fn grow_from<M: SeqObject>(
     ensures front { IsFront (rows_of table.old) (rows_of table.new) }
     ensures cost { applied.new ≤ applied.old + length calls.now }
 {
-    let number = table.rows.number(from, 0);
     for at in first..calls.len() {
         grow_at::<M>(alloc, table, moves, from, number, calls, at, applied)?;
     }
@@ -168,16 +169,18 @@ fn first_for(at: usize, kept: usize, tried: usize) -> usize
     if at < kept { tried } else { 0 }
 }
 
-// Whether some call from that place on leads from the end of the row that stands here to more ends than the budget: it is not in
-// that end, and has more outcomes in its state.
+// Whether some call from that place on leads from the end of the row that stands here, whose state has this number, to more ends
+// than the budget: it is not in that end, and has more outcomes in its state.
 fn leads_beyond<M: SeqObject>(
     table: &Table<M::State>,
     from: usize,
+    number: usize,
     calls: &[PendingOp],
     first: usize,
     budget: u32,
 ) -> bool
     requires here { from < length (rows_of table.now) }
+    requires number { number ≡ get_or (get_or (rows_of table.now) from []) 0 0 }
     requires some { 1 ≤ budget }
     ensures beyond { let object = of_table M.State M.start_state M.apply_to in
         let row = get_or (rows_of table.now) from [] in
@@ -188,7 +191,7 @@ fn leads_beyond<M: SeqObject>(
         → slice_get calls.now at ≡ Some c → Shows table.now calls.now row e
         → is_in e c.id c.crashed ≡ false → length (M.apply_to c.op e.state) ≤ budget }
 {
-    let Some(state) = table::state_of(table, from) else {
+    let Some(state) = table::state_numbered(table, number) else {
         return false;
     };
     for at in first..calls.len() {
@@ -236,10 +239,11 @@ fn grow<M: SeqObject>(
             return Ok(true);
         }
         let first = first_for(at, kept, tried);
-        if leads_beyond::<M>(table, at, calls, first, budget) {
+        let number = table.rows.number(at, 0);
+        if leads_beyond::<M>(table, at, number, calls, first, budget) {
             return Ok(false);
         }
-        grow_from::<M>(alloc, table, moves, at, calls, first, applied)?;
+        grow_from::<M>(alloc, table, moves, at, number, calls, first, applied)?;
     }
     Ok(table.rows.len() <= budget as usize)
 }

@@ -4,6 +4,8 @@
 mod after;
 mod copies;
 mod extend;
+mod found_key;
+mod founds;
 mod kept_end;
 mod moves;
 mod pending_op;
@@ -13,6 +15,7 @@ mod table;
 pub use after::crashed_ends;
 pub use copies::copied;
 pub use extend::{Room, advance};
+pub use founds::Founds;
 pub use kept_end::KeptEnd;
 pub use pending_op::{PendingOp, copy_calls, crash_call, drop_call, is_read};
 pub use states::States;

@@ -5,6 +5,7 @@ ghost use Rattle.std.specs.Prelude.{IfOk, OnOk, IfSome, IsTrue};
 ghost use Rattle.ends.specs.Moves.{AreMoves, AreTo, IsKnown, IsTo, LeadsTo, known_at, targets_of};
 ghost use Rattle.ends.specs.Tables.{Widens, rows_of};
 
+use crate::founds;
 use crate::pending_op::PendingOp;
 use crate::states::number_of;
 use crate::table::{self, Table};
@@ -134,7 +135,7 @@ fn target_of<M: SeqObject>(
     ensures rows { rows_of table.new ≡ rows_of table.old }
 {
     let number = number_of::<M>(alloc, &mut table.states, state)?;
-    let slot = table::slot_at(&mut table.founds, table::told_by(crashed, found))?;
+    let slot = founds::slot_at(&mut table.founds, table::told_by(crashed, found))?;
     Ok((number, slot))
 }
 

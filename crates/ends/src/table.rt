@@ -1,5 +1,5 @@
 //! Ends as rows of numbers.
-ghost use Rattle.std.specs.Prelude.{◌≡◌, ◌+◌, ◌-◌, ◌^◌, ◌<◌, ◌≤◌, min, Some, slice_get, get_or, map, length};
+ghost use Rattle.std.specs.Prelude.{◌≡◌, ℕ, ◌+◌, ◌-◌, ◌^◌, ◌<◌, ◌≤◌, min, Some, slice_get, get_or, map, length};
 ghost use Rattle.std.specs.Prelude.{IfOk, OnOk, IsSome, IsSomeAnd, option_copied, List, [], ◌∷◌, ◌++◌};
 ghost use Rattle.models.specs.Objects.{of_table};
 ghost use Rattle.history.specs.Events.{IsFront};
@@ -11,6 +11,7 @@ ghost use Rattle.ends.specs.Tables.{HasEachOnce, IsOnceIn, IsSlot};
 ghost use Rattle.ends.specs.Tables.{AreShown, IsThat, IsToldBefore, ShownWith, told_by};
 ghost use Rattle.ends.specs.Tables.{AreLed, Shows, Widens, found_by, rows_of};
 
+use crate::founds::{self, Founds};
 use crate::kept_end::{KeptEnd, found_in, has};
 use crate::moves::{self, Move, Moves};
 use crate::pending_op::PendingOp;
@@ -25,34 +26,19 @@ use std::alloc::{AllocError, Global};
 #[derive(Drop)]
 pub struct Table<S: Ord + Drop> {
     pub states: States<S>,
-    pub founds: Vec<Found>,
+    pub founds: Founds,
     pub rows: RowSet,
 }
 
-/// The number of what was found: one more than where it stands. It is put there if it is new.
-pub fn slot_at(founds: &mut Vec<Found>, found: Found) -> Result<usize, AllocError>
-    ensures slot { IfOk result (λ slot. IsSlot founds.new.items slot (Some found)) }
-    ensures front { IsFront founds.old.items founds.new.items }
-    ensures once { IsOnceIn founds.old.items → IsOnceIn founds.new.items }
-{
-    for at in 0..founds.len() {
-        if founds[at].same(&found) {
-            return Ok(at + 1);
-        }
-    }
-    founds.push(found)?;
-    Ok(founds.len())
-}
-
 // The number of what was found, and zero if nothing was.
-fn slot_of(founds: &mut Vec<Found>, found: Option<Found>) -> Result<usize, AllocError>
-    ensures slot { IfOk result (λ slot. IsSlot founds.new.items slot found) }
-    ensures front { IsFront founds.old.items founds.new.items }
-    ensures once { IsOnceIn founds.old.items → IsOnceIn founds.new.items }
+fn slot_of(founds: &mut Founds, found: Option<Found>) -> Result<usize, AllocError>
+    ensures slot { IfOk result (λ slot. IsSlot founds.new slot found) }
+    ensures front { IsFront founds.old founds.new }
+    ensures once { IsOnceIn founds.old → IsOnceIn founds.new }
 {
     match found {
         None => Ok(0),
-        Some(found) => slot_at(founds, found),
+        Some(found) => founds::slot_at(founds, found),
     }
 }
 
@@ -112,13 +98,12 @@ pub fn step<M: SeqObject>(
     M::append_outcomes(alloc, state, op, outcomes)
 }
 
-/// The state of the end of the row that stands here.
-pub fn state_of<S: Ord + Drop>(table: &Table<S>, from: usize) -> Option<&S>
-    ensures { let row = get_or (rows_of table.now) from [] in
-        (calls : List PendingOp) (e : End S) → Shows table.now calls row e
-        → IsSomeAnd result (λ s. s.now ≡ e.state) }
+/// The state with this number: that of the end of each row that has this number first.
+pub fn state_numbered<S: Ord + Drop>(table: &Table<S>, number: usize) -> Option<&S>
+    ensures { (calls : List PendingOp) (row : List ℕ) (e : End S) → number ≡ get_or row 0 0
+        → Shows table.now calls row e → IsSomeAnd result (λ s. s.now ≡ e.state) }
 {
-    table.states.get(table.rows.number(from, 0))
+    table.states.get(number)
 }
 
 /// What is told of what the call found.
@@ -186,7 +171,7 @@ pub fn of_ends<M: SeqObject>(
 {
     let mut table = Table {
         states: States::new(alloc),
-        founds: Vec::new(alloc),
+        founds: Founds::new(alloc),
         rows: RowSet::new(alloc, calls.len().saturating_add(1)),
     };
     for kept in ends {
@@ -252,7 +237,7 @@ fn kept_of<M: SeqObject>(
         HasEachOnce calls.now → (e : End M.State) → Shows table.now calls.now row e
         → IfOk result (λ kept. IsSomeAnd kept (λ k. end_kept k ≡ e)) }
 {
-    let Some(state) = state_of(table, from) else {
+    let Some(state) = state_numbered(table, table.rows.number(from, 0)) else {
         return Ok(None);
     };
     let mut kept = KeptEnd {

@@ -116,7 +116,7 @@ module _ {S : Type 0} (t : Table S) (calls : List PendingOp) (marks : List Mark)
       by None q = q
       by (Some x) q = let c = a.pending id x q in absurd (new _ ((are c.0).0 c.1).0.invoked c.2)
 
-  says_longer : (row : List ℕ) (e : End S) → Contains ends e → Shows t calls row e → Says t.states t.founds.items (calls ++ the_call ∷ []) (row ++ 0 ∷ []) e
+  says_longer : (row : List ℕ) (e : End S) → Contains ends e → Shows t calls row e → Says t.states t.founds (calls ++ the_call ∷ []) (row ++ 0 ∷ []) e
   says_longer row e h a =
       let long = a.long in record {
         long = length-append row (0 ∷ []) ∙ ap (λ n. n + 1) long ∙ ap (λ n. n + 1) (sym (length-append calls (the_call ∷ [])));
@@ -125,12 +125,12 @@ module _ {S : Type 0} (t : Table S) (calls : List PendingOp) (marks : List Mark)
             ⊎_elim
             (λ p.
             let lt = slice_get_within calls i d p in
-            subst (λ m. IsSlot t.founds.items m (found_by e d)) (sym (get_or_append_left row (0 ∷ []) 0 (i + 1) (omega (arith, lt, long)))) (a.slots i d p))
+            subst (λ m. IsSlot t.founds m (found_by e d)) (sym (get_or_append_left row (0 ∷ []) 0 (i + 1) (omega (arith, lt, long)))) (a.slots i d p))
             (λ p.
             let at : i + 1 ≡ length row = omega (arith, p.0, long) in
             let last : get_or (row ++ 0 ∷ []) (i + 1) 0 ≡ 0 = ap (λ n. get_or (row ++ 0 ∷ []) n 0) at ∙ get_or_from_slice_get (row ++ 0 ∷ []) (length row) 0 0 (get_last row 0) in
-            subst (λ x. IsSlot t.founds.items (get_or (row ++ 0 ∷ []) (i + 1) 0) (found_by e x)) p.1
-            (subst (IsSlot t.founds.items (get_or (row ++ 0 ∷ []) (i + 1) 0)) (sym (not_told e a.included)) last))
+            subst (λ x. IsSlot t.founds (get_or (row ++ 0 ∷ []) (i + 1) 0) (found_by e x)) p.1
+            (subst (IsSlot t.founds (get_or (row ++ 0 ∷ []) (i + 1) 0)) (sym (not_told e a.included)) last))
             (get_push calls the_call i d k);
         included = longer_included e h;
       }
@@ -145,7 +145,7 @@ module _ {S : Type 0} (t : Table S) (calls : List PendingOp) (marks : List Mark)
         let long = shown.long in
         let r = some_at (rows_of t) i (omega (arith, lt, long)) in
         let same : r.0 ++ 0 ∷ [] ≡ row = one_of _ _ (sym (ap (λ l. slice_get l i) is ∙ slice_get-map (λ (x : List ℕ). x ++ 0 ∷ []) (rows_of t) i ∙ ap (option_map (λ (x : List ℕ). x ++ 0 ∷ [])) r.1) ∙ h) in
-        subst (λ x. Says t.states t.founds.items (calls ++ the_call ∷ []) x e) same (says_longer r.0 e (has_place ends i e k) (shown.each i r.0 e r.1 k));
+        subst (λ x. Says t.states t.founds (calls ++ the_call ∷ []) x e) same (says_longer r.0 e (has_place ends i e k) (shown.each i r.0 e r.1 k));
   }
 
 -- rows of ends, in the words of the code, which reads calls and ends as slices

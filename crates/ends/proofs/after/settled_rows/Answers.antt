@@ -27,7 +27,7 @@ loop-at-preserved g c once id here ends shown =
           (Settles id c.args.answer.now) ends c.loop-at.at p.0 (settled p.0 id) w.deref.result.now p.1
           (λ f q. ((c.fits_in_row.ensures.fits id p.0 here p.2).0 w.if-fits_in_row.true, q)) (λ f r. r.1)
           (widens_itself _) refl
-          (says_without c.args.table.now.states c.args.table.now.founds.items c.args.calls.now once c.args.call id here p.0 row w.deref.result.now p.2
+          (says_without c.args.table.now.states c.args.table.now.founds c.args.calls.now once c.args.call id here p.0 row w.deref.result.now p.2
           (w.deref.ensures.value ∙ w.remove-slot.ensures.items ∙ ap (λ (l : List ℕ). remove l (c.args.call + 1)) (sym (get_or_from_slice_get (rows_of c.args.table.now) c.loop-at.at w.read.new.row.items [] w.in_ok-read.ensures))))
           (widens_rows _ _ refl refl) w.in_ok-put.ensures.put (c.loop-at.invariant once id here ends shown))
       | else-fits_in_row w ↦

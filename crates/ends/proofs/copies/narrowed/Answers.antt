@@ -1,4 +1,4 @@
-use Rattle.std.proofs.Common.{◌≡◌, length, ap, subst, ◌∙◌, arith}
+use Rattle.std.proofs.Common.{◌≡◌, length, ap, subst, arith}
 use Rattle.ends.specs.Tables.{SayTheSame, rows_of}
 use Rattle.ends.proofs.Renewing.{shown_again, shown_before}
 use Rattle.ends.proofs.Showing.{no_get}
@@ -6,7 +6,7 @@ use Rattle.ends.proofs.copies.narrowed.Goals as goal
 
 pub loop-from-init : goal.loop-from-init
 loop-from-init g c = record {
-  founds = c.in_ok-copied_founds.ensures ∙ c.deref.ensures.value;
+  founds = c.in_ok-copied.ensures;
   once = λ i j x h k. absurd (no_get _ i x c.new.ensures h);
   long = ap length c.new-2.ensures;
   each = λ i row lt h. absurd (omega (arith, lt));

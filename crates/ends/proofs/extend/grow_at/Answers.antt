@@ -12,7 +12,7 @@ use Rattle.ends.proofs.extend.grow_at.Goals as goal
 pub returns-clause-moves : goal.returns-clause-moves
 returns-clause-moves g c known =
     on_ok c.put_led.result (moves_wider g.M.SeqObject.apply_to c.args.calls.now c.led_to.new.table c.put_led.new.table c.led_to.new.moves.known.items c.led_to.new.moves.targets.items
-    (widens_rows c.led_to.new.table c.put_led.new.table c.put_led.ensures.states (ap (λ v. v.items) c.put_led.ensures.founds)) (c.in_ok-to.ensures.moves known))
+    (widens_rows c.led_to.new.table c.put_led.new.table c.put_led.ensures.states c.put_led.ensures.founds) (c.in_ok-to.ensures.moves known))
 
 pub returns-clause-adds : goal.returns-clause-adds
 returns-clause-adds g c known once call e ends here shows shown =
@@ -29,7 +29,7 @@ returns-clause-adds g c known once call e ends here shows shown =
     (c.put_led.ensures.puts calls ends (shown_more calls c.args.table.now c.led_to.new.table ends c.in_ok-to.ensures.widens c.in_ok-to.ensures.rows shown) (λ to h. let f = led.each to h in (f.0, f.2)))
 
 pub returns-clause-widens : goal.returns-clause-widens
-returns-clause-widens g c = widens_on c.args.table.now c.led_to.new.table c.put_led.new.table c.in_ok-to.ensures.widens (widens_rows c.led_to.new.table c.put_led.new.table c.put_led.ensures.states (ap (λ v. v.items) c.put_led.ensures.founds))
+returns-clause-widens g c = widens_on c.args.table.now c.led_to.new.table c.put_led.new.table c.in_ok-to.ensures.widens (widens_rows c.led_to.new.table c.put_led.new.table c.put_led.ensures.states c.put_led.ensures.founds)
 
 pub returns-in-Nowhere-clause-adds : goal.returns-in-Nowhere-clause-adds
 returns-in-Nowhere-clause-adds g c known once call e ends here shows shown =

@@ -13,7 +13,7 @@ loop-at-init g c = record {
   widens = widens_itself c.args.table.now;
   front = IsFront-itself (rows_of c.args.table.now);
   here = refl;
-  within = c.requires;
+  within = c.requires.here;
   moves = λ known. known;
   grown = λ known once e ends shows shown. record { more = ends; shown = shown; front = IsFront-itself ends; adds = none_yet (of_table g.row.M-State.Denot g.M.SeqObject.start_state g.M.SeqObject.apply_to) c.args.calls.now c.args.first e ends };
   from = omega arith;
@@ -22,7 +22,7 @@ loop-at-init g c = record {
 }
 
 pub grow_at-requires-clause-number : goal.grow_at-requires-clause-number
-grow_at-requires-clause-number g c = c.number-number.ensures ∙ sym (ap (λ row. get_or row 0 0) c.loop-at.invariant.here)
+grow_at-requires-clause-number g c = c.requires.number ∙ sym (ap (λ row. get_or row 0 0) c.loop-at.invariant.here)
 
 pub loop-at-preserved : goal.loop-at-preserved
 loop-at-preserved g c =

@@ -1,5 +1,4 @@
-use Rattle.std.proofs.Common.{◌≡◌, ◌<◌, ◌+◌, ℕ, Some, List, [], length, get_or, take, set, slice_get, refl, sym, ap, ◌∙◌, subst, arith}
-use Rattle.std.specs.List.{Contains}
+use Rattle.std.proofs.Common.{◌<◌, ℕ, [], length, get_or, refl, ap, ◌∙◌, subst, arith}
 use Rattle.std.proofs.lemmas.List.{take_all}
 use Rattle.std.proofs.lemmas.List.Elements.{Contains-get_or}
 use Rattle.std.proofs.lemmas.Option.{get_or_from_slice_get, slice_get-get_or, slice_get_within}
@@ -38,7 +37,7 @@ loop-at-preserved g c =
       puts = λ calls ends shown each.
           let f = each to (Contains-get_or c.args.targets.now c.loop-at.at (0, 0) lt) in
           led_more calls c.args.table.now c.loop-at.table (record { states = c.loop-at.table.states; founds = c.loop-at.table.founds; rows = c.put_next.new.self }) (get_or (rows_of c.args.table.now) c.args.from []) c.args.place c.args.targets.now c.loop-at.at to ends
-          (slice_get-get_or c.args.targets.now c.loop-at.at (0, 0) lt) i.states (ap (λ v. v.items) i.founds) refl refl f.0 f.1
+          (slice_get-get_or c.args.targets.now c.loop-at.at (0, 0) lt) i.states i.founds refl refl f.0 f.1
           (subst (λ r. IsPut (row_led r c.args.place to) c.loop-at.table.rows c.put_next.new.self) i.here put) (i.puts calls ends shown each);
     }
 

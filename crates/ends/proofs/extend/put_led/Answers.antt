@@ -1,4 +1,4 @@
-use Rattle.std.proofs.Common.{OnOk, ◌≡◌, ◌<◌, ℕ, Some, List, [], ◌∷◌, length, get_or, slice_get, refl, sym, subst, arith}
+use Rattle.std.proofs.Common.{OnOk, ◌<◌, ℕ, [], length, get_or, refl, sym, subst, arith}
 use Rattle.std.specs.List.{Contains}
 use Rattle.std.proofs.lemmas.List.Elements.{Contains-push}
 use Rattle.std.proofs.lemmas.Option.{get_or_from_slice_get, slice_get_within}
@@ -6,7 +6,7 @@ use Rattle.std.proofs.lemmas.Result.{on_ok_weaker}
 use Rattle.ends.specs.EndSteps.{Along}
 use Rattle.ends.specs.Moves.{targets_of}
 use Rattle.ends.specs.Tables.{Shows, ShownWith, row_led, rows_of}
-use Rattle.ends.proofs.Showing.{led_none, led_one}
+use Rattle.ends.proofs.Showing.{led_one}
 use Rattle.ends.proofs.extend.put_led.Goals as goal
 
 pub put_next-requires-clause-within : goal.put_next-requires-clause-within

@@ -1,4 +1,4 @@
-use Rattle.std.proofs.Common.{◌≡◌, ◌∷◌, ◌++◌, [], List, length, sym, ap, ◌∙◌, subst, arith, append-nil}
+use Rattle.std.proofs.Common.{◌≡◌, ◌∷◌, ◌++◌, [], sym, subst, arith, append-nil}
 use Rattle.models.specs.declared.finding.Found.{Found}
 use Rattle.ends.specs.Moves.{AreTo}
 use Rattle.ends.proofs.Moving.{are_to_none, are_to_with, alone}

@@ -1,4 +1,4 @@
-use Rattle.std.proofs.Common.{rules, ◌≡◌, length}
+use Rattle.std.proofs.Common.{rules}
 use Rattle.ends.proofs.Moving.{leads_each}
 use Rattle.ends.proofs.moves.move_to_each.Goals as goal
 

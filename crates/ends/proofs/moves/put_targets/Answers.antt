@@ -1,4 +1,4 @@
-use Rattle.std.proofs.Common.{◌≡◌, ◌∷◌, ◌++◌, [], List, refl, sym, ap, ◌∙◌, append_assoc, append-nil}
+use Rattle.std.proofs.Common.{◌≡◌, ◌∷◌, ◌++◌, [], refl, sym, ap, ◌∙◌, append_assoc, append-nil}
 use Rattle.models.specs.declared.finding.Found.{Found}
 use Rattle.ends.proofs.Moving.{are_to_more, are_to_none, are_to_with}
 use Rattle.ends.proofs.Showing.{widens_itself, widens_on}

@@ -1,4 +1,4 @@
-use Rattle.std.proofs.Common.{◌≡◌, ◌+◌, ◌<◌, IfSome, Some, [], length, get_or, slice_get, refl, sym, ap, ◌∙◌, subst, arith}
+use Rattle.std.proofs.Common.{◌≡◌, ◌+◌, IfSome, [], length, get_or, slice_get, sym, ap, ◌∙◌, subst, arith}
 use Rattle.std.proofs.lemmas.Bool.{true≢false}
 use Rattle.std.proofs.lemmas.Option.{get_or_from_slice_get, slice_get_within}
 use Rattle.std.proofs.lemmas.Result.{IfOk-weaker}
@@ -24,7 +24,7 @@ pub returns-then-not-has_zero-clause-next : goal.returns-then-not-has_zero-claus
 returns-then-not-has_zero-clause-next g c known once call e here shows = record {
   each = λ to h. absurd (Contains-nil to h);
   all = λ f last. absurd (true≢false
-      (sym (in_unless c.args.table.now.founds.items e call (get_or (rows_of c.args.table.now) c.args.from []) (c.args.at + 1) (let long = shows.long in let within = slice_get_within c.args.calls.now c.args.at call here in omega (arith, long, within))
+      (sym (in_unless c.args.table.now.founds e call (get_or (rows_of c.args.table.now) c.args.from []) (c.args.at + 1) (let long = shows.long in let within = slice_get_within c.args.calls.now c.args.at call here in omega (arith, long, within))
       (shows.slots c.args.at call here) (λ h. true≢false (sym (c.has_zero.ensures.1 h) ∙ c.if-not-has_zero.true))) ∙ last.not_in));
 }
 
@@ -34,7 +34,7 @@ returns-in-Some-clause-next g c known once call e here shows =
     let row = get_or (rows_of t) c.args.from [] in
     let targets = c.args.moves.now.targets.items in
     let out = not_in_by e call.id call.crashed
-    (zero_none c.args.table.now.founds.items (get_or row (c.args.at + 1) 0) (found_by e call)
+    (zero_none c.args.table.now.founds (get_or row (c.args.at + 1) 0) (found_by e call)
     (get_or_from_slice_get row (c.args.at + 1) 0 0 (c.has_zero.ensures.0 c.if-not-has_zero.false)) (shows.slots c.args.at call here)) in
     let told = subst (λ r. IfSome r (λ to. (to ≡ known_at c.args.moves.now.known.items (length c.args.calls.now) c.args.number c.args.at) × IsKnown to targets)) c.in-Some.is c.recalled-known.ensures in
     are_led g.row.M-State.Denot g.M.SeqObject.start_state g.M.SeqObject.apply_to e call out t c.args.calls.now row c.args.at (targets_of c.in-Some.to targets) once here shows
@@ -44,7 +44,7 @@ pub returns-in-None-clause-next : goal.returns-in-None-clause-next
 returns-in-None-clause-next g c known once call e here shows =
     let row = get_or (rows_of c.args.table.now) c.args.from [] in
     let out = not_in_by e call.id call.crashed
-    (zero_none c.args.table.now.founds.items (get_or row (c.args.at + 1) 0) (found_by e call)
+    (zero_none c.args.table.now.founds (get_or row (c.args.at + 1) 0) (found_by e call)
     (get_or_from_slice_get row (c.args.at + 1) 0 0 (c.has_zero.ensures.0 c.if-not-has_zero.false)) (shows.slots c.args.at call here)) in
     IfOk-weaker c.tried.result
     (λ to. AreTo c.tried.new.table call.crashed (g.M.SeqObject.apply_to call.op e.state) (targets_of to c.tried.new.moves.targets.items))

@@ -9,7 +9,7 @@ use Rattle.ends.proofs.Showing.{shown_after, shown_first, shown_none, widens_row
 use Rattle.ends.proofs.table.of_ends.Goals as goal
 
 pub loop-kept-init : goal.loop-kept-init
-loop-kept-init g c included = shown_first c.args.calls.now _ IsThat (shown_none c.args.calls.now _ c.new.ensures c.new-2.ensures.items c.new-3.ensures)
+loop-kept-init g c included = shown_first c.args.calls.now _ IsThat (shown_none c.args.calls.now _ c.new.ensures c.new-2.ensures c.new-3.ensures)
 
 pub loop-kept-preserved : goal.loop-kept-preserved
 loop-kept-preserved g c included =

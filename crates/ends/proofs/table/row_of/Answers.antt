@@ -23,8 +23,8 @@ loop-call-preserved g c =
     record {
       long = ap length longer ∙ length-append row (c.in_ok-slot_of.field-0 ∷ []) ∙ ap (λ n. n + 1) long;
       state = ap (slice_get c.loop-call.table.states) (ap (λ l. get_or l 0 0) longer ∙ get_or_append_left row (c.in_ok-slot_of.field-0 ∷ []) 0 0 (omega (arith, long))) ∙ c.loop-call.invariant.state;
-      slots = slots_more c.loop-call.table.founds.items c.slot_of.new.founds.items c.args.calls.now (end_kept c.args.kept.now) row _ i c.in_ok-slot_of.field-0 c.call-item.result c.in_ok-slot_of.ensures.front long longer here
-          (subst (IsSlot c.slot_of.new.founds.items c.in_ok-slot_of.field-0) c.in_ok-found.ensures c.in_ok-slot_of.ensures.slot) c.loop-call.invariant.slots;
+      slots = slots_more c.loop-call.table.founds c.slot_of.new.founds c.args.calls.now (end_kept c.args.kept.now) row _ i c.in_ok-slot_of.field-0 c.call-item.result c.in_ok-slot_of.ensures.front long longer here
+          (subst (IsSlot c.slot_of.new.founds c.in_ok-slot_of.field-0) c.in_ok-found.ensures c.in_ok-slot_of.ensures.slot) c.loop-call.invariant.slots;
       widens = widens_founds c.args.table.now c.loop-call.table c.slot_of.new.founds c.loop-call.invariant.widens c.in_ok-slot_of.ensures.front c.in_ok-slot_of.ensures.once;
       rows = c.loop-call.invariant.rows;
     }

@@ -9,7 +9,7 @@ invariant-loop-call g l =
     record {
       long : length l.row.items ≡ l.call-index + 1;
       state : slice_get l.table.states (get_or l.row.items 0 0) ≡ Some l.kept.state;
-      slots : (i : ℕ) (c : PendingOp) → i < l.call-index → slice_get l.calls i ≡ Some c → IsSlot l.table.founds.items (get_or l.row.items (i + 1) 0) (found_by (end_kept l.kept) c);
+      slots : (i : ℕ) (c : PendingOp) → i < l.call-index → slice_get l.calls i ≡ Some c → IsSlot l.table.founds (get_or l.row.items (i + 1) 0) (found_by (end_kept l.kept) c);
       widens : Widens l.fn.table l.table;
       rows : rows_of l.table ≡ rows_of l.fn.table;
     }

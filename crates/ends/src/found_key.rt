@@ -1,0 +1,41 @@
+//! What was found, as a key by which it is looked up.
+ghost use Rattle.std.specs.Prelude.{◌≡◌, IfOk};
+ghost use Rattle.ends.specs.FoundKeys.{found_of};
+
+use models::{Found, Members};
+use std::alloc::AllocError;
+
+/// What an operation found, by an order. Two are equal where the same was found.
+#[derive(PartialEq, Eq, PartialOrd, Ord, Drop)]
+pub enum FoundKey {
+    Unit,
+    Reg(Option<i64>),
+    Item(i64),
+    Elements(Members),
+}
+
+impl FoundKey {
+    /// The key of what was found. Takes no memory.
+    pub fn of(found: Found) -> FoundKey
+        ensures { found_of result ≡ found }
+    {
+        match found {
+            Found::Unit => FoundKey::Unit,
+            Found::Reg(state) => FoundKey::Reg(state),
+            Found::Item(value) => FoundKey::Item(value),
+            Found::Elements(members) => FoundKey::Elements(members),
+        }
+    }
+
+    /// What was found, with memory of its own.
+    pub fn found(&self) -> Result<Found, AllocError>
+        ensures { IfOk result (λ found. found ≡ found_of self.now) }
+    {
+        match self {
+            FoundKey::Unit => Ok(Found::Unit),
+            FoundKey::Reg(state) => Ok(Found::Reg(*state)),
+            FoundKey::Item(value) => Ok(Found::Item(*value)),
+            FoundKey::Elements(members) => Ok(Found::Elements(members.copy()?)),
+        }
+    }
+}

@@ -1,0 +1,130 @@
+//! What was found, by number.
+ghost use Rattle.std.specs.Prelude.{◌≡◌, ◌≢◌, ◌≤◌, ◌<◌, ◌++◌, ◌∷◌, [], ℕ, List, Some, None};
+ghost use Rattle.std.specs.Prelude.{length, slice_get, option_copied, IfOk, OnOk, OnErr, IfSome};
+ghost use Rattle.history.specs.Events.{IsFront};
+ghost use Rattle.ends.specs.FoundKeys.{found_of};
+ghost use Rattle.ends.specs.Founds.{AreSlots};
+ghost use Rattle.ends.specs.Tables.{IsOnceIn, IsSlot};
+
+use crate::found_key::FoundKey;
+use models::Found;
+use std::alloc::{AllocError, Global};
+use std::collections::BTreeMap;
+use std::marker::Model;
+
+// So many are compared in turn, which is fastest where there are no more; the others are looked up.
+const FIRST: usize = 8;
+
+/// Different things that were found, each with a number, which is one more than its place. The first eight are compared in
+/// turn, and the others are found by the order of their keys.
+#[derive(Drop)]
+pub struct Founds {
+    items: Vec<Found>,
+    slots: BTreeMap<FoundKey, usize>,
+}
+
+impl Model for Founds {
+    ghost use Rattle.std.specs.Prelude.{List};
+    ghost use Rattle.models.specs.declared.finding.Found.{Found};
+    ghost use Rattle.ends.specs.Founds.{AreSlots};
+
+    ghost Value = { List Found };
+
+    ghost view = { λ a. a.items.items };
+
+    ghost invariant = { λ a. AreSlots a.slots a.items.items };
+}
+
+impl Founds {
+    /// Nothing.
+    pub fn new(alloc: Global) -> Founds
+        ensures { result ≡ [] }
+    {
+        Founds {
+            items: Vec::new(alloc),
+            slots: BTreeMap::new(alloc),
+        }
+    }
+
+    /// What stands at this place.
+    pub fn get(&self, at: usize) -> Option<&Found>
+        ensures { option_copied result ≡ slice_get self.now at }
+    {
+        self.items.get(at)
+    }
+}
+
+// Where it stands among the first.
+fn place_in_first(items: &[Found], found: &Found) -> Option<usize>
+    ensures there { IfSome result (λ at. slice_get items.now at ≡ Some found.now) }
+    ensures none { result ≡ None → (at : ℕ) → at < 8 → slice_get items.now at ≢ Some found.now }
+{
+    for at in 0..items.len().min(FIRST) {
+        if items[at].same(found) {
+            return Some(at);
+        }
+    }
+    None
+}
+
+// Puts what this is the key of behind the others.
+fn put_key(founds: &mut Founds, key: FoundKey) -> Result<(), AllocError>
+    ensures put { OnOk result (founds.new ≡ founds.old ++ found_of key ∷ []) }
+    ensures kept { OnErr result (founds.new ≡ founds.old) }
+{
+    let slot = founds.items.len() + 1;
+    let found = key.found()?;
+    founds.items.reserve(1)?;
+    founds.slots.insert(key, slot)?;
+    match founds.items.push(found) {
+        Ok(_) => Ok(()),
+        Err(_full) => unreachable!(),
+    }
+}
+
+// Puts what was found behind the others.
+fn put(founds: &mut Founds, found: Found) -> Result<(), AllocError>
+    ensures put { OnOk result (founds.new ≡ founds.old ++ found ∷ []) }
+    ensures kept { OnErr result (founds.new ≡ founds.old) }
+{
+    if founds.items.len() < FIRST {
+        founds.items.push(found)?;
+        return Ok(());
+    }
+    put_key(founds, FoundKey::of(found))
+}
+
+/// The number of what was found: one more than where it stands. It is put there if it is new.
+pub fn slot_at(founds: &mut Founds, found: Found) -> Result<usize, AllocError>
+    ensures slot { IfOk result (λ slot. IsSlot founds.new slot (Some found)) }
+    ensures front { IsFront founds.old founds.new }
+    ensures once { IsOnceIn founds.old → IsOnceIn founds.new }
+{
+    if let Some(at) = place_in_first(&founds.items, &found) {
+        return Ok(at + 1);
+    }
+    if founds.items.len() < FIRST {
+        founds.items.push(found)?;
+        return Ok(founds.items.len());
+    }
+    let key = FoundKey::of(found);
+    if let Some(slot) = founds.slots.get(&key) {
+        return Ok(*slot);
+    }
+    put_key(founds, key)?;
+    Ok(founds.items.len())
+}
+
+/// The same things, with the same numbers.
+pub fn copied(alloc: Global, founds: &Founds) -> Result<Founds, AllocError>
+    ensures { IfOk result (λ copy. copy ≡ founds.now) }
+{
+    let mut copy = Founds {
+        items: Vec::with_capacity(alloc, founds.items.len())?,
+        slots: BTreeMap::new(alloc),
+    };
+    for found in &founds.items {
+        put(&mut copy, found.copy()?)?;
+    }
+    Ok(copy)
+}
