@@ -1,7 +1,7 @@
 -- The calls of a seat, one after the other, and what clients and the nemesis do by them.
 use Rattle.std.proofs.Common.{◌≡◌, ◌⊎◌, ℕ, ◌+◌, List, [], ◌∷◌, ◌++◌, Option, Some, None, Ok, Err, refl, sym, subst, ◌∙◌, inl, inr, arith}
 use Rattle.edn.specs.declared.refusal.Refusal.{Refusal}
-use Rattle.edn.specs.declared.refusal.Refusal.TheVariants.{NotOpen, TapeFull, NoMemory, Stale}
+use Rattle.edn.specs.declared.refusal.Refusal.TheVariants.{NotOpen, HistoryFull, TapeFull, NoMemory, Stale}
 use Rattle.machine.specs.declared.command.Command.{Command}
 use Rattle.machine.specs.declared.command.Command.TheVariants.{Nemesis}
 use Rattle.machine.specs.declared.command.Reply.{Reply}
@@ -15,8 +15,8 @@ use Rattle.board.proofs.Prefixes.{prefix_self, prefix_trans}
 use Rattle.clients.specs.declared.client.Next.{Next}
 use Rattle.clients.specs.declared.client.Next.TheVariants.{Draw, End}
 use Rattle.clients.specs.Calls.{CoreSeat, Calls, MadeNone, MadeOne, HasMade, MayBeNoCall, IsTold}
-use Rattle.clients.specs.Plays.{Stage, draws, has_ended, IsNext, after_reply, after_refusal, after_answer, Plays, AreStrikes, HasPlayed, HasStruck}
-use Rattle.clients.specs.Playing.{MayBeLost, IsAfterRefusal, StandsAt, CameFrom}
+use Rattle.clients.specs.Plays.{Stage, draws, has_ended, gives_up, IsNext, after_reply, after_refusal, after_answer, Plays, AreStrikes, HasPlayed, HasStruck}
+use Rattle.clients.specs.Playing.{RefusesRun, IsAfterRefusal, StandsAt, CameFrom}
 
 pub none_self : (s : CoreSeat) → MadeNone s s
 none_self s = record { number = refl; seen = prefix_self s.tape; count = refl }
@@ -89,6 +89,9 @@ answered thread stage a b c command reply result next is e told rest = go (subst
 stands_after : (why : Refusal) (next : Next) → IsAfterRefusal why next → StandsAt (after_refusal why) next
 stands_after NotOpen next e = subst (λ (n : Next). StandsAt draws n) (sym e) refl
 stands_after Stale next e = subst (λ (n : Next). StandsAt draws n) (sym e) refl
+stands_after HistoryFull next e = subst (λ (n : Next). StandsAt gives_up n) (sym e) (inr tt)
+stands_after TapeFull next e = subst (λ (n : Next). StandsAt gives_up n) (sym e) (inr tt)
+stands_after NoMemory next e = subst (λ (n : Next). StandsAt gives_up n) (sym e) (inr tt)
 stands_after why next e = subst (λ (n : Next). StandsAt has_ended n) (sym e) (inl refl)
 
 stands_lost : (stage : Stage) (why : Refusal) (next : Next) → MayBeNoCall (Err why) → IsAfterRefusal why next → StandsAt stage next
@@ -109,10 +112,11 @@ after_others NotOpen a b = absurd (a refl)
 after_others Stale a b = absurd (b refl)
 after_others why a b = refl
 
-pub heard : (why : Refusal) → ¬ (why ≡ TapeFull) → ¬ (why ≡ NoMemory) → ¬ MayBeLost (Some why)
-heard TapeFull a b lost = a refl
-heard NoMemory a b lost = b refl
-heard why a b lost = lost
+pub heard : (why : Refusal) → ¬ (why ≡ HistoryFull) → ¬ (why ≡ TapeFull) → ¬ (why ≡ NoMemory) → ¬ RefusesRun (Some why)
+heard HistoryFull a b c lost = a refl
+heard TapeFull a b c lost = b refl
+heard NoMemory a b c lost = c refl
+heard why a b c lost = lost
 
 -- its call was refused
 pub refused : (thread : ℕ) (stage : Stage) (a b : CoreSeat) (command : Command) (why : Refusal) (result : CoreReply) (next : Next) → IsNext thread stage command
@@ -122,10 +126,10 @@ refused thread stage a b command why result next is e told after = go (subst (λ
   go (inl one) = ((command, Err why) ∷ [], (b, one, none_self b), (after_refusal why, (is, refl), stands_after why next after))
   go (inr none) = ([], none.0, (stage, refl, stands_lost stage why next none.1 after))
 
--- where none of its commands was lost, it came to its end
-pub has_played : (thread : ℕ) (a b : CoreSeat) (why : Option Refusal) → CameFrom thread draws a b (End why) → ¬ MayBeLost why → HasPlayed thread a b
+-- where the run is not refused for what it met, it came to its end
+pub has_played : (thread : ℕ) (a b : CoreSeat) (why : Option Refusal) → CameFrom thread draws a b (End why) → ¬ RefusesRun why → HasPlayed thread a b
 has_played thread a b why came heard = (came.0, came.1, to_end came.2.2) where
-  to_end : (came.2.0 ≡ has_ended) ⊎ MayBeLost why → Plays thread draws came.0 has_ended
+  to_end : (came.2.0 ≡ has_ended) ⊎ RefusesRun why → Plays thread draws came.0 has_ended
   to_end (inl is) = subst (λ (s : Stage). Plays thread draws came.0 s) is came.2.1
   to_end (inr lost) = absurd (heard lost)
 

@@ -14,7 +14,7 @@ use Rattle.board.specs.Tape.{IsTapeOf}
 use Rattle.board.specs.Seat.{IsFresh}
 use Rattle.board.specs.CoreTape.{CoreTape, opening_tape, calls_on}
 use Rattle.clients.specs.Calls.{CoreSeat, Calls, HasMade}
-use Rattle.clients.specs.Plays.{Stage, draws, serves, finishes, has_ended, IsNext, after_answer, Plays, AreStrikes, HaveRun}
+use Rattle.clients.specs.Plays.{Stage, draws, serves, finishes, has_ended, gives_up, IsNext, after_answer, Plays, AreStrikes, HaveRun}
 use Rattle.clients.specs.Runs.{calls_of, ArePlayed}
 use Rattle.clients.proofs.Asking.{one_if, asked, HasAskedOnly, AreSuch, asked_by}
 use Rattle.clients.proofs.Counted.{one_at_most, few_calls, such_from, few_such, AreCounted, counted, counted_but}
@@ -42,6 +42,7 @@ next_is thread draws c e = subst (λ (x : Command). is_of_trial x ≡ true) (sym
 next_is thread (serves ticket) c e = subst (λ (x : Command). is_of_trial x ≡ true) (sym e) refl
 next_is thread (finishes ticket) c e = subst (λ (x : Command). is_of_trial x ≡ true) (sym e) refl
 next_is thread has_ended c e = absurd e
+next_is thread gives_up c e = absurd e
 
 plays_are : (thread : ℕ) (stage end : Stage) (calls : Calls) → Plays thread stage calls end → AreSuch is_of_trial calls
 plays_are thread stage end [] p = tt

@@ -1,17 +1,16 @@
 -- Invariant: how far clients have come
 use Rattle.std.specs.Prelude.{◌≡◌, ◌⊎◌, ℕ, ◌<◌, Option, Some, None, List, length, slice_index_or}
 use Rattle.edn.specs.declared.refusal.Refusal.{Refusal}
-use Rattle.edn.specs.declared.refusal.Refusal.TheVariants.{NotOpen, TapeFull, NoMemory, Stale}
+use Rattle.edn.specs.declared.refusal.Refusal.TheVariants.{NotOpen, Stale}
 use Rattle.clients.specs.declared.client.Next.{Next}
 use Rattle.clients.specs.declared.client.Next.TheVariants.{Draw, End}
 use Rattle.clients.specs.Calls.{CoreSeat, Calls, HasMade}
-use Rattle.clients.specs.Plays.{Stage, draws, has_ended, Plays, HasPlayed}
+use Rattle.clients.specs.Plays.{Stage, draws, has_ended, Plays, HasPlayed, IsOfRun}
 
--- such a refusal may come without a call
-abbrev pub MayBeLost : Option Refusal → Type 0
-MayBeLost (Some TapeFull) = Unit {0}
-MayBeLost (Some NoMemory) = Unit {0}
-MayBeLost why = ⊥
+-- the run is refused for it
+abbrev pub RefusesRun : Option Refusal → Type 0
+RefusesRun (Some why) = IsOfRun why
+RefusesRun None = ⊥
 
 -- that is what follows a refusal
 abbrev pub IsAfterRefusal : Refusal → Next → Type 0
@@ -19,10 +18,10 @@ IsAfterRefusal NotOpen next = next ≡ Draw
 IsAfterRefusal Stale next = next ≡ Draw
 IsAfterRefusal why next = next ≡ End (Some why)
 
--- the client is to do this at this stage; where a command of it was no call, it ends at any
+-- the client is to do this at this stage; where the run is refused for what it met, it ends at any
 abbrev pub StandsAt : Stage → Next → Type 0
 StandsAt stage Draw = stage ≡ draws
-StandsAt stage (End why) = (stage ≡ has_ended) ⊎ MayBeLost why
+StandsAt stage (End why) = (stage ≡ has_ended) ⊎ RefusesRun why
 
 -- its calls from this stage on led to where it does this next
 abbrev pub CameFrom : ℕ → Stage → CoreSeat → CoreSeat → Next → Type 0

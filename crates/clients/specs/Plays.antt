@@ -9,12 +9,13 @@ use Rattle.machine.specs.declared.command.Reply.TheVariants.{Drawn, Pending}
 use Rattle.board.specs.CoreTape.{CoreReply}
 use Rattle.clients.specs.Calls.{CoreSeat, Calls, HasMade}
 
--- what a client does next: it draws, serves a ticket, finishes a ticket, or nothing more
+-- what a client does next: it draws, serves a ticket, finishes a ticket, or nothing more. Then it has ended, or it gave up
 pub data Stage : Type 0 where
   draws : Stage
   serves : ℕ → Stage
   finishes : ℕ → Stage
   has_ended : Stage
+  gives_up : Stage
 
 -- that is the command of the client of this thread
 abbrev pub IsNext : ℕ → Stage → Command → Type 0
@@ -22,6 +23,7 @@ IsNext thread draws command = command ≡ Draw thread
 IsNext thread (serves ticket) command = command ≡ Serve ticket
 IsNext thread (finishes ticket) command = command ≡ Finish ticket
 IsNext thread has_ended command = ⊥
+IsNext thread gives_up command = ⊥
 
 -- it serves what it drew, finishes what it served, and then draws again; so it does where there may be an operation later.
 -- Where there is none for it, it ends
@@ -32,11 +34,16 @@ after_reply draws reply = has_ended
 after_reply (serves ticket) reply = finishes ticket
 after_reply (finishes ticket) reply = draws
 after_reply has_ended reply = has_ended
+after_reply gives_up reply = gives_up
 
--- where others completed or cut its operation, it draws again. Any other refusal ends it
+-- where others completed or cut its operation, it draws again. Where the run is refused for this, it gives up. Any other refusal
+-- ends it
 abbrev pub after_refusal : Refusal → Stage
 after_refusal NotOpen = draws
 after_refusal Stale = draws
+after_refusal HistoryFull = gives_up
+after_refusal TapeFull = gives_up
+after_refusal NoMemory = gives_up
 after_refusal why = has_ended
 
 abbrev pub after_answer : Stage → CoreReply → Stage

@@ -4,6 +4,7 @@ ghost use Rattle.clients.specs.Plays.{draws, serves, finishes, after_reply};
 ghost use Rattle.clients.specs.Playing.{CameFrom, IsAfterRefusal};
 
 use crate::pauses::let_others_call;
+use crate::progress::Progress;
 use crate::shared_board::SharedBoard;
 use edn::{Gate, OpenGate, Refusal};
 use harness::{Command, Reply};
@@ -19,20 +20,22 @@ pub(crate) enum Next {
 }
 
 /// The client of a thread: it draws, serves and finishes, one operation after the other, until there is none for it or it
-/// is refused, and then gives the refusal. The gate begins before its first command and ends after the answer to that.
+/// is refused, and then gives the refusal. The gate begins before its first command and ends after the answer to that. Of each
+/// operation that it draws it notes how many events there were.
 pub(crate) fn play<M: SharedBoard, G: Gate, R: Wait>(
     rt: &R,
     board: &M,
     gate: &G,
+    progress: &Progress,
     thread: u32,
     seat: &mut M::Seat,
 ) -> Option<Refusal>
     ensures { CameFrom thread draws (M.view seat.old) (M.view seat.new) (Next.End result) }
 {
-    let mut next = take_turn(rt, board, gate, thread, seat);
+    let mut next = take_turn(rt, board, gate, progress, thread, seat);
     for _ in rt.forever() {
         match next {
-            Next::Draw => next = take_turn(rt, board, &OpenGate, thread, seat),
+            Next::Draw => next = take_turn(rt, board, &OpenGate, progress, thread, seat),
             Next::End(why) => return why,
         }
     }
@@ -44,6 +47,7 @@ fn take_turn<M: SharedBoard, G: Gate, R: Wait>(
     rt: &R,
     board: &M,
     gate: &G,
+    progress: &Progress,
     thread: u32,
     seat: &mut M::Seat,
 ) -> Next
@@ -53,17 +57,26 @@ fn take_turn<M: SharedBoard, G: Gate, R: Wait>(
     let drawn = board.call(rt, seat, Command::Draw(thread));
     gate.end(thread);
     match drawn {
-        Ok(reply) => carry_out(rt, board, seat, reply),
+        Ok(reply) => carry_out(rt, board, progress, seat, reply),
         Err(why) => after_refusal(why),
     }
 }
 
 // Serves and finishes what was drawn. Where it may draw later, it lets others go on.
-fn carry_out<M: SharedBoard, R: Wait>(rt: &R, board: &M, seat: &mut M::Seat, drawn: Reply) -> Next
+fn carry_out<M: SharedBoard, R: Wait>(
+    rt: &R,
+    board: &M,
+    progress: &Progress,
+    seat: &mut M::Seat,
+    drawn: Reply,
+) -> Next
     ensures { (thread : ℕ) → CameFrom thread (after_reply draws drawn) (M.view seat.old) (M.view seat.new) result }
 {
     match drawn {
-        Reply::Drawn { ticket, .. } => serve_and_finish(rt, board, seat, ticket),
+        Reply::Drawn { ticket, index } => {
+            progress.note(index);
+            serve_and_finish(rt, board, seat, ticket)
+        }
         Reply::Pending => {
             let_others_call(board, seat, 1);
             Next::Draw

@@ -5,10 +5,13 @@
 mod client;
 pub mod laws;
 mod pauses;
+mod progress;
 mod run;
 mod shared_board;
 mod striking;
+mod watch;
 mod whole_run;
 
 pub use run::run_clients;
+pub use watch::{NoWatch, Watch};
 pub use whole_run::{run_on, run_trial};

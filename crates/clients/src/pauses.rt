@@ -11,12 +11,22 @@ const TURNS: u32 = 1000;
 pub(crate) fn let_others_call<M: SharedBoard>(board: &M, seat: &mut M::Seat, calls: u64)
     ensures { MadeNone (M.view seat.old) (M.view seat.new) }
 {
-    let before = board.commit(seat);
+    let before = calls_made(board, seat);
     for _ in 0..TURNS {
         thread::yield_now();
-        let now = board.commit(seat);
+        let now = calls_made(board, seat);
         if now.saturating_sub(before) >= calls {
             return;
         }
+    }
+}
+
+// How many calls had been made, by what was last published.
+fn calls_made<M: SharedBoard>(board: &M, seat: &mut M::Seat) -> u64
+    ensures { MadeNone (M.view seat.old) (M.view seat.new) }
+{
+    match board.glance(seat) {
+        Some(glance) => glance.commit,
+        None => 0,
     }
 }

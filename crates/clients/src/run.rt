@@ -2,16 +2,17 @@
 ghost use Rattle.std.specs.Prelude.{◌≡◌, ◌<◌, ◌≤◌, ◌^◌, ◌++◌, ◌∷◌, [], None, length, map, IfOk, IfErr, IfSome};
 ghost use Rattle.std.specs.List.{All, enumerate_from};
 ghost use Rattle.clients.specs.Plays.{HasPlayed, HasStruck, HaveRun, IsOfRun};
-ghost use Rattle.clients.specs.Playing.{HavePlayed, MayBeLost};
+ghost use Rattle.clients.specs.Playing.{HavePlayed, RefusesRun};
 
 use crate::client::play;
+use crate::progress::Progress;
 use crate::shared_board::SharedBoard;
 use crate::striking::strike;
+use crate::watch::Watch;
 use board::{Board, Seat, Tag};
 use edn::{Gate, Refusal};
 use std::alloc::{AllocError, Global};
 use std::sync::Wait;
-use std::sync::atomic::{AtomicBool, Ordering};
 use std::thread;
 use std::thread::{Threads, join};
 
@@ -28,7 +29,8 @@ struct Ended<S> {
 /// A client draws, serves and finishes, one operation after the other, until there is none for it; where others completed
 /// or cut its operation, it draws again, and where there may be one later, it lets others go on before that. The nemesis
 /// strikes until all clients have ended; where no fault is due, it lets others make some calls first. The gate begins by the
-/// place of a client before its first command, and ends after the answer to that; it is called outside the lock.
+/// place of a client before its first command, and ends after the answer to that; it is called outside the lock. The watch is
+/// told how far the run has come, where it wants to know, by glances from the nemesis's seat: they take no lock.
 ///
 /// A client whose thread can't be started runs in the thread that was to start it, and so does the nemesis, once the clients
 /// have ended, which leaves its seat unused.
@@ -36,27 +38,34 @@ struct Ended<S> {
 /// # Errors
 /// [`Refusal::HistoryFull`], [`Refusal::TapeFull`] or [`Refusal::NoMemory`], where a seat met it: that of the lowest place.
 /// And `NoMemory` where a growth was refused. The seats are then dropped. Any other refusal ends the seat's own part alone.
-pub fn run_clients<B: Tag + Send + Sync, G: Gate + Sync, R: Threads + Wait + Sync>(
+pub fn run_clients<
+    B: Tag + Send + Sync,
+    G: Gate + Sync,
+    W: Watch + Send + Drop,
+    R: Threads + Wait + Sync,
+>(
     rt: &R,
     alloc: Global,
     board: &Board<B>,
     seats: Vec<Seat<B>>,
     gate: &G,
+    watch: W,
 ) -> Result<Vec<Seat<B>>, Refusal>
     requires { (1 ≤ length seats.items) × (length seats.items ≤ 64) }
     ensures back { IfOk result (λ back. HaveRun (λ seat. seat) seats.items back.items) }
     ensures refused { IfErr result IsOfRun }
 {
-    run_all(rt, alloc, board, seats, gate)
+    run_all(rt, alloc, board, seats, gate, watch)
 }
 
 // Clients on all seats but the last, which is the nemesis's.
-fn run_all<M: SharedBoard + Sync, G: Gate + Sync, R: Threads + Wait + Sync>(
+fn run_all<M: SharedBoard + Sync, G: Gate + Sync, W: Watch + Send + Drop, R: Threads + Wait + Sync>(
     rt: &R,
     alloc: Global,
     board: &M,
     seats: Vec<M::Seat>,
     gate: &G,
+    watch: W,
 ) -> Result<Vec<M::Seat>, Refusal>
 where
     M::Seat: Send + Drop,
@@ -67,18 +76,18 @@ where
     let mut clients = seats;
     let last = clients.pop().unwrap();
     let clients = numbered(alloc, clients)?;
-    let over = AtomicBool::new(false);
-    let ended = &over;
+    let started = Progress::new();
+    let progress = &started;
     let strike = move || -> Ended<M::Seat>
         ensures struck { HasStruck (M.view last) (M.view result.seat) }
         ensures refused { IfSome result.why IsOfRun }
-    { strike_with(rt, board, last, ended) };
+    { strike_with(rt, board, progress, watch, last) };
     let play = move || -> Result<Vec<Ended<M::Seat>>, AllocError>
         requires { All (λ client. client.0 < 2 ^ 32) clients.items }
         ensures played { IfOk result (λ all.
             HavePlayed M.view (λ ended. ended.seat) (λ ended. ended.why) clients.items all.items) }
         ensures refused { IfOk result (λ all. All (λ ended. IfSome ended.why IsOfRun) all.items) }
-    { play_all(rt, board, clients, gate, ended) };
+    { play_all(rt, board, clients, gate, progress) };
     let (struck, played) = join(rt, strike, play);
     come_back(alloc, played?, struck)
 }
@@ -114,18 +123,21 @@ fn numbered<S: Drop>(alloc: Global, seats: Vec<S>) -> Result<Vec<(usize, S)>, Al
     seats.into_iter().enumerate().collect(alloc)
 }
 
-// The nemesis, with its seat.
-fn strike_with<M: SharedBoard, R: Wait>(
+// The nemesis, with its seat and a watch.
+fn strike_with<M: SharedBoard, W: Watch, R: Wait>(
     rt: &R,
     board: &M,
+    progress: &Progress,
+    watch: W,
     seat: M::Seat,
-    ended: &AtomicBool,
 ) -> Ended<M::Seat>
     ensures struck { HasStruck (M.view seat) (M.view result.seat) }
     ensures refused { IfSome result.why IsOfRun }
 {
     let mut seat = seat;
-    let why = strike(rt, board, &mut seat, ended);
+    let mut watch = watch;
+    let why = strike(rt, board, progress, &mut watch, &mut seat);
+    watch.end();
     Ended {
         seat,
         why: of_run(why),
@@ -137,6 +149,7 @@ fn play_with<M: SharedBoard, G: Gate, R: Wait>(
     rt: &R,
     board: &M,
     gate: &G,
+    progress: &Progress,
     client: (usize, M::Seat),
 ) -> Ended<M::Seat>
     requires { client.0 < 2 ^ 32 }
@@ -144,7 +157,7 @@ fn play_with<M: SharedBoard, G: Gate, R: Wait>(
     ensures refused { IfSome result.why IsOfRun }
 {
     let (thread, mut seat) = client;
-    let why = play(rt, board, gate, thread as u32, &mut seat);
+    let why = play(rt, board, gate, progress, thread as u32, &mut seat);
     Ended {
         seat,
         why: of_run(why),
@@ -154,7 +167,7 @@ fn play_with<M: SharedBoard, G: Gate, R: Wait>(
 // The refusal, where it is one that a run is refused for: a full history, a full tape, or want of memory.
 fn of_run(why: Option<Refusal>) -> Option<Refusal>
     ensures refused { IfSome result IsOfRun }
-    ensures none { result ≡ None → ¬ MayBeLost why }
+    ensures none { result ≡ None → ¬ RefusesRun why }
 {
     let why = why?;
     match why {
@@ -169,7 +182,7 @@ fn play_all<M: SharedBoard + Sync, G: Gate + Sync, R: Threads + Wait + Sync>(
     board: &M,
     clients: Vec<(usize, M::Seat)>,
     gate: &G,
-    ended: &AtomicBool,
+    progress: &Progress,
 ) -> Result<Vec<Ended<M::Seat>>, AllocError>
 where
     M::Seat: Send + Drop,
@@ -182,9 +195,9 @@ where
         requires { client.0 < 2 ^ 32 }
         ensures played { result.why ≡ None → HasPlayed client.0 (M.view client.1) (M.view result.seat) }
         ensures refused { IfSome result.why IsOfRun }
-    { play_with(rt, board, gate, client) };
+    { play_with(rt, board, gate, progress, client) };
     let played = thread::map_vec(rt, clients, &play);
-    ended.store(true, Ordering::SeqCst);
+    progress.end();
     played
 }
 

@@ -1,7 +1,7 @@
 //! A board, as threads see it that share it.
 ghost use Rattle.clients.specs.Calls.{CoreSeat, MadeNone, IsTold};
 
-use board::{Board, Seat, Tag};
+use board::{Board, Glance, Seat, Tag};
 use edn::Refusal;
 use harness::{Command, Reply};
 use std::sync::Wait;
@@ -21,8 +21,8 @@ pub trait SharedBoard {
     ) -> Result<Reply, Refusal>
         ensures { IsTold (view seat.old) command result (view seat.new) };
 
-    /// How many calls had been made, by what was last published. It takes no lock and waits for nobody.
-    fn commit(&self, seat: &mut Self::Seat) -> u64
+    /// What was last published, if it can be seen. It takes no lock and waits for nobody.
+    fn glance(&self, seat: &mut Self::Seat) -> Option<Glance>
         ensures { MadeNone (view seat.old) (view seat.new) };
 }
 
@@ -43,10 +43,7 @@ impl<B: Tag> SharedBoard for Board<B> {
         }
     }
 
-    fn commit(&self, seat: &mut Seat<B>) -> u64 {
-        match self.glance(seat) {
-            Some(glance) => glance.commit,
-            None => 0,
-        }
+    fn glance(&self, seat: &mut Seat<B>) -> Option<Glance> {
+        Board::glance(self, seat)
     }
 }

@@ -1,34 +1,38 @@
 //! What the nemesis does.
+ghost use Rattle.clients.specs.Calls.{MadeNone};
 ghost use Rattle.clients.specs.Plays.{HasStruck};
 
 use crate::pauses::let_others_call;
+use crate::progress::Progress;
 use crate::shared_board::SharedBoard;
+use crate::watch::Watch;
 use edn::Refusal;
 use harness::Command;
 use std::sync::Wait;
-use std::sync::atomic::{AtomicBool, Ordering};
 
 // The calls of others between two tries, where no fault was due. So it takes few of the turns at the lock, and a fault strikes
 // some events late at most.
 const CALLS: u64 = 8;
 
 /// Has the nemesis strike until the clients have ended, or until it is refused, and then gives the refusal. Where no fault is
-/// due, others go on before the next try.
-pub(crate) fn strike<M: SharedBoard, R: Wait>(
+/// due, others go on before the next try. Between two tries it tells the watch, where that wants to know.
+pub(crate) fn strike<M: SharedBoard, W: Watch, R: Wait>(
     rt: &R,
     board: &M,
+    progress: &Progress,
+    watch: &mut W,
     seat: &mut M::Seat,
-    ended: &AtomicBool,
 ) -> Option<Refusal>
     ensures { HasStruck (M.view seat.old) (M.view seat.new) }
 {
     for _ in rt.forever() {
-        if ended.load(Ordering::SeqCst) {
+        if progress.has_ended() {
             return None;
         }
         if let Some(why) = try_once(rt, board, seat) {
             return Some(why);
         }
+        tell(board, progress, watch, seat);
     }
     unreachable!()
 }
@@ -44,5 +48,16 @@ fn try_once<M: SharedBoard, R: Wait>(rt: &R, board: &M, seat: &mut M::Seat) -> O
             None
         }
         Err(why) => Some(why),
+    }
+}
+
+// Tells the watch how far the run has come, where it wants to know and a glance shows it.
+fn tell<M: SharedBoard, W: Watch>(board: &M, progress: &Progress, watch: &mut W, seat: &mut M::Seat)
+    ensures { MadeNone (M.view seat.old) (M.view seat.new) }
+{
+    if watch.wants() {
+        if let Some(glance) = board.glance(seat) {
+            watch.told(progress.events(), glance.verdict);
+        }
     }
 }

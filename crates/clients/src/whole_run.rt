@@ -1,18 +1,18 @@
 //! Whole runs: a board is opened, clients run on its seats, and it is ended.
-ghost use Rattle.std.specs.Prelude.{◌≡◌, ◌≤◌, ◌-◌, ℕ, IfOk, IfErr, OnOk};
+ghost use Rattle.std.specs.Prelude.{◌≡◌, ◌⊎◌, ◌+◌, ◌≤◌, ◌-◌, ℕ, IfOk, IfErr, OnOk};
 ghost use Rattle.history.specs.Events.{marks};
 ghost use Rattle.linspec.specs.Orders.{IsLinearizable, product};
 ghost use Rattle.linspec.specs.declared.verdict.Verdict.{Verdict};
 ghost use Rattle.test_store.specs.declared.outcome.Mode.TheVariants.{Strict};
 ghost use Rattle.monitor.specs.JudgedHistory.{kind_of, entries_in, IsVerdictOn};
 ghost use Rattle.machine.specs.Machine.{opening};
-ghost use Rattle.harness.specs.CoreView.{at_rest};
 ghost use Rattle.harness.specs.Setups.{setup_of, IsSetup};
 ghost use Rattle.board.specs.CoreTape.{MayNotBegin};
 ghost use Rattle.clients.specs.Runs.{IsRun, MayNotRun};
 
 use crate::laws::{no_false_alarm_in_a_run, trials_alone};
 use crate::run::run_clients;
+use crate::watch::Watch;
 use board::{Blank, Tag};
 use edn::{Gate, OpenGate, Refusal};
 use harness::{Config, Core};
@@ -22,17 +22,18 @@ use std::sync::Wait;
 use std::thread::Threads;
 
 /// Opens a board as configured, with a seat for the client of each thread and one for the nemesis, runs them to their end, and
-/// gives the object to which the board's one tape leads.
+/// gives the object to which the board's one tape leads. The watch is told meanwhile how far the run has come.
 ///
 /// Where the store is strict, its history is linearizable over all keys together, whatever clients and faults did, in any
 /// interleaving: an illegal verdict would be a false alarm.
 ///
 /// # Errors
 /// Those of [`Blank::new`] for as many seats; else those of [`run_clients`], or [`Refusal::NoSeat`].
-pub fn run_trial<R: Threads + Wait + Sync>(
+pub fn run_trial<W: Watch + Send + Drop, R: Threads + Wait + Sync>(
     rt: &R,
     alloc: Global,
     config: Config,
+    watch: W,
 ) -> Result<Core, Refusal>
     ensures limits { OnOk result (IsSetup (setup_of config)) }
     ensures run { IfOk result (λ core. IsRun config.concurrency (opening (setup_of config)) core.machine) }
@@ -40,24 +41,26 @@ pub fn run_trial<R: Threads + Wait + Sync>(
         IsLinearizable (product (kind_of core.machine.judged)) (marks (entries_in core.machine.judged))) }
     ensures never_illegal { config.mode ≡ Strict → IfOk result (λ core.
         (key index : ℕ) → ¬ IsVerdictOn core.machine.judged (Verdict.Illegal key index)) }
+    ensures refused { IfErr result (λ why.
+        MayNotBegin config (config.concurrency + 1) why ⊎ MayNotRun why) }
 {
     no_false_alarm_in_a_run();
     let seats = config.concurrency.saturating_add(1);
     let blank = Blank::new(alloc, config, seats)?;
-    run_on::<Brand, OpenGate, R>(rt, alloc, blank, &OpenGate)
+    run_on::<Brand, OpenGate, W, R>(rt, alloc, blank, &OpenGate, watch)
 }
 
-/// Opens a board by its tag, runs clients and the nemesis on its seats, with a gate, and gives the object to which its one
-/// tape leads.
+/// Opens a board by its tag, runs clients and the nemesis on its seats, with a gate and a watch, and gives the object to which
+/// its one tape leads.
 ///
 /// # Errors
 /// Those of [`run_clients`], or [`Refusal::NoSeat`] where the published copy gave a seat no place.
-pub fn run_on<B: Tag + Send + Sync, G: Gate + Sync, R: Threads + Wait + Sync>(
-    rt: &R,
-    alloc: Global,
-    blank: Blank,
-    gate: &G,
-) -> Result<Core, Refusal>
+pub fn run_on<
+    B: Tag + Send + Sync,
+    G: Gate + Sync,
+    W: Watch + Send + Drop,
+    R: Threads + Wait + Sync,
+>(rt: &R, alloc: Global, blank: Blank, gate: &G, watch: W) -> Result<Core, Refusal>
     requires names { (blank.word ≡ B.word) × (blank.ledger.name ≡ B.name)
         × (blank.ledger.parts ≡ B.parts) }
     requires seats { (1 ≤ blank.seats) × (blank.seats ≤ 64) }
@@ -66,7 +69,7 @@ pub fn run_on<B: Tag + Send + Sync, G: Gate + Sync, R: Threads + Wait + Sync>(
 {
     trials_alone();
     let (board, seats) = blank.open::<B>()?;
-    match run_clients(rt, alloc, &board, seats, gate) {
+    match run_clients(rt, alloc, &board, seats, gate, watch) {
         Ok(back) => Ok(board.end(rt, back)),
         Err(why) => {
             board.end(rt, Vec::new(alloc));

@@ -1,12 +1,14 @@
 //! Commands that are refused. Each leaves history and verdict as they were, and the commands after it are answered as
 //! without it.
-use crate::answers::{Row, Said, first_other};
+use crate::answers::{Row, Said, events_are, first_other};
 use crate::setups::Ask::{
     Budget, Draw, Event, Finish, Nemesis, Numbered, Ok as OkOf, Rewind, Serve, Verdict,
 };
 use crate::setups::{Plain, calm, faulty};
 use edn::Refusal;
 use history::EventKind::{Fail as Failed, Info, Invoke, Ok as Done};
+use history::Process::Client;
+use history::{EventKind, Process};
 use std::alloc::Global;
 use std::test::Fail;
 use test_store::Mode;
@@ -35,7 +37,7 @@ fn threads_that_may_not_draw(rt: HostRuntime) -> Result<(), Fail> {
     Ok(())
 }
 
-const COMPLETED: [Row; 13] = [
+const FINISH_AFTER_OK: [Row; 7] = [
     (Draw(0), Said::Drawn(0, 0)),
     (Serve(0), Said::Done),
     (Event(0, Done), Said::Legal),
@@ -43,26 +45,51 @@ const COMPLETED: [Row; 13] = [
     (Rewind(1), Said::Legal),
     (Finish(0), Said::Legal),
     (Finish(0), Said::Refused(3)),
-    (Draw(0), Said::Drawn(1, 2)),
-    (Event(0, Failed), Said::Legal),
-    (Serve(1), Said::Refused(3)),
-    (Finish(1), Said::Refused(15)),
-    (Rewind(3), Said::Legal),
-    (Serve(1), Said::Done),
 ];
 
-// The operation was completed by an event that was handed in. A cut of that event alone opens it again.
-fn completed_by_another_row(alloc: Global) -> Result<bool, Refusal> {
+const FINISHED: [(EventKind, Process); 2] = [(Invoke, Client(0)), (Done, Client(0))];
+
+// The ok of a served operation was handed in, so its ticket is not finished. A cut of that event alone opens the operation
+// again, and then the ticket is finished, once.
+fn finish_after_foreign_ok_row(alloc: Global) -> Result<bool, Refusal> {
     let mut core = calm(alloc, &[Some(5)])?;
-    if first_other(&mut core, &COMPLETED).is_some() {
+    if first_other(&mut core, &FINISH_AFTER_OK).is_some() {
+        return Ok(false);
+    }
+    if !events_are(&core, &FINISHED) {
         return Ok(false);
     }
     Ok(true)
 }
 
 #[test]
-fn completed_by_another(rt: HostRuntime) -> Result<(), Fail> {
-    assert!(rt; completed_by_another_row(rt.alloc())?);
+fn finish_after_foreign_ok(rt: HostRuntime) -> Result<(), Fail> {
+    assert!(rt; finish_after_foreign_ok_row(rt.alloc())?);
+    Ok(())
+}
+
+const SERVE_AFTER_FAIL: [Row; 6] = [
+    (Draw(0), Said::Drawn(0, 0)),
+    (Event(0, Failed), Said::Legal),
+    (Serve(0), Said::Refused(3)),
+    (Finish(0), Said::Refused(15)),
+    (Rewind(1), Said::Legal),
+    (Serve(0), Said::Done),
+];
+
+// The fail of an operation that no one has served was handed in: the store does not carry it out, and there is nothing to
+// finish. A cut of that event alone opens it again.
+fn serve_after_foreign_fail_row(alloc: Global) -> Result<bool, Refusal> {
+    let mut core = calm(alloc, &[Some(5)])?;
+    if first_other(&mut core, &SERVE_AFTER_FAIL).is_some() {
+        return Ok(false);
+    }
+    Ok(true)
+}
+
+#[test]
+fn serve_after_foreign_fail(rt: HostRuntime) -> Result<(), Fail> {
+    assert!(rt; serve_after_foreign_fail_row(rt.alloc())?);
     Ok(())
 }
 

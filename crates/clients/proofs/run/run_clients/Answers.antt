@@ -10,5 +10,5 @@ run_all-requires-sync-M g c κs within =
 
 pub run_all-requires-send-M-Seat : goal.run_all-requires-send-M-Seat
 run_all-requires-send-M-Seat g c κs within =
-    let s = param_send 3 _ (seat_send g.row.B g.B.Tag g.B.Ledger g.B.Tag-dict g.B.Tag-dict) in
+    let s = param_send 4 _ (seat_send g.row.B g.B.Tag g.B.Ledger g.B.Tag-dict g.B.Tag-dict) in
     record { owned = s.owned; leaving = s.leaving }

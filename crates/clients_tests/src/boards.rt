@@ -1,0 +1,81 @@
+//! Boards whose clients write and read one key.
+ghost use Rattle.std.specs.Prelude.{◌≡◌};
+
+use board::Blank;
+use edn::Refusal;
+use generators::{Cycle, Gen, Item};
+use harness::{Command, Config};
+use history::{Body, Event, EventKind, Process};
+use models::{ModelKind, Name, Op, Part};
+use std::alloc::Global;
+use std::process::Abort;
+use std::sync::atomic::{AtomicBool, Ordering};
+use std::thread;
+
+/// The turns that a thread waits for another.
+pub const TURNS: u32 = 1_000_000;
+
+/// Whether another thread sets the flag within so many turns.
+pub fn comes(flag: &AtomicBool) -> bool {
+    for _ in 0..TURNS {
+        if flag.load(Ordering::SeqCst) {
+            return true;
+        }
+        thread::yield_now();
+    }
+    false
+}
+
+fn item(name: Name, part: Part) -> Item {
+    Item::Op(Op { name, key: 0, part })
+}
+
+pub fn read() -> Item {
+    item(Name::Read, Part::Nil)
+}
+
+pub fn write() -> Item {
+    item(Name::Write, Part::Int(1))
+}
+
+/// An event of a write by process 0, which is handed in.
+pub fn append_write(kind: EventKind) -> Command {
+    Command::Append(Event {
+        index: None,
+        kind,
+        process: Process::Client(0),
+        body: Body::Op(Op {
+            name: Name::Write,
+            key: 0,
+            part: Part::Int(1),
+        }),
+    })
+}
+
+// So many operations, which are these in turn.
+fn config(alloc: Global, operations: u64, items: Vec<Item>) -> Result<Config, Refusal> {
+    let child = Box::new(alloc, Gen::Ops(Cycle::new(items)))?;
+    Ok(Config {
+        generator: Gen::Limit(operations, child),
+        ..Config::to_judge(alloc, 2, ModelKind::Register, 4096)
+    })
+}
+
+/// A board of two threads and so many seats, whose clients draw so many operations, which are these in turn.
+pub fn blank<R: Abort>(
+    rt: &R,
+    alloc: Global,
+    seats: u32,
+    operations: u64,
+    items: Vec<Item>,
+) -> Blank
+    ensures { result.seats ≡ seats }
+{
+    let Ok(config) = config(alloc, operations, items) else {
+        panic!(rt; "no memory")
+    };
+    match Blank::new(alloc, config, seats) {
+        Ok(blank) => blank,
+        Err(_) => panic!(rt; "no board"),
+    }
+}

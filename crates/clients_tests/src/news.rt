@@ -1,0 +1,90 @@
+//! News from one thread to another.
+ghost use Rattle.std.specs.Prelude.{◌≡◌};
+
+use crate::boards::{append_write, blank};
+use crate::shared::SharedBoard;
+use board::{Blank, Tag};
+use harness::Command;
+use history::EventKind;
+use std::marker::Brand;
+use std::process::Abort;
+use std::sync::Wait;
+use std::thread::{Threads, join};
+
+// Two events in a thread, the second of which makes news.
+fn append_there<M: SharedBoard, R: Wait>(
+    rt: &R,
+    board: &M,
+    mut seat: M::Seat,
+) -> (M::Seat, Option<(u64, M::News)>) {
+    board.call(rt, &mut seat, append_write(EventKind::Invoke));
+    let told = board.tell(rt, &mut seat, append_write(EventKind::Ok));
+    (seat, told)
+}
+
+// What a glance shows after the news, and the commit of a call after that.
+fn learn_there<M: SharedBoard, R: Wait>(
+    rt: &R,
+    board: &M,
+    mut seat: M::Seat,
+    news: M::News,
+) -> (M::Seat, Option<u64>, Option<u64>)
+where
+    M::News: Drop,
+{
+    let shown = board.glance_after(&mut seat, news);
+    let called = board.tell(rt, &mut seat, Command::Verdict);
+    let commit = match called {
+        Some((commit, _news)) => Some(commit),
+        None => None,
+    };
+    (seat, shown, commit)
+}
+
+// The news of one thread go to another.
+fn tell_across<M: SharedBoard + Sync, R: Threads + Wait + Sync>(
+    rt: &R,
+    board: &M,
+    first: M::Seat,
+    second: M::Seat,
+) -> (M::Seat, M::Seat, Option<(u64, Option<u64>, Option<u64>)>)
+where
+    M::Seat: Send + Drop,
+    M::News: Send + Drop,
+{
+    let ((first, told), ()) = join(rt, move || append_there(rt, board, first), || ());
+    let Some((commit, news)) = told else {
+        return (first, second, None);
+    };
+    let ((second, shown, called), ()) = join(
+        rt,
+        move || learn_there(rt, board, second, news),
+        || (),
+    );
+    (first, second, Some((commit, shown, called)))
+}
+
+/// A seat that learns news in another thread sees by its next glance what the caller had seen, and its next call comes
+/// after that.
+#[test]
+fn news_between_threads(rt: HostRuntime) {
+    let alloc = rt.alloc();
+    tell::<Brand, _>(&rt, blank(&rt, alloc, 2, 0, Vec::new(alloc)));
+}
+
+fn tell<B: Tag + Send + Sync, R: Threads + Wait + Abort + Sync>(rt: &R, blank: Blank)
+    requires names { (blank.word ≡ B.word) × (blank.ledger.name ≡ B.name)
+        × (blank.ledger.parts ≡ B.parts) }
+    requires seats { blank.seats ≡ 2 }
+{
+    let Ok((board, mut seats)) = blank.open::<B>() else {
+        panic!(rt; "not opened")
+    };
+    let second = seats.pop().unwrap();
+    let first = seats.pop().unwrap();
+    let (first, second, told) = tell_across(rt, &board, first, second);
+    let kept = seats.push(first).is_ok() && seats.push(second).is_ok();
+    board.end(rt, seats);
+    assert!(rt; kept);
+    assert_eq!(rt; told, Some((2, Some(2), Some(3))));
+}

@@ -1,0 +1,55 @@
+//! A board, as threads see it that share it.
+use board::{Board, News, Seat, Tag};
+use edn::Refusal;
+use harness::{Command, Reply};
+use std::sync::Wait;
+
+/// What a call was answered: its commit and its reply.
+pub type Heard = (u64, Result<Reply, Refusal>);
+
+/// A board that threads share, each by a seat of its own.
+pub trait SharedBoard {
+    type Seat;
+
+    type News;
+
+    /// The commit and the reply of a command; None where the call is no entry.
+    fn call<R: Wait>(&self, rt: &R, seat: &mut Self::Seat, command: Command) -> Option<Heard>;
+
+    /// The commit of a command, and its news.
+    fn tell<R: Wait>(
+        &self,
+        rt: &R,
+        seat: &mut Self::Seat,
+        command: Command,
+    ) -> Option<(u64, Self::News)>;
+
+    /// What a glance shows, once the seat has learned the news.
+    fn glance_after(&self, seat: &mut Self::Seat, news: Self::News) -> Option<u64>;
+}
+
+impl<B: Tag> SharedBoard for Board<B> {
+    type Seat = Seat<B>;
+
+    type News = News<B>;
+
+    fn call<R: Wait>(&self, rt: &R, seat: &mut Seat<B>, command: Command) -> Option<Heard> {
+        let answered = Board::call(self, rt, seat, command).ok()?;
+        Some((answered.commit, answered.reply))
+    }
+
+    fn tell<R: Wait>(
+        &self,
+        rt: &R,
+        seat: &mut Seat<B>,
+        command: Command,
+    ) -> Option<(u64, News<B>)> {
+        let answered = Board::call(self, rt, seat, command).ok()?;
+        Some((answered.commit, answered.news))
+    }
+
+    fn glance_after(&self, seat: &mut Seat<B>, news: News<B>) -> Option<u64> {
+        seat.learn(news);
+        Some(Board::glance(self, seat)?.commit)
+    }
+}
