@@ -18,7 +18,7 @@ use Rattle.models.specs.Names.{name_of, Finds}
 use Rattle.history.specs.declared.event.Event.{Event}
 use Rattle.history.specs.Spelling.{Spells, WhyUnspelled}
 use Rattle.machine.specs.declared.command.Command.{Command}
-use Rattle.machine.specs.declared.command.Command.TheVariants.{Append, Rewind, SetModel, SetBudget, Verdict, Draw, Serve, Finish, Nemesis}
+use Rattle.machine.specs.declared.command.Command.TheVariants.{Append, Rewind, SetBudget, Draw, Serve, Finish, Nemesis}
 use Rattle.jepmon.specs.Command.{verdict_by, rewind_to, rewind_by, kind_named, kind_in, key_in, model_of, model_by, budget_for, budget_by, command_named, command_headed, vector_command, Appends, ElementAsks, AskFor, Asks}
 
 -- arguments that are too few or too many

@@ -9,7 +9,7 @@ use Rattle.edn.specs.declared.refusal.Refusal.{Refusal}
 use Rattle.edn.specs.declared.refusal.Refusal.TheVariants.{BadValue, NoMemory}
 use Rattle.history.specs.declared.event.Event.{Event}
 use Rattle.history.specs.Spelling.{Spells}
-use Rattle.machine.specs.Machine.{Machine, Setup, MayStep, opening}
+use Rattle.machine.specs.Machine.{Machine, Setup, MayStep, Takes, appended, opening}
 use Rattle.harness.specs.Setups.{MayNotOpen}
 use Rattle.monitor.specs.JudgedHistory.{IsVerdictOn}
 use Rattle.machine.specs.declared.command.Command.TheVariants.{Append}
@@ -20,7 +20,7 @@ use Rattle.jepmon.specs.ExitStatus.{status_of}
 use Rattle.jepmon.specs.declared.recorded.Findings.{Findings}
 use Rattle.jepmon.specs.declared.recorded.Findings.TheVariants.{Judged, RefusedEvent, Refused}
 
--- the element spells an event, which the machine takes
+-- the element spells an event, which the machine takes, and says a verdict
 abbrev pub TakesElement : Machine → Value → Machine → Type 0
 TakesElement old v new = (event : Event) × (reply : Reply) × Spells v event × MayStep old (Append event) (Ok reply) new
 
@@ -35,7 +35,16 @@ abbrev pub TakesAll : Machine → Values → Machine → Type 0
 TakesAll old none new = new ≡ old
 TakesAll old (more v vs) new = (mid : Machine) × TakesElement old v mid × TakesAll mid vs new
 
--- the bytes are a text; its first i elements are taken, and the next one is refused for this
+-- the element spells an event, which the machine admits: with it the machine is the new one
+abbrev pub AdmitsElement : Machine → Value → Machine → Type 0
+AdmitsElement old v new = (event : Event) × Spells v event × Takes old event × (new ≡ appended event old)
+
+-- the machine admits all of them, in turn
+abbrev pub AdmitsAll : Machine → Values → Machine → Type 0
+AdmitsAll old none new = new ≡ old
+AdmitsAll old (more v vs) new = (mid : Machine) × AdmitsElement old v mid × AdmitsAll mid vs new
+
+-- the bytes are a text; its first i elements are admitted, and the next one is refused for this. No verdict is said of them
 pub record IsRefusedAt (setup : Setup) (bytes : List ℕ) (i : ℕ) (why : Refusal) : Type 0 where
   pub taken : Values
   pub next : Value
@@ -43,7 +52,7 @@ pub record IsRefusedAt (setup : Setup) (bytes : List ℕ) (i : ℕ) (why : Refus
   pub text : IsText bytes (joined taken (more next later))
   pub counted : count_of taken ≡ i
   pub machine : Machine
-  pub takes : TakesAll (opening setup) taken machine
+  pub admits : AdmitsAll (opening setup) taken machine
   pub refuses : RefusesElement machine next why
 
 -- the bytes are a text; all its elements are taken

@@ -1,5 +1,5 @@
 //! A recorded history, from its bytes to the text that says what it comes to.
-ghost use Rattle.std.specs.Prelude.{◌≡◌, ◌⊎◌, false};
+ghost use Rattle.std.specs.Prelude.{◌≡◌, ◌≤◌, ◌⊎◌, false};
 ghost use Rattle.jepmon.specs.declared.recorded.Findings.{Findings};
 ghost use Rattle.harness.specs.Setups.{setup_of};
 ghost use Rattle.jepmon.specs.Checks.{Checks, IsPut, IsTold, line_or_no_memory};
@@ -14,6 +14,7 @@ use std::alloc::{AllocError, Global};
 use std::fs::Files;
 use std::io::{Read, Write};
 use std::sync::Wait;
+use std::thread::Threads;
 use std::{fs, io};
 
 // The line of want of memory, for which none may be left.
@@ -24,25 +25,26 @@ const NO_MEMORY: &[u8] = b"refused 13 NoMemory\n";
 /// That is the report, whose last line is that of the verdict; or one line: `refused NUMBER NAME event I`, where I elements
 /// were taken and the next one was refused, or `refused NUMBER NAME` for what is no element's refusal: `ReadFailed` where the
 /// reader has failed, `Unreadable` with its place, `NoMemory`. The status is that of the verdict, else 3, and 3 too where the writer has
-/// failed. The bytes are held once, and one element at a time. The onlooker is told how many events are taken on the way; the
-/// number of workers, 1 to 64, changes nothing: one thread judges.
-pub fn check_text<X: Wait, R: Read + Failed, W: Write + Failed, L: Onlooker>(
+/// failed. The bytes are held once, and one element at a time. So many workers, 1 to 64, judge the keys, and what is written
+/// is the same by any number of them. The onlooker is told on the way how many events are taken, and when they are judged.
+pub fn check_text<X: Wait + Threads + Sync, R: Read + Failed, W: Write + Failed, L: Onlooker>(
     rt: &X,
     alloc: Global,
     config: Config,
-    _workers: u32,
+    workers: u32,
     reader: &mut R,
     writer: &mut W,
     onlooker: &L,
 ) -> u8
     requires reads { R.has_failed reader.old ≡ false }
     requires writes { W.has_failed writer.old ≡ false }
+    requires workers { (1 ≤ workers) × (workers ≤ 64) }
     ensures { Checks (setup_of config)
         (R.remaining reader.old) (R.remaining reader.new) (R.has_failed reader.new)
         (W.contents writer.old) (W.contents writer.new) (W.has_failed writer.new) result }
 {
     let findings = match read_whole(rt, alloc, reader) {
-        Ok(bytes) => judge_text(alloc, config, bytes.as_slice(), onlooker),
+        Ok(bytes) => judge_text(rt, alloc, config, workers, bytes.as_slice(), onlooker),
         Err(refusal) => {
             onlooker.refused(&refusal);
             Findings::Refused(refusal)
@@ -53,7 +55,7 @@ pub fn check_text<X: Wait, R: Read + Failed, W: Write + Failed, L: Onlooker>(
 
 /// Judges the recorded history in a file: [`check_text`] of what the file has. A file that can't be opened is told as
 /// `ReadFailed`.
-pub fn check_file<X: Wait + Files, W: Write + Failed, L: Onlooker>(
+pub fn check_file<X: Wait + Threads + Files + Sync, W: Write + Failed, L: Onlooker>(
     rt: &X,
     alloc: Global,
     path: &str,
@@ -62,7 +64,8 @@ pub fn check_file<X: Wait + Files, W: Write + Failed, L: Onlooker>(
     writer: &mut W,
     onlooker: &L,
 ) -> u8
-    requires { W.has_failed writer.old ≡ false }
+    requires writes { W.has_failed writer.old ≡ false }
+    requires workers { (1 ≤ workers) × (workers ≤ 64) }
 {
     match fs::open(rt, path) {
         Ok(file) => {

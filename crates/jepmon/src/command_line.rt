@@ -5,12 +5,12 @@ ghost use Rattle.harness.specs.declared.config.Config.{Config};
 ghost use Rattle.jepmon.specs.CommandLine.{default_setup, IsWithinLimits};
 
 use crate::help;
-use crate::run_plan::RunPlan;
 use clap::error::ErrorKind;
 use clap::{Arg, ArgMatches, Command};
 use edn::Refusal;
 use harness::Config;
 use models::ModelKind;
+use run_plans::RunPlan;
 use std::alloc::{AllocError, Global};
 use test_store::Mode;
 
@@ -74,7 +74,7 @@ pub fn order_of(alloc: Global, words: &[String]) -> Result<Order, Stop>
     let mut command = program(alloc)?;
     let matches = match command.try_get_matches_from_mut(words) {
         Ok(matches) => matches,
-        Err(error) => return Err(stop_of(error)),
+        Err(error) => return Err(stop_at(alloc, words, error)),
     };
     let Some((name, options)) = matches.subcommand() else {
         return Err(usage(&mut command, "no command was given"));
@@ -346,6 +346,27 @@ fn usage(command: &mut Command, message: &str) -> Stop {
         Ok(error) => stop_of(error),
         Err(_) => Stop::Refused(Refusal::NoMemory),
     }
+}
+
+// What an error in these words is to the program. Script takes no file, and says so where it was given one.
+fn stop_at(alloc: Global, words: &[String], error: clap::Error) -> Stop {
+    if error.kind() == ErrorKind::UnknownArgument && is_script_with_file(words) {
+        return usage_of(alloc, "script", help::NO_FILE);
+    }
+    stop_of(error)
+}
+
+// Whether the words are script and, somewhere behind it, one that is neither an option nor an option's value.
+fn is_script_with_file(words: &[String]) -> bool {
+    let Some(first) = words.first() else {
+        return false;
+    };
+    first.as_str() == "script"
+        && words.windows(2).any(|pair| {
+            let before = pair[0].as_str();
+            let takes_value = before.starts_with('-') && !before.contains('=');
+            !takes_value && !pair[1].as_str().starts_with('-')
+        })
 }
 
 // What an error of the command line is to the program.

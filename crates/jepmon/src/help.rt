@@ -115,10 +115,14 @@ pub const CHECK_FORMS: &str = each_hint!(with_forms;
                      process 0 begins to write 3 to key 7",
 "Exit status: 0 legal, 1 illegal, 2 unknown, 3 refused");
 
+pub const NO_FILE: &str =
+    "script takes no file: it reads standard input, as in jepmon script < FILE; \
+jepmon check FILE judges a recorded history";
+
 pub const FILE: &str =
     "The file, or /dev/stdin; its events stand in it as in script, cut into lines or not";
 
-pub const WORKERS: &str = "Threads that judge keys, 1 to 64; for now one does it";
+pub const WORKERS: &str = "Threads that judge keys side by side, 1 to 64";
 
 pub const SEED: &str = "The seed of what clients draw, 0 to 9223372036854775807";
 

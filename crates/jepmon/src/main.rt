@@ -3,15 +3,18 @@
 //! history, and `jepmon run` what clients see of a store in the process, under faults.
 #![tactic(auto)]
 
+ghost use Rattle.std.specs.Prelude.{IfOk};
+ghost use Rattle.jepmon.specs.CommandLine.{IsWithinLimits};
+
 pub mod check;
 pub mod command;
 pub mod command_line;
 pub mod exit_status;
 mod help;
 pub mod laws;
+mod reading;
 pub mod recorded;
 pub mod run;
-pub mod run_plan;
 pub mod script;
 
 use check::check_file;
@@ -30,7 +33,9 @@ use std::process::ExitCode;
 use std::rt::Env;
 
 // The order that this program was given.
-fn order_given<R: Env + AllocGlobal>(rt: &R) -> Result<Order, Stop> {
+fn order_given<R: Env + AllocGlobal>(rt: &R) -> Result<Order, Stop>
+    ensures { IfOk result IsWithinLimits }
+{
     let alloc = rt.alloc();
     match env::args(rt) {
         Ok(words) => order_of(alloc, rest_of(alloc, words)?.as_slice()),
@@ -79,7 +84,8 @@ fn main(rt: HostRuntime) -> ExitCode {
         },
         Ok(Order::Run(config)) => {
             let mut writer = Watched::new(rt.stdout());
-            let status = run_store(&rt, alloc, config, &mut writer, &terminal);
+            let line = terminal.moving_line();
+            let status = run_store(&rt, alloc, config, &mut writer, &terminal, line);
             terminal.end();
             status
         }

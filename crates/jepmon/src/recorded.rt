@@ -1,21 +1,25 @@
 //! Recorded histories: texts whose elements are events.
-ghost use Rattle.std.specs.Prelude.{◌≡◌, ◌≢◌, ◌⊎◌, IfOk, IfErr, OnOk, string_bytes};
-ghost use Rattle.edn.specs.Value.{Values};
-ghost use Rattle.edn.specs.Text.{IsText};
-ghost use Rattle.edn.specs.View.{value_of};
-ghost use Rattle.machine.specs.Machine.{Setup, opening};
-ghost use Rattle.harness.specs.Setups.{setup_of};
-ghost use Rattle.harness.specs.CoreView.{at_rest};
+ghost use Rattle.std.specs.Prelude.{◌≡◌, ◌≤◌, ◌⊎◌, ℕ, IfOk, IfErr, OnOk, string_bytes};
+ghost use Rattle.edn.specs.Refusals.{IsWhy};
+ghost use Rattle.linspec.specs.declared.verdict.Verdict.{Verdict};
+ghost use Rattle.machine.specs.Machine.{Machine};
+ghost use Rattle.monitor.specs.JudgedHistory.{IsVerdictOn, rewound};
+ghost use Rattle.monitor.specs.Loading.{with_all, MayNotLoad};
+ghost use Rattle.harness.specs.Setups.{setup_of, MayNotOpen};
 ghost use Rattle.jepmon.specs.declared.recorded.Findings.{Findings};
-ghost use Rattle.jepmon.specs.Recorded.{TakesElement, RefusesElement, ComesTo, Finds, event_line};
+ghost use Rattle.jepmon.specs.Recorded.{ComesTo, Finds, event_line};
 
-use edn::{Edn, Elements, Refusal, check_text};
-use harness::{Command, Config, Core};
-use history::from_edn;
+use crate::reading::read_events;
+use edn::{OpenGate, Refusal};
+use harness::Config;
+use history::History;
 use linspec::Verdict;
+use models::ModelKind;
+use monitor::Monitor;
 use onlookers::Onlooker;
 use report::report;
 use std::alloc::{AllocError, Global};
+use std::thread::Threads;
 
 /// What a recorded history comes to.
 #[derive(Drop)]
@@ -31,18 +35,22 @@ pub enum Findings {
 /// Judges a text whose elements are events, in turn, up to the first that is refused.
 ///
 /// Where the bytes are no text, that is what is found, even if an element before that place would be refused. The bytes
-/// are read twice, once as a text alone and once for their elements, of which one is held at a time. The onlooker is told on
-/// the way how many are taken.
-pub fn judge_text<L: Onlooker>(
+/// are read once, and one element of them is held at a time. Where all are taken, so many workers, 1 to 64, judge the keys
+/// (see [`Monitor::load`]); the calling thread is one of them. What is found is the same by any number of them. The onlooker is
+/// told on the way how many events are taken, and when they are judged.
+pub fn judge_text<X: Threads + Sync, L: Onlooker>(
+    rt: &X,
     alloc: Global,
     config: Config,
+    workers: u32,
     bytes: &[u8],
     onlooker: &L,
 ) -> Findings
+    requires workers { (1 ≤ workers) × (workers ≤ 64) }
     ensures { ComesTo (setup_of config) bytes.now result }
 {
-    match check_text(alloc, bytes) {
-        Ok(events) => judge_elements(alloc, config, bytes, events, onlooker),
+    match found_in(rt, alloc, config, workers, bytes, onlooker) {
+        Ok(findings) => findings,
         Err(refusal) => {
             onlooker.refused_text(bytes, &refusal);
             Findings::Refused(refusal)
@@ -50,101 +58,75 @@ pub fn judge_text<L: Onlooker>(
     }
 }
 
-// The same of bytes that are a text of so many events.
-fn judge_elements<L: Onlooker>(
+// The same. What is no element's refusal is an error.
+fn found_in<X: Threads + Sync, L: Onlooker>(
+    rt: &X,
     alloc: Global,
     config: Config,
+    workers: u32,
     bytes: &[u8],
-    events: usize,
     onlooker: &L,
-) -> Findings
-    requires { (values : Values) × IsText bytes.now values }
-    ensures { ComesTo (setup_of config) bytes.now result }
+) -> Result<Findings, Refusal>
+    requires workers { (1 ≤ workers) × (workers ≤ 64) }
+    ensures found { IfOk result (ComesTo (setup_of config) bytes.now) }
+    ensures refused { IfErr result (λ why. IsWhy bytes.now why ⊎ MayNotOpen (setup_of config) why) }
 {
-    match Core::new(alloc, config) {
-        Ok(mut core) => judge_with(alloc, &mut core, bytes, events, onlooker),
-        Err(refusal) => {
+    config.check()?;
+    let mut history = History::new(alloc, config.concurrency)?;
+    match read_events(alloc, &mut history, bytes, onlooker)? {
+        None => judge_history(
+            rt,
+            alloc,
+            history,
+            config.kind,
+            config.budget,
+            workers,
+            onlooker,
+        ),
+        Some((taken, refusal)) => {
             onlooker.refused(&refusal);
-            Findings::Refused(refusal)
+            Ok(Findings::RefusedEvent(taken, refusal))
         }
     }
 }
 
-// The same by an object that was opened and has taken nothing yet.
-fn judge_with<L: Onlooker>(
+// What a whole history comes to. It is then known to have a verdict at each of its lengths.
+fn judge_history<X: Threads + Sync, L: Onlooker>(
+    rt: &X,
     alloc: Global,
-    core: &mut Core,
-    bytes: &[u8],
-    events: usize,
+    history: History,
+    kind: ModelKind,
+    budget: u32,
+    workers: u32,
     onlooker: &L,
-) -> Findings
-    requires { (values : Values) × IsText bytes.now values }
-    ensures { (setup : Setup) → core.old ≡ at_rest (opening setup)
-        → ComesTo setup bytes.now result }
+) -> Result<Findings, Refusal>
+    requires workers { (1 ≤ workers) × (workers ≤ 64) }
+    ensures found { (end : Machine)
+        → end.judged ≡ with_all history.concurrency kind budget history.events
+        → IfOk result (Finds end) }
+    ensures verdicts { OnOk result ((n : ℕ) → (v : Verdict)
+        × IsVerdictOn (rewound n (with_all history.concurrency kind budget history.events)) v) }
+    ensures refused { IfErr result (MayNotLoad budget) }
 {
-    let mut elements = Elements::new(bytes);
-    let mut taken: usize = 0;
-    'elements: loop {
-        let element = match elements.next(alloc) {
-            Ok(Some(element)) => element,
-            Ok(None) => return judged(alloc, core, onlooker),
-            Err(refusal) => {
-                onlooker.refused(&refusal);
-                return Findings::Refused(refusal);
-            }
-        };
-        match take_element(alloc, core, element) {
-            Ok(()) => {
-                taken += 1;
-                onlooker.taken(taken, events);
-            }
-            Err(refusal) => {
-                onlooker.refused(&refusal);
-                return refused_at(taken, refusal);
-            }
-        }
-    }
+    onlooker.judges(history.len() as usize, workers);
+    let monitor = Monitor::load(rt, alloc, history, kind, budget, workers, &OpenGate)?;
+    monitor.some_verdicts();
+    let told = told_by(alloc, &monitor, onlooker);
+    // By itself, for the prover's sake: a monitor that a larger function drops gives its goals for each change in it.
+    drop(monitor);
+    told
 }
 
-// The verdict on all that was taken, and the report.
-fn judged<L: Onlooker>(alloc: Global, core: &Core, onlooker: &L) -> Findings
-    ensures { Finds core.now.machine result }
+// The verdict of a monitor, and the report.
+fn told_by<L: Onlooker>(alloc: Global, monitor: &Monitor, onlooker: &L) -> Result<Findings, Refusal>
+    ensures found { (end : Machine) → end.judged ≡ monitor.now.now → IfOk result (Finds end) }
+    ensures memory { IfErr result (λ why. why ≡ Refusal.NoMemory) }
 {
     let mut text = Vec::new(alloc);
-    match report(alloc, core.monitor(), &mut text) {
-        Ok(()) => {
-            let verdict = core.verdict();
-            onlooker.judged(core.monitor(), &verdict);
-            Findings::Judged(verdict, text)
-        }
-        Err(_) => {
-            onlooker.refused(&Refusal::NoMemory);
-            Findings::Refused(Refusal::NoMemory)
-        }
-    }
-}
-
-// Appends the event that the element spells.
-fn take_element(alloc: Global, core: &mut Core, element: Edn) -> Result<(), Refusal>
-    ensures taken { OnOk result
-        (TakesElement core.old.machine (value_of element) core.new.machine) }
-    ensures refused { IfErr result (λ why. why ≢ Refusal.NoMemory
-        → RefusesElement core.old.machine (value_of element) why) }
-{
-    let event = from_edn(alloc, &element)?;
-    core.step(Command::Append(event))?;
-    Ok(())
-}
-
-// What a refusal comes to where so many elements were taken. Want of memory is no element's.
-fn refused_at(taken: usize, refusal: Refusal) -> Findings
-    ensures { ((refusal ≡ Refusal.NoMemory) × (result ≡ Findings.Refused Refusal.NoMemory))
-        ⊎ ((refusal ≢ Refusal.NoMemory) × (result ≡ Findings.RefusedEvent taken refusal)) }
-{
-    match refusal {
-        Refusal::NoMemory => Findings::Refused(Refusal::NoMemory),
-        refusal => Findings::RefusedEvent(taken, refusal),
-    }
+    report(alloc, monitor, &mut text)?;
+    let verdict = monitor.verdict();
+    onlooker.judged(monitor, &verdict);
+    Ok(Findings::Judged(verdict, text))
 }
 
 /// The line of an event that is refused, where so many were taken before it, as `refused 6 BadIndex event 1`.

@@ -7,8 +7,7 @@ ghost use Rattle.jepmon.specs.RunText.{IsRunText, MaySay};
 
 use crate::check::{put_refused, put_text};
 use crate::exit_status::status_of_verdict;
-use clients::run_trial;
-use edn::Refusal;
+use clients::{Watch, run_trial};
 use harness::{Config, Core};
 use line_loop::{Failed, refusal_text};
 use onlookers::Onlooker;
@@ -23,13 +22,15 @@ use std::thread::Threads;
 /// where the writer has failed.
 ///
 /// Where the store is strict, the status is never that of an illegal verdict, in whatever order the threads run. A thread that
-/// can't be started is run by another one. Nothing is written before all clients have ended.
-pub fn run_store<X: Threads + Wait + Sync, W: Write + Failed, L: Onlooker>(
+/// can't be started is run by another one. Nothing is written before all clients have ended. The watch is told meanwhile how far
+/// they have come, and the onlooker of the end.
+pub fn run_store<X: Threads + Wait + Sync, W: Write + Failed, L: Onlooker, V: Watch + Send + Drop>(
     rt: &X,
     alloc: Global,
     config: Config,
     writer: &mut W,
     onlooker: &L,
+    watch: V,
 ) -> u8
     requires { W.has_failed writer.old ≡ false }
     ensures told { (text : List ℕ) × (status : ℕ) × MaySay (setup_of config) text status
@@ -37,7 +38,7 @@ pub fn run_store<X: Threads + Wait + Sync, W: Write + Failed, L: Onlooker>(
         (W.contents writer.old) (W.contents writer.new) (W.has_failed writer.new) result }
     ensures never_illegal { config.mode ≡ Strict → result ≢ 1 }
 {
-    match run_trial(rt, alloc, config) {
+    match run_trial(rt, alloc, config, watch) {
         Ok(core) => match report_text(alloc, &core, onlooker) {
             Ok((text, status)) => put_text(rt, text.as_slice(), status, writer),
             Err(_) => put_refused(rt, Err(AllocError), writer),

@@ -1,4 +1,6 @@
 //! What is usually the cause of a refusal.
+ghost use Rattle.std.specs.Prelude.{IsSome};
+ghost use Rattle.onlookers.specs.Hints.{IsPrinted};
 
 /// The list of the refusals that `script` and `check` give, and what is usually the cause of each: `each_hint!(callback; args)`
 /// is `callback!(args; NUMBER "name" "hint", ..)`.
@@ -35,12 +37,22 @@ macro_rules! hint_at {
 }
 
 // What `run` alone is refused for.
+const TAPE_FULL: &str =
+    "A run has at most 4294967295 calls of its clients and the nemesis: let --ops be less.";
+
 const REPLICAS: &str = "--replicas takes a number, 1 to 7.";
 
-/// What is usually the cause of the refusal of this number, as a sentence or two.
-pub fn hint_of(number: u8) -> Option<&'static str> {
+const NO_SEAT: &str =
+    "A client got no place on the board. Try again, or with a smaller --concurrency.";
+
+/// What is usually the cause of the refusal of this number, as a sentence or two. Each refusal that the program prints has one.
+pub fn hint_of(number: u8) -> Option<&'static str>
+    ensures { IsPrinted number → IsSome result }
+{
     match number {
+        12 => Some(TAPE_FULL),
         18 => Some(REPLICAS),
+        19 => Some(NO_SEAT),
         number => each_hint!(hint_at; number),
     }
 }

@@ -13,8 +13,11 @@ pub trait Onlooker {
     /// The file can't be opened or read, for this reason.
     fn unread(&self, path: &str, reason: &io::Error);
 
-    /// So many of the events that a recorded history has were taken.
-    fn taken(&self, taken: usize, events: usize);
+    /// So many events of a recorded history were taken.
+    fn taken(&self, events: usize);
+
+    /// All events of a recorded history were taken, and so many workers judge them now.
+    fn judges(&self, events: usize, workers: u32);
 
     /// A further line of a script came.
     fn line(&self);

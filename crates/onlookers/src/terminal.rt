@@ -1,6 +1,7 @@
 //! What is said on a terminal, beside standard output.
 
 use crate::hints::hint_of;
+use crate::moving_line::MovingLine;
 use crate::onlooker::Onlooker;
 use crate::remark::{Remark, remark_on};
 use edn::Refusal;
@@ -11,16 +12,9 @@ use std::fmt::Display;
 use std::io;
 use std::io::Eprint;
 use std::rt::Clock;
-use std::time::{Duration, Instant};
 
-// Milliseconds before it is shown how far a check has come.
-const AT_FIRST: u64 = 1000;
-
-// Milliseconds between two times that it is shown.
-const BETWEEN: u64 = 250;
-
-// Bytes of a recorded history whose text takes about a second: so many are shown at once.
-const MANY_BYTES: usize = 1 << 22;
+// Events that may take a second to judge: that they are judged is then shown at once.
+const MANY_EVENTS: usize = 1 << 12;
 
 // How many lines of a script came, how many events were read, and how many lines or events were refused.
 #[derive(Clone, Copy)]
@@ -34,17 +28,15 @@ struct Tally {
 
 /// Says on standard error, where that is a terminal, what may be said beside standard output.
 ///
-/// How far a check has come stands in one line, which is written over four times a second from the first second on. At the
-/// end it says how many lines of a script were refused, what is usually the cause of the first refusal, and what may be said
-/// beside the verdict. Where standard error is no terminal it says nothing.
+/// How far a check has come stands in one line, which is written over four times a second from the first second on; for a run
+/// of clients there is another such line. At the end it says how many lines of a script were refused, what is usually the cause
+/// of the first refusal, and what may be said beside the verdict. Where standard error is no terminal it says nothing.
 #[derive(Drop)]
 pub struct OnTerminal<'a, X> {
     rt: &'a X,
     is_terminal: bool,
-    // When it is shown next how far a check has come, if ever.
-    next: Cell<Option<Instant>>,
-    // Whether that stands in an open line.
-    is_shown: Cell<bool>,
+    // How far a check has come.
+    line: MovingLine<'a, X>,
     bytes: Cell<usize>,
     tally: Cell<Tally>,
     remark: Cell<Option<Remark>>,
@@ -53,16 +45,10 @@ pub struct OnTerminal<'a, X> {
 impl<'a, X: Clock + Eprint> OnTerminal<'a, X> {
     /// Says nothing yet. Whether standard error is a terminal stands for the whole run.
     pub fn new(rt: &'a X, is_terminal: bool) -> Self {
-        let next = if is_terminal {
-            time_in(rt, AT_FIRST)
-        } else {
-            None
-        };
         OnTerminal {
             rt,
             is_terminal,
-            next: Cell::new(next),
-            is_shown: Cell::new(false),
+            line: MovingLine::new(rt, is_terminal),
             bytes: Cell::new(0),
             tally: Cell::new(Tally {
                 lines: 0,
@@ -72,6 +58,11 @@ impl<'a, X: Clock + Eprint> OnTerminal<'a, X> {
             }),
             remark: Cell::new(None),
         }
+    }
+
+    /// A line for how far a run of clients has come. It may go to the thread that shows it.
+    pub fn moving_line(&self) -> MovingLine<'a, X> {
+        MovingLine::new(self.rt, self.is_terminal)
     }
 
     /// Says what is left to say at the end of a run.
@@ -117,35 +108,6 @@ impl<'a, X: Clock + Eprint> OnTerminal<'a, X> {
             let _ = self.rt.eprintln(text);
         }
     }
-
-    // Shows how far a check has come, over what was shown of it before.
-    fn show<D: Display + Drop>(&self, text: D) {
-        let _ = eprint!(self.rt; "\r{text}");
-        self.is_shown.set(true);
-        self.next.set(time_in(self.rt, BETWEEN));
-    }
-
-    // Whether it is time to show how far a check has come.
-    fn is_time(&self) -> bool {
-        let Some(next) = self.next.get() else {
-            return false;
-        };
-        Instant::now(self.rt).is_ok_and(|now| now >= next)
-    }
-
-    // Ends the line in which it stands how far a check has come.
-    fn leave_line(&self) {
-        if self.is_shown.replace(false) {
-            let _ = self.rt.eprintln("");
-        }
-    }
-}
-
-// The time in so many milliseconds from now, where the clock can be read.
-fn time_in<X: Clock>(clock: &X, milliseconds: u64) -> Option<Instant> {
-    Instant::now(clock)
-        .ok()?
-        .checked_add(Duration::from_millis(milliseconds))
 }
 
 // The number of the line in which the byte at this place stands.
@@ -162,24 +124,32 @@ impl<'a, X: Clock + Eprint> Onlooker for OnTerminal<'a, X> {
     fn read(&self, bytes: usize) {
         let all = self.bytes.get().saturating_add(bytes);
         self.bytes.set(all);
-        let is_large = bytes == 0 && all >= MANY_BYTES && self.next.get().is_some();
-        if is_large || self.is_time() {
-            self.show(format_args!("{all} bytes were read"));
+        if self.line.is_time() {
+            self.line.show(format_args!("{all} bytes were read"));
         }
     }
 
     fn unread(&self, path: &str, reason: &io::Error) {
-        self.leave_line();
+        self.line.leave();
         self.say(format_args!("{path}: {reason}"));
     }
 
-    fn taken(&self, taken: usize, events: usize) {
+    fn taken(&self, events: usize) {
         self.tally.set(Tally {
-            events: taken as u64,
+            events: events as u64,
             ..self.tally.get()
         });
-        if self.is_time() {
-            self.show(format_args!("{taken} of {events} events    "));
+        if self.line.is_time() {
+            self.line
+                .show(format_args!("{events} events were read        "));
+        }
+    }
+
+    fn judges(&self, events: usize, workers: u32) {
+        let is_long = events >= MANY_EVENTS && self.line.moves();
+        if is_long || self.line.is_shown() || self.line.is_time() {
+            let s = if workers == 1 { "" } else { "s" };
+            self.line.show(format_args!("judging {events} events by {workers} worker{s}"));
         }
     }
 
@@ -200,7 +170,7 @@ impl<'a, X: Clock + Eprint> Onlooker for OnTerminal<'a, X> {
     }
 
     fn refused(&self, refusal: &Refusal) {
-        self.leave_line();
+        self.line.leave();
         let tally = self.tally.get();
         self.tally.set(Tally {
             refused: tally.refused.saturating_add(1),
@@ -220,7 +190,7 @@ impl<'a, X: Clock + Eprint> Onlooker for OnTerminal<'a, X> {
     }
 
     fn judged(&self, monitor: &Monitor, verdict: &Verdict) {
-        self.leave_line();
+        self.line.leave();
         if !self.is_terminal {
             return;
         }

@@ -1,4 +1,4 @@
-use Rattle.std.proofs.Common.{◌≡◌, ◌≢◌, ◌∙◌, Option, Some, Result, Ok, Err, OnOk, ap, subst}
+use Rattle.std.proofs.Common.{◌≢◌, ◌∙◌, Option, Some, Result, Ok, Err, OnOk, ap, subst}
 use Rattle.edn.specs.declared.refusal.Refusal.{Refusal}
 use Rattle.edn.specs.declared.refusal.Refusal.TheVariants.{NoMemory}
 use Rattle.machine.specs.Machine.{Machine}

@@ -1,0 +1,55 @@
+//! The plan of a run, and how the one-thread object is opened for it.
+ghost use Rattle.std.specs.Prelude.{◌≡◌, IfOk};
+ghost use Rattle.harness.specs.Setups.{setup_of};
+ghost use Rattle.run_plans.specs.Plans.{run_setup};
+
+use crate::children::children_of;
+use crate::strikes::schedule_of;
+use generators::Gen;
+use harness::Config;
+use std::alloc::{AllocError, Global};
+use test_store::Mode;
+
+/// What a run has beside its threads, its kind of object and its budget.
+#[derive(Clone, Copy)]
+pub struct RunPlan {
+    /// The seed of its random words.
+    pub seed: u64,
+    /// How many operations are drawn.
+    pub operations: u32,
+    /// How many keys there are, from 0 on.
+    pub keys: u16,
+    /// How many replicas the store has.
+    pub replicas: u8,
+    /// How they serve.
+    pub mode: Mode,
+    /// Whether faults strike.
+    pub has_faults: bool,
+}
+
+impl RunPlan {
+    /// How the one-thread object is opened for it: as this one, which only judges, but for what the run has beside. The
+    /// generator gives so many operations, each by the next random word from one of its children; for each key in turn these
+    /// are one for each name of the kind, which goes round through the name's parts. Where faults strike, replica 0 is parted
+    /// from the others from the 20th event on and the network heals from the 40th on; a reply is lost from the 60th on;
+    /// replica 0 crashes from the 80th on, and starts again from the 100th on. No limit is tested here.
+    ///
+    /// # Errors
+    ///
+    /// Where memory is refused.
+    pub fn config(self, alloc: Global, judging: Config) -> Result<Config, AllocError>
+        ensures { IfOk result (λ config. setup_of config ≡ run_setup self (setup_of judging)) }
+    {
+        let children = children_of(alloc, judging.kind, self.keys)?;
+        let mix = Box::new(alloc, Gen::Mix(children))?;
+        let schedule = schedule_of(alloc, self.has_faults)?;
+        Ok(Config {
+            replicas: self.replicas,
+            mode: self.mode,
+            generator: Gen::Limit(u64::from(self.operations), mix),
+            schedule,
+            seed: self.seed,
+            ..judging
+        })
+    }
+}
