@@ -3,11 +3,17 @@
 
 For each n from 1 to the last allocation a run is made again in which the nth one is refused (tests/refuse.py). `script` has then
 written a beginning of the replies and ended with status 3; `check` and `run` the line of want of memory, or nothing where even
-that line found none. Or the run was as with memory, where the program can do without. No run ends otherwise, and where fewer were
-refused than is known of the case it has failed. The last line is how many passed and failed.
+that line found none. Or the run was as with memory, where the program can do without.
+
+Calls that the program does not make one by one are made by the program `refusals`: it makes each call once more that wanted
+memory, says whether all was seen as before, and then goes on; so it writes what it writes with memory, and one line more.
+
+No run ends otherwise, and where fewer were refused than is known of the case it has failed. The last line is how many passed and
+failed.
 """
 import concurrent.futures
 import os
+import pathlib
 import sys
 
 import refuse
@@ -23,6 +29,10 @@ CHECKS = {"check_finds_a_stale_read": 50, "check_of_failed_and_crashed": 50}
 # Words of runs of one client, whose report the seed tells; more clients come in any order.
 RUNS = {"run --ops 4 --concurrency 1": 50, "run --ops 10 --concurrency 1 --faults on --model set": 50}
 
+# What the program of single calls is told to call.
+CALLS_PROGRAM = pathlib.Path(os.environ.get("REFUSALS", cases.TOP / "crates/refusals/out/refusals"))
+CALLS = {"texts": 100, "events": 80, "models": 60, "budgets": 80, "rewinds": 80, "board": 80, "load": 50, "trial": 60}
+
 
 def is_script_cut_short(got, want):
     return got.status == 3 and want.startswith(got.written)
@@ -30,6 +40,13 @@ def is_script_cut_short(got, want):
 
 def is_line_of_no_memory(got, want):
     return got.status == 3 and got.written in (b"", b"refused 13 NoMemory\n")
+
+
+def is_call_made_again(got, want):
+    if got.status == 1 and not got.written:
+        return True  # its words were not read
+    lines = got.written.splitlines(keepends=True)
+    return got.status == 0 and lines.count(b"no memory\n") == 1 and b"".join(line for line in lines if line != b"no memory\n") == want
 
 
 def refused_in_turn(program, words, given, is_refused):
@@ -57,6 +74,7 @@ def all_runs():
     runs = {f"case {name}": (of_case(name, is_script_cut_short), least) for name, least in SCRIPTS.items()}
     runs |= {f"case {name}": (of_case(name, is_line_of_no_memory), least) for name, least in CHECKS.items()}
     runs |= {words: ((cases.PROGRAM, words.split(), b"", is_line_of_no_memory), least) for words, least in RUNS.items()}
+    runs |= {f"calls of {name}": ((CALLS_PROGRAM, [name], b"", is_call_made_again), least) for name, least in CALLS.items()}
     return runs
 
 
@@ -73,6 +91,10 @@ def tried(run):
 
 def main():
     os.chdir(cases.TOP)
+    if not CALLS_PROGRAM.exists():
+        print(f"{CALLS_PROGRAM} is not there: the gate builds it, and so does rt run in crates/refusals")
+        print("0 passed, 1 failed")
+        return 1
     runs, failed = all_runs(), 0
     with concurrent.futures.ProcessPoolExecutor() as pool:
         for name, (refused, spared, faults) in zip(runs, pool.map(tried, runs.values())):

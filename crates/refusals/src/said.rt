@@ -1,0 +1,94 @@
+//! What is answered and seen, as plain data.
+
+use harness::Reply;
+use linspec::Verdict;
+use models::Found;
+use std::fmt;
+use test_store::Outcome;
+
+/// What a call answers.
+#[derive(Clone, Copy, PartialEq, Eq)]
+pub enum Said {
+    /// A verdict.
+    Legal,
+    Illegal(u16, u32),
+    Unknown(u16, u32),
+    /// The operation of this ticket was drawn, whose invocation has this index.
+    Drawn(u32, u32),
+    /// Whether the store carried an operation out.
+    Served(bool),
+    /// A number: of elements, of bytes or of events.
+    Number(u64),
+    /// Whatever else.
+    Other,
+}
+
+/// What is seen of a subject.
+#[derive(Clone, Copy, PartialEq, Eq)]
+pub struct Seen {
+    pub verdict: Said,
+    pub commit: u64,
+    pub events: u64,
+    pub keys: u64,
+    pub bytes: u64,
+}
+
+/// Where nothing is seen.
+pub const NOTHING: Seen = Seen {
+    verdict: Said::Other,
+    commit: 0,
+    events: 0,
+    keys: 0,
+    bytes: 0,
+};
+
+/// A verdict.
+pub fn said_of(verdict: &Verdict) -> Said {
+    match verdict {
+        Verdict::Legal => Said::Legal,
+        Verdict::Illegal { key, index } => Said::Illegal(*key, *index),
+        Verdict::Unknown { key, index } => Said::Unknown(*key, *index),
+    }
+}
+
+/// A reply.
+pub fn reply_said(reply: &Reply) -> Said {
+    match reply {
+        Reply::Verdict(verdict) => said_of(verdict),
+        Reply::Drawn { ticket, index } => Said::Drawn(*ticket, *index),
+        Reply::Served(Outcome::Done(Found::Unit)) => Said::Served(true),
+        Reply::Served(_) => Said::Served(false),
+        _ => Said::Other,
+    }
+}
+
+impl fmt::Display for Said {
+    fn fmt<W: fmt::Write>(&self, f: &mut fmt::Formatter<W>) -> fmt::Result {
+        match self {
+            Said::Legal => f.write_str("legal"),
+            Said::Illegal(key, index) => write!(f, "illegal key {key} index {index}"),
+            Said::Unknown(key, index) => write!(f, "unknown key {key} index {index}"),
+            Said::Drawn(ticket, index) => write!(f, "drawn {ticket} at {index}"),
+            Said::Served(true) => f.write_str("served"),
+            Said::Served(false) => f.write_str("not served"),
+            Said::Number(number) => write!(f, "{number}"),
+            Said::Other => f.write_str("done"),
+        }
+    }
+}
+
+impl fmt::Display for Seen {
+    fn fmt<W: fmt::Write>(&self, f: &mut fmt::Formatter<W>) -> fmt::Result {
+        let Seen {
+            verdict,
+            commit,
+            events,
+            keys,
+            bytes,
+        } = *self;
+        write!(
+            f,
+            "{verdict}, commit {commit}, {events} events, {keys} keys, {bytes} bytes"
+        )
+    }
+}
