@@ -15,6 +15,7 @@ import pathlib
 import re
 import resource
 import select
+import signal
 import socket
 import struct
 import subprocess
@@ -167,6 +168,33 @@ def run_full_check():
     return [] if got == (3, b"") else [f"it ended with {got!r}"]
 
 
+def many_keys():
+    """Ten keys, on each of which a process of its own writes and reads five values, all at once: 20 events a key. Key 3 reads in
+    the end what nobody has written."""
+    each = []
+    for key in range(10):
+        each.append([])
+        for turn in range(5):
+            found = 99 if (key, turn) == (3, 4) else turn
+            for kind, name, part in (("invoke", "write", turn), ("ok", "write", turn), ("invoke", "read", "nil"), ("ok", "read", found)):
+                each[key].append(f"{{:type :{kind}, :process {key}, :f :{name}, :value [{key} {part}]}}\n")
+    return "".join(line for row in zip(*each) for line in row).encode()
+
+
+def run_workers():
+    """What a check prints is the same by any number of workers."""
+    stands = [f"key {key} model register budget 4096 events 20 status {'dead 193' if key == 3 else 'alive'}\n" for key in range(10)]
+    want = ("".join(stands) + "illegal key 3 index 193\n").encode()
+    faults = []
+    for workers in (1, 2, 3, 10, 64):
+        ran = subprocess.run([str(PROGRAM), "check", "/dev/stdin", "--concurrency", "10", "--workers", str(workers)], input=many_keys(),
+                             stdout=subprocess.PIPE, stderr=subprocess.PIPE, timeout=60)
+        got = (ran.returncode, ran.stdout, ran.stderr)
+        if got != (1, want, b""):
+            faults.append(f"by {workers} workers it ended with {got!r}")
+    return faults
+
+
 def run_slow_check(terminal, pause):
     """Checks a file whose second half comes after the pause, standard error a terminal or a pipe: what went to standard
     output and to standard error, and the status."""
@@ -187,14 +215,52 @@ def run_slow_check(terminal, pause):
 
 
 def run_progress():
-    """A check of more than a second says on a terminal how far it has come, from then on, also while it reads; a shorter one
-    says nothing, nor does one whose standard error is no terminal. Standard output has the report alone."""
+    """A check of more than a second says on a terminal how far it has come, from then on: as it reads, and as it judges. A shorter
+    one says nothing, nor does one whose standard error is no terminal. Standard output has the report alone."""
     report = b"key 7 model register budget 4096 events 6 status dead 5\nillegal key 7 index 5\n"
     faults = []
-    for terminal, pause, want in ((True, 1.2, b"\r511 bytes were read\r\n"), (True, 0, b""), (False, 1.2, b"")):
+    shown = b"\r511 bytes were read\rjudging 6 events by 1 worker\r\n"
+    for terminal, pause, want in ((True, 1.2, shown), (True, 0, b""), (False, 1.2, b"")):
         got = run_slow_check(terminal, pause)
         if got != (report, want, 1):
             faults.append(f"on a {'terminal' if terminal else 'pipe'}, with a pause of {pause} s, it ended with {got!r}")
+    return faults
+
+
+def time_used(process):
+    """The processor time that it has used, in seconds."""
+    fields = pathlib.Path(f"/proc/{process.pid}/stat").read_text().rsplit(")", 1)[1].split()
+    return (int(fields[11]) + int(fields[12])) / os.sysconf("SC_CLK_TCK")
+
+
+def run_stopped(terminal, pause):
+    """A run of clients that is stopped for so long on its way, standard error a terminal or a pipe: what went to standard error,
+    and the last line of the report."""
+    words = "run --ops 100000 --keys 64 --concurrency 8".split()
+    shown, errors = os.openpty() if terminal else os.pipe()
+    process = subprocess.Popen([str(PROGRAM), *words], stdin=subprocess.DEVNULL, stdout=subprocess.PIPE, stderr=errors)
+    os.close(errors)
+    while time_used(process) < 0.1 and process.poll() is None:
+        time.sleep(0.005)
+    process.send_signal(signal.SIGSTOP)
+    time.sleep(pause)
+    process.send_signal(signal.SIGCONT)
+    written = process.communicate(timeout=60)[0]
+    return all_shown(shown), written.splitlines()[-1:]
+
+
+def run_run_progress():
+    """A run of more than a second says on a terminal how many events it has and how they stand, from then on; where standard
+    error is no terminal it says nothing."""
+    seen, last = run_stopped(True, 1.2)
+    counts = [int(count) for count in re.findall(rb"\r(\d+) events, legal so far    ", seen)]
+    faults = []
+    if last != [b"legal"] or not counts or not all(0 <= count <= 200000 for count in counts):
+        faults.append(f"on a terminal it showed {seen[:400]!r} and ended with {last!r}")
+    if re.sub(rb"\r\d+ events, legal so far    ", b"", seen) != b"\r\n":
+        faults.append(f"on a terminal it also showed something else: {seen[:400]!r}")
+    if run_stopped(False, 1.2) != (b"", [b"legal"]):
+        faults.append("where standard error is no terminal it said something")
     return faults
 
 
@@ -289,6 +355,9 @@ WORDS = [
     ("script --budget many", (), b"", 3, b"error: --budget takes a number, 1 to 65536\n"),
     ("script --model Mutex", (), b"", 3, b"error: --model takes one of "),
     ("script --model", (), b"", 3, b"error: "),
+    ("check x.edn --budget 0 --concurrency 0", (), b"", 3, b"refused 9 BadBudget\n"),
+    ("check x.edn --concurrency 65 --workers 65", (), b"", 3, b"refused 10 BadConcurrency\n"),
+    ("check /dev/null --workers 64", (), b"legal\n", 0, b""),
     ("script --seed 1", (), b"", 3, b"error: "),
     ("watch", (), b"", 3, b"error: "),
     ("run --concurrency 64", (), b"", 3, b"refused 10 BadConcurrency\n"),
@@ -477,6 +546,8 @@ def all_cases():
               ("reader_breaks_off", run_broken_reader), ("failing_writer", run_failing_writer),
               ("writer_takes_ten_bytes", run_narrow_writer), ("script_without_memory", run_script_without_memory),
               ("check_on_a_full_device", run_full_check), ("check_shows_how_far_it_is", run_progress),
+              ("workers_print_the_same", run_workers),
+              ("run_shows_how_far_it_is", run_run_progress),
               ("words_of_the_command_line", run_words), ("words_that_are_no_text", run_no_text),
               ("run_counts_events", run_counts_events), ("run_under_faults", run_under_faults),
               ("run_of_each_kind", run_of_each_kind),

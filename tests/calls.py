@@ -1,0 +1,116 @@
+#!/usr/bin/env python3
+"""Compares the table of public calls in docs/PROOFS.md, "Each public call", with the sources: each call of each crate
+must stand in it once, and none that is not there; and a call must stand among those that refuse something exactly where it gives
+back a Result. Prints what differs, and ends with 'N passed, M failed', one for each crate.
+
+A call is public where its crate's root gives it: of a `pub mod`, or one that `pub use` names, or of a type that it names. What a
+derive or a trait of std asks for is no call of ours, nor is a law, which has no code."""
+import pathlib
+import re
+import sys
+
+TOP = pathlib.Path(__file__).resolve().parent.parent
+CRATES = [line.split(":")[0].split()[0] for line in (TOP / "crates.txt").read_text().splitlines()
+          if line.strip() and not line.startswith("#")]
+WORD = re.compile(r"[A-Za-z_][A-Za-z0-9_]*")
+
+
+def given(root):
+    """What a crate's root gives: the modules that are public, and the items that are brought out of the others."""
+    modules = set(re.findall(r"(?m)^pub mod (\w+);", root))
+    items = set()
+    for module, names in re.findall(r"pub use (\w+)::(\{[^}]*\}|\w+)", root):
+        items |= {(module, name) for name in WORD.findall(names)}
+    return modules, items
+
+
+def head_of(lines, at):
+    """A function's head, up to the line that opens its body or ends it."""
+    head = []
+    for line in lines[at:]:
+        if line.strip() in ("{", "{}"):
+            break
+        head.append(line.strip())
+        if re.search(r"[;{]$", line.rstrip()) and not re.search(r"\b(ensures|requires)\b", line):
+            break
+    return " ".join(head)
+
+
+def calls_of(path, modules, items, types):
+    """The public calls of a file, each as 'Holder::name' or 'name', with whether it may refuse."""
+    found, holder, in_trait, of_trait = {}, None, False, False
+    lines = path.read_text().splitlines()
+    for at, line in enumerate(lines):
+        impl = re.match(r"(?:pub )?impl(?:<.*?>)?\s+(?:(.*?) for )?(?:\w+::)*(\w+)", line)
+        if impl:
+            holder, in_trait, of_trait = impl.group(2), False, bool(impl.group(1))
+        trait = re.match(r"pub trait (\w+)", line)
+        if trait:
+            holder, in_trait, of_trait = trait.group(1), True, False
+        if line == "}":
+            holder, in_trait, of_trait = None, False, False
+        call = re.match(r"\s*(pub )?(?:final )?(?:const )?fn (\w+)", line)
+        if not call or of_trait or not (call.group(1) or in_trait):
+            continue
+        is_public = path.stem in modules or (holder in types if holder else (path.stem, call.group(2)) in items)
+        head = head_of(lines, at)
+        is_law = "()" in head.split("ensures")[0] and "->" not in head
+        if is_public and not is_law:
+            name = f"{holder}::{call.group(2)}" if holder else call.group(2)
+            back = re.search(r"->\s*(?:io::)?(\w+)", head)
+            found[name] = bool(back) and back.group(1) == "Result"
+    return found
+
+
+def public_calls(crate):
+    """The public calls of a crate, each with whether it may refuse."""
+    src = TOP / "crates" / crate / "src"
+    root = src / "lib.rt" if (src / "lib.rt").exists() else src / "main.rt"
+    modules, items = given(root.read_text())
+    found = {}
+    for path in sorted(src.glob("**/*.rt")):
+        found |= calls_of(path, modules, items, {name for _, name in items})
+    return found
+
+
+def told():
+    """What the table says of each crate: the calls of each row, with whether the row says that they may refuse."""
+    text = (TOP / "docs" / "PROOFS.md").read_text()
+    rows = text.split("## Each public call", 1)[1].split("\n## ", 1)[0].splitlines()
+    found = {}
+    for row in rows:
+        cells = [cell.strip() for cell in row.strip().strip("|").split(" | ")]
+        crate = re.fullmatch(r"`(\w+)`", cells[0])
+        if crate and crate.group(1) in CRATES:
+            for call in spelled(cells[1]):
+                found.setdefault(crate.group(1), []).append((call, not cells[2].startswith("none")))
+    return found
+
+
+def spelled(cell):
+    """The calls that a cell names: `name`, `Holder::name` or `Holder::{name, name}`."""
+    for quoted in re.findall(r"`([^`]+)`", cell):
+        holder, _, names = quoted.rpartition("::")
+        for name in WORD.findall(names):
+            yield f"{holder}::{name}" if holder else name
+
+
+def main():
+    table, failed = told(), 0
+    for crate in CRATES:
+        calls, named = public_calls(crate), table.get(crate, [])
+        names = [name for name, _ in named]
+        faults = [f"does not have {name}" for name in calls if name not in names]
+        faults += [f"has {name}, which is not there" for name in names if name not in calls]
+        faults += [f"has {name} twice" for name in set(names) if names.count(name) > 1]
+        faults += [f"says of {name} that it refuses nothing" for name, refuses in named if calls.get(name) and not refuses]
+        faults += [f"says of {name} that it refuses something" for name, refuses in named if name in calls and refuses > calls[name]]
+        failed += bool(faults)
+        for fault in faults:
+            print(f"docs/PROOFS.md, 'Each public call', {crate}: {fault}")
+    print(f"{len(CRATES) - failed} passed, {failed} failed")
+    return 1 if failed else 0
+
+
+if __name__ == "__main__":
+    sys.exit(main())
