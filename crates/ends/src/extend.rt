@@ -19,10 +19,11 @@ use models::{Answer, SeqObject};
 use rows::RowSet;
 use std::alloc::{AllocError, Global};
 
-/// Memory that an ok works in, kept for the next one: what calls do in states, and the rows that are left.
+/// Memory that an ok works in, kept for the next one: what calls do in states, the row that is looked at, and the rows that are left.
 #[derive(Drop)]
 pub struct Room<S> {
     moves: Moves<S>,
+    row: Vec<usize>,
     pub rows: RowSet,
 }
 
@@ -31,6 +32,7 @@ impl<S> Room<S> {
     pub fn new(alloc: Global) -> Room<S> {
         Room {
             moves: Moves::new(alloc),
+            row: Vec::new(alloc),
             rows: RowSet::new(alloc, 0),
         }
     }
@@ -95,60 +97,58 @@ fn put_led<S: Ord + Drop>(
     }
 }
 
-// Adds what the call at this place leads to from the end of the row that stands here, whose state has this number.
+// Adds what the call at this place leads to from the end of this row, which stands here.
 fn grow_at<M: SeqObject>(
     alloc: Global,
     table: &mut Table<M::State>,
     moves: &mut Moves<M::State>,
     from: usize,
-    number: usize,
+    row: &[usize],
     calls: &[PendingOp],
     at: usize,
     applied: &mut u64,
 ) -> Result<(), AllocError>
     requires within { at < length calls.now }
     requires here { from < length (rows_of table.old) }
-    requires number { number ≡ get_or (get_or (rows_of table.old) from []) 0 0 }
+    requires row { row.now ≡ get_or (rows_of table.old) from [] }
     ensures moves { AreMoves M.apply_to table.old calls.now moves.old.known.items moves.old.targets.items
         → OnOk result (AreMoves M.apply_to table.new calls.now moves.new.known.items moves.new.targets.items) }
     ensures adds { let object = of_table M.State M.start_state M.apply_to in
-        let row = get_or (rows_of table.old) from [] in
         AreMoves M.apply_to table.old calls.now moves.old.known.items moves.old.targets.items → HasEachOnce calls.now
         → (c : PendingOp) (e : End M.State) (ends : List (End M.State))
-        → slice_get calls.now at ≡ Some c → Shows table.old calls.now row e
+        → slice_get calls.now at ≡ Some c → Shows table.old calls.now row.now e
         → AreShown table.old calls.now ends
         → OnOk result (ShownWith table.new calls.now ends (TakesLast object e c)) }
     ensures widens { Widens table.old table.new }
     ensures front { IsFront (rows_of table.old) (rows_of table.new) }
     ensures cost { applied.new ≤ applied.old + 1 }
 {
-    let to = table::led_to::<M>(alloc, table, moves, from, number, calls, at, applied)?;
+    let to = table::led_to::<M>(alloc, table, moves, row, calls, at, applied)?;
     if let Move::Nowhere = to {
         return Ok(());
     }
     put_led(table, from, at + 1, to, &moves.targets)
 }
 
-// Adds what each call from that place on leads to from the end of the row that stands here, whose state has this number.
+// Adds what each call from that place on leads to from the end of this row, which stands here.
 fn grow_from<M: SeqObject>(
     alloc: Global,
     table: &mut Table<M::State>,
     moves: &mut Moves<M::State>,
     from: usize,
-    number: usize,
+    row: &[usize],
     calls: &[PendingOp],
     first: usize,
     applied: &mut u64,
 ) -> Result<(), AllocError>
     requires here { from < length (rows_of table.old) }
-    requires number { number ≡ get_or (get_or (rows_of table.old) from []) 0 0 }
+    requires row { row.now ≡ get_or (rows_of table.old) from [] }
     ensures moves { AreMoves M.apply_to table.old calls.now moves.old.known.items moves.old.targets.items
         → OnOk result (AreMoves M.apply_to table.new calls.now moves.new.known.items moves.new.targets.items) }
     ensures adds { let object = of_table M.State M.start_state M.apply_to in
-        let row = get_or (rows_of table.old) from [] in
         AreMoves M.apply_to table.old calls.now moves.old.known.items moves.old.targets.items → HasEachOnce calls.now
         → (e : End M.State) (ends : List (End M.State))
-        → Shows table.old calls.now row e → AreShown table.old calls.now ends
+        → Shows table.old calls.now row.now e → AreShown table.old calls.now ends
         → OnOk result (ShownWith table.new calls.now ends
         (Next object (drop first calls.now) e)) }
     ensures widens { Widens table.old table.new }
@@ -156,7 +156,7 @@ fn grow_from<M: SeqObject>(
     ensures cost { applied.new ≤ applied.old + length calls.now }
 {
     for at in first..calls.len() {
-        grow_at::<M>(alloc, table, moves, from, number, calls, at, applied)?;
+        grow_at::<M>(alloc, table, moves, from, row, calls, at, applied)?;
     }
     Ok(())
 }
@@ -169,34 +169,29 @@ fn first_for(at: usize, kept: usize, tried: usize) -> usize
     if at < kept { tried } else { 0 }
 }
 
-// Whether some call from that place on leads from the end of the row that stands here, whose state has this number, to more ends
-// than the budget: it is not in that end, and has more outcomes in its state.
+// Whether some call from that place on leads from the end of the row to more ends than the budget: it is not in that end, and has
+// more outcomes in its state.
 fn leads_beyond<M: SeqObject>(
     table: &Table<M::State>,
-    from: usize,
-    number: usize,
+    row: &[usize],
     calls: &[PendingOp],
     first: usize,
     budget: u32,
 ) -> bool
-    requires here { from < length (rows_of table.now) }
-    requires number { number ≡ get_or (get_or (rows_of table.now) from []) 0 0 }
     requires some { 1 ≤ budget }
     ensures beyond { let object = of_table M.State M.start_state M.apply_to in
-        let row = get_or (rows_of table.now) from [] in
-        result ≡ true → (e : End M.State) → Shows table.now calls.now row e
+        result ≡ true → (e : End M.State) → Shows table.now calls.now row.now e
         → ReachesMoreThan object calls.now (e ∷ []) budget }
-    ensures within { let row = get_or (rows_of table.now) from [] in
-        result ≡ false → (at : ℕ) (c : PendingOp) (e : End M.State) → first ≤ at
-        → slice_get calls.now at ≡ Some c → Shows table.now calls.now row e
+    ensures within { result ≡ false → (at : ℕ) (c : PendingOp) (e : End M.State) → first ≤ at
+        → slice_get calls.now at ≡ Some c → Shows table.now calls.now row.now e
         → is_in e c.id c.crashed ≡ false → length (M.apply_to c.op e.state) ≤ budget }
 {
-    let Some(state) = table::state_numbered(table, number) else {
+    let Some(state) = table::state_numbered(table, table::number_of_state(row)) else {
         return false;
     };
     for at in first..calls.len() {
         if M::has_more_outcomes(state, &calls[at].op, budget as usize)
-            && table.rows.has_zero(from, at + 1)
+            && table::has_zero(row, at + 1)
         {
             return true;
         }
@@ -211,6 +206,7 @@ fn grow<M: SeqObject>(
     alloc: Global,
     table: &mut Table<M::State>,
     moves: &mut Moves<M::State>,
+    row: &mut Vec<usize>,
     calls: &[PendingOp],
     tried: usize,
     budget: u32,
@@ -239,11 +235,11 @@ fn grow<M: SeqObject>(
             return Ok(true);
         }
         let first = first_for(at, kept, tried);
-        let number = table.rows.number(at, 0);
-        if leads_beyond::<M>(table, at, number, calls, first, budget) {
+        table.rows.read(at, row)?;
+        if leads_beyond::<M>(table, row, calls, first, budget) {
             return Ok(false);
         }
-        grow_from::<M>(alloc, table, moves, at, number, calls, first, applied)?;
+        grow_from::<M>(alloc, table, moves, at, row, calls, first, applied)?;
     }
     Ok(table.rows.len() <= budget as usize)
 }
@@ -274,7 +270,16 @@ fn found_rows<M: SeqObject>(
     ensures front { IsFront (rows_of table.old) (rows_of table.new) }
     ensures cost { applied.new ≤ applied.old + (budget + 1) * length calls.now }
 {
-    if !grow::<M>(alloc, table, &mut room.moves, calls, tried, budget, applied)? {
+    if !grow::<M>(
+        alloc,
+        table,
+        &mut room.moves,
+        &mut room.row,
+        calls,
+        tried,
+        budget,
+        applied,
+    )? {
         return Ok(false);
     }
     after::settled(alloc, table, calls, id, answer, &mut room.rows)?;

@@ -1,7 +1,7 @@
 //! What calls do in states, by numbers.
 ghost use Rattle.std.specs.Prelude.{◌≡◌, ◌+◌, ◌*◌, ◌<◌, ◌≤◌, ◌⊎◌, ℕ, List, [], ◌++◌, Some, length, get_or};
 ghost use Rattle.std.specs.Prelude.{slice_get};
-ghost use Rattle.std.specs.Prelude.{IfOk, OnOk, IfSome, IsTrue};
+ghost use Rattle.std.specs.Prelude.{IfOk, OnOk, IfSome};
 ghost use Rattle.ends.specs.Moves.{AreMoves, AreTo, IsKnown, IsTo, LeadsTo, known_at, targets_of};
 ghost use Rattle.ends.specs.Tables.{Widens, rows_of};
 
@@ -216,16 +216,6 @@ pub fn recalled<S>(moves: &Moves<S>, number: usize, at: usize, calls: usize) -> 
             Some(Move::ToEach(first, end))
         }
         Move::ToEach(_, _) => None,
-    }
-}
-
-/// Whether it is known that the call cannot take place.
-pub fn is_nowhere(known: &Option<Move>) -> bool
-    ensures { IsTrue result → known.now ≡ Some Move.Nowhere }
-{
-    match known {
-        Some(Move::Nowhere) => true,
-        _ => false,
     }
 }
 

@@ -1,6 +1,6 @@
 //! Ends as rows of numbers.
-ghost use Rattle.std.specs.Prelude.{◌≡◌, ℕ, ◌+◌, ◌-◌, ◌^◌, ◌<◌, ◌≤◌, min, Some, slice_get, get_or, map, length};
-ghost use Rattle.std.specs.Prelude.{IfOk, OnOk, IsSome, IsSomeAnd, option_copied, List, [], ◌∷◌, ◌++◌};
+ghost use Rattle.std.specs.Prelude.{◌≡◌, ◌↔◌, ℕ, ◌+◌, ◌-◌, ◌^◌, ◌<◌, ◌≤◌, min, Some, slice_get, get_or, map, length};
+ghost use Rattle.std.specs.Prelude.{IfOk, OnOk, IsSome, IsSomeAnd, IsTrue, option_copied, List, [], ◌∷◌, ◌++◌};
 ghost use Rattle.models.specs.Objects.{of_table};
 ghost use Rattle.history.specs.Events.{IsFront};
 ghost use Rattle.linspec.specs.Ends.{End};
@@ -113,47 +113,58 @@ pub fn told_by(crashed: bool, found: Found) -> Found
     if crashed { Found::Unit } else { found }
 }
 
-/// Where the call at this place leads from the end of the row that stands here, whose state has this number: nowhere where it is
-/// in that end.
+/// The number of the state of the row's end.
+pub fn number_of_state(row: &[usize]) -> usize
+    ensures { result ≡ get_or row.now 0 0 }
+{
+    match row.first() {
+        Some(number) => *number,
+        None => 0,
+    }
+}
+
+/// Whether the row has zero at this place: the call of that place is not in its end.
+pub fn has_zero(row: &[usize], place: usize) -> bool
+    ensures { IsTrue result ↔ (slice_get row.now place ≡ Some 0) }
+{
+    match row.get(place) {
+        Some(number) => *number == 0,
+        None => false,
+    }
+}
+
+/// Where the call at this place leads from the end of the row: nowhere where it is in that end.
 pub fn led_to<M: SeqObject>(
     alloc: Global,
     table: &mut Table<M::State>,
     moves: &mut Moves<M::State>,
-    from: usize,
-    number: usize,
+    row: &[usize],
     calls: &[PendingOp],
     at: usize,
     applied: &mut u64,
 ) -> Result<Move, AllocError>
     requires within { at < length calls.now }
-    requires here { from < length (rows_of table.old) }
-    requires number { number ≡ get_or (get_or (rows_of table.old) from []) 0 0 }
     ensures moves { AreMoves M.apply_to table.old calls.now moves.old.known.items moves.old.targets.items
         → OnOk result (AreMoves M.apply_to table.new calls.now moves.new.known.items moves.new.targets.items) }
     ensures next { let object = of_table M.State M.start_state M.apply_to in
-        let row = get_or (rows_of table.old) from [] in
         AreMoves M.apply_to table.old calls.now moves.old.known.items moves.old.targets.items
         → HasEachOnce calls.now
         → (c : PendingOp) (e : End M.State) → slice_get calls.now at ≡ Some c
-        → Shows table.old calls.now row e
-        → IfOk result (λ to. AreLed object table.new calls.now row at e c
+        → Shows table.old calls.now row.now e
+        → IfOk result (λ to. AreLed object table.new calls.now row.now at e c
         (targets_of to moves.new.targets.items)) }
     ensures known { IfOk result (λ to. IsKnown to moves.new.targets.items) }
-    ensures zero_there { let row = get_or (rows_of table.old) from [] in
-        IfOk result (λ to. 0 < length (targets_of to moves.new.targets.items)
-        → slice_get row (at + 1) ≡ Some 0) }
+    ensures zero_there { IfOk result (λ to. 0 < length (targets_of to moves.new.targets.items)
+        → slice_get row.now (at + 1) ≡ Some 0) }
     ensures widens { Widens table.old table.new }
     ensures rows { rows_of table.new ≡ rows_of table.old }
     ensures cost { applied.new ≤ applied.old + 1 }
 {
-    let known = moves::recalled(moves, number, at, calls.len());
-    if moves::is_nowhere(&known) {
+    if !has_zero(row, at + 1) {
         return Ok(Move::Nowhere);
     }
-    if !table.rows.has_zero(from, at + 1) {
-        return Ok(Move::Nowhere);
-    }
-    match known {
+    let number = number_of_state(row);
+    match moves::recalled(moves, number, at, calls.len()) {
         Some(to) => Ok(to),
         None => moves::tried::<M>(alloc, table, moves, number, calls, at, applied),
     }

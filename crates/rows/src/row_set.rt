@@ -191,29 +191,6 @@ impl RowSet {
         }
     }
 
-    /// Whether the row that stands here has zero at this place.
-    pub fn has_zero(&self, at: usize, place: usize) -> bool
-        requires { at < length self.now }
-        ensures { IsTrue result ↔ (slice_get (get_or self.now at []) place ≡ Some 0) }
-    {
-        place < self.length_at(at) && self.number(at, place) == 0
-    }
-
-    // How many numbers the row has that stands here.
-    fn length_at(&self, at: usize) -> usize
-        requires { at < length self.now }
-        ensures { result ≡ length (get_or self.now at []) }
-    {
-        if self.wide {
-            let Some(list) = self.lists.get_index(at) else {
-                unreachable!()
-            };
-            list.len()
-        } else {
-            self.long
-        }
-    }
-
     /// Puts the row with the others, if it is not there.
     pub fn put(&mut self, row: &[usize]) -> Result<(), AllocError>
         ensures put { OnOk result (IsPut row.now self.old self.new) }

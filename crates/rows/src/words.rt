@@ -1,5 +1,5 @@
 //! Rows of numbers as words.
-ghost use Rattle.std.specs.Prelude.{◌≡◌, ◌+◌, ◌*◌, ◌/◌, ◌%◌, ◌^◌, ◌<◌, ◌≤◌, length, get_or, set, IfSome, OnOk};
+ghost use Rattle.std.specs.Prelude.{◌≡◌, ◌+◌, ◌-◌, ◌*◌, ◌/◌, ◌%◌, ◌^◌, ◌<◌, ◌≤◌, length, get_or, set, IfSome, OnOk};
 ghost use Rattle.rows.specs.Words.{IsWordOf, digits, value};
 
 use std::alloc::AllocError;
@@ -14,12 +14,27 @@ fn base_of(bits: u32) -> u128
     1 << bits
 }
 
+// The largest number of so many bits.
+fn largest_of(bits: u32) -> u64
+    requires { bits ≤ 32 }
+    ensures { result ≡ 2 ^ bits - 1 }
+{
+    (1 << bits) - 1
+}
+
+// The lower half of the word's bits.
+fn low_half(word: u128) -> u64
+    ensures { result ≡ word % 2 ^ 64 }
+{
+    (word % 18446744073709551616) as u64
+}
+
 // The first number of the word.
 fn first_of(word: u128, bits: u32) -> usize
     requires { bits ≤ 32 }
     ensures { result ≡ word % 2 ^ bits }
 {
-    (word & (base_of(bits) - 1)) as usize
+    (low_half(word) & largest_of(bits)) as usize
 }
 
 // The number at this place.
@@ -47,10 +62,10 @@ pub fn unpack(word: u128, bits: u32, long: usize, row: &mut Vec<usize>) -> Resul
     requires { bits ≤ 32 }
     ensures { OnOk result (row.new.items ≡ digits (2 ^ bits) long word) }
 {
-    row.clear();
+    row.resize(long, 0)?;
     let mut rest = word;
-    for _place in 0..long {
-        row.push(first_of(rest, bits))?;
+    for place in 0..long {
+        row[place] = first_of(rest, bits);
         rest = rest >> bits;
     }
     Ok(())
@@ -69,7 +84,7 @@ pub fn packed(row: &[usize], bits: u32) -> Option<u128>
         if number >= base {
             return None;
         }
-        word = word * base + number;
+        word = (word << bits) + number;
     }
     Some(word)
 }

@@ -1,4 +1,4 @@
-use Rattle.std.proofs.Common.{◌≡◌, ◌+◌, [], get_or, sym, ap, subst}
+use Rattle.std.proofs.Common.{◌≡◌, ◌+◌, [], get_or, sym, ap, ◌∙◌, subst}
 use Rattle.std.proofs.lemmas.Result.{on_ok_weaker}
 use Rattle.models.specs.Objects.{of_table}
 use Rattle.ends.specs.Moves.{targets_of}
@@ -20,10 +20,10 @@ returns-clause-adds g c known once call e ends here shows shown =
     let calls = c.args.calls.now in
     let row = get_or (rows_of c.led_to.new.table) c.args.from [] in
     let targets = targets_of c.in_ok-to.to c.deref.result.now in
-    let same : row ≡ get_or (rows_of c.args.table.now) c.args.from [] = ap (λ l. get_or l c.args.from []) c.in_ok-to.ensures.rows in
+    let same : row ≡ c.args.row.now = ap (λ l. get_or l c.args.from []) c.in_ok-to.ensures.rows ∙ sym c.requires.row in
     let led : AreLed o c.led_to.new.table calls row c.args.at e call targets =
     subst (λ r. AreLed o c.led_to.new.table calls r c.args.at e call targets) (sym same)
-    (subst (λ l. AreLed o c.led_to.new.table calls (get_or (rows_of c.args.table.now) c.args.from []) c.args.at e call (targets_of c.in_ok-to.to l)) (sym c.deref.ensures.value) (c.in_ok-to.ensures.next known once call e here shows)) in
+    (subst (λ l. AreLed o c.led_to.new.table calls c.args.row.now c.args.at e call (targets_of c.in_ok-to.to l)) (sym c.deref.ensures.value) (c.in_ok-to.ensures.next known once call e here shows)) in
     on_ok_weaker c.put_led.result
     (all_led o calls c.led_to.new.table c.put_led.new.table row c.args.at e call targets ends led)
     (c.put_led.ensures.puts calls ends (shown_more calls c.args.table.now c.led_to.new.table ends c.in_ok-to.ensures.widens c.in_ok-to.ensures.rows shown) (λ to h. let f = led.each to h in (f.0, f.2)))
@@ -36,7 +36,7 @@ returns-in-Nowhere-clause-adds g c known once call e ends here shows shown =
     let o = of_table g.row.M-State.Denot g.M.SeqObject.start_state g.M.SeqObject.apply_to in
     let calls = c.args.calls.now in
     let t = c.led_to.new.table in
-    let row = get_or (rows_of c.args.table.now) c.args.from [] in
+    let row = c.args.row.now in
     let led : AreLed o t calls row c.args.at e call [] =
     subst (λ m. AreLed o t calls row c.args.at e call (targets_of m c.led_to.new.moves.targets.items)) c.in-Nowhere.is (c.in_ok-to.ensures.next known once call e here shows) in
     all_led o calls t t row c.args.at e call [] ends led

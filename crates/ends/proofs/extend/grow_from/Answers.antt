@@ -1,8 +1,8 @@
-use Rattle.std.proofs.Common.{[], drop, get_or, refl, sym, ap, ◌∙◌, subst, arith}
+use Rattle.std.proofs.Common.{drop, refl, sym, ◌∙◌, subst, arith}
 use Rattle.std.proofs.lemmas.List.{take_all}
 use Rattle.models.specs.Objects.{of_table}
 use Rattle.ends.specs.EndSteps.{Next}
-use Rattle.ends.specs.Tables.{ShownWith, Shows, rows_of}
+use Rattle.ends.specs.Tables.{ShownWith, rows_of}
 use Rattle.ends.proofs.Rows.{some_at}
 use Rattle.ends.proofs.Showing.{front_stays, front_within, next_there, none_yet, shows_more, widens_itself, widens_on}
 use Rattle.ends.proofs.Adding.{IsFront-itself, IsFront-trans}
@@ -21,8 +21,8 @@ loop-at-init g c = record {
   cost = omega arith;
 }
 
-pub grow_at-requires-clause-number : goal.grow_at-requires-clause-number
-grow_at-requires-clause-number g c = c.requires.number ∙ sym (ap (λ row. get_or row 0 0) c.loop-at.invariant.here)
+pub grow_at-requires-clause-row : goal.grow_at-requires-clause-row
+grow_at-requires-clause-row g c = c.requires.row ∙ sym c.loop-at.invariant.here
 
 pub loop-at-preserved : goal.loop-at-preserved
 loop-at-preserved g c =
@@ -37,8 +37,8 @@ loop-at-preserved g c =
           let call = some_at c.args.calls.now c.loop-at.at (omega arith) in
           let s = c.loop-at.invariant.grown known once e ends shows shown in
           next_there o c.args.calls.now e ends c.loop-at.at call.0 call.1 c.args.first c.loop-at.invariant.from c.loop-at.table c.grow_at.new.table s
-          (c.in_ok-grow_at.ensures.adds (c.loop-at.invariant.moves known) once call.0 e s.more call.1 (subst (λ r. Shows c.loop-at.table c.args.calls.now r e) (sym c.loop-at.invariant.here)
-          (shows_more c.args.calls.now c.args.table.now c.loop-at.table (get_or (rows_of c.args.table.now) c.args.from []) e c.loop-at.invariant.widens shows)) s.shown);
+          (c.in_ok-grow_at.ensures.adds (c.loop-at.invariant.moves known) once call.0 e s.more call.1
+          (shows_more c.args.calls.now c.args.table.now c.loop-at.table c.args.row.now e c.loop-at.invariant.widens shows) s.shown);
       from = (let a = c.loop-at.invariant.from in omega (arith, a));
       upto = omega arith;
       cost = (let a = c.loop-at.invariant.cost in let b = c.in_ok-grow_at.ensures.cost in omega (arith, a, b));

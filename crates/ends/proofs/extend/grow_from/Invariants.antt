@@ -15,7 +15,7 @@ invariant-loop-at g l =
       here : get_or (rows_of l.table) l.from [] ≡ get_or (rows_of l.initial.table) l.from [];
       within : l.from < length (rows_of l.table);
       moves : AreMoves g.M.SeqObject.apply_to l.initial.table l.calls l.initial.moves.known.items l.initial.moves.targets.items → AreMoves g.M.SeqObject.apply_to l.table l.calls l.moves.known.items l.moves.targets.items;
-      grown : AreMoves g.M.SeqObject.apply_to l.initial.table l.calls l.initial.moves.known.items l.initial.moves.targets.items → HasEachOnce l.calls → (e : End g.row.M-State.Denot) (ends : List (End g.row.M-State.Denot)) → Shows l.initial.table l.calls (get_or (rows_of l.initial.table) l.from []) e → AreShown l.initial.table l.calls ends
+      grown : AreMoves g.M.SeqObject.apply_to l.initial.table l.calls l.initial.moves.known.items l.initial.moves.targets.items → HasEachOnce l.calls → (e : End g.row.M-State.Denot) (ends : List (End g.row.M-State.Denot)) → Shows l.initial.table l.calls l.row e → AreShown l.initial.table l.calls ends
           → ShownWith l.table l.calls ends (Next (of_table g.row.M-State.Denot g.M.SeqObject.start_state g.M.SeqObject.apply_to) (drop l.first (take l.at l.calls)) e);
       from : l.first ≤ l.at;
       upto : l.at ≤ l.first + length l.calls;
