@@ -3,8 +3,9 @@
 
 One `script` is told, line by line and each time after its reply, histories of five clients on eight keys, of every kind of object
 in turn, all linearizable. Every so often the history is rewound, by some events or to its beginning, and told on from there. Each
-verdict must be legal. Every minute it prints the events so far and the memory that is resident; at the end that of the fifth minute
-beside the last one, and ends with 1 where a reply was another or the memory grew by more than a twentieth.
+verdict must be legal. Every minute it prints the lines so far and the memory that is resident, which goes up and down with the length
+and the kind of the history; at the end the most of the first five minutes beside the most of the last five, and ends with 1 where a
+reply was another or the memory grew by more than a twentieth.
 """
 import argparse
 import os
@@ -76,8 +77,10 @@ def soak(minutes, rate):
     status = session.program.wait()
     for text, reply in faults[:5]:
         print(f"{text} was answered by {reply}")
-    early, last = kept[min(5, max(kept))], kept[max(kept)]
-    print(f"{session.told:,} lines in {minutes} minutes; {early:,} KiB in the fifth minute, {last:,} in the last: {100 * last / early - 100:+.1f} %; status {status}")
+    of_minutes = list(kept.values())
+    early, last = max(of_minutes[:6]), max(of_minutes[-5:])
+    print(f"{session.told:,} lines in {minutes} minutes; at most {early:,} KiB in the first five minutes, {last:,} in the last five: "
+          f"{100 * last / early - 100:+.1f} %; status {status}")
     return 1 if faults or status or last > early * 1.05 else 0
 
 
