@@ -2,11 +2,12 @@
 use Rattle.std.proofs.Common.{◌≡◌, ◌≢◌, ◌↔◌, IsTrue, Bool, true, false, map, ℕ, ◌+◌, ◌<◌, ◌≤◌, ◌⊎◌, inl, inr, ⊎_elim, List, [], ◌∷◌, ◌++◌, length, get_or, take, drop, refl, sym, ap, ◌∙◌, subst, arith, append_assoc}
 use Rattle.std.specs.List.{Contains}
 use Rattle.std.proofs.lemmas.Bool.{true≢false}
-use Rattle.std.proofs.lemmas.List.{append-nil, map_push, get_or_default, take_more, take_all, length-take-le, drop-append-le}
+use Rattle.std.proofs.lemmas.List.{append-nil, map_push, get_or_default, take_all, length-take-le, drop-append-le}
 use Rattle.std.proofs.lemmas.List.Elements.{Contains-append_left, Contains-push, Contains-push_cases}
 use Rattle.history.specs.Events.{IsFront}
 use Rattle.linspec.proofs.Filters.{from_map}
 use Rattle.linspec.proofs.Lists.{Contains-nil, Contains-cons_cases, Pairwise-append}
+use Rattle.interned.proofs.Lists.{one_more}
 use Rattle.ends.specs.EndSteps.{Along, Adds}
 
 -- fronts
@@ -82,9 +83,6 @@ module _ {C Y : Type 0} (R : C → Y → Type 0) (cs : List C) (xs ys zs : List 
       (λ y h. ⊎_elim (Along-push_old R cs c y) (Along-push_new R cs c y) h)
       (λ y h. Along-push R cs c y h)
       (Adds-then (Along R cs) (R c) xs ys zs a b)
-
-pub one_more : {C : Type 0} (cs : List C) (i : ℕ) (c : C) → i < length cs → c ≡ get_or cs i c → take (i + 1) cs ≡ take i cs ++ c ∷ []
-one_more cs i c l is = take_more cs i c l ∙ ap (λ x. take i cs ++ x ∷ []) (sym is)
 
 -- at a place of a list that is gone through
 module _ {C Y : Type 0} (R : C → Y → Type 0) (cs : List C) (xs ys zs : List Y) where

@@ -18,7 +18,8 @@ use Rattle.ends.specs.EndSteps.{Adds, Along, AreClosed, IsReached, Next, Settles
 use Rattle.ends.specs.Tables.{HasEachOnce, IsThat, ShownWith, found_in_end}
 use Rattle.ends.proofs.JustInTime.{commute}
 use Rattle.ends.proofs.Reaching.{reached_itself, reached_next}
-use Rattle.ends.proofs.Rows.{get_front, has_place, not_in_by, not_told, one_of, some_at, told_without, with_state}
+use Rattle.ends.proofs.Rows.{not_in_by, not_told, told_without, with_state}
+use Rattle.interned.proofs.Lists.{get_front, has_place, one_of, some_at}
 use Rattle.ends.proofs.Starting.{back, to}
 
 module _ (o : Object) where

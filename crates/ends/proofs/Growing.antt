@@ -9,7 +9,7 @@ use Rattle.history.specs.Events.{IsFront}
 use Rattle.linspec.specs.Ends.{End}
 use Rattle.ends.specs.declared.pending_op.PendingOp.{PendingOp}
 use Rattle.ends.specs.EndSteps.{Adds, Grows, IsReached, Next}
-use Rattle.ends.proofs.Adding.{one_more}
+use Rattle.interned.proofs.Lists.{one_more}
 use Rattle.ends.proofs.Reaching.{closed_has, reached_itself, reached_next}
 
 pub Grows-itself : (o : Object) (calls : List PendingOp) (ends : List (End o.State)) → Grows o calls ends ends

@@ -12,8 +12,6 @@ pub mod Leading
 pub mod Beyond
 pub mod Showing
 pub mod Telling
-pub mod Stating
 pub mod Moving
 pub mod Settling
 pub mod Renewing
-pub mod Founding

@@ -15,7 +15,8 @@ use Rattle.ends.specs.declared.moves.Move.{Move}
 use Rattle.ends.specs.declared.moves.Move.TheVariants.{Untried, Nowhere, To, ToEach}
 use Rattle.ends.specs.Moves.{AreMoves, AreTo, IsKnown, IsTo, LeadsTo, known_at, targets_of}
 use Rattle.ends.specs.Tables.{Widens, told_by}
-use Rattle.ends.proofs.Rows.{get_front, one_of, slot_more}
+use Rattle.ends.proofs.Rows.{slot_more}
+use Rattle.interned.proofs.Lists.{get_front, one_of}
 
 -- places of pairs
 place_lt : (n m w a b : ℕ) → a < w → n < m → n * w + a ≡ m * w + b → ⊥

@@ -8,9 +8,10 @@ use Rattle.linspec.specs.Ends.{End}
 use Rattle.models.specs.declared.finding.Found.{Found}
 use Rattle.ends.specs.declared.pending_op.PendingOp.{PendingOp}
 use Rattle.ends.specs.declared.table.Table.{Table}
-use Rattle.ends.specs.Tables.{AreShown, IsOnceIn, IsSameTable, IsSlot, Says, SaysTheSame, SayTheSame, ShowTheSame, found_by, rows_of}
+use Rattle.ends.specs.Tables.{AreShown, IsSameTable, Says, SaysTheSame, SayTheSame, ShowTheSame, found_by, rows_of}
+use Rattle.interned.specs.Numbers.{IsOnceIn, IsSlot}
 use Rattle.rows.specs.RowSets.{IsPut}
-use Rattle.ends.proofs.Rows.{get_front, get_last, get_left, one_of, some_at}
+use Rattle.interned.proofs.Lists.{get_front, get_last, get_left, one_of, some_at}
 use Rattle.ends.proofs.Showing.{shown_more, widens_rows}
 
 module _ {S : Type 0} (states others : List S) (founds : List Found) (calls : List PendingOp) (row new : List ℕ) (e : End S) (same : SaysTheSame states others row new) where

@@ -16,9 +16,11 @@ use Rattle.ends.specs.declared.pending_op.PendingOp.{PendingOp}
 use Rattle.ends.specs.declared.table.Table.{Table}
 use Rattle.ends.specs.EndSteps.{Adds, Along, FitsAt, Settles, is_other, settled}
 use Rattle.ends.specs.KeptEnds.{IsIncluded}
-use Rattle.ends.specs.Tables.{AreShown, HasEachOnce, IsOpenAt, IsSlot, Says, ShownWith, found_by, found_in_end}
+use Rattle.ends.specs.Tables.{AreShown, HasEachOnce, IsOpenAt, Says, ShownWith, found_by, found_in_end}
+use Rattle.interned.specs.Numbers.{IsSlot}
 use Rattle.ends.proofs.Adding.{Adds-none, Adds-skip}
-use Rattle.ends.proofs.Rows.{clash, has_place, one_of, other_ids, place_of, told_pending}
+use Rattle.ends.proofs.Rows.{other_ids, told_pending}
+use Rattle.interned.proofs.Lists.{clash, has_place, one_of, place_of}
 use Rattle.ends.proofs.Showing.{end_here}
 
 module _ {S : Type 0} (calls : List PendingOp) where

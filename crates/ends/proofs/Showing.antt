@@ -12,11 +12,13 @@ use Rattle.ends.specs.declared.table.Table.{Table}
 use Rattle.ends.specs.EndSteps.{Adds, TakesLast, Next, Along, Grows}
 use Rattle.models.specs.declared.finding.Found.{Found}
 use Rattle.ends.specs.KeptEnds.{AreIncluded}
-use Rattle.ends.specs.Tables.{AreLed, AreShown, IsOnceIn, Says, Shows, ShownWith, Widens, row_led, rows_of, with_rows}
+use Rattle.ends.specs.Tables.{AreLed, AreShown, Says, Shows, ShownWith, Widens, row_led, rows_of, with_rows}
+use Rattle.interned.specs.Numbers.{IsOnceIn}
 use Rattle.rows.specs.RowSets.{IsPut}
-use Rattle.ends.proofs.Adding.{IsFront-itself, IsFront-push, IsFront-trans, Adds-old, Adds-new, Adds-change, Adds-more, Adds-more_from, Adds-start, one_more}
+use Rattle.ends.proofs.Adding.{IsFront-itself, IsFront-push, IsFront-trans, Adds-old, Adds-new, Adds-change, Adds-more, Adds-more_from, Adds-start}
+use Rattle.interned.proofs.Lists.{one_more, clash, place_of, has_place, some_at, get_push}
 use Rattle.ends.proofs.Reaching.{reached_next}
-use Rattle.ends.proofs.Rows.{clash, one_end, one_row, says_more, place_of, has_place, some_at, get_push}
+use Rattle.ends.proofs.Rows.{one_end, one_row, says_more}
 
 -- tables that widen
 pub widens_itself : {S : Type 0} (t : Table S) → Widens t t
@@ -169,9 +171,6 @@ end_here calls t ends a i e h =
 -- the calls include what the ends do
 pub included_shown : {S : Type 0} (calls : List PendingOp) (t : Table S) (ends : List (End S)) → AreShown t calls ends → AreIncluded calls ends
 included_shown calls t ends a e h = let p = place_of ends e h in (end_here calls t ends a p.0 e p.1).included
-
-pub taken_more : {X : Type 0} (xs : List X) (i : ℕ) (x : X) → slice_get xs i ≡ Some x → take (i + 1) xs ≡ take i xs ++ x ∷ []
-taken_more xs i x h = one_more xs i x (slice_get_within xs i x h) (sym (get_or_from_slice_get xs i x x h))
 
 -- calls one after another, from one end
 module _ (o : Object) (calls : List PendingOp) (e : End o.State) (ends : List (End o.State)) (i : ℕ) (c : PendingOp) (here : slice_get calls i ≡ Some c) where

@@ -12,7 +12,8 @@ use Rattle.ends.specs.declared.pending_op.PendingOp.{PendingOp}
 use Rattle.ends.specs.EndSteps.{with_call, is_in}
 use Rattle.ends.specs.KeptEnds.{IsIncluded}
 use Rattle.ends.specs.Tables.{HasEachOnce, IsToldBefore, found_by, found_in_end, nothing_if, told_by}
-use Rattle.ends.proofs.Rows.{clash, one_of, place_of, has_place, other_ids, included_with, not_in_by, same_told, told_with, told_without, with_state}
+use Rattle.ends.proofs.Rows.{other_ids, included_with, not_in_by, same_told, told_with, told_without, with_state}
+use Rattle.interned.proofs.Lists.{clash, one_of, place_of, has_place}
 
 told_crash : (b : Bool) (x : Found) → nothing_if b ≡ Some x → Nothing ≡ x
 told_crash true x e = one_of Nothing x e

@@ -8,7 +8,8 @@ use Rattle.ends.specs.declared.pending_op.PendingOp.{PendingOp}
 use Rattle.ends.specs.declared.table.Table.{Table}
 use Rattle.ends.specs.declared.moves.Move.{Move}
 use Rattle.ends.specs.declared.moves.Move.TheVariants.{Untried, Nowhere, To, ToEach}
-use Rattle.ends.specs.Tables.{IsSlot, told_by}
+use Rattle.ends.specs.Tables.{told_by}
+use Rattle.interned.specs.Numbers.{IsSlot}
 
 -- the target is this outcome: the state with the first number, and what is told of what was found by the second
 abbrev pub IsTo : {S : Type 0} → Table S → Bool → S × Found → ℕ × ℕ → Type 0

@@ -10,6 +10,7 @@ use Rattle.models.specs.Objects.{Object}
 use Rattle.history.specs.Events.{IsFront}
 use Rattle.linspec.specs.Orders.{Pairwise}
 use Rattle.linspec.specs.Ends.{End}
+use Rattle.interned.specs.Numbers.{IsOnceIn, IsSlot}
 use Rattle.ends.specs.declared.pending_op.PendingOp.{PendingOp}
 use Rattle.ends.specs.declared.table.Table.{Table}
 use Rattle.ends.specs.KeptEnds.{IsIncluded}
@@ -31,17 +32,6 @@ found_in_end e id false = finmap.get e.pending id
 
 abbrev pub found_by : {S : Type 0} → End S → PendingOp → Option Found
 found_by e c = found_in_end e c.id c.crashed
-
--- the number of what was found, by the place where it stands
-abbrev pub IsSlot : List Found → ℕ → Option Found → Type 0
-IsSlot founds slot None = slot ≡ 0
-IsSlot founds slot (Some found) =
-    (at : ℕ) × (slot ≡ at + 1) × (slice_get founds at ≡ Some found)
-
--- nothing stands twice
-abbrev pub IsOnceIn : {X : Type 0} → List X → Type 0
-IsOnceIn {X} xs =
-    (i j : ℕ) (x : X) → slice_get xs i ≡ Some x → slice_get xs j ≡ Some x → i ≡ j
 
 -- each call is of another operation
 abbrev pub HasEachOnce : List PendingOp → Type 0

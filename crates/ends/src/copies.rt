@@ -2,10 +2,9 @@
 ghost use Rattle.std.specs.Prelude.{◌≡◌, ◌+◌, ◌<◌, true, length, IfOk, IfSome};
 ghost use Rattle.ends.specs.Tables.{IsSameTable, SayTheSame, ShowTheSame, rows_of};
 
-use crate::founds;
 use crate::pending_op::PendingOp;
-use crate::states::{self, States};
 use crate::table::Table;
+use interned::{States, founds, states};
 use models::SeqObject;
 use rows::RowSet;
 use std::alloc::{AllocError, Global};

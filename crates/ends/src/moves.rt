@@ -5,10 +5,10 @@ ghost use Rattle.std.specs.Prelude.{IfOk, OnOk, IfSome};
 ghost use Rattle.ends.specs.Moves.{AreMoves, AreTo, IsKnown, IsTo, LeadsTo, known_at, targets_of};
 ghost use Rattle.ends.specs.Tables.{Widens, rows_of};
 
-use crate::founds;
 use crate::pending_op::PendingOp;
-use crate::states::number_of;
 use crate::table::{self, Table};
+use interned::founds;
+use interned::states::number_of;
 use models::{Found, SeqObject};
 use std::alloc::{AllocError, Global};
 

@@ -7,15 +7,14 @@ ghost use Rattle.linspec.specs.Ends.{End};
 ghost use Rattle.ends.specs.KeptEnds.{AreIncluded, IsIncluded, end_kept};
 ghost use Rattle.ends.specs.EndSteps.{Along};
 ghost use Rattle.ends.specs.Moves.{AreMoves, IsKnown, targets_of};
-ghost use Rattle.ends.specs.Tables.{HasEachOnce, IsOnceIn, IsSlot};
-ghost use Rattle.ends.specs.Tables.{AreShown, IsThat, IsToldBefore, ShownWith, told_by};
+ghost use Rattle.interned.specs.Numbers.{IsOnceIn, IsSlot};
+ghost use Rattle.ends.specs.Tables.{AreShown, HasEachOnce, IsThat, IsToldBefore, ShownWith, told_by};
 ghost use Rattle.ends.specs.Tables.{AreLed, Shows, Widens, found_by, rows_of};
 
-use crate::founds::{self, Founds};
 use crate::kept_end::{KeptEnd, found_in, has};
 use crate::moves::{self, Move, Moves};
 use crate::pending_op::PendingOp;
-use crate::states::{self, States};
+use interned::{Founds, States, founds, states};
 use models::{Found, Op, SeqObject};
 use rows::RowSet;
 use std::alloc::{AllocError, Global};

@@ -22,7 +22,8 @@ use Rattle.ends.specs.KeptEnds.{ArePending, AreIncluded, IsIncluded, crashed_in,
 use Rattle.ends.specs.EndSteps.{TakesLast, Next, ReachesIn, IsReached, Settles, settled, Crashes, crashed_if, is_in, is_other, crash_call, calls_after_crash, Along, Adds}
 use Rattle.ends.proofs.CallsInTurn.{crash_call-same, crash_call-other}
 use Rattle.ends.proofs.Changes.{same_parts}
-use Rattle.ends.proofs.Rows.{clash, included_with}
+use Rattle.ends.proofs.Rows.{included_with}
+use Rattle.interned.proofs.Lists.{clash}
 
 stays : (calls : List PendingOp) (id : ℕ) (c : PendingOp) (q : ℕ) → Contains calls c → c.id ≡ q → q ≢ id → Contains (filter (is_other id) calls) c
 stays calls id c q h is ne = to_filter (is_other id) calls c h (ap not (ne_eqb c.id id (λ k. ne (sym is ∙ k))))

@@ -14,10 +14,11 @@ use Rattle.frontier.specs.declared.frontier.Frontier.{Frontier}
 use Rattle.frontier.specs.declared.frontier.Step.{Step}
 use Rattle.frontier.specs.declared.frontier.Step.TheVariants.{Alive, Dead, Over}
 use Rattle.ends.specs.KeptEnds.{AreIncluded, ArePending, IsIncluded, IsWellKept, end_kept}
-use Rattle.ends.specs.Tables.{AreShown, IsSlot, IsThat, Says, Shows, ShownWith, found_by, rows_of, with_rows}
+use Rattle.ends.specs.Tables.{AreShown, IsThat, Says, Shows, ShownWith, found_by, rows_of, with_rows}
+use Rattle.interned.specs.Numbers.{IsSlot}
 use Rattle.ends.specs.declared.table.Table.{Table}
 use Rattle.ends.proofs.Showing.{included_shown}
-use Rattle.ends.proofs.Rows.{get_last, get_push, has_place, one_of, some_at}
+use Rattle.interned.proofs.Lists.{get_last, get_push, has_place, one_of, some_at}
 use Rattle.std.specs.FinMap as finmap
 use Rattle.std.specs.List.{Contains}
 use Rattle.std.proofs.lemmas.List.{get_or_append_left, length-map}

@@ -1,7 +1,7 @@
 use Rattle.std.proofs.Common.{sym, ◌∙◌, subst}
 use Rattle.std.proofs.lemmas.Bool.{true≢false}
 use Rattle.models.specs.Objects.{Fits}
-use Rattle.ends.proofs.Rows.{clash, one_of}
+use Rattle.interned.proofs.Lists.{clash, one_of}
 use Rattle.ends.proofs.Settling.{told_open}
 use Rattle.ends.proofs.after.fits_in_row.Goals as goal
 

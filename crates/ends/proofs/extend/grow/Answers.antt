@@ -8,7 +8,7 @@ use Rattle.ends.proofs.Closing.{all_tried}
 use Rattle.ends.proofs.Moving.{moves_none}
 use Rattle.ends.proofs.Showing.{all_done, done_on, end_at, grows_on, widens_itself, widens_on}
 use Rattle.ends.proofs.Beyond.{beyond_found, beyond_from}
-use Rattle.ends.proofs.Rows.{has_place}
+use Rattle.interned.proofs.Lists.{has_place}
 use Rattle.ends.proofs.Adding.{IsFront-itself, IsFront-trans}
 use Rattle.ends.proofs.extend.grow.Goals as goal
 

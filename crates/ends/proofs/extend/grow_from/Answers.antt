@@ -3,7 +3,7 @@ use Rattle.std.proofs.lemmas.List.{take_all}
 use Rattle.models.specs.Objects.{of_table}
 use Rattle.ends.specs.EndSteps.{Next}
 use Rattle.ends.specs.Tables.{ShownWith, rows_of}
-use Rattle.ends.proofs.Rows.{some_at}
+use Rattle.interned.proofs.Lists.{some_at}
 use Rattle.ends.proofs.Showing.{front_stays, front_within, next_there, none_yet, shows_more, widens_itself, widens_on}
 use Rattle.ends.proofs.Adding.{IsFront-itself, IsFront-trans}
 use Rattle.ends.proofs.extend.grow_from.Goals as goal

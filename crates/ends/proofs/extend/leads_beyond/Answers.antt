@@ -4,7 +4,8 @@ use Rattle.std.proofs.lemmas.Option.{slice_get-get_or, slice_get_within}
 use Rattle.models.specs.Objects.{AreApart}
 use Rattle.ends.specs.declared.pending_op.PendingOp.{PendingOp}
 use Rattle.ends.proofs.Beyond.{beyond_by, few_by, not_in_row}
-use Rattle.ends.proofs.Rows.{has_place, in_unless, one_of}
+use Rattle.ends.proofs.Rows.{in_unless}
+use Rattle.interned.proofs.Lists.{has_place, one_of}
 use Rattle.ends.proofs.extend.leads_beyond.Goals as goal
 use Rattle.ends.proofs.extend.leads_beyond.Goals.{else-has_more_outcomes-via-then-has_more_outcomes+else-has_zero, else-has_more_outcomes-via-else-has_more_outcomes}
 

@@ -3,7 +3,7 @@ use Rattle.std.proofs.lemmas.Option.{slice_get_read}
 use Rattle.ends.specs.declared.pending_op.PendingOp.{PendingOp}
 use Rattle.ends.specs.Moves.{AreMoves, AreTo, LeadsTo, targets_of}
 use Rattle.ends.proofs.Moving.{moves_more, moves_none, moves_with}
-use Rattle.ends.proofs.Rows.{get_front, one_of}
+use Rattle.interned.proofs.Lists.{get_front, one_of}
 use Rattle.ends.proofs.moves.tried.Goals as goal
 
 pub returns-clause-moves : goal.returns-clause-moves

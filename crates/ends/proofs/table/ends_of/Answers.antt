@@ -1,7 +1,8 @@
 use Rattle.std.proofs.Common.{◌∷◌, ◌++◌, [], get_or, sym, ap, ◌∙◌, arith}
 use Rattle.std.proofs.lemmas.List.{take_all}
 use Rattle.std.proofs.lemmas.Option.{slice_get-get_or}
-use Rattle.ends.proofs.Showing.{end_at, taken_more}
+use Rattle.ends.proofs.Showing.{end_at}
+use Rattle.interned.proofs.Lists.{taken_more}
 use Rattle.ends.specs.Tables.{rows_of}
 use Rattle.ends.proofs.table.ends_of.Goals as goal
 

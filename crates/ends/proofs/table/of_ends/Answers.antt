@@ -4,7 +4,7 @@ use Rattle.ends.specs.KeptEnds.{end_kept}
 use Rattle.ends.specs.EndSteps.{Along}
 use Rattle.ends.specs.Tables.{IsThat, ShownWith, rows_of}
 use Rattle.rows.specs.RowSets.{IsPut}
-use Rattle.ends.proofs.Rows.{has_place, mapped_at}
+use Rattle.interned.proofs.Lists.{has_place, mapped_at}
 use Rattle.ends.proofs.Showing.{shown_after, shown_first, shown_none, widens_rows}
 use Rattle.ends.proofs.table.of_ends.Goals as goal
 

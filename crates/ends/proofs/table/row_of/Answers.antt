@@ -2,7 +2,7 @@ use Rattle.std.proofs.Common.{◌≡◌, ◌+◌, ◌∷◌, ◌++◌, [], Some,
 use Rattle.std.proofs.lemmas.List.{get_or_append_left}
 use Rattle.std.proofs.lemmas.Option.{slice_get_read, slice_get_within}
 use Rattle.ends.specs.KeptEnds.{end_kept}
-use Rattle.ends.specs.Tables.{IsSlot}
+use Rattle.interned.specs.Numbers.{IsSlot}
 use Rattle.ends.proofs.Rows.{slots_more}
 use Rattle.ends.proofs.Showing.{widens_founds, widens_itself, widens_states}
 use Rattle.ends.proofs.table.row_of.Goals as goal

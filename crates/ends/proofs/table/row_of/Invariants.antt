@@ -1,7 +1,8 @@
 use Rattle.std.proofs.Common.{◌≡◌, ◌<◌, ◌+◌, ℕ, Some, slice_get, get_or, length}
 use Rattle.ends.specs.declared.pending_op.PendingOp.{PendingOp}
 use Rattle.ends.specs.KeptEnds.{end_kept}
-use Rattle.ends.specs.Tables.{IsSlot, Widens, found_by, rows_of}
+use Rattle.ends.specs.Tables.{Widens, found_by, rows_of}
+use Rattle.interned.specs.Numbers.{IsSlot}
 use Rattle.ends.proofs.table.row_of.Given as goal
 
 abbrev pub invariant-loop-call : goal.invariant-loop-call

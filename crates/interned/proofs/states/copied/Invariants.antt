@@ -1,6 +1,6 @@
 use Rattle.std.proofs.Common.{◌≡◌, take}
-use Rattle.ends.specs.States.{ArePlaces}
-use Rattle.ends.proofs.states.copied.Given as goal
+use Rattle.interned.specs.States.{ArePlaces}
+use Rattle.interned.proofs.states.copied.Given as goal
 
 abbrev pub invariant-loop-at : goal.invariant-loop-at
 invariant-loop-at g l =

@@ -1,8 +1,8 @@
 -- Invariant: what was found, by a key
 use Rattle.models.specs.declared.finding.Found.{Found}
 use Rattle.models.specs.declared.finding.Found.TheVariants.{Unit as Nothing, Reg as Register, Item as Front, Elements as Set}
-use Rattle.ends.specs.declared.found_key.FoundKey.{FoundKey}
-use Rattle.ends.specs.declared.found_key.FoundKey.TheVariants.{Unit, Reg, Item, Elements}
+use Rattle.interned.specs.declared.found_key.FoundKey.{FoundKey}
+use Rattle.interned.specs.declared.found_key.FoundKey.TheVariants.{Unit, Reg, Item, Elements}
 
 -- what was found, by its key
 abbrev pub found_of : FoundKey → Found

@@ -2,9 +2,9 @@
 use Rattle.std.specs.Prelude.{◌≡◌, ◌≢◌, ◌≤◌, ◌+◌, ℕ, Some, None, List, slice_get}
 use Rattle.std.specs.BTreeMap.{BTreeMap, get}
 use Rattle.models.specs.declared.finding.Found.{Found}
-use Rattle.ends.specs.declared.found_key.FoundKey.{FoundKey}
-use Rattle.ends.specs.contracts.found_key.FoundKeyOrd.TheImpl.{cmp-value}
-use Rattle.ends.specs.FoundKeys.{found_of}
+use Rattle.interned.specs.declared.found_key.FoundKey.{FoundKey}
+use Rattle.interned.specs.contracts.found_key.FoundKeyOrd.TheImpl.{cmp-value}
+use Rattle.interned.specs.FoundKeys.{found_of}
 
 -- what stands behind the first eight is found by its key, and what a key finds is the number of what it is the key of
 pub record AreSlots (slots : BTreeMap FoundKey ℕ) (founds : List Found) : Type 0 where

@@ -1,6 +1,6 @@
 use Rattle.std.proofs.Common.{◌+◌, ◌++◌, ◌∷◌, [], ap, ◌∙◌, arith}
-use Rattle.ends.proofs.Founding.{slots_with}
-use Rattle.ends.proofs.founds.put_key.Goals as goal
+use Rattle.interned.proofs.Founding.{slots_with}
+use Rattle.interned.proofs.founds.put_key.Goals as goal
 
 pub invariant_of-founds-2 : goal.invariant_of-founds-2
 invariant_of-founds-2 c =

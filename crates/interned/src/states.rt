@@ -2,8 +2,8 @@
 ghost use Rattle.std.specs.Prelude.{◌≡◌, [], true, length, Some, slice_get, option_copied, IfOk};
 ghost use Rattle.std.specs.Ordering.{is_eq};
 ghost use Rattle.history.specs.Events.{IsFront};
-ghost use Rattle.ends.specs.States.{ArePlaces};
-ghost use Rattle.ends.specs.Tables.{IsOnceIn};
+ghost use Rattle.interned.specs.States.{ArePlaces};
+ghost use Rattle.interned.specs.Numbers.{IsOnceIn};
 
 use models::SeqObject;
 use std::alloc::{AllocError, Global};
@@ -19,7 +19,7 @@ pub struct States<S: Ord + Drop> {
 
 impl<S: Ord + Drop> Model for States<S> {
     ghost use Rattle.std.specs.Prelude.{List};
-    ghost use Rattle.ends.specs.States.{ArePlaces};
+    ghost use Rattle.interned.specs.States.{ArePlaces};
 
     ghost Value = { List S };
 

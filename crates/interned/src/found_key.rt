@@ -1,6 +1,6 @@
 //! What was found, as a key by which it is looked up.
 ghost use Rattle.std.specs.Prelude.{◌≡◌, IfOk};
-ghost use Rattle.ends.specs.FoundKeys.{found_of};
+ghost use Rattle.interned.specs.FoundKeys.{found_of};
 
 use models::{Found, Members};
 use std::alloc::AllocError;

@@ -7,12 +7,12 @@ use Rattle.std.proofs.lemmas.Bool.Decides.{Decides-int_eq}
 use Rattle.models.specs.Comparisons.{ints_eq-exact, ints_tie}
 use Rattle.models.specs.declared.finding.Found.{Found}
 use Rattle.models.specs.declared.finding.Found.TheVariants.{Elements as Set}
-use Rattle.ends.specs.declared.found_key.FoundKey.{FoundKey}
-use Rattle.ends.specs.declared.found_key.FoundKey.TheVariants.{Unit, Reg, Item, Elements}
-use Rattle.ends.specs.contracts.found_key.FoundKeyOrd.TheImpl.{cmp-value}
-use Rattle.ends.specs.FoundKeys.{found_of}
-use Rattle.ends.specs.Founds.{AreSlots}
-use Rattle.ends.proofs.Rows.{clash, get_last, get_left, get_push, one_of}
+use Rattle.interned.specs.declared.found_key.FoundKey.{FoundKey}
+use Rattle.interned.specs.declared.found_key.FoundKey.TheVariants.{Unit, Reg, Item, Elements}
+use Rattle.interned.specs.contracts.found_key.FoundKeyOrd.TheImpl.{cmp-value}
+use Rattle.interned.specs.FoundKeys.{found_of}
+use Rattle.interned.specs.Founds.{AreSlots}
+use Rattle.interned.proofs.Lists.{clash, get_last, get_left, get_push, one_of}
 
 -- equal keys are of the same
 equal : (a b : FoundKey) → is_eq (cmp-value.it a b) ≡ true → found_of a ≡ found_of b

@@ -2,9 +2,9 @@
 ghost use Rattle.std.specs.Prelude.{◌≡◌, ◌≢◌, ◌≤◌, ◌<◌, ◌++◌, ◌∷◌, [], ℕ, List, Some, None};
 ghost use Rattle.std.specs.Prelude.{length, slice_get, option_copied, IfOk, OnOk, OnErr, IfSome};
 ghost use Rattle.history.specs.Events.{IsFront};
-ghost use Rattle.ends.specs.FoundKeys.{found_of};
-ghost use Rattle.ends.specs.Founds.{AreSlots};
-ghost use Rattle.ends.specs.Tables.{IsOnceIn, IsSlot};
+ghost use Rattle.interned.specs.FoundKeys.{found_of};
+ghost use Rattle.interned.specs.Founds.{AreSlots};
+ghost use Rattle.interned.specs.Numbers.{IsOnceIn, IsSlot};
 
 use crate::found_key::FoundKey;
 use models::Found;
@@ -26,7 +26,7 @@ pub struct Founds {
 impl Model for Founds {
     ghost use Rattle.std.specs.Prelude.{List};
     ghost use Rattle.models.specs.declared.finding.Found.{Found};
-    ghost use Rattle.ends.specs.Founds.{AreSlots};
+    ghost use Rattle.interned.specs.Founds.{AreSlots};
 
     ghost Value = { List Found };
 

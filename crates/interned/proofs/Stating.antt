@@ -8,9 +8,9 @@ use Rattle.std.specs.Map.{lookup}
 use Rattle.std.proofs.lemmas.Cmp.{eq_by_cmp_equiv}
 use Rattle.std.proofs.lemmas.List.{take-append-drop, length-take-le}
 use Rattle.std.proofs.lemmas.Option.{slice_get_within}
-use Rattle.ends.specs.States.{ArePlaces}
-use Rattle.ends.specs.Tables.{IsOnceIn}
-use Rattle.ends.proofs.Rows.{clash, get_last, get_left, get_push, one_of}
+use Rattle.interned.specs.States.{ArePlaces}
+use Rattle.interned.specs.Numbers.{IsOnceIn}
+use Rattle.interned.proofs.Lists.{clash, get_last, get_left, get_push, one_of}
 
 module _ {S : Type 0} (cmp : S → S → Ordering) where
   pub places_once : (places : BTreeMap S ℕ) (states : List S) → ArePlaces cmp places states → IsOnceIn states

@@ -3,10 +3,10 @@ use Rattle.std.specs.BTreeMap.{get}
 use Rattle.std.specs.Ordering.{is_eq}
 use Rattle.std.proofs.lemmas.List.{length-take-le}
 use Rattle.std.proofs.lemmas.Option.{slice_get_read}
-use Rattle.ends.specs.States.{ArePlaces}
-use Rattle.ends.proofs.Showing.{taken_more}
-use Rattle.ends.proofs.Stating.{not_yet, one_place}
-use Rattle.ends.proofs.states.copied.Goals as goal
+use Rattle.interned.specs.States.{ArePlaces}
+use Rattle.interned.proofs.Lists.{taken_more}
+use Rattle.interned.proofs.Stating.{not_yet, one_place}
+use Rattle.interned.proofs.states.copied.Goals as goal
 
 pub loop-at-preserved : goal.loop-at-preserved
 loop-at-preserved g c =

@@ -1,10 +1,10 @@
 use Rattle.std.proofs.Common.{◌≡◌, ◌∷◌, ◌++◌, [], cond, Some, option_copied, length, slice_get, sym, ap, ◌∙◌, subst, arith}
 use Rattle.std.specs.BTreeMap.{get}
 use Rattle.std.specs.Ordering.{is_eq}
-use Rattle.ends.specs.Tables.{IsOnceIn}
-use Rattle.ends.proofs.Rows.{get_last}
-use Rattle.ends.proofs.Stating.{one_place, places_once}
-use Rattle.ends.proofs.states.number_of.Goals as goal
+use Rattle.interned.specs.Numbers.{IsOnceIn}
+use Rattle.interned.proofs.Lists.{get_last}
+use Rattle.interned.proofs.Stating.{one_place, places_once}
+use Rattle.interned.proofs.states.number_of.Goals as goal
 
 pub returns-in-Some-clause-once : goal.returns-in-Some-clause-once
 returns-in-Some-clause-once g c = subst IsOnceIn c.states.view_is (places_once g.M.State.Ord.cmp c.states.inside.places c.states.inside.items.items c.states.invariant)

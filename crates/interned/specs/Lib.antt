@@ -1,0 +1,4 @@
+pub mod Numbers
+pub mod States
+pub mod FoundKeys
+pub mod Founds

@@ -1,0 +1,10 @@
+//! Values by small numbers: each different state, and each thing that was found, stands once and has a number, so that ends are rows
+//! of numbers.
+#![tactic(auto)]
+
+mod found_key;
+pub mod founds;
+pub mod states;
+
+pub use founds::Founds;
+pub use states::States;
