@@ -12,29 +12,14 @@ import shutil
 import subprocess
 import sys
 import tempfile
-from typing import Callable, Dict, List, Tuple
+from typing import Dict, List
+
+from case_loop import LIMIT, Case, differing, given, read, run_cases, words
 
 TOP = pathlib.Path(__file__).resolve().parent.parent
 CASES = TOP / "tests" / "explain"
 EXPLAIN = TOP / "examples" / "explain"
 PROGRAM = os.environ.get("JEPMON") or str(TOP / "crates" / "jepmon" / "out" / "jepmon")
-LIMIT = 60  # seconds for one run
-
-
-def read(path: pathlib.Path, default: bytes = b"") -> bytes:
-    return path.read_bytes() if path.exists() else default
-
-
-def words(case: pathlib.Path) -> List[str]:
-    return [word for word in read(case / "args").decode().split("\n") if word]
-
-
-def given(case: pathlib.Path) -> bytes:
-    """The case's history: its file, or what its script prints."""
-    script = case / "history.py"
-    if not script.exists():
-        return read(case / "history.edn")
-    return subprocess.run([sys.executable, str(script)], stdout=subprocess.PIPE, check=True, timeout=LIMIT).stdout
 
 
 def explained(arguments: List[str], text: bytes = b"", program: str = PROGRAM) -> "subprocess.CompletedProcess[bytes]":
@@ -43,14 +28,10 @@ def explained(arguments: List[str], text: bytes = b"", program: str = PROGRAM) -
                           stderr=subprocess.PIPE, timeout=LIMIT, env=environment)
 
 
-def differing(what: str, got: object, want: object) -> List[str]:
-    return [] if got == want else [f"{what} was {got!r} in place of {want!r}"]
-
-
 def run_case(case: pathlib.Path) -> List[str]:
-    text = given(case)
-    ran = explained(["-"] + words(case), text)
-    plain = subprocess.run([PROGRAM, "check", "/dev/stdin"] + words(case), input=text, stdout=subprocess.PIPE, timeout=LIMIT)
+    text = given(case, "history")
+    ran = explained(["-"] + words(case / "args"), text)
+    plain = subprocess.run([PROGRAM, "check", "/dev/stdin"] + words(case / "args"), input=text, stdout=subprocess.PIPE, timeout=LIMIT)
     return (differing("the last line of standard output", b"".join(ran.stdout.splitlines(True)[-1:]), read(case / "stdout"))
             + differing("standard error", ran.stderr, read(case / "stderr"))
             + differing("status", ran.returncode, int(read(case / "status", b"0")))
@@ -60,7 +41,7 @@ def run_case(case: pathlib.Path) -> List[str]:
 def run_file() -> List[str]:
     """A history comes by a file as by standard input."""
     case = CASES / "stale_read"
-    ran = explained([str(case / "history.edn")] + words(case))
+    ran = explained([str(case / "history.edn")] + words(case / "args"))
     return differing("standard error", ran.stderr, read(case / "stderr")) + differing("status", ran.returncode, 1)
 
 
@@ -115,33 +96,12 @@ def run_full_device() -> List[str]:
                      (3, [b"explain: the output can't be written: No space left on device"]))
 
 
-def all_cases() -> List[Tuple[str, Callable[[], List[str]]]]:
+def all_cases() -> List[Case]:
     """Each case by its name."""
     cases = [(case.name, functools.partial(run_case, case)) for case in sorted(CASES.iterdir()) if case.is_dir()]
     return cases + [("a_file", run_file), ("a_missing_file", run_missing_file), ("faults_of_words", run_faults_of_words),
                     ("no_verdict", run_no_verdict), ("no_program", run_no_program), ("a_full_device", run_full_device)]
 
 
-def main(names: List[str]) -> int:
-    """Runs the cases of these names, or all where none is named."""
-    cases = all_cases()
-    unknown = sorted(set(names) - {name for name, _ in cases})
-    failed = len(unknown)
-    for name in unknown:
-        print(f"explain {name}: there is no such case")
-    cases = [case for case in cases if not names or case[0] in names]
-    for name, run in cases:
-        try:
-            faults = run()
-        except Exception as fault:  # a case that can't be run has failed
-            faults = [repr(fault)]
-        print(f"explain {name}: {'ok' if not faults else 'FAILED'}")
-        for line in faults:
-            print(f"  {line}")
-        failed += bool(faults)
-    print(f"{len(cases) + len(unknown) - failed} passed, {failed} failed")
-    return 1 if failed else 0
-
-
 if __name__ == "__main__":
-    sys.exit(main(sys.argv[1:]))
+    sys.exit(run_cases("explain", all_cases(), sys.argv[1:]))

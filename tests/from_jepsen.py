@@ -13,37 +13,22 @@ import re
 import subprocess
 import sys
 import tempfile
-from typing import Callable, List, Tuple
+from typing import List
+
+from case_loop import LIMIT, Case, differing, given, read, run_cases, words
 
 TOP = pathlib.Path(__file__).resolve().parent.parent
 CASES = TOP / "tests" / "from-jepsen"
 FILTER = TOP / "examples" / "from-jepsen"
 PROGRAM = pathlib.Path(os.environ.get("JEPMON") or TOP / "crates" / "jepmon" / "out" / "jepmon")
-LIMIT = 60  # seconds for one run
 ADVICE = re.compile(rb"judge it by: jepmon check FILE (.*?)(?: \(or .*)?\n")
 SCRIPT = re.compile(rb"judge it by jepmon script (.*?), these lines before it:\n")
-
-
-def read(path: pathlib.Path, default: bytes = b"") -> bytes:
-    return path.read_bytes() if path.exists() else default
-
-
-def words(path: pathlib.Path) -> List[str]:
-    return [word for word in read(path).decode().split("\n") if word]
-
-
-def given(case: pathlib.Path) -> bytes:
-    """The case's history: its file, or what its script prints."""
-    script = case / "input.py"
-    if not script.exists():
-        return read(case / "input.edn")
-    return subprocess.run([sys.executable, str(script)], stdout=subprocess.PIPE, check=True, timeout=LIMIT).stdout
 
 
 def turned(case: pathlib.Path) -> "subprocess.CompletedProcess[bytes]":
     """Runs the filter where the history is called input.edn, so that what it says is the same everywhere."""
     with tempfile.TemporaryDirectory() as folder:
-        (pathlib.Path(folder) / "input.edn").write_bytes(given(case))
+        (pathlib.Path(folder) / "input.edn").write_bytes(given(case, "input"))
         return subprocess.run([sys.executable, str(FILTER), "input.edn"] + words(case / "args"), cwd=folder,
                               stdin=subprocess.DEVNULL, stdout=subprocess.PIPE, stderr=subprocess.PIPE, timeout=LIMIT)
 
@@ -64,10 +49,6 @@ def verdict(ran: "subprocess.CompletedProcess[bytes]") -> bytes:
     return judge(["check", "/dev/stdin"] + (advice.group(1).decode().split() if advice else []), ran.stdout)
 
 
-def differing(what: str, got: bytes, want: bytes) -> List[str]:
-    return [] if got == want else [f"{what} was {got[:1500]!r} in place of {want[:1500]!r}"]
-
-
 def run_case(case: pathlib.Path) -> List[str]:
     ran = turned(case)
     return (differing("standard output", ran.stdout, read(case / "stdout"))
@@ -86,7 +67,7 @@ def run_example() -> List[str]:
 def run_standard_input() -> List[str]:
     """A history comes by standard input as by a file."""
     case = CASES / "maps"
-    ran = subprocess.run([sys.executable, str(FILTER)], input=given(case), stdout=subprocess.PIPE, stderr=subprocess.PIPE,
+    ran = subprocess.run([sys.executable, str(FILTER)], input=given(case, "input"), stdout=subprocess.PIPE, stderr=subprocess.PIPE,
                          timeout=LIMIT)
     return differing("standard output", ran.stdout, read(case / "stdout"))
 
@@ -123,33 +104,12 @@ def run_many_events() -> List[str]:
     return differing("the verdict", verdict(ran), b"legal") + differing("lines", b"%d" % ran.stdout.count(b"\n"), b"20000")
 
 
-def all_cases() -> List[Tuple[str, Callable[[], List[str]]]]:
+def all_cases() -> List[Case]:
     """Each case by its name."""
     cases = [(case.name, functools.partial(run_case, case)) for case in sorted(CASES.iterdir()) if case.is_dir()]
     return cases + [("the_example", run_example), ("standard_input", run_standard_input), ("faults_of_words", run_words),
                     ("a_full_device", run_full_device), ("many_events", run_many_events)]
 
 
-def main(names: List[str]) -> int:
-    """Runs the cases of these names, or all where none is named."""
-    cases = all_cases()
-    unknown = sorted(set(names) - {name for name, _ in cases})
-    failed = len(unknown)
-    for name in unknown:
-        print(f"from-jepsen {name}: there is no such case")
-    cases = [case for case in cases if not names or case[0] in names]
-    for name, run in cases:
-        try:
-            faults = run()
-        except Exception as fault:  # a case that can't be run has failed
-            faults = [repr(fault)]
-        print(f"from-jepsen {name}: {'ok' if not faults else 'FAILED'}")
-        for line in faults:
-            print(f"  {line}")
-        failed += bool(faults)
-    print(f"{len(cases) + len(unknown) - failed} passed, {failed} failed")
-    return 1 if failed else 0
-
-
 if __name__ == "__main__":
-    sys.exit(main(sys.argv[1:]))
+    sys.exit(run_cases("from-jepsen", all_cases(), sys.argv[1:]))

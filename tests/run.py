@@ -23,12 +23,10 @@ import sys
 import tempfile
 import time
 
+from case_loop import read, run_cases
+
 TOP = pathlib.Path(__file__).resolve().parent.parent
 PROGRAM = TOP / "crates" / "jepmon" / "out" / "jepmon"
-
-
-def read(path, default=b""):
-    return path.read_bytes() if path.exists() else default
 
 
 def words(case):
@@ -556,29 +554,5 @@ def all_cases():
     return cases
 
 
-def main(names):
-    """Runs the cases of these names, or all where none is named."""
-    cases = all_cases()
-    unknown = sorted(set(names) - {name for name, _ in cases})
-    if unknown:
-        print(f"there is no case {', '.join(unknown)}", file=sys.stderr)
-        print(f"0 passed, {len(unknown)} failed")
-        return 1
-    if names:
-        cases = [case for case in cases if case[0] in names]
-    failed = 0
-    for name, run in cases:
-        try:
-            faults = run()
-        except Exception as fault:  # a case that can't be run has failed
-            faults = [repr(fault)]
-        print(f"case {name}: {'ok' if not faults else 'FAILED'}")
-        for fault in faults:
-            print(f"  {fault}")
-        failed += bool(faults)
-    print(f"{len(cases) - failed} passed, {failed} failed")
-    return 1 if failed else 0
-
-
 if __name__ == "__main__":
-    sys.exit(main(sys.argv[1:]))
+    sys.exit(run_cases("case", all_cases(), sys.argv[1:]))

@@ -1,0 +1,54 @@
+"""What scripts of cases share: the files of a case, and the loop over cases."""
+import pathlib
+import subprocess
+import sys
+from typing import Callable, List, Tuple
+
+LIMIT = 60  # seconds for one run
+Case = Tuple[str, Callable[[], List[str]]]
+
+
+def read(path: pathlib.Path, default: bytes = b"") -> bytes:
+    return path.read_bytes() if path.exists() else default
+
+
+def words(path: pathlib.Path) -> List[str]:
+    """The words of a file, one a line; none where there is no file."""
+    return [word for word in read(path).decode().split("\n") if word]
+
+
+def given(case: pathlib.Path, name: str) -> bytes:
+    """What a case is given by this name: its file NAME.edn, or what its script NAME.py prints."""
+    script = case / f"{name}.py"
+    if not script.exists():
+        return read(case / f"{name}.edn")
+    return subprocess.run([sys.executable, str(script)], stdout=subprocess.PIPE, check=True, timeout=LIMIT).stdout
+
+
+def differing(what: str, got: object, want: object) -> List[str]:
+    return [] if got == want else [f"{what} was {shortened(got)} in place of {shortened(want)}"]
+
+
+def shortened(value: object) -> str:
+    text = repr(value)
+    return text if len(text) < 2000 else text[:1500] + " .. " + text[-400:]
+
+
+def run_cases(title: str, cases: List[Case], names: List[str]) -> int:
+    """Runs the cases of these names, or all where none is named, and prints what each came to. The exit status."""
+    unknown = sorted(set(names) - {name for name, _ in cases})
+    failed = len(unknown)
+    for name in unknown:
+        print(f"{title} {name}: there is no such case")
+    cases = [case for case in cases if not names or case[0] in names]
+    for name, run in cases:
+        try:
+            faults = run()
+        except Exception as fault:  # a case that can't be run has failed
+            faults = [repr(fault)]
+        print(f"{title} {name}: {'ok' if not faults else 'FAILED'}")
+        for line in faults:
+            print(f"  {line}")
+        failed += bool(faults)
+    print(f"{len(cases) + len(unknown) - failed} passed, {failed} failed")
+    return 1 if failed else 0
