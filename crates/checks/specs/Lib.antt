@@ -1,4 +1,0 @@
-pub mod ExitStatus
-pub mod Reading
-pub mod Recorded
-pub mod Checks

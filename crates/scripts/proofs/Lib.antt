@@ -1,4 +1,0 @@
-pub mod Answering
-pub mod Elements
-pub mod OneReply
-pub mod Opening

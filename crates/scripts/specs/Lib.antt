@@ -1,3 +1,0 @@
-pub mod Command
-pub mod Reply
-pub mod Unopened
