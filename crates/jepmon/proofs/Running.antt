@@ -9,8 +9,8 @@ use Rattle.linspec.specs.declared.verdict.Verdict.TheVariants.{Legal, Illegal, U
 use Rattle.monitor.specs.JudgedHistory.{JudgedHistory, IsVerdictOn}
 use Rattle.machine.specs.Machine.{Setup}
 use Rattle.line_loop.specs.RefusalLine.{refusal_line}
-use Rattle.jepmon.specs.ExitStatus.{status_of}
-use Rattle.jepmon.specs.Checks.{IsPut, line_or_no_memory}
+use Rattle.checks.specs.ExitStatus.{status_of}
+use Rattle.checks.specs.Checks.{IsPut, line_or_no_memory}
 use Rattle.jepmon.specs.RunText.{MaySay}
 
 -- no verdict but an illegal one gives the status 1

@@ -1,9 +1,2 @@
-pub mod Command
 pub mod CommandLine
-pub mod ExitStatus
-pub mod Reply
-pub mod Unopened
-pub mod Reading
-pub mod Recorded
-pub mod Checks
 pub mod RunText

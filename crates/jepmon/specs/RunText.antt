@@ -7,7 +7,7 @@ use Rattle.machine.specs.Machine.{Machine, Setup, opening}
 use Rattle.line_loop.specs.RefusalLine.{refusal_line}
 use Rattle.clients.specs.Runs.{IsRun}
 use Rattle.report.specs.Report.{IsReport}
-use Rattle.jepmon.specs.ExitStatus.{status_of}
+use Rattle.checks.specs.ExitStatus.{status_of}
 
 -- the text is the report of what the machine judges, and the status that of the verdict
 pub record IsRunText (m : Machine) (text : List ℕ) (status : ℕ) : Type 0 where

@@ -1,17 +1,15 @@
 //! What the program ends with.
 ghost use Rattle.std.specs.Prelude.{◌≡◌, MatchResult};
-ghost use Rattle.jepmon.specs.ExitStatus.{status_of};
+ghost use Rattle.checks.specs.ExitStatus.{status_of};
 
 use crate::command_line::Stop;
+use checks::{REFUSED, status_of_verdict};
 use edn::Refusal;
 use line_loop::refusal_text;
 use linspec::Verdict;
 use onlookers::Onlooker;
 use std::alloc::Global;
 use std::io::{Eprint, Print};
-
-/// The exit status of a refusal, of a usage fault and of a fault in printing.
-pub(crate) const REFUSED: u8 = 3;
 
 /// The exit status after a script: 0 legal, 1 illegal, 2 unknown, and 3 for a refusal, whose line goes to standard
 /// error.
@@ -29,17 +27,6 @@ pub fn status_after<P: Eprint, L: Onlooker>(
             print_refusal(rt, alloc, &refusal, onlooker);
             REFUSED
         }
-    }
-}
-
-/// The exit status of a verdict.
-pub(crate) fn status_of_verdict(verdict: &Verdict) -> u8
-    ensures { result ≡ status_of verdict.now }
-{
-    match verdict {
-        Verdict::Legal => 0,
-        Verdict::Illegal { .. } => 1,
-        Verdict::Unknown { .. } => 2,
     }
 }
 

@@ -6,25 +6,19 @@
 ghost use Rattle.std.specs.Prelude.{IfOk};
 ghost use Rattle.jepmon.specs.CommandLine.{IsWithinLimits};
 
-pub mod check;
-pub mod command;
 pub mod command_line;
 pub mod exit_status;
 mod help;
-pub mod laws;
-mod reading;
-pub mod recorded;
 pub mod run;
-pub mod script;
 
-use check::check_file;
+use checks::check_file;
 use command_line::{Order, Stop, no_text, order_of};
 use edn::Refusal;
 use exit_status::{status_after, status_of_stop};
-pub use line_loop::{Failed, Watched};
+use line_loop::Watched;
 use onlookers::OnTerminal;
 use run::run_store;
-use script::run_script;
+use scripts::run_script;
 use std::alloc::{AllocError, Global};
 use std::env;
 use std::env::Args;

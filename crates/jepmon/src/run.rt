@@ -2,11 +2,10 @@
 ghost use Rattle.std.specs.Prelude.{◌≡◌, ◌≢◌, ℕ, List, IfOk, false};
 ghost use Rattle.test_store.specs.declared.outcome.Mode.TheVariants.{Strict};
 ghost use Rattle.harness.specs.Setups.{setup_of};
-ghost use Rattle.jepmon.specs.Checks.{IsPut};
+ghost use Rattle.checks.specs.Checks.{IsPut};
 ghost use Rattle.jepmon.specs.RunText.{IsRunText, MaySay};
 
-use crate::check::{put_refused, put_text};
-use crate::exit_status::status_of_verdict;
+use checks::{put_refused, put_text, status_of_verdict};
 use clients::{Watch, run_trial};
 use harness::{Config, Core};
 use line_loop::{Failed, refusal_text};

@@ -1,0 +1,4 @@
+pub mod ExitStatus
+pub mod Reading
+pub mod Recorded
+pub mod Checks

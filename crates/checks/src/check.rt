@@ -1,0 +1,131 @@
+//! A recorded history, from its bytes to the text that says what it comes to.
+ghost use Rattle.std.specs.Prelude.{◌≡◌, ◌≤◌, ◌⊎◌, false};
+ghost use Rattle.checks.specs.declared.recorded.Findings.{Findings};
+ghost use Rattle.harness.specs.Setups.{setup_of};
+ghost use Rattle.checks.specs.Checks.{Checks, IsTold};
+
+use crate::recorded::{Findings, event_text, judge_text};
+use crate::telling::{put_refused, put_text, status_of_verdict};
+use edn::Refusal;
+use harness::Config;
+use line_loop::{Failed, Watched, read_whole, refusal_text};
+use onlookers::Onlooker;
+use std::alloc::Global;
+use std::fs::Files;
+use std::io::{Read, Write};
+use std::sync::Wait;
+use std::thread::Threads;
+use std::{fs, io};
+
+/// Reads a recorded history to its end, judges it, writes what it comes to, and gives the exit status.
+///
+/// That is the report, whose last line is that of the verdict; or one line: `refused NUMBER NAME event I`, where I elements
+/// were taken and the next one was refused, or `refused NUMBER NAME` for what is no element's refusal: `ReadFailed` where the
+/// reader has failed, `Unreadable` with its place, `NoMemory`. The status is that of the verdict, else 3, and 3 too where the writer has
+/// failed. The bytes are held once, and one element at a time. So many workers, 1 to 64, judge the keys, and what is written
+/// is the same by any number of them. The onlooker is told on the way how many events are taken, and when they are judged.
+pub fn check_text<X: Wait + Threads + Sync, R: Read + Failed, W: Write + Failed, L: Onlooker>(
+    rt: &X,
+    alloc: Global,
+    config: Config,
+    workers: u32,
+    reader: &mut R,
+    writer: &mut W,
+    onlooker: &L,
+) -> u8
+    requires reads { R.has_failed reader.old ≡ false }
+    requires writes { W.has_failed writer.old ≡ false }
+    requires workers { (1 ≤ workers) × (workers ≤ 64) }
+    ensures { Checks (setup_of config)
+        (R.remaining reader.old) (R.remaining reader.new) (R.has_failed reader.new)
+        (W.contents writer.old) (W.contents writer.new) (W.has_failed writer.new) result }
+{
+    let findings = match read_whole(rt, alloc, reader) {
+        Ok(bytes) => judge_text(rt, alloc, config, workers, bytes.as_slice(), onlooker),
+        Err(refusal) => {
+            onlooker.refused(&refusal);
+            Findings::Refused(refusal)
+        }
+    };
+    tell(rt, alloc, &findings, writer)
+}
+
+/// Judges the recorded history in a file: [`check_text`] of what the file has. A file that can't be opened is told as
+/// `ReadFailed`.
+pub fn check_file<X: Wait + Threads + Files + Sync, W: Write + Failed, L: Onlooker>(
+    rt: &X,
+    alloc: Global,
+    path: &str,
+    config: Config,
+    workers: u32,
+    writer: &mut W,
+    onlooker: &L,
+) -> u8
+    requires writes { W.has_failed writer.old ≡ false }
+    requires workers { (1 ≤ workers) × (workers ≤ 64) }
+{
+    match fs::open(rt, path) {
+        Ok(file) => {
+            let mut reader = Watched::new(SeenFile {
+                file,
+                path,
+                onlooker,
+            });
+            check_text(rt, alloc, config, workers, &mut reader, writer, onlooker)
+        }
+        Err(reason) => {
+            onlooker.unread(path, &reason);
+            onlooker.refused(&Refusal::ReadFailed);
+            tell(rt, alloc, &Findings::Refused(Refusal::ReadFailed), writer)
+        }
+    }
+}
+
+// A file, at whose reads somebody looks on.
+#[derive(Drop)]
+struct SeenFile<'a, R, L> {
+    file: R,
+    path: &'a str,
+    onlooker: &'a L,
+}
+
+impl<'a, R: Read, L: Onlooker> Read for SeenFile<'a, R, L> {
+    ghost remaining = { λ seen. R.remaining seen.file };
+
+    fn read(&mut self, buf: &mut [u8]) -> io::Result<usize> {
+        match self.file.read(buf) {
+            Ok(n) => {
+                self.onlooker.read(n);
+                Ok(n)
+            }
+            Err(reason) => {
+                self.onlooker.unread(self.path, &reason);
+                Err(reason)
+            }
+        }
+    }
+}
+
+// Writes what was found, or the line of want of memory where there is none for it, and gives the exit status: 3 where the
+// writer has failed.
+fn tell<X: Wait, W: Write + Failed>(
+    rt: &X,
+    alloc: Global,
+    findings: &Findings,
+    writer: &mut W,
+) -> u8
+    ensures { (told : Findings)
+        × ((told ≡ findings.now) ⊎ (told ≡ Findings.Refused Refusal.NoMemory))
+        × IsTold told
+        (W.contents writer.old) (W.contents writer.new) (W.has_failed writer.new) result }
+{
+    match findings {
+        Findings::Judged(verdict, text) => {
+            put_text(rt, text.as_slice(), status_of_verdict(verdict), writer)
+        }
+        Findings::RefusedEvent(taken, refusal) => {
+            put_refused(rt, event_text(alloc, *taken, refusal), writer)
+        }
+        Findings::Refused(refusal) => put_refused(rt, refusal_text(alloc, refusal), writer),
+    }
+}

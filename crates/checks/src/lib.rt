@@ -1,0 +1,11 @@
+//! A recorded history, from its bytes to the text that says what it comes to: the report, or the line of a refusal.
+#![tactic(auto)]
+
+mod check;
+mod reading;
+mod recorded;
+mod telling;
+
+pub use check::{check_file, check_text};
+pub use recorded::{Findings, event_text, judge_text};
+pub use telling::{REFUSED, put_refused, put_text, status_of_verdict};

@@ -1,0 +1,102 @@
+//! The events of a recorded history, as they are read.
+ghost use Rattle.std.specs.Prelude.{◌≡◌, ◌≢◌, Some, IfOk, IfErr, OnOk, OnErr};
+ghost use Rattle.edn.specs.Value.{Values};
+ghost use Rattle.edn.specs.Text.{IsText};
+ghost use Rattle.edn.specs.Elements.{IsLeftBehind};
+ghost use Rattle.edn.specs.Refusals.{IsWhy};
+ghost use Rattle.edn.specs.View.{value_of};
+ghost use Rattle.checks.specs.Reading.{PushesElement, RefusesNext, IsRead};
+
+use edn::{Edn, Elements, Refusal};
+use history::{History, from_edn};
+use onlookers::Onlooker;
+use std::alloc::Global;
+
+/// Pushes the events that the elements of a text spell, in turn, up to the first that is refused: it is given where there is
+/// one, by how many were pushed before it, and why.
+///
+/// The text is read once, also behind a refused element, since a place where it is no text comes first. One element is held at
+/// a time. The onlooker is told how many are pushed.
+///
+/// # Errors
+///
+/// `Unreadable` where the bytes are no text, with its place; `NoMemory` where memory is refused.
+pub(crate) fn read_events<L: Onlooker>(
+    alloc: Global,
+    history: &mut History,
+    bytes: &[u8],
+    onlooker: &L,
+) -> Result<Option<(usize, Refusal)>, Refusal>
+    ensures read { IfOk result
+        (IsRead bytes.now history.old.concurrency history.old.events history.new.events) }
+    ensures refused { IfErr result (λ why. IsWhy bytes.now why) }
+    ensures concurrency { history.new.concurrency ≡ history.old.concurrency }
+{
+    let mut elements = Elements::new(bytes);
+    let mut pushed: usize = 0;
+    'elements: loop {
+        let element = match elements.next(alloc)? {
+            Some(element) => element,
+            None => return Ok(None),
+        };
+        match push_element(alloc, history, element) {
+            Ok(()) => {
+                pushed += 1;
+                onlooker.taken(pushed);
+            }
+            Err(refusal) => return refused_at(alloc, elements, pushed, refusal),
+        }
+    }
+}
+
+// Pushes the event that the element spells.
+fn push_element(alloc: Global, history: &mut History, element: Edn) -> Result<(), Refusal>
+    ensures pushed { OnOk result (PushesElement history.old.concurrency history.old.events
+        (value_of element) history.new.events) }
+    ensures refused { IfErr result (λ why. why ≢ Refusal.NoMemory
+        → RefusesNext history.old.concurrency history.old.events (value_of element) why) }
+    ensures err { OnErr result (history.new.events ≡ history.old.events) }
+    ensures concurrency { history.new.concurrency ≡ history.old.concurrency }
+{
+    let event = from_edn(alloc, &element)?;
+    history.push(event)
+}
+
+// What is given where an element is refused for this and so many were pushed, once the rest of the text was read. Want of
+// memory is no element's.
+fn refused_at(
+    alloc: Global,
+    elements: Elements,
+    pushed: usize,
+    refusal: Refusal,
+) -> Result<Option<(usize, Refusal)>, Refusal>
+    requires { (given : Values) × IsLeftBehind elements.bytes given elements.left }
+    ensures refused { IfOk result (λ first. (first ≡ Some (pushed, refusal))
+        × (refusal ≢ Refusal.NoMemory)
+        × ((values : Values) × IsText elements.entry.bytes values)) }
+    ensures err { IfErr result (λ why. IsWhy elements.entry.bytes why) }
+{
+    match refusal {
+        Refusal::NoMemory => Err(Refusal::NoMemory),
+        refusal => {
+            read_on(alloc, elements)?;
+            Ok(Some((pushed, refusal)))
+        }
+    }
+}
+
+// Reads a text on to its end. No element of it is kept.
+fn read_on(alloc: Global, elements: Elements) -> Result<(), Refusal>
+    requires { (given : Values) × IsLeftBehind elements.bytes given elements.left }
+    ensures text { OnOk result ((values : Values) × IsText elements.entry.bytes values) }
+    ensures refused { IfErr result (λ why. IsWhy elements.entry.bytes why) }
+{
+    let mut elements = elements;
+    'elements: while let Some(element) = elements.next(alloc)? {
+        discard(element);
+    }
+    Ok(())
+}
+
+// Drops an element, by itself for the prover's sake.
+fn discard(_element: Edn) {}

@@ -1,0 +1,143 @@
+//! Recorded histories: texts whose elements are events.
+ghost use Rattle.std.specs.Prelude.{◌≡◌, ◌≤◌, ◌⊎◌, ℕ, IfOk, IfErr, OnOk, string_bytes};
+ghost use Rattle.edn.specs.Refusals.{IsWhy};
+ghost use Rattle.linspec.specs.declared.verdict.Verdict.{Verdict};
+ghost use Rattle.machine.specs.Machine.{Machine};
+ghost use Rattle.monitor.specs.JudgedHistory.{IsVerdictOn, rewound};
+ghost use Rattle.monitor.specs.Loading.{with_all, MayNotLoad};
+ghost use Rattle.harness.specs.Setups.{setup_of, MayNotOpen};
+ghost use Rattle.checks.specs.declared.recorded.Findings.{Findings};
+ghost use Rattle.checks.specs.Recorded.{ComesTo, Finds, event_line};
+
+use crate::reading::read_events;
+use edn::{OpenGate, Refusal};
+use harness::Config;
+use history::History;
+use linspec::Verdict;
+use models::ModelKind;
+use monitor::Monitor;
+use onlookers::Onlooker;
+use report::report;
+use std::alloc::{AllocError, Global};
+use std::thread::Threads;
+
+/// What a recorded history comes to.
+#[derive(Drop)]
+pub enum Findings {
+    /// Every element was taken: the verdict on all events, and the report.
+    Judged(Verdict, Vec<u8>),
+    /// So many elements were taken, and the next one was refused.
+    RefusedEvent(usize, Refusal),
+    /// What is no element's refusal.
+    Refused(Refusal),
+}
+
+/// Judges a text whose elements are events, in turn, up to the first that is refused.
+///
+/// Where the bytes are no text, that is what is found, even if an element before that place would be refused. The bytes
+/// are read once, and one element of them is held at a time. Where all are taken, so many workers, 1 to 64, judge the keys
+/// (see [`Monitor::load`]); the calling thread is one of them. What is found is the same by any number of them. The onlooker is
+/// told on the way how many events are taken, and when they are judged.
+pub fn judge_text<X: Threads + Sync, L: Onlooker>(
+    rt: &X,
+    alloc: Global,
+    config: Config,
+    workers: u32,
+    bytes: &[u8],
+    onlooker: &L,
+) -> Findings
+    requires workers { (1 ≤ workers) × (workers ≤ 64) }
+    ensures { ComesTo (setup_of config) bytes.now result }
+{
+    match found_in(rt, alloc, config, workers, bytes, onlooker) {
+        Ok(findings) => findings,
+        Err(refusal) => {
+            onlooker.refused_text(bytes, &refusal);
+            Findings::Refused(refusal)
+        }
+    }
+}
+
+// The same. What is no element's refusal is an error.
+fn found_in<X: Threads + Sync, L: Onlooker>(
+    rt: &X,
+    alloc: Global,
+    config: Config,
+    workers: u32,
+    bytes: &[u8],
+    onlooker: &L,
+) -> Result<Findings, Refusal>
+    requires workers { (1 ≤ workers) × (workers ≤ 64) }
+    ensures found { IfOk result (ComesTo (setup_of config) bytes.now) }
+    ensures refused { IfErr result (λ why. IsWhy bytes.now why ⊎ MayNotOpen (setup_of config) why) }
+{
+    config.check()?;
+    let mut history = History::new(alloc, config.concurrency)?;
+    match read_events(alloc, &mut history, bytes, onlooker)? {
+        None => judge_history(
+            rt,
+            alloc,
+            history,
+            config.kind,
+            config.budget,
+            workers,
+            onlooker,
+        ),
+        Some((taken, refusal)) => {
+            onlooker.refused(&refusal);
+            Ok(Findings::RefusedEvent(taken, refusal))
+        }
+    }
+}
+
+// What a whole history comes to. It is then known to have a verdict at each of its lengths.
+fn judge_history<X: Threads + Sync, L: Onlooker>(
+    rt: &X,
+    alloc: Global,
+    history: History,
+    kind: ModelKind,
+    budget: u32,
+    workers: u32,
+    onlooker: &L,
+) -> Result<Findings, Refusal>
+    requires workers { (1 ≤ workers) × (workers ≤ 64) }
+    ensures found { (end : Machine)
+        → end.judged ≡ with_all history.concurrency kind budget history.events
+        → IfOk result (Finds end) }
+    ensures verdicts { OnOk result ((n : ℕ) → (v : Verdict)
+        × IsVerdictOn (rewound n (with_all history.concurrency kind budget history.events)) v) }
+    ensures refused { IfErr result (MayNotLoad budget) }
+{
+    onlooker.judges(history.len() as usize, workers);
+    let monitor = Monitor::load(rt, alloc, history, kind, budget, workers, &OpenGate)?;
+    monitor.some_verdicts();
+    let told = told_by(alloc, &monitor, onlooker);
+    // By itself, for the prover's sake: a monitor that a larger function drops gives its goals for each change in it.
+    drop(monitor);
+    told
+}
+
+// The verdict of a monitor, and the report.
+fn told_by<L: Onlooker>(alloc: Global, monitor: &Monitor, onlooker: &L) -> Result<Findings, Refusal>
+    ensures found { (end : Machine) → end.judged ≡ monitor.now.now → IfOk result (Finds end) }
+    ensures memory { IfErr result (λ why. why ≡ Refusal.NoMemory) }
+{
+    let mut text = Vec::new(alloc);
+    report(alloc, monitor, &mut text)?;
+    let verdict = monitor.verdict();
+    onlooker.judged(monitor, &verdict);
+    Ok(Findings::Judged(verdict, text))
+}
+
+/// The line of an event that is refused, where so many were taken before it, as `refused 6 BadIndex event 1`.
+///
+/// # Errors
+///
+/// Where memory is refused.
+pub fn event_text(alloc: Global, taken: usize, refusal: &Refusal) -> Result<String, AllocError>
+    ensures { IfOk result (λ text. string_bytes text ≡ event_line taken refusal.now) }
+{
+    let number = refusal.number();
+    let name = refusal.name();
+    format!(in alloc; "refused {number} {name} event {taken}\n")
+}

@@ -1,0 +1,56 @@
+//! What is told in the end: a text or the line of a refusal, written whole, and the exit status.
+ghost use Rattle.std.specs.Prelude.{◌≡◌};
+ghost use Rattle.checks.specs.ExitStatus.{status_of};
+ghost use Rattle.checks.specs.Checks.{IsPut, line_or_no_memory};
+
+use line_loop::{Failed, flush_all, write_text};
+use linspec::Verdict;
+use std::alloc::AllocError;
+use std::io::Write;
+use std::sync::Wait;
+
+/// The exit status of a refusal, of a usage fault and of a fault in printing.
+pub const REFUSED: u8 = 3;
+
+// The line of want of memory, for which none may be left.
+const NO_MEMORY: &[u8] = b"refused 13 NoMemory\n";
+
+/// The exit status of a verdict.
+pub fn status_of_verdict(verdict: &Verdict) -> u8
+    ensures { result ≡ status_of verdict.now }
+{
+    match verdict {
+        Verdict::Legal => 0,
+        Verdict::Illegal { .. } => 1,
+        Verdict::Unknown { .. } => 2,
+    }
+}
+
+/// Writes the line of a refusal, or that of want of memory where there was none for it, and gives 3.
+pub fn put_refused<X: Wait, W: Write + Failed>(
+    rt: &X,
+    line: Result<String, AllocError>,
+    writer: &mut W,
+) -> u8
+    ensures { IsPut (line_or_no_memory line) 3
+        (W.contents writer.old) (W.contents writer.new) (W.has_failed writer.new) result }
+{
+    match line {
+        Ok(line) => put_text(rt, line.as_bytes(), REFUSED, writer),
+        Err(_) => put_text(rt, NO_MEMORY, REFUSED, writer),
+    }
+}
+
+/// Writes a text whole, and gives this status; or 3, where the writer has failed.
+pub fn put_text<X: Wait, W: Write + Failed>(rt: &X, text: &[u8], status: u8, writer: &mut W) -> u8
+    ensures { IsPut text.now status
+        (W.contents writer.old) (W.contents writer.new) (W.has_failed writer.new) result }
+{
+    if write_text(rt, writer, text).is_err() {
+        return REFUSED;
+    }
+    if flush_all(rt, writer).is_err() {
+        return REFUSED;
+    }
+    status
+}

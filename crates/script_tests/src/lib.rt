@@ -1,0 +1,10 @@
+//! Scripts and checks over readers and writers that give and take little, and that fail. What must be written stands in each test.
+//! It has tests alone.
+#![tactic(auto)]
+
+#[cfg(test)]
+mod cutting;
+#[cfg(test)]
+mod failing;
+#[cfg(test)]
+mod streams;

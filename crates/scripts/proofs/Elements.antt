@@ -1,0 +1,204 @@
+-- Elements that ask for a command, or for none
+use Rattle.std.proofs.Common.{◌≡◌, ◌≢◌, ◌≤◌, ◌<◌, ℕ, refl, List, [], ◌∷◌, length, Result, Ok, Err, Option, Some, None, Bool, true, false, arith, rules, String, sym, ◌∙◌, ap, subst}
+use Rattle.std.specs.Prelude.{codes, nat_lt, ◌^◌, if◌then◌else◌, pos}
+use Rattle.std.specs.Str.{bytes_eq}
+use Rattle.std.proofs.lemmas.Slice.Eq.{bytes_eq-Decides}
+use Rattle.edn.specs.Value.{Value, nil, bool, int, text, keyword, vector, members, pairs, Values, none, more}
+use Rattle.edn.specs.Parts.{elements_in}
+use Rattle.edn.specs.View.{value_of, values_of}
+use Rattle.edn.specs.Text.{IsText}
+use Rattle.std.specs.Prelude.{string_bytes}
+use Rattle.std.specs.declared.alloc.Global.{Global}
+use Rattle.edn.specs.declared.value.Edn.{Edn, Keyword, the_lemmas}
+use Rattle.edn.specs.declared.refusal.Refusal.{Refusal}
+use Rattle.edn.specs.declared.refusal.Refusal.TheVariants.{BadValue, BadBudget, NoSuchIndex, NoMemory, Unreadable}
+use Rattle.models.specs.declared.model_kind.ModelKind.{ModelKind}
+use Rattle.models.specs.declared.model_kind.ModelKind.TheVariants.{Register, CasRegister, Mutex, FifoQueue, Set, UnorderedQueue}
+use Rattle.models.specs.Names.{name_of, Finds}
+use Rattle.history.specs.declared.event.Event.{Event}
+use Rattle.history.specs.Spelling.{Spells, WhyUnspelled}
+use Rattle.machine.specs.declared.command.Command.{Command}
+use Rattle.machine.specs.declared.command.Command.TheVariants.{Append, Rewind, SetBudget, Draw, Serve, Finish, Nemesis}
+use Rattle.scripts.specs.Command.{verdict_by, rewind_to, rewind_by, kind_named, kind_in, key_in, model_of, model_by, budget_for, budget_by, command_named, command_headed, vector_command, Appends, ElementAsks, AskFor, Asks}
+
+-- arguments that are too few or too many
+pub no_verdict : (es : List Edn) → 1 ≤ length es → verdict_by (values_of es) ≡ Err BadValue
+no_verdict [] h = absurd (omega arith)
+no_verdict (e ∷ es) h = refl
+
+pub no_rewind : (es : List Edn) → 2 ≤ length es → rewind_by (values_of es) ≡ Err BadValue
+no_rewind [] h = absurd (omega arith)
+no_rewind (e ∷ []) h = absurd (omega arith)
+no_rewind (e ∷ f ∷ es) h = refl
+
+pub few_for_model : (es : List Edn) → length es < 2 → model_by (values_of es) ≡ Err BadValue
+few_for_model [] h = refl
+few_for_model (e ∷ []) h = refl
+few_for_model (e ∷ f ∷ es) h = absurd (omega arith)
+
+pub many_for_model : (es : List Edn) → 3 ≤ length es → model_by (values_of es) ≡ Err BadValue
+many_for_model [] h = absurd (omega arith)
+many_for_model (e ∷ []) h = absurd (omega arith)
+many_for_model (e ∷ f ∷ []) h = absurd (omega arith)
+many_for_model (e ∷ f ∷ g ∷ es) h = refl
+
+pub few_for_budget : (es : List Edn) → length es < 2 → budget_by (values_of es) ≡ Err BadValue
+few_for_budget [] h = refl
+few_for_budget (e ∷ []) h = refl
+few_for_budget (e ∷ f ∷ es) h = absurd (omega arith)
+
+pub many_for_budget : (es : List Edn) → 3 ≤ length es → budget_by (values_of es) ≡ Err BadValue
+many_for_budget [] h = absurd (omega arith)
+many_for_budget (e ∷ []) h = absurd (omega arith)
+many_for_budget (e ∷ f ∷ []) h = absurd (omega arith)
+many_for_budget (e ∷ f ∷ g ∷ es) h = refl
+
+pub two_are_refused : (es : List Edn) → 2 ≤ length es → AskFor (values_of es) (Err BadValue)
+two_are_refused [] h = absurd (omega arith)
+two_are_refused (e ∷ []) h = absurd (omega arith)
+two_are_refused (e ∷ f ∷ es) h = refl
+
+pub view-Keyword : (s : String Global) → value_of (Keyword s) ≡ keyword (string_bytes s)
+view-Keyword s = search (rules, the_lemmas)
+
+-- the kind of a name
+unnamed : (name : List ℕ) (kind : ModelKind) → (name ≡ name_of kind → ⊥) → bytes_eq name (name_of kind) ≡ false
+unnamed name kind other = by_answer (bytes_eq name (name_of kind)) refl
+  where
+    by_answer : (b : Bool) → bytes_eq name (name_of kind) ≡ b → b ≡ false
+    by_answer false is = refl
+    by_answer true is = absurd (other ((bytes_eq-Decides name (name_of kind)).0 is))
+
+kind_named-name_of : (kind : ModelKind) → kind_named (name_of kind) ≡ Some kind
+kind_named-name_of Register = refl
+kind_named-name_of CasRegister = refl
+kind_named-name_of Mutex = refl
+kind_named-name_of FifoQueue = refl
+kind_named-name_of Set = refl
+kind_named-name_of UnorderedQueue = refl
+
+pub named : (name : List ℕ) (found : Option ModelKind) → Finds found (λ kind. name ≡ name_of kind) → found ≡ kind_named name
+named name (Some kind) is = sym (ap kind_named is ∙ kind_named-name_of kind)
+named name None other =
+    rw (unnamed name Register (other Register), unnamed name CasRegister (other CasRegister), unnamed name Mutex (other Mutex), unnamed name FifoQueue (other FifoQueue), unnamed name Set (other Set), unnamed name UnorderedQueue (other UnorderedQueue)) refl
+
+-- an element that is no vector is an event
+appended : (v : Value) (asked : Result Command Refusal) → elements_in v ≡ None → Appends v asked → ElementAsks v asked
+appended (vector vs) asked is appends = cc
+appended nil asked is appends = appends
+appended (bool b) asked is appends = appends
+appended (int z) asked is appends = appends
+appended (text s) asked is appends = appends
+appended (keyword s) asked is appends = appends
+appended (pairs ps) asked is appends = appends
+appended (members vs) asked is appends = appends
+
+pub appends : (v : Value) (event : Event) → elements_in v ≡ None → Spells v event → ElementAsks v (Ok (Append event))
+appends v event is spells = appended v (Ok (Append event)) is spells
+
+spells_none : (v : Value) (why : Refusal) → WhyUnspelled v why → why ≢ NoMemory → Appends v (Err why)
+spells_none v BadValue unspelled other = unspelled
+spells_none v NoMemory unspelled other = absurd (other refl)
+spells_none v _ unspelled other = absurd unspelled
+
+pub refused_element : (v : Value) (why : Refusal) → elements_in v ≡ None → WhyUnspelled v why → why ≢ NoMemory → ElementAsks v (Err why)
+refused_element v why is unspelled other = appended v (Err why) is (spells_none v why unspelled other)
+
+-- what an element may ask for: no draw, no serve, no finish and no fault, and it is not refused as unreadable
+abbrev pub MayAsk : Result Command Refusal → Type 0
+MayAsk (Ok (Draw thread)) = ⊥
+MayAsk (Ok (Serve number)) = ⊥
+MayAsk (Ok (Finish number)) = ⊥
+MayAsk (Ok Nemesis) = ⊥
+MayAsk (Err (Unreadable place)) = ⊥
+MayAsk _ = Unit {0}
+
+either : (b : Bool) (x y : Result Command Refusal) → MayAsk x → MayAsk y → MayAsk (if b then x else y)
+either true x y p q = p
+either false x y p q = q
+
+may_ask_verdict : (vs : Values) → MayAsk (verdict_by vs)
+may_ask_verdict none = tt
+may_ask_verdict (more v vs) = tt
+
+may_ask_rewind_to : (v : Value) → MayAsk (rewind_to v)
+may_ask_rewind_to (int (pos n)) = either (nat_lt n (2 ^ 32)) (Ok (Rewind n)) (Err NoSuchIndex) tt tt
+may_ask_rewind_to (int _) = tt
+may_ask_rewind_to _ = tt
+
+may_ask_rewind : (vs : Values) → MayAsk (rewind_by vs)
+may_ask_rewind none = tt
+may_ask_rewind (more v none) = may_ask_rewind_to v
+may_ask_rewind (more v (more w vs)) = tt
+
+may_ask_model_of : (key : Option ℕ) (kind : Option ModelKind) → MayAsk (model_of key kind)
+may_ask_model_of (Some key) (Some kind) = tt
+may_ask_model_of None kind = tt
+may_ask_model_of (Some key) None = tt
+
+may_ask_model : (vs : Values) → MayAsk (model_by vs)
+may_ask_model none = tt
+may_ask_model (more k none) = tt
+may_ask_model (more k (more m none)) = may_ask_model_of (key_in k) (kind_in m)
+may_ask_model (more k (more m (more v vs))) = tt
+
+may_ask_budget_for : (key : Option ℕ) (v : Value) → MayAsk (budget_for key v)
+may_ask_budget_for None v = tt
+may_ask_budget_for (Some key) (int (pos n)) = either (nat_lt n (2 ^ 32)) (Ok (SetBudget key n)) (Err BadBudget) tt tt
+may_ask_budget_for (Some key) (int _) = tt
+may_ask_budget_for (Some key) _ = tt
+
+may_ask_budget : (vs : Values) → MayAsk (budget_by vs)
+may_ask_budget none = tt
+may_ask_budget (more k none) = tt
+may_ask_budget (more k (more n none)) = may_ask_budget_for (key_in k) n
+may_ask_budget (more k (more n (more v vs))) = tt
+
+may_ask_named : (name : List ℕ) (vs : Values) → MayAsk (command_named name vs)
+may_ask_named name vs =
+    either (bytes_eq name (codes "verdict")) (verdict_by vs) (if bytes_eq name (codes "rewind") then rewind_by vs else if bytes_eq name (codes "model") then model_by vs else if bytes_eq name (codes "budget") then budget_by vs else Err BadValue) (may_ask_verdict vs)
+    (either (bytes_eq name (codes "rewind")) (rewind_by vs) (if bytes_eq name (codes "model") then model_by vs else if bytes_eq name (codes "budget") then budget_by vs else Err BadValue) (may_ask_rewind vs)
+    (either (bytes_eq name (codes "model")) (model_by vs) (if bytes_eq name (codes "budget") then budget_by vs else Err BadValue) (may_ask_model vs)
+    (either (bytes_eq name (codes "budget")) (budget_by vs) (Err BadValue) (may_ask_budget vs) tt)))
+
+may_ask_headed : (v : Value) (vs : Values) → MayAsk (command_headed v vs)
+may_ask_headed (keyword name) vs = may_ask_named name vs
+may_ask_headed _ vs = tt
+
+may_ask : (vs : Values) → MayAsk (vector_command vs)
+may_ask none = tt
+may_ask (more v vs) = may_ask_headed v vs
+
+append_may_ask : (v : Value) (asked : Result Command Refusal) → Appends v asked → MayAsk asked
+append_may_ask v (Ok (Append event)) h = tt
+append_may_ask v (Err BadValue) h = tt
+append_may_ask v _ h = absurd h
+
+element_may_ask : (v : Value) (asked : Result Command Refusal) → ElementAsks v asked → MayAsk asked
+element_may_ask (vector vs) asked h = subst MayAsk (sym h) (may_ask vs)
+element_may_ask nil asked h = append_may_ask nil asked h
+element_may_ask (bool b) asked h = append_may_ask (bool b) asked h
+element_may_ask (int z) asked h = append_may_ask (int z) asked h
+element_may_ask (text s) asked h = append_may_ask (text s) asked h
+element_may_ask (keyword s) asked h = append_may_ask (keyword s) asked h
+element_may_ask (pairs ps) asked h = append_may_ask (pairs ps) asked h
+element_may_ask (members vs) asked h = append_may_ask (members vs) asked h
+
+not_unreadable_for : (vs : Values) (place : ℕ) → AskFor vs (Err (Unreadable place)) → ⊥
+not_unreadable_for none place h = cc
+not_unreadable_for (more v none) place h = element_may_ask v (Err (Unreadable place)) h
+not_unreadable_for (more v (more w vs)) place h = cc
+
+elements_may_ask : (vs : Values) (command : Command) → AskFor vs (Ok (Some command)) → MayAsk (Ok command)
+elements_may_ask none command h = cc
+elements_may_ask (more v none) command h = element_may_ask v (Ok command) h
+elements_may_ask (more v (more w vs)) command h = cc
+
+pub line_may_ask : (line : List ℕ) (command : Command) → Asks line (Ok (Some command)) → MayAsk (Ok command)
+line_may_ask line command (values, reads, h) = elements_may_ask values command h
+
+-- a line asks for what its elements do
+pub line_asks : (line : List ℕ) (vs : Values) (asked : Result (Option Command) Refusal) → IsText line vs → AskFor vs asked → Asks line asked
+line_asks line vs (Ok command) reads h = (vs, reads, h)
+line_asks line vs (Err (Unreadable place)) reads h = absurd (not_unreadable_for vs place h)
+line_asks line vs (Err _) reads h = (vs, reads, h)

@@ -1,0 +1,4 @@
+pub mod Answering
+pub mod Elements
+pub mod OneReply
+pub mod Opening

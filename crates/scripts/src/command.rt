@@ -1,0 +1,178 @@
+//! What a line asks for.
+ghost use Rattle.std.specs.Prelude.{◌≡◌, ◌≢◌, Err};
+ghost use Rattle.edn.specs.View.{value_of, values_of};
+ghost use Rattle.scripts.specs.Command.{verdict_by, rewind_by, rewind_to, model_by, model_of, budget_by, budget_of, key_in, kind_in, command_named, command_headed, vector_command, ElementAsks, AskFor, Asks};
+
+use edn::{Edn, Refusal};
+use harness::Command;
+use models::{Key, ModelKind};
+use std::alloc::Global;
+
+/// Reads a line as a command, or as nothing where it has no element. A map spells an event to append; `[:verdict]` asks for
+/// the verdict, `[:rewind n]` keeps the first n events, `[:model k m]` makes key k an object of kind m, and `[:budget k n]`
+/// gives it the budget n.
+///
+/// # Errors
+///
+/// `Unreadable` where the line is no text; `BadValue` where it has two elements or more, or one that is no command;
+/// `NoSuchIndex` for a rewind and `BadBudget` for a budget to a number that is not of 32 bits; and `NoMemory` where memory
+/// is refused.
+pub fn read_command(alloc: Global, line: &[u8]) -> Result<Option<Command>, Refusal>
+    ensures { result ≢ Err Refusal.NoMemory → Asks line.now result }
+{
+    let elements = edn::read_all(alloc, line)?;
+    asked_by(alloc, elements.as_slice())
+}
+
+// What the elements of a line ask for.
+fn asked_by(alloc: Global, elements: &[Edn]) -> Result<Option<Command>, Refusal>
+    ensures { result ≢ Err Refusal.NoMemory → AskFor (values_of elements.now) result }
+{
+    match elements {
+        [] => Ok(None),
+        [element] => Ok(Some(command_of(alloc, element)?)),
+        [_first, _second, ..] => Err(Refusal::BadValue),
+    }
+}
+
+// The command that an element asks for.
+fn command_of(alloc: Global, element: &Edn) -> Result<Command, Refusal>
+    ensures { result ≢ Err Refusal.NoMemory → ElementAsks (value_of element.now) result }
+{
+    match element.as_slice() {
+        Some(items) => vector_command(items),
+        None => Ok(Command::Append(history::from_edn(alloc, element)?)),
+    }
+}
+
+// The command that a vector of these elements is.
+fn vector_command(items: &[Edn]) -> Result<Command, Refusal>
+    ensures { result ≡ vector_command (values_of items.now) }
+{
+    match items {
+        [] => Err(Refusal::BadValue),
+        [head, arguments @ ..] => command_headed(head, arguments),
+    }
+}
+
+// The command with this first element and these arguments.
+fn command_headed(head: &Edn, arguments: &[Edn]) -> Result<Command, Refusal>
+    ensures { result ≡ command_headed (value_of head.now) (values_of arguments.now) }
+{
+    match head {
+        Edn::Keyword(name) => command_named(name.as_str(), arguments),
+        _ => Err(Refusal::BadValue),
+    }
+}
+
+// The command of this name with these arguments.
+fn command_named(name: &str, arguments: &[Edn]) -> Result<Command, Refusal>
+    ensures { result ≡ command_named name.now (values_of arguments.now) }
+{
+    if name == "verdict" {
+        verdict(arguments)
+    } else if name == "rewind" {
+        rewind(arguments)
+    } else if name == "model" {
+        set_model(arguments)
+    } else if name == "budget" {
+        set_budget(arguments)
+    } else {
+        Err(Refusal::BadValue)
+    }
+}
+
+fn verdict(arguments: &[Edn]) -> Result<Command, Refusal>
+    ensures { result ≡ verdict_by (values_of arguments.now) }
+{
+    match arguments {
+        [] => Ok(Command::Verdict),
+        [_, ..] => Err(Refusal::BadValue),
+    }
+}
+
+fn rewind(arguments: &[Edn]) -> Result<Command, Refusal>
+    ensures { result ≡ rewind_by (values_of arguments.now) }
+{
+    match arguments {
+        [] => Err(Refusal::BadValue),
+        [n] => rewind_to(n),
+        [_, _, ..] => Err(Refusal::BadValue),
+    }
+}
+
+fn rewind_to(n: &Edn) -> Result<Command, Refusal>
+    ensures { result ≡ rewind_to (value_of n.now) }
+{
+    match n {
+        Edn::Int(n) => match u32::try_from(*n) {
+            Ok(n) => Ok(Command::Rewind(n)),
+            Err(_) => Err(Refusal::NoSuchIndex),
+        },
+        _ => Err(Refusal::BadValue),
+    }
+}
+
+fn set_model(arguments: &[Edn]) -> Result<Command, Refusal>
+    ensures { result ≡ model_by (values_of arguments.now) }
+{
+    match arguments {
+        [] | [_] => Err(Refusal::BadValue),
+        [key, kind] => model_of(key_of(key), kind_of(kind)),
+        [_, _, _, ..] => Err(Refusal::BadValue),
+    }
+}
+
+fn model_of(key: Option<Key>, kind: Option<ModelKind>) -> Result<Command, Refusal>
+    ensures { result ≡ model_of key kind }
+{
+    match (key, kind) {
+        (Some(key), Some(kind)) => Ok(Command::SetModel(key, kind)),
+        _ => Err(Refusal::BadValue),
+    }
+}
+
+fn set_budget(arguments: &[Edn]) -> Result<Command, Refusal>
+    ensures { result ≡ budget_by (values_of arguments.now) }
+{
+    match arguments {
+        [] | [_] => Err(Refusal::BadValue),
+        [key, n] => match key_of(key) {
+            Some(key) => budget_of(key, n),
+            None => Err(Refusal::BadValue),
+        },
+        [_, _, _, ..] => Err(Refusal::BadValue),
+    }
+}
+
+fn budget_of(key: Key, n: &Edn) -> Result<Command, Refusal>
+    ensures { result ≡ budget_of key (value_of n.now) }
+{
+    match n {
+        Edn::Int(n) => match u32::try_from(*n) {
+            Ok(n) => Ok(Command::SetBudget(key, n)),
+            Err(_) => Err(Refusal::BadBudget),
+        },
+        _ => Err(Refusal::BadValue),
+    }
+}
+
+// The key that an element is.
+fn key_of(element: &Edn) -> Option<Key>
+    ensures { result ≡ key_in (value_of element.now) }
+{
+    match element {
+        Edn::Int(n) => u16::try_from(*n).ok(),
+        _ => None,
+    }
+}
+
+// The kind that an element names.
+fn kind_of(element: &Edn) -> Option<ModelKind>
+    ensures { result ≡ kind_in (value_of element.now) }
+{
+    match element {
+        Edn::Keyword(name) => ModelKind::of_name(name.as_str()),
+        _ => None,
+    }
+}

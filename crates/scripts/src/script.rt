@@ -1,0 +1,189 @@
+//! The monitor, driven by lines.
+ghost use Rattle.std.specs.Prelude.{◌≡◌, ◌≢◌, ◌⊎◌, ℕ, List, [], IfOk, OnOk, IfErr, IsErrAnd, Ok, Err, Some, false, true};
+ghost use Rattle.machine.specs.Machine.{Machine, opening};
+ghost use Rattle.harness.specs.Setups.{setup_of, IsSetup, MayNotOpen};
+ghost use Rattle.monitor.specs.JudgedHistory.{IsVerdictOn};
+ghost use Rattle.line_loop.specs.RefusalLine.{refusal_line};
+ghost use Rattle.line_loop.specs.Stopping.{MayStop, Finishes, Stops, KeepsUp};
+ghost use Rattle.scripts.specs.Command.{Asks};
+ghost use Rattle.scripts.specs.Reply.{CarriesOut, MayReply};
+ghost use Rattle.scripts.specs.Unopened.{IsUnopened};
+
+use crate::command::read_command;
+use edn::Refusal;
+use harness::{Command, Config, Core, Reply};
+use line_loop::{Failed, LineMachine, answer_lines, append_refusal};
+use linspec::Verdict;
+use onlookers::Onlooker;
+use report::append_verdict;
+use std::alloc::{AllocError, Global};
+use std::io::{Read, Write};
+use std::marker::Model;
+use std::sync::Wait;
+
+// A one-thread object whose commands are lines, and who looks on.
+#[derive(Drop)]
+struct ScriptMachine<'a, L> {
+    alloc: Global,
+    core: Core,
+    onlooker: &'a L,
+}
+
+impl<'a, L> Model for ScriptMachine<'a, L> {
+    ghost use Rattle.std.specs.Coded.{codes};
+    ghost use Rattle.generators.specs.Codes.{generator_code};
+    ghost use Rattle.machine.specs.Machine.{Machine};
+
+    ghost Value = { Machine };
+
+    ghost coded = { Prim.hlevel (codes, generator_code) };
+
+    ghost view = { λ machine. machine.core.machine };
+}
+
+impl<'a, L: Onlooker> LineMachine for ScriptMachine<'a, L> {
+    type State = ScriptMachine<'a, L>;
+
+    type Verdict = Verdict;
+
+    ghost state = { λ machine. machine };
+
+    ghost may_reply = { MayReply };
+
+    ghost shows = { λ machine verdict. IsVerdictOn machine.judged verdict };
+
+    fn answer(&mut self, line: &[u8], reply: &mut Vec<u8>) -> Result<(), AllocError> {
+        self.onlooker.line();
+        match read_command(self.alloc, line) {
+            Ok(None) => Ok(()),
+            Ok(Some(command)) => {
+                tell_event(self.onlooker, &command);
+                carry_out(self.alloc, &mut self.core, command, reply, self.onlooker)
+            }
+            Err(refusal) => reply_refusal(self.alloc, refusal, reply, self.onlooker),
+        }
+    }
+
+    fn pass_over(&self) {
+        self.onlooker.line();
+        self.onlooker.refused(&Refusal::TooLong);
+    }
+
+    fn verdict(&self) -> Verdict {
+        let verdict = self.core.verdict();
+        self.onlooker.judged(self.core.monitor(), &verdict);
+        verdict
+    }
+}
+
+// Tells of an event that is to be appended.
+fn tell_event<L: Onlooker>(onlooker: &L, command: &Command) {
+    if let Command::Append(_) = command {
+        onlooker.event();
+    }
+}
+
+// Carries out a command that a line asks for, and puts the line of what came of it into an empty vector.
+fn carry_out<L: Onlooker>(
+    alloc: Global,
+    core: &mut Core,
+    command: Command,
+    reply: &mut Vec<u8>,
+    onlooker: &L,
+) -> Result<(), AllocError>
+    requires empty { reply.old.items ≡ [] }
+    requires asked { (line : List ℕ) × Asks line (Ok (Some command)) }
+    ensures { OnOk result (CarriesOut core.old.machine command reply.new.items core.new.machine) }
+{
+    match core.step(command) {
+        Ok(said) => append_verdict(alloc, reply, &verdict_of(said)),
+        Err(refusal) => reply_refusal(alloc, refusal, reply, onlooker),
+    }
+}
+
+// The verdict that the object says.
+fn verdict_of(said: Reply) -> Verdict
+    requires { (verdict : Verdict) × (said ≡ Reply.Verdict verdict) }
+    ensures { said ≡ Reply.Verdict result }
+{
+    match said {
+        Reply::Verdict(verdict) => verdict,
+        Reply::Drawn { .. } => unreachable!(),
+        Reply::Pending => unreachable!(),
+        Reply::Done => unreachable!(),
+        Reply::Served(_) => unreachable!(),
+        Reply::Fault { .. } => unreachable!(),
+    }
+}
+
+// Puts the line of a refusal into an empty vector. Want of memory has no line.
+fn reply_refusal<L: Onlooker>(
+    alloc: Global,
+    refusal: Refusal,
+    reply: &mut Vec<u8>,
+    onlooker: &L,
+) -> Result<(), AllocError>
+    requires { reply.old.items ≡ [] }
+    ensures line { OnOk result (reply.new.items ≡ refusal_line refusal) }
+    ensures memory { OnOk result (refusal ≢ Refusal.NoMemory) }
+{
+    match refusal {
+        Refusal::NoMemory => Err(AllocError),
+        refusal => {
+            onlooker.refused(&refusal);
+            append_refusal(alloc, reply, &refusal)
+        }
+    }
+}
+
+/// Reads commands from a reader, a line each, and writes the reply to each before it reads further. At the reader's
+/// end it flushes once and gives the verdict on the history as it then stands.
+///
+/// A line is at most 65,536 bytes, its line feed not counted; a longer one is answered by `refused 22 TooLong`. A line
+/// without an element gets no reply. The time is that of the commands, and the memory that of the monitor and of two
+/// lines. The onlooker is told of each line.
+///
+/// # Errors
+///
+/// What [`Core::new`] refuses, before anything is read. Else `ReadFailed` where the reader failed, `WriteFailed` where
+/// the writer failed or took none of some bytes, and `NoMemory`: the writer has then taken a beginning of the replies.
+pub fn run_script<X: Wait, R: Read + Failed, W: Write + Failed, L: Onlooker>(
+    rt: &X,
+    alloc: Global,
+    config: Config,
+    reader: &mut R,
+    writer: &mut W,
+    onlooker: &L,
+) -> Result<Verdict, Refusal>
+    requires reads { R.has_failed reader.old ≡ false }
+    requires writes { W.has_failed writer.old ≡ false }
+    // A configuration out of its limits is refused before anything is read or written.
+    ensures limits { IsSetup (setup_of config)
+        ⊎ IsErrAnd result (IsUnopened (setup_of config) reader.old reader.new writer.old writer.new) }
+    // All that the reader had is consumed, the writer grew by a reply text of it, and the verdict is that of the end.
+    ensures done { IfOk result (λ verdict. (end : Machine) × IsVerdictOn end.judged verdict
+        × Finishes MayReply (opening (setup_of config)) end (R.remaining reader.old) (R.remaining reader.new)
+        (W.contents writer.old) (W.contents writer.new)) }
+    ensures unfailed { OnOk result ((R.has_failed reader.new ≡ false)
+        × (W.has_failed writer.new ≡ false)) }
+    // Nothing was read or written; or the writer grew by a beginning of a reply text of the lines read to their end.
+    ensures stopped { IfErr result (λ e.
+        IsUnopened (setup_of config) reader.old reader.new writer.old writer.new e
+        ⊎ Stops MayReply (opening (setup_of config)) (R.remaining reader.old) (R.remaining reader.new)
+        (W.contents writer.old) (W.contents writer.new) e) }
+    // Where the reader failed, all lines that were read to their line feed had their replies.
+    ensures live { result ≡ Err Refusal.ReadFailed → KeepsUp MayReply (opening (setup_of config))
+        (R.remaining reader.old) (R.remaining reader.new)
+        (W.contents writer.old) (W.contents writer.new) }
+    ensures kinds { IfErr result (λ e. MayNotOpen (setup_of config) e ⊎ MayStop e) }
+    ensures read { result ≡ Err Refusal.ReadFailed → R.has_failed reader.new ≡ true }
+    ensures wrote { result ≡ Err Refusal.WriteFailed → W.has_failed writer.new ≡ true }
+{
+    let core = Core::new(alloc, config)?;
+    let machine = ScriptMachine {
+        alloc,
+        core,
+        onlooker,
+    };
+    answer_lines(rt, alloc, machine, reader, writer)
+}
