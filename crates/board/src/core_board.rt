@@ -138,10 +138,9 @@ impl<B: Tag> board::Board<Core, B> {
         self.carry_out(rt, gate, seat, command)
     }
 
-    /// Looks at what was last published, and shows the newest verdict that the seat has then seen: that of a tape which
-    /// begins with all that it had seen. It is never `None`. It takes no lock and no memory, and waits for nobody: a few
-    /// atomic steps on the seat's own place. The price: while a thread is stopped in the midst of a glance, the next call that
-    /// publishes waits until it goes on, and all others with that call.
+    /// Looks at what was last published, and shows the newest verdict that the seat has then seen: that of a tape which begins
+    /// with all that it had seen. It is never `None`. It takes no lock, no memory, and a few atomic steps. The price: while a
+    /// thread is stopped in the midst of a glance, the next call that publishes waits for it, and all others with that call.
     pub fn glance(&self, seat: &mut Seat<B>) -> Option<Glance>
         ensures same { (seat.new.number ≡ seat.old.number) × (seat.new.count ≡ seat.old.count) }
         ensures shows { IsSome result }
