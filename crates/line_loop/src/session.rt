@@ -10,6 +10,7 @@ use crate::refusal_line::append_refusal;
 use crate::watched::Failed;
 use crate::writing::{flush_all, write_text};
 use edn::Refusal;
+use memchr::memchr;
 use std::alloc::{AllocError, Global};
 use std::io::Write;
 use std::marker::Model;
@@ -228,7 +229,7 @@ fn split_at_feed(bytes: &[u8]) -> Option<(&[u8], &[u8])>
     ensures whole { IfSome result (λ parts. bytes.now ≡ ended parts.0.now ++ parts.1.now) }
     ensures none { IfNone result (IsLine bytes.now) }
 {
-    let at = bytes.iter().position(|byte| *byte == b'\n')?;
+    let at = memchr(b'\n', bytes)?;
     Some((&bytes[..at], &bytes[at + 1..]))
 }
 
