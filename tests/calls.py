@@ -1,13 +1,17 @@
 #!/usr/bin/env python3
 """Compares the table of public calls in docs/PROOFS.md, "Each public call", with the sources: each call of each crate
 must stand in it once, and none that is not there; and a call must stand among those that refuse something exactly where it gives
-back a Result. Prints what differs, and ends with 'N passed, M failed', one for each crate.
+back a Result. A row of calls that may want memory must name tests in which they succeed, and these tests must be there. Prints what
+differs, and ends with 'N passed, M failed', one for each crate.
 
 A call is public where its crate's root gives it: of a `pub mod`, or one that `pub use` names, or of a type that it names. What a
 derive or a trait of std asks for is no call of ours, nor is a law, which has no code."""
 import pathlib
 import re
 import sys
+
+import measures
+from run import all_cases
 
 TOP = pathlib.Path(__file__).resolve().parent.parent
 CRATES = [line.split(":")[0].split()[0] for line in (TOP / "crates.txt").read_text().splitlines()
@@ -73,17 +77,21 @@ def public_calls(crate):
     return found
 
 
-def told():
-    """What the table says of each crate: the calls of each row, with whether the row says that they may refuse."""
+def rows_of_table():
+    """The rows of the table, each with its crate and the cells that follow."""
     text = (TOP / "docs" / "PROOFS.md").read_text()
-    rows = text.split("## Each public call", 1)[1].split("\n## ", 1)[0].splitlines()
-    found = {}
-    for row in rows:
-        cells = [cell.strip() for cell in row.strip().strip("|").split(" | ")]
+    for row in text.split("## Each public call", 1)[1].split("\n## ", 1)[0].splitlines():
+        cells = [cell.strip() for cell in row.strip().removeprefix("|").removesuffix("|").split("|")]
         crate = re.fullmatch(r"`(\w+)`", cells[0])
         if crate and crate.group(1) in CRATES:
-            for call in spelled(cells[1]):
-                found.setdefault(crate.group(1), []).append((call, not cells[2].startswith("none")))
+            yield crate.group(1), cells[1:]
+
+
+def told():
+    """What the table says of each crate: the calls of each row, with whether the row says that they may refuse."""
+    found = {}
+    for crate, (calls, refusals, *_) in rows_of_table():
+        found.setdefault(crate, []).extend((call, not refusals.startswith("none")) for call in spelled(calls))
     return found
 
 
@@ -95,12 +103,38 @@ def spelled(cell):
             yield f"{holder}::{name}" if holder else name
 
 
+def rows_of_memory():
+    """Of each row its crate, its calls, whether they may want memory, and where they are seen to succeed."""
+    return [(crate, calls, memory, seen) for crate, (calls, _, memory, _, seen) in rows_of_table()]
+
+
+def tests_of(crate):
+    """The names of a crate's tests."""
+    text = "".join(path.read_text() for path in (TOP / "crates" / crate / "src").glob("**/*.rt"))
+    return set(re.findall(r"#\[test\]\n(?:#.*\n)*(?:pub )?fn (\w+)", text))
+
+
+def unseen(rows):
+    """What is wrong with where the calls of each row are seen to succeed, by crate. A cell is like this: `crate`: `test`, `test`; cases
+    `name`, `name`; table `name`. Cases are those of tests/run.py, tables those of tests/measures.py."""
+    others, faults = {"case": {name for name, _ in all_cases()}, "table": measures.TABLES}, {}
+    for holder, calls, memory, seen in rows:
+        if memory.startswith("none") != (not seen):
+            faults.setdefault(holder, []).append(f"says of {calls} in which tests it succeeds, or does not")
+        for group in seen.split("; ") if seen else []:
+            crate, other, names = re.fullmatch(r"(?:`(\w+)`:|(case|table)s?) (.*)", group).groups()
+            there = tests_of(crate) if crate else others[other]
+            faults.setdefault(holder, []).extend(f"names {name} in {group}, which is not there" for name in WORD.findall(names) if name not in there)
+    return faults
+
+
 def main():
     table, failed = told(), 0
+    seen = unseen(rows_of_memory())
     for crate in CRATES:
         calls, named = public_calls(crate), table.get(crate, [])
         names = [name for name, _ in named]
-        faults = [f"does not have {name}" for name in calls if name not in names]
+        faults = seen.get(crate, []) + [f"does not have {name}" for name in calls if name not in names]
         faults += [f"has {name}, which is not there" for name in names if name not in calls]
         faults += [f"has {name} twice" for name in set(names) if names.count(name) > 1]
         faults += [f"says of {name} that it refuses nothing" for name, refuses in named if calls.get(name) and not refuses]

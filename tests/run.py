@@ -426,6 +426,18 @@ def run_under_faults():
     return faults
 
 
+def run_is_struck():
+    """With a budget of 2 a run of one client on a queue in order is legal, as one operation is open at a time, and unknown once a
+    reply was lost: so the fault of 60 struck. How many operations that takes the threads decide; of 3,000 it is sure by far."""
+    words = "--replicas 1 --concurrency 1 --budget 2 --ops 3000 --model fifo-queue --faults"
+    faults = []
+    for has_faults, want in (("off", 0), ("on", 2)):
+        lines, status, errors = run_of(f"{words} {has_faults}")
+        if (len(lines), status, errors) != (2, want, b"") or "budget 2" not in lines[0]:
+            faults.append(f"with faults {has_faults}: {(lines, status, errors)!r}")
+    return faults
+
+
 def told_of_run(lines, kind, events):
     """What is wrong with the lines of a run that drew keys of this kind: each line but the last is of a key, each once, and
     together they have so many events."""
@@ -548,7 +560,7 @@ def all_cases():
               ("run_shows_how_far_it_is", run_run_progress),
               ("words_of_the_command_line", run_words), ("words_that_are_no_text", run_no_text),
               ("run_counts_events", run_counts_events), ("run_under_faults", run_under_faults),
-              ("run_of_each_kind", run_of_each_kind),
+              ("run_is_struck", run_is_struck), ("run_of_each_kind", run_of_each_kind),
               ("run_of_one_client_follows_the_seed", run_of_one_client_follows_the_seed), ("run_sloppy_is_caught", run_sloppy_is_caught),
               ("run_without_memory", run_without_memory)]
     return cases
