@@ -20,6 +20,9 @@ const OPEN: u32 = 8;
 /// More ends than histories of so few operations have.
 const BUDGET: u32 = 1_000_000;
 
+/// How many histories of each kind of object.
+const HISTORIES: u32 = 60;
+
 /// Numbers in no clear order, the same in each run: the linear congruential generator of Knuth's MMIX.
 #[derive(Drop)]
 struct Numbers {
@@ -135,23 +138,11 @@ struct Thread {
     call: Option<Call>,
 }
 
-/// What histories are like.
-#[derive(Clone, Copy, PartialEq, Eq)]
-enum Form {
-    /// Three threads go on in turn.
-    Mixed,
-    /// The same, but that half of the reads that end crash.
-    Crashing,
-    /// Eight operations are open at once, and then end in turn.
-    AllOpen,
-}
-
 /// A history as it grows, with the frontier of its events.
 #[derive(Drop)]
 struct Run {
     alloc: Global,
     kind: ModelKind,
-    form: Form,
     threads: u32,
     history: History,
     frontier: AnyFrontier,
@@ -163,12 +154,10 @@ struct Run {
 }
 
 impl Run {
-    fn new(alloc: Global, kind: ModelKind, form: Form) -> Result<Run, Fail> {
-        let threads = if form == Form::AllOpen { OPEN } else { 3 };
+    fn new(alloc: Global, kind: ModelKind, threads: u32) -> Result<Run, Fail> {
         Ok(Run {
             alloc,
             kind,
-            form,
             threads,
             history: History::new(alloc, threads)?,
             frontier: AnyFrontier::start(alloc, kind, BUDGET)?,
@@ -195,42 +184,19 @@ impl Run {
     /// What the thread does next.
     fn go_on(&mut self, numbers: &mut Numbers, thread: Thread) -> Result<Thread, Fail> {
         match thread.call {
-            Some(call) if self.crashes(numbers, call) => self.crash(thread, call),
             Some(call) => self.complete(numbers, thread, call),
             None => self.invoke(numbers, thread),
         }
     }
 
-    /// Whether it is a read that crashes for the form of the history.
-    fn crashes(&self, numbers: &mut Numbers, call: Call) -> bool {
-        self.form == Form::Crashing && call.request.name == Name::Read && numbers.below(2) == 0
-    }
-
-    /// Three threads go on in turn. Whether an operation is open at the end.
-    fn mix(&mut self, numbers: &mut Numbers) -> Result<bool, Fail> {
-        let (mut a, mut b, mut c) = (idle(0), idle(1), idle(2));
-        let least = if self.form == Form::Crashing { 8 } else { 6 };
-        for _ in 0..least + numbers.below(9) {
-            match numbers.below(3) {
-                0 => a = self.go_on(numbers, a)?,
-                1 => b = self.go_on(numbers, b)?,
-                _ => c = self.go_on(numbers, c)?,
+    /// The same, but that a read which ends crashes half of the time.
+    fn go_on_crashing(&mut self, numbers: &mut Numbers, thread: Thread) -> Result<Thread, Fail> {
+        match thread.call {
+            Some(call) if call.request.name == Name::Read && numbers.below(2) == 0 => {
+                self.crash(thread, call)
             }
+            _ => self.go_on(numbers, thread),
         }
-        Ok(a.call.is_some() || b.call.is_some() || c.call.is_some())
-    }
-
-    /// Each thread invokes an operation, and then all but two at most end. Whether one stays open.
-    fn open_all(&mut self, numbers: &mut Numbers) -> Result<bool, Fail> {
-        let mut threads = Vec::new(self.alloc);
-        for process in 0..OPEN {
-            threads.push(self.invoke(numbers, idle(process))?)?;
-        }
-        let stay_open = numbers.below(3);
-        for thread in threads.iter().skip(stay_open as usize) {
-            let _ = self.go_on(numbers, *thread)?;
-        }
-        Ok(stay_open > 0)
     }
 
     /// The thread invokes an operation, unless there are enough.
@@ -365,90 +331,141 @@ fn compare(
     alloc: Global,
     numbers: &mut Numbers,
     kind: ModelKind,
-    form: Form,
     tally: Tally,
 ) -> Result<Tally, Fail> {
-    let mut run = Run::new(alloc, kind, form)?;
-    let is_open = match form {
-        Form::Mixed | Form::Crashing => run.mix(numbers)?,
-        Form::AllOpen => run.open_all(numbers)?,
-    };
+    let mut run = Run::new(alloc, kind, 3)?;
+    let (mut a, mut b, mut c) = (idle(0), idle(1), idle(2));
+    for _ in 0..6 + numbers.below(9) {
+        match numbers.below(3) {
+            0 => a = run.go_on(numbers, a)?,
+            1 => b = run.go_on(numbers, b)?,
+            _ => c = run.go_on(numbers, c)?,
+        }
+    }
     if brute(alloc, &run.history, &[(KEY, kind)])? != run.alive {
         return Err("the answers differ".into());
     }
+    let is_open = a.call.is_some() || b.call.is_some() || c.call.is_some();
     Ok(tally.with(&run, is_open))
-}
-
-/// Compares so many histories of each of these kinds, of which so many must be legal.
-fn compare_all(
-    alloc: Global,
-    seed: u64,
-    form: Form,
-    count: u32,
-    kinds: &[(ModelKind, u32)],
-) -> Result<Tally, Fail> {
-    let mut numbers = Numbers { state: seed };
-    let mut all = NONE;
-    for (kind, legal) in kinds.iter() {
-        let mut of_kind = NONE;
-        for _ in 0..count {
-            of_kind = compare(alloc, &mut numbers, *kind, form, of_kind)?;
-        }
-        if of_kind.legal != *legal {
-            return Err("more or fewer of a kind are legal".into());
-        }
-        all = all.and(of_kind);
-    }
-    Ok(all)
 }
 
 /// Of 360 histories, 60 of each kind, so many are legal and the others are not. In 311 an operation is open at the end, in
 /// 192 one has failed, in 190 one has crashed.
 #[test]
 fn orders_and_ends_agree(rt: HostRuntime) -> Result<(), Fail> {
-    let kinds = [
+    let mut numbers = Numbers { state: 1 };
+    let mut all = NONE;
+    for (kind, legal) in [
         (ModelKind::Register, 24),
         (ModelKind::CasRegister, 24),
         (ModelKind::Mutex, 34),
         (ModelKind::FifoQueue, 20),
         (ModelKind::Set, 14),
         (ModelKind::UnorderedQueue, 23),
-    ];
-    let all = compare_all(rt.alloc(), 1, Form::Mixed, 60, &kinds)?;
+    ] {
+        let mut of_kind = NONE;
+        for _ in 0..HISTORIES {
+            of_kind = compare(rt.alloc(), &mut numbers, kind, of_kind)?;
+        }
+        assert_eq!(rt; (of_kind.legal, of_kind.illegal), (legal, 60 - legal));
+        all = all.and(of_kind);
+    }
     assert_eq!(rt; (all.legal, all.illegal), (139, 221));
     assert_eq!(rt; (all.open, all.failed, all.crashed), (311, 192, 190));
     Ok(())
+}
+
+/// Counts one more history, in which eight operations are open at once and then end in turn, after both answers about it
+/// were compared.
+fn compare_open(
+    alloc: Global,
+    numbers: &mut Numbers,
+    kind: ModelKind,
+    tally: Tally,
+) -> Result<Tally, Fail> {
+    let mut run = Run::new(alloc, kind, OPEN)?;
+    let mut threads = Vec::new(alloc);
+    for process in 0..OPEN {
+        threads.push(run.invoke(numbers, idle(process))?)?;
+    }
+    let stay_open = numbers.below(3);
+    for thread in threads.iter().skip(stay_open as usize) {
+        let _ = run.go_on(numbers, *thread)?;
+    }
+    if brute(alloc, &run.history, &[(KEY, kind)])? != run.alive {
+        return Err("the answers differ".into());
+    }
+    Ok(tally.with(&run, stay_open > 0))
 }
 
 /// Of 120 more histories, 20 of each kind, each has eight operations that are open at once. So many are legal and the others
 /// are not. In 80 an operation has failed, in 89 one has crashed.
 #[test]
 fn orders_and_ends_agree_on_eight_open(rt: HostRuntime) -> Result<(), Fail> {
-    let kinds = [
+    let mut numbers = Numbers { state: 2 };
+    let mut all = NONE;
+    for (kind, legal) in [
         (ModelKind::Register, 14),
         (ModelKind::CasRegister, 13),
         (ModelKind::Mutex, 14),
         (ModelKind::FifoQueue, 8),
         (ModelKind::Set, 12),
         (ModelKind::UnorderedQueue, 8),
-    ];
-    let all = compare_all(rt.alloc(), 2, Form::AllOpen, 20, &kinds)?;
+    ] {
+        let mut of_kind = NONE;
+        for _ in 0..20 {
+            of_kind = compare_open(rt.alloc(), &mut numbers, kind, of_kind)?;
+        }
+        assert_eq!(rt; (of_kind.legal, of_kind.illegal), (legal, 20 - legal));
+        all = all.and(of_kind);
+    }
     assert_eq!(rt; (all.legal, all.illegal), (69, 51));
     assert_eq!(rt; (all.failed, all.crashed), (80, 89));
     Ok(())
 }
 
-/// Of 200 more histories, 50 of each kind that reads and 50 of unordered queues, half of the reads that end crash. So many are
-/// legal and the others are not. In 110 a read has crashed, in 106 an operation has failed.
+/// Counts one more history, in which half of the reads that end crash, after both answers about it were compared.
+fn compare_crashing(
+    alloc: Global,
+    numbers: &mut Numbers,
+    kind: ModelKind,
+    tally: Tally,
+) -> Result<Tally, Fail> {
+    let mut run = Run::new(alloc, kind, 3)?;
+    let (mut a, mut b, mut c) = (idle(0), idle(1), idle(2));
+    for _ in 0..8 + numbers.below(9) {
+        match numbers.below(3) {
+            0 => a = run.go_on_crashing(numbers, a)?,
+            1 => b = run.go_on_crashing(numbers, b)?,
+            _ => c = run.go_on_crashing(numbers, c)?,
+        }
+    }
+    if brute(alloc, &run.history, &[(KEY, kind)])? != run.alive {
+        return Err("the answers differ".into());
+    }
+    let is_open = a.call.is_some() || b.call.is_some() || c.call.is_some();
+    Ok(tally.with(&run, is_open))
+}
+
+/// Of 200 more histories, 50 of each kind that reads and 50 of unordered queues, so many are legal and the others are not. In
+/// 110 a read has crashed, in 106 an operation has failed.
 #[test]
 fn orders_and_ends_agree_on_crashed_reads(rt: HostRuntime) -> Result<(), Fail> {
-    let kinds = [
+    let mut numbers = Numbers { state: 3 };
+    let mut all = NONE;
+    for (kind, legal) in [
         (ModelKind::Register, 33),
         (ModelKind::CasRegister, 23),
         (ModelKind::Set, 24),
         (ModelKind::UnorderedQueue, 10),
-    ];
-    let all = compare_all(rt.alloc(), 3, Form::Crashing, 50, &kinds)?;
+    ] {
+        let mut of_kind = NONE;
+        for _ in 0..50 {
+            of_kind = compare_crashing(rt.alloc(), &mut numbers, kind, of_kind)?;
+        }
+        assert_eq!(rt; (of_kind.legal, of_kind.illegal), (legal, 50 - legal));
+        all = all.and(of_kind);
+    }
     assert_eq!(rt; (all.legal, all.illegal), (90, 110));
     assert_eq!(rt;
         (all.failed, all.crashed, all.crashed_read),

@@ -53,41 +53,25 @@ fn operation(alloc: Global, line: &str) -> Result<Op, Fail> {
 }
 
 #[test]
-fn concurrency_has_limits(rt: HostRuntime) {
-    for concurrency in [0, 65] {
-        assert_eq!(rt;
-            History::new(rt.alloc(), concurrency).err(),
-            Some(Refusal::BadConcurrency)
-        );
-    }
-}
-
-// The history after the partition, of which a copy was pushed.
-fn after_a_partition(alloc: Global) -> Result<History, Fail> {
+fn faults_are_copied_and_counted(rt: HostRuntime) -> Result<(), Fail> {
+    let alloc = rt.alloc();
+    assert_eq!(rt; History::new(alloc, 0).err(), Some(Refusal::BadConcurrency));
+    assert_eq!(rt;
+        History::new(alloc, 65).err(),
+        Some(Refusal::BadConcurrency)
+    );
     let mut history = History::new(alloc, 1)?;
     history.push(partition(alloc, 2)?.copy()?)?;
-    Ok(history)
-}
-
-#[test]
-fn faults_are_copied_and_counted(rt: HostRuntime) -> Result<(), Fail> {
-    let mut history = after_a_partition(rt.alloc())?;
-    assert_eq!(rt;
-        history.push(partition(rt.alloc(), 1)?),
-        Err(Refusal::BadValue)
-    );
+    assert_eq!(rt; history.push(partition(alloc, 1)?), Err(Refusal::BadValue));
     history.push(written(EventKind::Invoke, 0, 3).copy()?)?;
     assert_eq!(rt; history.len(), 2);
-    Ok(())
-}
-
-#[test]
-fn groups_stay_as_they_are(rt: HostRuntime) -> Result<(), Fail> {
-    let history = after_a_partition(rt.alloc())?;
-    let Some(event) = history.events().first() else {
-        return Err(Fail::new("there is an event"));
-    };
-    let Body::Fault(Fault::Partition(groups)) = &event.body else {
+    let Some(
+        Event {
+            body: Body::Fault(Fault::Partition(groups)),
+            ..
+        },
+    ) = history.events().first()
+    else {
         return Err(Fail::new("the first event is the partition"));
     };
     let [first, second] = groups.groups() else {
@@ -98,125 +82,69 @@ fn groups_stay_as_they_are(rt: HostRuntime) -> Result<(), Fail> {
     Ok(())
 }
 
-// What is done to a history.
-#[derive(Clone, Copy)]
-enum Deed {
-    Push(EventKind, u32, i64),
-    PreparePush(EventKind, u32, i64),
-    Cut(u32),
-}
-
-// Does it, and tells the answer.
-fn carry_out(history: &mut History, deed: Deed) -> Result<(), Refusal> {
-    match deed {
-        Deed::Push(kind, process, value) => history.push(written(kind, process, value)),
-        Deed::PreparePush(kind, process, value) => {
-            history.prepare_push(written(kind, process, value))
-        }
-        Deed::Cut(len) => history.cut(len),
-    }
-}
-
-// How many events there are, the process of thread 0 and its open invocation.
-type Seen = (u32, u32, Option<u32>);
-
-fn seen(history: &History) -> Seen {
-    (history.len(), history.current(0), history.open_at(0))
-}
-
-// Does what stands in the rows, one after the other, each with the answer to it and what is seen then.
-fn follow(history: &mut History, rows: &[(Deed, Result<(), Refusal>, Seen)]) -> Result<(), Fail> {
-    for (deed, answer, then) in rows {
-        if carry_out(history, *deed) != *answer {
-            return Err("another answer".into());
-        }
-        if seen(history) != *then {
-            return Err("the history stands otherwise".into());
-        }
-    }
-    Ok(())
-}
-
 // A prepared event is none of the events until it is committed; the next one takes its place, and where that is refused
 // none is prepared.
 #[test]
 fn prepared_events(rt: HostRuntime) -> Result<(), Fail> {
     let mut history = History::new(rt.alloc(), 1)?;
-    let first = [
-        (
-            Deed::PreparePush(EventKind::Invoke, 0, 3),
-            Ok(()),
-            (0, 0, None),
-        ),
-        (
-            Deed::PreparePush(EventKind::Ok, 0, 3),
-            Err(Refusal::NotOpen),
-            (0, 0, None),
-        ),
-    ];
-    follow(&mut history, &first)?;
+    history.prepare_push(written(EventKind::Invoke, 0, 3))?;
+    assert_eq!(rt;
+        history.prepare_push(written(EventKind::Ok, 0, 3)),
+        Err(Refusal::NotOpen)
+    );
     history.prepare_push(written(EventKind::Invoke, 0, 4))?;
-    assert_eq!(rt; seen(&history), (0, 0, None));
+    assert!(rt; history.is_empty());
+    assert_eq!(rt; history.open_at(0), None);
     history.commit();
-    assert_eq!(rt; seen(&history), (1, 0, Some(0)));
-    let second = [
-        (
-            Deed::PreparePush(EventKind::Ok, 0, 3),
-            Err(Refusal::Mismatch),
-            (1, 0, Some(0)),
-        ),
-        (Deed::Push(EventKind::Ok, 0, 4), Ok(()), (2, 0, None)),
-    ];
-    follow(&mut history, &second)
-}
-
-// The history of three events of thread 0, the last of which is the invocation of its second process.
-fn three_events(alloc: Global) -> Result<History, Fail> {
-    let mut history = History::new(alloc, 2)?;
-    let rows = [
-        (Deed::Push(EventKind::Invoke, 0, 2), Ok(()), (1, 0, Some(0))),
-        (Deed::Push(EventKind::Info, 0, 2), Ok(()), (2, 2, None)),
-        (Deed::Push(EventKind::Invoke, 2, 9), Ok(()), (3, 2, Some(2))),
-    ];
-    follow(&mut history, &rows)?;
-    Ok(history)
-}
-
-// A cut leaves the first events, and the threads as these made them.
-#[test]
-fn cuts(rt: HostRuntime) -> Result<(), Fail> {
-    let mut history = three_events(rt.alloc())?;
-    let rows = [
-        (Deed::Cut(4), Err(Refusal::NoSuchIndex), (3, 2, Some(2))),
-        (Deed::Cut(3), Ok(()), (3, 2, Some(2))),
-        (Deed::Cut(1), Ok(()), (1, 0, Some(0))),
-        (
-            Deed::Push(EventKind::Invoke, 2, 9),
-            Err(Refusal::WrongProcess),
-            (1, 0, Some(0)),
-        ),
-        (Deed::Push(EventKind::Ok, 0, 2), Ok(()), (2, 0, None)),
-        (Deed::Cut(0), Ok(()), (0, 0, None)),
-        (Deed::Cut(1), Err(Refusal::NoSuchIndex), (0, 0, None)),
-        (Deed::Push(EventKind::Invoke, 0, 5), Ok(()), (1, 0, Some(0))),
-    ];
-    follow(&mut history, &rows)
-}
-
-// It waits for its commit, and takes the place of another change.
-#[test]
-fn prepared_cuts(rt: HostRuntime) -> Result<(), Fail> {
-    let mut history = three_events(rt.alloc())?;
-    history.prepare_push(written(EventKind::Ok, 2, 9))?;
-    history.prepare_cut(1)?;
-    assert_eq!(rt; seen(&history), (3, 2, Some(2)));
-    history.commit();
-    assert_eq!(rt; seen(&history), (1, 0, Some(0)));
+    assert_eq!(rt; history.len(), 1);
+    assert_eq!(rt; history.open_at(0), Some(0));
+    assert_eq!(rt;
+        history.prepare_push(written(EventKind::Ok, 0, 3)),
+        Err(Refusal::Mismatch)
+    );
+    history.push(written(EventKind::Ok, 0, 4))?;
+    assert_eq!(rt; history.open_at(0), None);
     Ok(())
 }
 
-// Key 7 is written 3, and then read.
-fn write_and_read(alloc: Global) -> Result<History, Fail> {
+// A cut leaves the first events, and the threads as these made them; it waits for its commit, and another change takes its
+// place.
+#[test]
+fn cuts(rt: HostRuntime) -> Result<(), Fail> {
+    let mut history = History::new(rt.alloc(), 2)?;
+    history.push(written(EventKind::Invoke, 0, 2))?;
+    history.push(written(EventKind::Info, 0, 2))?;
+    history.push(written(EventKind::Invoke, 2, 9))?;
+    assert_eq!(rt; history.cut(4), Err(Refusal::NoSuchIndex));
+    history.cut(3)?;
+    assert_eq!(rt; history.len(), 3);
+    assert_eq!(rt; history.current(0), 2);
+    assert_eq!(rt; history.open_at(0), Some(2));
+    history.prepare_push(written(EventKind::Ok, 2, 9))?;
+    history.prepare_cut(1)?;
+    assert_eq!(rt; history.len(), 3);
+    assert_eq!(rt; history.current(0), 2);
+    history.commit();
+    assert_eq!(rt; history.len(), 1);
+    assert_eq!(rt; history.current(0), 0);
+    assert_eq!(rt; history.open_at(0), Some(0));
+    assert_eq!(rt;
+        history.push(written(EventKind::Invoke, 2, 9)),
+        Err(Refusal::WrongProcess)
+    );
+    history.push(written(EventKind::Ok, 0, 2))?;
+    assert_eq!(rt; history.open_at(0), None);
+    history.cut(0)?;
+    assert!(rt; history.is_empty());
+    assert_eq!(rt; history.cut(1), Err(Refusal::NoSuchIndex));
+    history.push(written(EventKind::Invoke, 0, 5))?;
+    assert_eq!(rt; history.open_at(0), Some(0));
+    Ok(())
+}
+
+#[test]
+fn event_text_and_events_of(rt: HostRuntime) -> Result<(), Fail> {
+    let alloc = rt.alloc();
     let mut history = History::new(alloc, 2)?;
     for line in [
         "{:type :invoke, :process 0, :f :write, :value [7 3]}",
@@ -224,28 +152,19 @@ fn write_and_read(alloc: Global) -> Result<History, Fail> {
         "{:type :invoke, :process 0, :f :read, :value [7 nil]}",
         "{:type :ok, :process 0, :f :read, :value [7 3]}",
     ] {
-        answer(alloc, &mut history, line)?;
+        assert_eq!(rt; answer(alloc, &mut history, line), Ok(()), "{line}");
     }
-    Ok(history)
-}
-
-#[test]
-fn event_text(rt: HostRuntime) -> Result<(), Fail> {
-    let history = write_and_read(rt.alloc())?;
+    assert_eq!(rt; history.len(), 4);
     let element = history.to_edn(3)?;
     assert!(rt; in_profile(&element));
-    let mut text = Vec::new(rt.alloc());
+    let mut text = Vec::new(alloc);
     write(&element, &mut text)?;
     assert_eq!(rt;
         text.as_slice(),
         b"{:index 3, :type :ok, :process 0, :f :read, :value [7 3]}".as_slice()
     );
-    Ok(())
-}
-
-#[test]
-fn events_of_a_key(rt: HostRuntime) -> Result<(), Fail> {
-    let history = write_and_read(rt.alloc())?;
+    let events = history.events_of(7)?;
+    assert_eq!(rt; events.len(), 4);
     let kinds = [
         EventKind::Invoke,
         EventKind::Ok,
@@ -253,12 +172,11 @@ fn events_of_a_key(rt: HostRuntime) -> Result<(), Fail> {
         EventKind::Ok,
     ];
     let mut index = 0;
-    for (event, kind) in history.events_of(7)?.iter().zip(kinds.iter()) {
+    for (event, kind) in events.iter().zip(kinds.iter()) {
         assert_eq!(rt; event.0, index);
         assert_eq!(rt; event.1.kind, *kind);
         index = event.0.saturating_add(1);
     }
-    assert_eq!(rt; index, 4);
     assert_eq!(rt; history.events_of(8)?.len(), 0);
     Ok(())
 }
