@@ -23,6 +23,7 @@ use Rattle.monitor.specs.Monitors.{MonitorView, at_rest}
 use Rattle.monitor.proofs.Opening.{events_in_turn}
 use Rattle.machine.specs.Machine.{Machine, Setup, opening, appended}
 use Rattle.machine.specs.declared.command.Reply.TheVariants.{Verdict as Says}
+use Rattle.harness.specs.Setups.{IsSetup}
 use Rattle.line_loop.specs.RefusalLine.{line_of, refusal_line}
 use Rattle.checks.specs.declared.recorded.Findings.{Findings}
 use Rattle.checks.specs.declared.recorded.Findings.TheVariants.{Judged, RefusedEvent, Refused}
@@ -56,10 +57,10 @@ told_line found (Ok text) before after write_failed status three is put = (
 told_line found (Err e) before after write_failed status three is put = (Refused NoMemory, inr refl, put)
 
 -- what is found where all was taken is what the bytes come to
-pub all_taken : (setup : Setup) (bytes : List ℕ) (end : Machine) → IsTaken setup bytes end → (found : Findings) → Finds end found → ComesTo setup bytes found
-all_taken setup bytes end is (Judged verdict text) finds = (end, is, finds)
-all_taken setup bytes end is (RefusedEvent i why) finds = absurd finds
-all_taken setup bytes end is (Refused why) finds = subst (λ w. ComesTo setup bytes (Refused w)) (sym finds) (inl tt)
+pub all_taken : (setup : Setup) → IsSetup setup → (bytes : List ℕ) (end : Machine) → IsTaken setup bytes end → (found : Findings) → Finds end found → ComesTo setup bytes found
+all_taken setup opens bytes end is (Judged verdict text) finds = (opens, (end, is, finds))
+all_taken setup opens bytes end is (RefusedEvent i why) finds = absurd finds
+all_taken setup opens bytes end is (Refused why) finds = subst (λ w. ComesTo setup bytes (Refused w)) (sym finds) (inl (opens, tt))
 
 -- what a loaded monitor judges
 pub loaded_now : (monitor : MonitorView) (c : ℕ) (kind : ModelKind) (budget : ℕ) (events : List Event) → monitor ≡ at_rest (with_events events (opening_of c kind budget)) → monitor.now ≡ with_all c kind budget events
@@ -165,9 +166,9 @@ module _ (setup : Setup) (whole : List Event) (verdicts : (n : ℕ) → (v : Ver
   taken bytes values text pushes = record { values = values; text = text; takes = taken_from [] values pushes }
 
 -- what is found of a whole history that was read of the bytes is what they come to
-pub whole_comes_to : (setup : Setup) (bytes : List ℕ) (events : List Event) → IsRead bytes setup.concurrency [] events None → (r : Result Findings Refusal)
+pub whole_comes_to : (setup : Setup) → IsSetup setup → (bytes : List ℕ) (events : List Event) → IsRead bytes setup.concurrency [] events None → (r : Result Findings Refusal)
     → ((end : Machine) → end.judged ≡ with_all setup.concurrency setup.kind setup.budget events → IfOk r (Finds end))
     → OnOk r ((n : ℕ) → (v : Verdict) × IsVerdictOn (rewound n (with_all setup.concurrency setup.kind setup.budget events)) v) → IfOk r (ComesTo setup bytes)
-whole_comes_to setup bytes events read (Ok found) finds verdicts =
-    all_taken setup bytes (machine_with setup events) (taken setup events verdicts bytes read.0 read.1 read.2) found (finds (machine_with setup events) refl)
-whole_comes_to setup bytes events read (Err why) finds verdicts = tt
+whole_comes_to setup opens bytes events read (Ok found) finds verdicts =
+    all_taken setup opens bytes (machine_with setup events) (taken setup events verdicts bytes read.0 read.1 read.2) found (finds (machine_with setup events) refl)
+whole_comes_to setup opens bytes events read (Err why) finds verdicts = tt

@@ -10,11 +10,11 @@ use Rattle.checks.specs.declared.recorded.Findings.{Findings}
 use Rattle.checks.specs.declared.recorded.Findings.TheVariants.{Refused}
 use Rattle.checks.specs.Recorded.{ComesTo, findings_text, findings_status}
 
--- what was found of a reader that gave these bytes: what they come to, where it was read to its end; or it has failed, or
--- memory ran out
+-- what was found of a reader that gave these bytes: what they come to, where it was read to its end and has not failed; or it
+-- has failed, or memory ran out
 abbrev pub IsFound : Setup → List ℕ → Option (List ℕ) → Bool → Findings → Type 0
 IsFound setup input left has_failed findings =
-    (IsAtEnd left × ComesTo setup input findings)
+    (IsAtEnd left × (has_failed ≡ false) × ComesTo setup input findings)
     ⊎ ((findings ≡ Refused ReadFailed) × (has_failed ≡ true))
     ⊎ (findings ≡ Refused NoMemory)
 

@@ -10,7 +10,7 @@ use Rattle.edn.specs.declared.refusal.Refusal.TheVariants.{BadValue, NoMemory}
 use Rattle.history.specs.declared.event.Event.{Event}
 use Rattle.history.specs.Spelling.{Spells}
 use Rattle.machine.specs.Machine.{Machine, Setup, MayStep, Takes, appended, opening}
-use Rattle.harness.specs.Setups.{MayNotOpen}
+use Rattle.harness.specs.Setups.{IsSetup, MayNotOpen}
 use Rattle.monitor.specs.JudgedHistory.{IsVerdictOn}
 use Rattle.machine.specs.declared.command.Command.TheVariants.{Append}
 use Rattle.machine.specs.declared.command.Reply.{Reply}
@@ -67,11 +67,12 @@ Finds end (Judged verdict text) = IsVerdictOn end.judged verdict × IsReport end
 Finds end (RefusedEvent i why) = ⊥
 Finds end (Refused why) = why ≡ NoMemory
 
--- what the bytes come to. Memory may run out; else bytes that are no text are refused, whatever their elements are
+-- what the bytes come to. A setup that can't be opened is refused first; then bytes that are no text are, whatever their elements
+-- are. Memory may run out
 abbrev pub ComesTo : Setup → List ℕ → Findings → Type 0
-ComesTo setup bytes (Judged verdict text) = (end : Machine) × IsTaken setup bytes end × Finds end (Judged verdict text)
-ComesTo setup bytes (RefusedEvent i why) = IsRefusedAt setup bytes i why
-ComesTo setup bytes (Refused why) = IsWhy bytes why ⊎ MayNotOpen setup why
+ComesTo setup bytes (Judged verdict text) = IsSetup setup × ((end : Machine) × IsTaken setup bytes end × Finds end (Judged verdict text))
+ComesTo setup bytes (RefusedEvent i why) = IsSetup setup × IsRefusedAt setup bytes i why
+ComesTo setup bytes (Refused why) = (IsSetup setup × IsWhy bytes why) ⊎ MayNotOpen setup why
 
 -- the line of an event that is refused
 abbrev pub event_line : ℕ → Refusal → List ℕ

@@ -5,7 +5,7 @@ ghost use Rattle.linspec.specs.declared.verdict.Verdict.{Verdict};
 ghost use Rattle.machine.specs.Machine.{Machine};
 ghost use Rattle.monitor.specs.JudgedHistory.{IsVerdictOn, rewound};
 ghost use Rattle.monitor.specs.Loading.{with_all, MayNotLoad};
-ghost use Rattle.harness.specs.Setups.{setup_of, MayNotOpen};
+ghost use Rattle.harness.specs.Setups.{setup_of, IsSetup, MayNotOpen};
 ghost use Rattle.checks.specs.declared.recorded.Findings.{Findings};
 ghost use Rattle.checks.specs.Recorded.{ComesTo, Finds, event_line};
 
@@ -69,7 +69,8 @@ fn found_in<X: Threads + Sync, L: Onlooker>(
 ) -> Result<Findings, Refusal>
     requires workers { (1 ≤ workers) × (workers ≤ 64) }
     ensures found { IfOk result (ComesTo (setup_of config) bytes.now) }
-    ensures refused { IfErr result (λ why. IsWhy bytes.now why ⊎ MayNotOpen (setup_of config) why) }
+    ensures refused { IfErr result (λ why.
+        (IsSetup (setup_of config) × IsWhy bytes.now why) ⊎ MayNotOpen (setup_of config) why) }
 {
     config.check()?;
     let mut history = History::new(alloc, config.concurrency)?;

@@ -1,8 +1,8 @@
 -- Known bytes of a writer, a part at a time.
-use Rattle.std.proofs.Common.{◌≡◌, ℕ, ◌+◌, ◌-◌, List, [], length, take, drop, sym, subst, ap, ◌∙◌, length-drop, append-nil}
+use Rattle.std.proofs.Common.{◌≡◌, ℕ, refl, ◌+◌, ◌-◌, List, [], ◌++◌, length, take, drop, sym, subst, ap, ◌∙◌, length-drop, append-nil, append_assoc}
 use Rattle.std.proofs.Math.Seq.{take-add, take-length}
-use Rattle.std.specs.Prelude.{Option}
-use Rattle.std.specs.Io.KnownBytes.{Appends}
+use Rattle.std.specs.Prelude.{Option, None, Some}
+use Rattle.std.specs.Io.KnownBytes.{Appends, append_known}
 use Rattle.std.proofs.KnownBytes.{Appends-trans}
 
 -- a part more
@@ -14,3 +14,24 @@ Appends-take a b c text i n m e p q =
 
 pub Appends-then_nil : (a b c : Option (List ℕ)) (bs : List ℕ) → Appends a b bs → Appends b c [] → Appends a c bs
 Appends-then_nil a b c bs p q = subst (Appends a c) (append-nil bs) (Appends-trans a b c bs [] p q)
+
+-- what is to be written grows
+pub Appends-more : (a : Option (List ℕ)) (old new bytes : List ℕ) → new ≡ old ++ bytes → Appends (append_known a old) (append_known a new) bytes
+Appends-more None old new bytes e = tt
+Appends-more (Some x) old new bytes e = ap (λ l. x ++ l) e ∙ sym (append_assoc x old bytes)
+
+-- with nothing to be written
+pub Appends-to_none : (a : Option (List ℕ)) → Appends a (append_known a []) []
+Appends-to_none None = tt
+Appends-to_none (Some x) = refl
+
+pub Appends-of_none : (a : Option (List ℕ)) → Appends (append_known a []) a []
+Appends-of_none None = tt
+Appends-of_none (Some x) = sym (append-nil _ ∙ append-nil x)
+
+-- what was to be written has been
+pub Appends-written : (a b c : Option (List ℕ)) (bytes text : List ℕ) → Appends a (append_known b bytes) text → Appends b c bytes → Appends a c text
+Appends-written None b c bytes text p q = tt
+Appends-written (Some x) None c bytes text p q = absurd p
+Appends-written (Some x) (Some y) None bytes text p q = absurd q
+Appends-written (Some x) (Some y) (Some z) bytes text p q = q ∙ p

@@ -11,7 +11,7 @@ use Rattle.line_loop.specs.Lines.{ended, IsLine, Cuts, last_line}
 pub cuts_nothing : Cuts [] [] []
 cuts_nothing = record { whole = refl; each = All-nil IsLine; partial = All-nil (λ b. b ≢ 10) }
 
-cuts_along : {s t : List ℕ} {l m : List (List ℕ)} {rest : List ℕ} → s ≡ t → l ≡ m → Cuts s l rest → Cuts t m rest
+pub cuts_along : {s t : List ℕ} {l m : List (List ℕ)} {rest : List ℕ} → s ≡ t → l ≡ m → Cuts s l rest → Cuts t m rest
 cuts_along {s} {t} {l} {m} {rest} p q h = subst (λ x. Cuts x m rest) p (subst (λ x. Cuts s x rest) q h)
 
 -- more bytes, none of them a line feed
@@ -83,6 +83,11 @@ clip_more n held rest bytes e = elim (leb_tells (length rest) n) as (λ _. held 
       let full : n - length held ≡ 0 = omega (arith, length-take n rest) in
       ap (λ k. held ++ take k bytes) full ∙ append-nil held ∙ e ∙ sym (take-append-le n rest bytes long)
 ]
+
+-- where nothing is held there is no rest
+pub rest_none : (n : ℕ) (held rest : List ℕ) → held ≡ take (n + 1) rest → held ≡ [] → rest ≡ []
+rest_none n held [] e none = refl
+rest_none n held (b ∷ bs) e none = absurd (omega (arith, ap length (sym none ∙ e), length-take (n + 1) (b ∷ bs)))
 
 -- a last line
 pub last_none : (n : ℕ) (held rest : List ℕ) → held ≡ take (n + 1) rest → held ≡ [] → last_line rest ≡ []

@@ -1,17 +1,17 @@
 -- How the replies run on, from what stands between two reads.
-use Rattle.std.proofs.Common.{◌≡◌, ◌≢◌, ℕ, ◌+◌, ◌-◌, ◌<◌, Bool, true, false, List, [], ◌∷◌, ◌++◌, length, take, refl, ap, sym, ◌∙◌, subst, arith, append-nil, append_assoc, inl, inr}
-use Rattle.std.specs.Prelude.{Option}
-use Rattle.std.proofs.lemmas.List.{take_all}
-use Rattle.std.specs.Io.KnownBytes.{Appends, Consumes, IsAtEnd}
+use Rattle.std.proofs.Common.{◌≡◌, ◌≢◌, ℕ, ◌+◌, ◌-◌, ◌<◌, Bool, true, false, List, [], ◌∷◌, ◌++◌, length, take, refl, ap, sym, ◌∙◌, subst, arith, append-nil, append_assoc}
+use Rattle.std.specs.Prelude.{Option, None, Some, Result, Ok, Err, OnOk, OnErr, ⊤}
+use Rattle.std.proofs.lemmas.List.{take_all, append_cancel_left}
+use Rattle.std.specs.Io.KnownBytes.{Appends, append_known, Consumes, IsAtEnd}
 use Rattle.std.proofs.KnownBytes.{Appends-trans, Appends-nil, Consumes-trans}
 use Rattle.edn.specs.declared.refusal.Refusal.{Refusal}
 use Rattle.edn.specs.declared.refusal.Refusal.TheVariants.{ReadFailed}
 use Rattle.line_loop.specs.Lines.{ended, IsLine, last_line}
 use Rattle.line_loop.specs.ReplyText.{line_limit, MayAnswer, Replies}
 use Rattle.line_loop.specs.Stopping.{read_lines, IsPartlyAnswered, Stops, KeepsUp}
-use Rattle.line_loop.specs.BetweenReads.{Reading, Between, between, Stands, GoesOn, StopsIn, Ends, StopsAtEnd, LineIsAnswered, LineIsHalfAnswered}
-use Rattle.line_loop.proofs.Appending.{Appends-then_nil}
-use Rattle.line_loop.proofs.Cutting.{cuts_nothing, cuts_bytes, cuts_feed, cuts_more, clip_over, clip_more, last_none, last_some}
+use Rattle.line_loop.specs.BetweenReads.{Reading, Between, between, Stands, GoesOn, StopsIn, Ends, StopsAtEnd, LineIsAnswered}
+use Rattle.line_loop.proofs.Appending.{Appends-then_nil, Appends-more, Appends-to_none, Appends-of_none, Appends-written}
+use Rattle.line_loop.proofs.Cutting.{cuts_nothing, cuts_along, cuts_bytes, cuts_feed, cuts_more, clip_over, clip_more, rest_none, last_none, last_some}
 
 pub consumed_nothing : (a b c : Option (List ℕ)) (bs : List ℕ) → Consumes a b bs → Consumes b c [] → Consumes a c bs
 consumed_nothing a b c bs p q = subst (Consumes a c) (append-nil bs) (Consumes-trans a b c bs [] p q)
@@ -52,6 +52,33 @@ module _ {S : Type 0} (may : S → List ℕ → List ℕ → S → Type 0) where
     grown = Appends-trans before here.written there.written h.text p.text h.grown p.grown;
   }
 
+  -- a whole line and its line feed, where nothing is held
+  pub goes_whole : (line : List ℕ) → IsLine line → (here there : Between S) → here.held ≡ [] → there.held ≡ [] → (text : List ℕ) → MayAnswer may here.state line text there.state → Appends here.written there.written text
+      → GoesOn may (ended line) here there
+  goes_whole line plain here there none empty text answered grown old before seen h =
+      let same : h.rest ++ line ≡ line = ap (λ l. l ++ line) (rest_none line_limit here.held h.rest h.held_is none) in
+      let of_all : MayAnswer may here.state (h.rest ++ line) text there.state = subst (λ l. MayAnswer may here.state l text there.state) (sym same) answered in
+      let one : Replies may here.state ((h.rest ++ line) ∷ []) text there.state = (there.state, text, [], of_all, (refl, refl), sym (append-nil text)) in
+      record {
+        lines = h.lines ++ (h.rest ++ line) ∷ [];
+        rest = [];
+        text = h.text ++ text;
+        cut = cuts_along (append_assoc seen line (10 ∷ [])) refl (cuts_feed (cuts_bytes line plain h.cut));
+        run = replies_more old h.lines ((h.rest ++ line) ∷ []) h.text text here.state there.state h.run one;
+        held_is = empty;
+        grown = Appends-trans before here.written there.written h.text text h.grown grown;
+      }
+
+  -- the same, of a session
+  pub answers_whole_line : {M : Type 0} (state : M → S) (line : List ℕ) → IsLine line → (inner old : Reading M) → inner ≡ old → old.held ≡ [] → (machine : M) (text replies : List ℕ)
+      → MayAnswer may (state inner.machine) line text (state machine) → replies ≡ inner.replies ++ text
+      → (written : Option (List ℕ)) → GoesOn may (ended line) (between state old written) (between state (record { machine = machine; held = inner.held; replies = replies }) written)
+  answers_whole_line state line plain inner old same none machine text replies answered grown written =
+      let there = between state (record { machine = machine; held = inner.held; replies = replies }) written in
+      let empty : inner.held ≡ [] = ap (λ r. r.held) same ∙ none in
+      subst (λ r. GoesOn may (ended line) (between state r written) there) same
+      (goes_whole line plain (between state inner written) there empty empty text answered (Appends-more written inner.replies replies text grown))
+
   -- bytes of a line
   pub goes_bytes : (bytes : List ℕ) → IsLine bytes → (here : Between S) → GoesOn may bytes here (record here { held = here.held ++ take (line_limit + 1 - length here.held) bytes })
   goes_bytes bytes plain here old before seen h = record {
@@ -66,11 +93,11 @@ module _ {S : Type 0} (may : S → List ℕ → List ℕ → S → Type 0) where
 
   -- the same, of a session that holds them
   pub goes_held : {M : Type 0} (state : M → S) (bytes : List ℕ) → IsLine bytes → (inner old : Reading M) → inner ≡ old → (held : List ℕ) → held ≡ inner.held ++ take (line_limit + 1 - length inner.held) bytes
-      → (written : Option (List ℕ)) → GoesOn may bytes (between state old written) (record { held = held; state = state inner.machine; written = written })
+      → (written : Option (List ℕ)) → GoesOn may bytes (between state old written) (between state (record inner { held = held }) written)
   goes_held state bytes plain inner old same held more written =
-      let here : GoesOn may bytes (between state inner written) (record { held = held; state = state inner.machine; written = written }) =
-      subst (λ l. GoesOn may bytes (between state inner written) (record { held = l; state = state inner.machine; written = written })) (sym more) (goes_bytes bytes plain (between state inner written)) in
-      subst (λ r. GoesOn may bytes (between state r written) (record { held = held; state = state inner.machine; written = written })) same here
+      let here : GoesOn may bytes (between state inner written) (between state (record inner { held = held }) written) =
+      subst (λ l. GoesOn may bytes (between state inner written) (between state (record inner { held = l }) written)) (sym more) (goes_bytes bytes plain (between state inner written)) in
+      subst (λ r. GoesOn may bytes (between state r written) (between state (record inner { held = held }) written)) same here
 
   -- one piece after another
   pub goes_then : (one two : List ℕ) (here mid there : Between S) → GoesOn may one here mid → GoesOn may two mid there → GoesOn may (one ++ two) here there
@@ -84,6 +111,23 @@ module _ {S : Type 0} (may : S → List ℕ → List ℕ → S → Type 0) where
   -- nothing
   pub goes_nowhere : (here : Between S) → GoesOn may [] here here
   goes_nowhere here old before seen h = subst (λ l. Stands may old before l here) (sym (append-nil seen)) h
+
+  -- the replies are written
+  pub goes_written : {M : Type 0} (state : M → S) (piece : List ℕ) (here : Between S) (mid there : Reading M) (a b : Option (List ℕ)) → there ≡ record mid { replies = [] } → Appends a b mid.replies
+      → GoesOn may piece here (between state mid a) → GoesOn may piece here (between state there b)
+  goes_written state piece here mid there a b same wrote p old before seen h =
+      let g = p old before seen h in
+      let all : Appends before b g.text = Appends-written before a b mid.replies g.text g.grown wrote in
+      let at : Stands may old before (seen ++ piece) (between state (record mid { replies = [] }) b) = record {
+        lines = g.lines;
+        rest = g.rest;
+        text = g.text;
+        cut = g.cut;
+        run = g.run;
+        held_is = g.held_is;
+        grown = Appends-then_nil before b (append_known b []) g.text all (Appends-to_none b);
+      } in
+      subst (λ r. Stands may old before (seen ++ piece) (between state r b)) (sym same) at
 
   -- what has stopped has stopped too where more was read
   stopped_more : (old : S) (before : Option (List ℕ)) (seen more : List ℕ) (after : Option (List ℕ)) → IsPartlyAnswered may old before seen false after → IsPartlyAnswered may old before (seen ++ more) false after
@@ -140,41 +184,85 @@ module _ {S : Type 0} (may : S → List ℕ → List ℕ → S → Type 0) where
   pub stops_at_once : (bytes : List ℕ) (here : Between S) → StopsIn may bytes here here.written
   stops_at_once bytes here old before seen h = stopped_more old before seen bytes here.written (stopped_standing old before seen here h)
 
-  -- the run where a part of a line's reply was written
-  part_run : (old : S) (before : Option (List ℕ)) (seen : List ℕ) (here : Between S) (h : Stands may old before seen here) (part more : List ℕ) (new : S)
-      → MayAnswer may here.state here.held (part ++ more) new → Replies may old (h.lines ++ h.rest ∷ []) ((h.text ++ part) ++ more) new
-  part_run old before seen here h part more new p =
-      subst (λ l. Replies may old (h.lines ++ h.rest ∷ []) l new) (sym (append_assoc h.text part more)) (line_more old before seen here h (part ++ more) new p)
+  -- at the end there was no memory for the reply to a last line
+  pub stops_last : (here : Between S) → StopsAtEnd may here here.written
+  stops_last here old before seen h = stopped_here old before seen here here.written true (last_line h.rest) h refl (Appends-nil here.written)
 
-  -- a line feed, and the reply was not written whole
-  stops_feed : (here : Between S) (after : Option (List ℕ)) → LineIsHalfAnswered may here after → StopsIn may (10 ∷ []) here after
-  stops_feed here after p old before seen h = elim p.cause as (λ _. IsPartlyAnswered may old before (seen ++ 10 ∷ []) false after) [
-    | inl none ↦
-        stopped_more old before seen (10 ∷ []) after (stopped_here old before seen here after false [] h (sym (append-nil h.lines)) (subst (Appends here.written after) none p.grown))
-    | inr some ↦
-        let (more, new, answered) = some in
-        record {
-          written = h.text ++ p.part;
-          grown = Appends-trans before here.written after h.text p.part h.grown p.grown;
-          beginning = record {
-            lines = h.lines ++ h.rest ∷ [];
-            rest = [];
-            cut = cuts_feed h.cut;
-            done = h.lines ++ h.rest ∷ [];
-            later = [];
-            front = sym (append-nil _);
-            more = more;
-            new = new;
-            run = part_run old before seen here h p.part more new answered;
-          };
-        }
-  ]
+  -- what was answered is written
+  stopped_written : (old : S) (before : Option (List ℕ)) (input : List ℕ) (has_ended : Bool) (a b : Option (List ℕ)) (replies : List ℕ) → Appends a b replies
+      → IsPartlyAnswered may old before input has_ended (append_known a replies) → IsPartlyAnswered may old before input has_ended b
+  stopped_written old before input has_ended a b replies wrote h = record { written = h.written; grown = Appends-written before a b replies h.written h.grown wrote; beginning = h.beginning }
 
-  pub stops_line : (bytes : List ℕ) (here mid : Between S) (after : Option (List ℕ)) → GoesOn may bytes here mid → LineIsHalfAnswered may mid after → StopsIn may (ended bytes) here after
-  stops_line bytes here mid after p q = stops_then bytes (10 ∷ []) here mid after p (stops_feed mid after q)
+  pub stops_written : (piece : List ℕ) (here : Between S) (a b : Option (List ℕ)) (replies : List ℕ) → Appends a b replies → StopsIn may piece here (append_known a replies) → StopsIn may piece here b
+  stops_written piece here a b replies wrote p old before seen h = stopped_written old before (seen ++ piece) false a b replies wrote (p old before seen h)
+
+  pub ends_short : (here : Between S) (a b : Option (List ℕ)) (replies : List ℕ) → Appends a b replies → StopsAtEnd may here (append_known a replies) → StopsAtEnd may here b
+  ends_short here a b replies wrote p old before seen h = stopped_written old before seen true a b replies wrote (p old before seen h)
+
+  -- or a part of it
+  stopped_short : (old : S) (before : Option (List ℕ)) (input : List ℕ) (has_ended : Bool) (a b : Option (List ℕ)) (start replies part more : List ℕ) → Appends before a start → replies ≡ part ++ more → Appends a b part
+      → IsPartlyAnswered may old before input has_ended (append_known a replies) → IsPartlyAnswered may old before input has_ended b
+  stopped_short old None input has_ended a b start replies part more began cut wrote h = record { written = h.written; grown = tt; beginning = h.beginning }
+  stopped_short old (Some x) input has_ended None b start replies part more began cut wrote h = absurd began
+  stopped_short old (Some x) input has_ended (Some y) None start replies part more began cut wrote h = absurd wrote
+  stopped_short old (Some x) input has_ended (Some y) (Some z) start replies part more began cut wrote h =
+      let r = h.beginning in
+      let far : x ++ (start ++ replies) ≡ x ++ h.written = sym (append_assoc x start replies) ∙ ap (λ l. l ++ replies) (sym began) ∙ h.grown in
+      let whole : start ++ replies ≡ h.written = append_cancel_left x (start ++ replies) h.written far in
+      let parts : h.written ≡ (start ++ part) ++ more = sym whole ∙ ap (λ l. start ++ l) cut ∙ sym (append_assoc start part more) in
+      let text : h.written ++ r.more ≡ (start ++ part) ++ (more ++ r.more) = ap (λ l. l ++ r.more) parts ∙ append_assoc (start ++ part) more r.more in
+      record {
+        written = start ++ part;
+        grown = wrote ∙ ap (λ l. l ++ part) began ∙ append_assoc x start part;
+        beginning = record {
+          lines = r.lines;
+          rest = r.rest;
+          cut = r.cut;
+          done = r.done;
+          later = r.later;
+          front = r.front;
+          more = more ++ r.more;
+          new = r.new;
+          run = subst (λ l. Replies may old r.done l r.new) text r.run;
+        };
+      }
+
+  -- where nothing was to be written at first
+  began : (old : S) (before a : Option (List ℕ)) (seen : List ℕ) (here : Between S) (h : Stands may old before seen here) → here.written ≡ append_known a [] → Appends before a h.text
+  began old before a seen here h none = Appends-then_nil before (append_known a []) a h.text (subst (λ w. Appends before w h.text) none h.grown) (Appends-of_none a)
+
+  pub stops_short : (piece : List ℕ) (here : Between S) (a b : Option (List ℕ)) (replies : List ℕ) → here.written ≡ append_known a []
+      → ((part : List ℕ) × (more : List ℕ) × (replies ≡ part ++ more) × Appends a b part) → StopsIn may piece here (append_known a replies) → StopsIn may piece here b
+  stops_short piece here a b replies none some p old before seen h =
+      let (part, more, cut, wrote) = some in
+      stopped_short old before (seen ++ piece) false a b h.text replies part more (began old before a seen here h none) cut wrote (p old before seen h)
+
+  pub ends_cut_short : (here : Between S) (a b : Option (List ℕ)) (replies : List ℕ) → here.written ≡ append_known a []
+      → ((part : List ℕ) × (more : List ℕ) × (replies ≡ part ++ more) × Appends a b part) → StopsAtEnd may here (append_known a replies) → StopsAtEnd may here b
+  ends_cut_short here a b replies none some p old before seen h =
+      let (part, more, cut, wrote) = some in
+      stopped_short old before seen true a b h.text replies part more (began old before a seen here h none) cut wrote (p old before seen h)
+
+  -- there was no memory to go on, and the replies stayed
+  pub stops_kept : {M : Type 0} (state : M → S) (bytes : List ℕ) (reading : Reading M) (replies : List ℕ) (written : Option (List ℕ)) → replies ≡ reading.replies → StopsIn may bytes (between state reading written) (append_known written replies)
+  stops_kept state bytes reading replies written kept =
+      subst (λ l. StopsIn may bytes (between state reading written) (append_known written l)) (sym kept) (stops_at_once bytes (between state reading written))
+
+  pub ends_kept : {M : Type 0} (state : M → S) (reading : Reading M) (replies : List ℕ) (written : Option (List ℕ)) → replies ≡ reading.replies → StopsAtEnd may (between state reading written) (append_known written replies)
+  ends_kept state reading replies written kept =
+      subst (λ l. StopsAtEnd may (between state reading written) (append_known written l)) (sym kept) (stops_last (between state reading written))
+
+  -- a piece that was taken is one in which it may stop
+  pub stops_after : (piece : List ℕ) (here there : Between S) → GoesOn may piece here there → StopsIn may piece here there.written
+  stops_after piece here there p old before seen h = stopped_standing old before (seen ++ piece) there (p old before seen h)
+
+  -- however the piece was taken
+  pub stops_either : {E : Type 0} (r : Result ⊤ E) (piece : List ℕ) (here there : Between S) → OnOk r (GoesOn may piece here there) → OnErr r (StopsIn may piece here there.written) → StopsIn may piece here there.written
+  stops_either (Ok x) piece here there p q = stops_after piece here there p
+  stops_either (Err e) piece here there p q = q
 
   -- the end, with no last line
-  pub ends_none : (here : Between S) → here.held ≡ [] → Ends may here here
+  pub ends_none : (here : Between S) → here.held ≡ [] → Ends may here here.state here.written
   ends_none here none old before seen h = record {
     text = h.text;
     grown = h.grown;
@@ -182,53 +270,21 @@ module _ {S : Type 0} (may : S → List ℕ → List ℕ → S → Type 0) where
   }
 
   -- the end, with one
-  pub ends_some : (here there : Between S) → 0 < length here.held → LineIsAnswered may here there → Ends may here there
+  pub ends_some : (here there : Between S) → 0 < length here.held → LineIsAnswered may here there → Ends may here there.state there.written
   ends_some here there some p old before seen h = record {
     text = h.text ++ p.text;
     grown = Appends-trans before here.written there.written h.text p.text h.grown p.grown;
     replies = record { lines = h.lines; rest = h.rest; cut = h.cut; run = subst (λ l. Replies may old (h.lines ++ l) (h.text ++ p.text) there.state) (sym (last_some line_limit here.held h.rest h.held_is some)) (line_more old before seen here h p.text there.state p.answered) };
   }
 
-  pub stops_some : (here : Between S) (after : Option (List ℕ)) → 0 < length here.held → LineIsHalfAnswered may here after → StopsAtEnd may here after
-  stops_some here after some p old before seen h = elim p.cause as (λ _. IsPartlyAnswered may old before seen true after) [
-    | inl none ↦
-        stopped_here old before seen here after true (last_line h.rest) h refl (subst (Appends here.written after) none p.grown)
-    | inr half ↦
-        let (more, new, answered) = half in
-        record {
-          written = h.text ++ p.part;
-          grown = Appends-trans before here.written after h.text p.part h.grown p.grown;
-          beginning = record {
-            lines = h.lines;
-            rest = h.rest;
-            cut = h.cut;
-            done = h.lines ++ h.rest ∷ [];
-            later = [];
-            front = ap (λ l. h.lines ++ l) (last_some line_limit here.held h.rest h.held_is some) ∙ sym (append-nil _);
-            more = more;
-            new = new;
-            run = part_run old before seen here h p.part more new answered;
-          };
-        }
-  ]
-
-  -- the flush
-  pub ends_flushed : (here mid there : Between S) → Ends may here mid → mid.state ≡ there.state → Appends mid.written there.written [] → Ends may here there
-  ends_flushed here mid there p same q old before seen h =
-      let f = p old before seen h in
-      record {
-        text = f.text;
-        grown = Appends-then_nil before mid.written there.written f.text f.grown q;
-        replies = record { lines = f.replies.lines; rest = f.replies.rest; cut = f.replies.cut; run = subst (λ s. Replies may old (f.replies.lines ++ last_line f.replies.rest) f.text s) same f.replies.run };
-      }
-
-  pub stops_flushing : (here mid : Between S) (after : Option (List ℕ)) → Ends may here mid → Appends mid.written after [] → StopsAtEnd may here after
-  stops_flushing here mid after p q old before seen h =
+  -- the end was answered, and no more was written
+  pub stops_ended : (here : Between S) (new : S) (after : Option (List ℕ)) → Ends may here new after → StopsAtEnd may here after
+  stops_ended here new after p old before seen h =
       let f = p old before seen h in
       let r = f.replies in
       record {
         written = f.text;
-        grown = Appends-then_nil before mid.written after f.text f.grown q;
+        grown = f.grown;
         beginning = record {
           lines = r.lines;
           rest = r.rest;
@@ -237,22 +293,44 @@ module _ {S : Type 0} (may : S → List ℕ → List ℕ → S → Type 0) where
           later = [];
           front = sym (append-nil _);
           more = [];
-          new = mid.state;
-          run = subst (λ l. Replies may old (r.lines ++ last_line r.rest) l mid.state) (sym (append-nil f.text)) r.run;
+          new = new;
+          run = subst (λ l. Replies may old (r.lines ++ last_line r.rest) l new) (sym (append-nil f.text)) r.run;
         };
       }
 
+  pub ends_either : {E : Type 0} (r : Result ⊤ E) (here : Between S) (new : S) (after : Option (List ℕ)) → OnOk r (Ends may here new after) → OnErr r (StopsAtEnd may here after) → StopsAtEnd may here after
+  ends_either (Ok x) here new after p q = stops_ended here new after p
+  ends_either (Err e) here new after p q = q
+
+  -- the replies are written
+  pub ends_written : (here : Between S) (new : S) (a b : Option (List ℕ)) (replies : List ℕ) → Appends a b replies → Ends may here new (append_known a replies) → Ends may here new b
+  ends_written here new a b replies wrote p old before seen h =
+      let f = p old before seen h in
+      record { text = f.text; grown = Appends-written before a b replies f.text f.grown wrote; replies = f.replies }
+
+  -- the flush
+  pub ends_flushed : (here : Between S) (new : S) (a b : Option (List ℕ)) → Appends a b [] → Ends may here new a → Ends may here new b
+  ends_flushed here new a b q p old before seen h =
+      let f = p old before seen h in
+      record { text = f.text; grown = Appends-then_nil before a b f.text f.grown q; replies = f.replies }
+
   -- the start of all
-  pub stands_first : (here : Between S) → here.held ≡ [] → Stands may here.state here.written [] here
-  stands_first here none = record {
+  pub stands_first : {M : Type 0} (state : M → S) (first : Reading M) (written : Option (List ℕ)) → first.held ≡ [] → first.replies ≡ [] → Stands may (state first.machine) written [] (between state first written)
+  stands_first state first written none no_replies = record {
     lines = [];
     rest = [];
     text = [];
     cut = cuts_nothing;
     run = (refl, refl);
     held_is = none;
-    grown = Appends-nil here.written;
+    grown = subst (λ l. Appends written (append_known written l) []) (sym no_replies) (Appends-to_none written);
   }
+
+  -- where nothing is to be written
+  pub stopped_reading : {M : Type 0} (state : M → S) (old : S) (before : Option (List ℕ)) (seen : List ℕ) (reading : Reading M) (written : Option (List ℕ)) → reading.replies ≡ []
+      → Stands may old before seen (between state reading written) → IsPartlyAnswered may old before seen false written
+  stopped_reading state old before seen reading written none h =
+      stopped_here old before seen (between state reading written) written false [] h (sym (append-nil h.lines)) (subst (λ l. Appends (append_known written l) written []) (sym none) (Appends-of_none written))
 
   -- in mid-stream
   pub halts_within : (old : S) (left left' : Option (List ℕ)) (before after : Option (List ℕ)) (seen : List ℕ) → Consumes left left' seen → IsPartlyAnswered may old before seen false after → (e : Refusal) → Stops may old left left' before after e
@@ -262,9 +340,18 @@ module _ {S : Type 0} (may : S → List ℕ → List ℕ → S → Type 0) where
   pub halts_ending : (old : S) (left left' : Option (List ℕ)) (before after : Option (List ℕ)) (seen : List ℕ) → Consumes left left' seen → IsAtEnd left' → IsPartlyAnswered may old before seen true after → (e : Refusal) → e ≢ ReadFailed → Stops may old left left' before after e
   halts_ending old left left' before after seen read end stopped e other = record { seen = seen; has_ended = true; read = read; at_end = λ _. end; not_reading = λ _. other; answered = stopped }
 
-  pub keeps_up : (old : S) (left left' : Option (List ℕ)) (before : Option (List ℕ)) (seen : List ℕ) (here : Between S) → Consumes left left' seen → Stands may old before seen here → KeepsUp may old left left' before here.written
-  keeps_up old left left' before seen here read h = record {
+  pub keeps_up : {M : Type 0} (state : M → S) (old : S) (left left' : Option (List ℕ)) (before : Option (List ℕ)) (seen : List ℕ) (reading : Reading M) (written : Option (List ℕ)) → reading.replies ≡ []
+      → Consumes left left' seen → Stands may old before seen (between state reading written) → KeepsUp may old left left' before written
+  keeps_up state old left left' before seen reading written none read h = record {
     seen = seen;
     read = read;
-    answered = record { lines = h.lines; rest = h.rest; cut = h.cut; written = h.text; grown = h.grown; new = here.state; run = h.run };
+    answered = record {
+      lines = h.lines;
+      rest = h.rest;
+      cut = h.cut;
+      written = h.text;
+      grown = began old before written seen (between state reading written) h (ap (append_known written) none);
+      new = state reading.machine;
+      run = h.run;
+    };
   }

@@ -1,25 +1,26 @@
 -- Invariant: what stands between two reads, and how a piece of the input leads on from there
-use Rattle.std.specs.Prelude.{◌≡◌, ◌≢◌, ℕ, ◌+◌, Bool, true, false, List, [], ◌++◌, take, Option, ◌⊎◌}
-use Rattle.std.specs.Io.KnownBytes.{Appends}
+use Rattle.std.specs.Prelude.{◌≡◌, ◌≢◌, ℕ, ◌+◌, Bool, true, false, List, [], ◌++◌, take, Option}
+use Rattle.std.specs.Io.KnownBytes.{Appends, append_known}
 use Rattle.edn.specs.declared.refusal.Refusal.{Refusal}
 use Rattle.edn.specs.declared.refusal.Refusal.TheVariants.{ReadFailed, WriteFailed}
 use Rattle.line_loop.specs.Lines.{Cuts}
 use Rattle.line_loop.specs.ReplyText.{line_limit, MayAnswer, Replies}
 use Rattle.line_loop.specs.Stopping.{MayStop, IsAnswered, IsPartlyAnswered}
 
--- a machine, and what is held of the line that is being read
+-- a machine, what is held of the line that is being read, and the replies that are not written yet
 pub record Reading (M : Type 0) : Type 0 where
   pub machine : M
   pub held : List ℕ
+  pub replies : List ℕ
 
--- what stands between two reads: what is held of a line, the machine's state, what the writer has taken
+-- what stands between two reads: what is held of a line, the machine's state, what the writer has taken once all replies are written
 pub record Between (S : Type 0) : Type 0 where
   pub held : List ℕ
   pub state : S
   pub written : Option (List ℕ)
 
 abbrev pub between : {M S : Type 0} → (M → S) → Reading M → Option (List ℕ) → Between S
-between state reading written = record { held = reading.held; state = state reading.machine; written = written }
+between state reading written = record { held = reading.held; state = state reading.machine; written = append_known written reading.replies }
 
 -- why a step may be refused: it reads nothing, and says that the writer failed only where it has
 abbrev pub MayStopWriting : Refusal → Bool → Type 0
@@ -44,9 +45,9 @@ module _ {S : Type 0} (may_reply : S → List ℕ → List ℕ → S → Type 0)
   abbrev pub StopsIn : List ℕ → Between S → Option (List ℕ) → Type 0
   StopsIn piece here after = (old : S) (before : Option (List ℕ)) (seen : List ℕ) → Stands old before seen here → IsPartlyAnswered may_reply old before (seen ++ piece) false after
 
-  -- the end of the input leads to the whole text
-  abbrev pub Ends : Between S → Between S → Type 0
-  Ends here there = (old : S) (before : Option (List ℕ)) (seen : List ℕ) → Stands old before seen here → IsAnswered may_reply old before seen there.state there.written
+  -- the end of the input leads to the whole text, and to this state
+  abbrev pub Ends : Between S → S → Option (List ℕ) → Type 0
+  Ends here new after = (old : S) (before : Option (List ℕ)) (seen : List ℕ) → Stands old before seen here → IsAnswered may_reply old before seen new after
 
   -- at the end of the input it stopped
   abbrev pub StopsAtEnd : Between S → Option (List ℕ) → Type 0
@@ -58,9 +59,3 @@ module _ {S : Type 0} (may_reply : S → List ℕ → List ℕ → S → Type 0)
     pub answered : MayAnswer may_reply here.state here.held text there.state
     pub grown : Appends here.written there.written text
     pub empty : there.held ≡ []
-
-  -- the line that is held got no reply, or the writer has grown by the beginning of one
-  pub record LineIsHalfAnswered (here : Between S) (after : Option (List ℕ)) : Type 0 where
-    pub part : List ℕ
-    pub grown : Appends here.written after part
-    pub cause : (part ≡ []) ⊎ ((more : List ℕ) × (new : S) × MayAnswer may_reply here.state here.held (part ++ more) new)

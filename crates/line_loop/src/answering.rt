@@ -16,7 +16,7 @@ use std::sync::Wait;
 ///
 /// A last line without a line feed counts where it has a byte. A line of more than 65,536 bytes, its line feed not
 /// counted, is answered by the line of `TooLong`: the machine is told that there was one, and does not see it. Beside the
-/// machine it holds a piece of 8,192 bytes, one line and one reply.
+/// machine it holds a piece of 8,192 bytes, one line, and the replies to the lines that end in one piece.
 ///
 /// # Errors
 ///

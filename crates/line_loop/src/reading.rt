@@ -63,6 +63,7 @@ pub fn read_whole<X: Wait, R: Read + Failed>(
     ensures bytes { IfOk result (λ bytes.
         Consumes (R.remaining reader.old) (R.remaining reader.new) bytes.items) }
     ensures end { OnOk result (IsAtEnd (R.remaining reader.new)) }
+    ensures unfailed { OnOk result (R.has_failed reader.new ≡ false) }
     ensures some { OnErr result ((seen : List ℕ)
         × Consumes (R.remaining reader.old) (R.remaining reader.new) seen) }
     ensures cause { IfErr result (λ e. (e ≡ Refusal.NoMemory)

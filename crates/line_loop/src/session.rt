@@ -2,13 +2,15 @@
 ghost use Rattle.std.specs.Prelude.{◌≡◌, ◌+◌, ◌-◌, ◌<◌, ℕ, List, [], ◌∷◌, ◌++◌, take, length, Option, OnOk, OnErr, IfErr, IfSome, IfNone, true, false};
 ghost use Rattle.line_loop.specs.Lines.{IsLine, ended};
 ghost use Rattle.line_loop.specs.ReplyText.{MayAnswer, line_limit};
-ghost use Rattle.line_loop.specs.BetweenReads.{Reading, between, MayStopWriting, LineIsAnswered, LineIsHalfAnswered, GoesOn, StopsIn, Ends, StopsAtEnd};
+ghost use Rattle.line_loop.specs.BetweenReads.{Reading, between, MayStopWriting, LineIsAnswered, GoesOn, StopsIn, Ends, StopsAtEnd};
+ghost use Rattle.std.specs.Io.KnownBytes.{Appends, append_known};
 
 use crate::line_machine::LineMachine;
 use crate::refusal_line::append_refusal;
 use crate::watched::Failed;
 use crate::writing::{flush_all, write_text};
 use edn::Refusal;
+use memchr::memchr;
 use std::alloc::{AllocError, Global};
 use std::io::Write;
 use std::marker::Model;
@@ -17,19 +19,21 @@ use std::sync::Wait;
 /// Bytes of a line at most, its line feed not counted.
 pub const LINE_LIMIT: usize = 65_536;
 
-/// A machine, and what is held of the line that is being read: at most one byte over the limit.
+/// A machine, what is held of the line that is being read, at most one byte over the limit, and the replies that are
+/// not written yet: none between two reads.
 #[derive(Drop)]
 pub struct Session<M: LineMachine> {
     alloc: Global,
     machine: M,
     held: Vec<u8>,
     reply: Vec<u8>,
+    replies: Vec<u8>,
 }
 
 impl<M: LineMachine> Model for Session<M> {
     ghost Value = { Reading M };
 
-    ghost view = { λ session. record { machine = session.machine; held = session.held.items } };
+    ghost view = { λ session. record { machine = session.machine; held = session.held.items; replies = session.replies.items } };
 }
 
 impl<M: LineMachine> Session<M> {
@@ -37,12 +41,14 @@ impl<M: LineMachine> Session<M> {
     pub fn new(alloc: Global, machine: M) -> Session<M>
         ensures machine { result.machine ≡ machine }
         ensures held { result.held ≡ [] }
+        ensures replies { result.replies ≡ [] }
     {
         Session {
             alloc,
             machine,
             held: Vec::new(alloc),
             reply: Vec::new(alloc),
+            replies: Vec::new(alloc),
         }
     }
 
@@ -53,49 +59,61 @@ impl<M: LineMachine> Session<M> {
         self.machine.verdict()
     }
 
-    /// Takes a piece of the input: each line that ends in it is answered, and what follows the last of them is held.
+    /// Takes a piece of the input: each line that ends in it is answered, the replies are written together, and what
+    /// follows the last of the lines is held.
     ///
     /// # Errors
     ///
-    /// `WriteFailed`, where the writer has failed, and `NoMemory`.
+    /// `WriteFailed`, where the writer has failed, and `NoMemory`, after the replies that were made have been written.
     pub fn take_piece<X: Wait, W: Write + Failed>(
         &mut self,
         rt: &X,
         writer: &mut W,
         piece: &[u8],
     ) -> Result<(), Refusal>
+        requires { self.old.replies ≡ [] }
         ensures ok { OnOk result (GoesOn M.may_reply piece.now
             (between M.state self.old (W.contents writer.old))
             (between M.state self.new (W.contents writer.new))) }
+        ensures all { OnOk result (self.new.replies ≡ []) }
         ensures err { OnErr result (StopsIn M.may_reply piece.now
             (between M.state self.old (W.contents writer.old)) (W.contents writer.new)) }
         ensures cause { IfErr result (λ e. MayStopWriting e (W.has_failed writer.new)) }
     {
+        let answered = self.answer_piece(piece);
+        self.write_replies(rt, writer)?;
+        answered
+    }
+
+    // Answers each line that ends in this piece, and holds what follows the last of them.
+    fn answer_piece(&mut self, piece: &[u8]) -> Result<(), Refusal>
+        ensures ok { OnOk result ((written : Option (List ℕ)) → GoesOn M.may_reply piece.now
+            (between M.state self.old written) (between M.state self.new written)) }
+        ensures err { OnErr result ((written : Option (List ℕ)) → StopsIn M.may_reply piece.now
+            (between M.state self.old written) (append_known written self.new.replies)) }
+        ensures cause { IfErr result (λ e. e ≡ Refusal.NoMemory) }
+    {
         let mut rest = piece;
         while let Some((front, others)) = split_at_feed(rest) {
-            self.take_front(rt, writer, front)?;
+            self.answer_front(front)?;
             rest = others;
         }
         self.hold(rest)
     }
 
     // Takes the bytes before a line feed, and answers the line that they end.
-    fn take_front<X: Wait, W: Write + Failed>(
-        &mut self,
-        rt: &X,
-        writer: &mut W,
-        front: &[u8],
-    ) -> Result<(), Refusal>
+    fn answer_front(&mut self, front: &[u8]) -> Result<(), Refusal>
         requires { IsLine front.now }
-        ensures ok { OnOk result (GoesOn M.may_reply (ended front.now)
-            (between M.state self.old (W.contents writer.old))
-            (between M.state self.new (W.contents writer.new))) }
-        ensures err { OnErr result (StopsIn M.may_reply (ended front.now)
-            (between M.state self.old (W.contents writer.old)) (W.contents writer.new)) }
-        ensures cause { IfErr result (λ e. MayStopWriting e (W.has_failed writer.new)) }
+        ensures ok { OnOk result ((written : Option (List ℕ)) → GoesOn M.may_reply (ended front.now)
+            (between M.state self.old written) (between M.state self.new written)) }
+        ensures kept { OnErr result (self.new.replies ≡ self.old.replies) }
+        ensures cause { IfErr result (λ e. e ≡ Refusal.NoMemory) }
     {
+        if self.holds_nothing() {
+            return self.answer_whole(front);
+        }
         self.hold(front)?;
-        self.answer_held(rt, writer)
+        self.answer_held()
     }
 
     // Holds these further bytes of the line, up to one byte over the limit.
@@ -103,6 +121,7 @@ impl<M: LineMachine> Session<M> {
         requires { IsLine bytes.now }
         ensures ok { OnOk result ((written : Option (List ℕ)) → GoesOn M.may_reply bytes.now
             (between M.state self.old written) (between M.state self.new written)) }
+        ensures replies { self.new.replies ≡ self.old.replies }
         ensures cause { IfErr result (λ e. e ≡ Refusal.NoMemory) }
     {
         append_up_to(&mut self.held, bytes, LINE_LIMIT + 1)?;
@@ -110,21 +129,49 @@ impl<M: LineMachine> Session<M> {
     }
 
     // Answers the line that is held, and begins another.
-    fn answer_held<X: Wait, W: Write + Failed>(
+    fn answer_held(&mut self) -> Result<(), Refusal>
+        ensures ok { OnOk result ((written : Option (List ℕ)) → LineIsAnswered M.may_reply
+            (between M.state self.old written) (between M.state self.new written)) }
+        ensures kept { OnErr result (self.new.replies ≡ self.old.replies) }
+        ensures cause { IfErr result (λ e. e ≡ Refusal.NoMemory) }
+    {
+        make_reply(self.alloc, &mut self.machine, &self.held, &mut self.reply)?;
+        self.replies.extend_from_slice(&self.reply)?;
+        self.held.clear();
+        Ok(())
+    }
+
+    // Answers a line of which nothing is held from where it lies.
+    fn answer_whole(&mut self, line: &[u8]) -> Result<(), Refusal>
+        requires line { IsLine line.now }
+        requires none { self.old.held ≡ [] }
+        ensures ok { OnOk result ((written : Option (List ℕ)) → GoesOn M.may_reply (ended line.now)
+            (between M.state self.old written) (between M.state self.new written)) }
+        ensures kept { OnErr result (self.new.replies ≡ self.old.replies) }
+        ensures cause { IfErr result (λ e. e ≡ Refusal.NoMemory) }
+    {
+        make_reply(self.alloc, &mut self.machine, line, &mut self.reply)?;
+        self.replies.extend_from_slice(&self.reply)?;
+        Ok(())
+    }
+
+    // Writes the replies.
+    fn write_replies<X: Wait, W: Write + Failed>(
         &mut self,
         rt: &X,
         writer: &mut W,
     ) -> Result<(), Refusal>
-        ensures ok { OnOk result (LineIsAnswered M.may_reply
-            (between M.state self.old (W.contents writer.old))
-            (between M.state self.new (W.contents writer.new))) }
-        ensures err { OnErr result (LineIsHalfAnswered M.may_reply
-            (between M.state self.old (W.contents writer.old)) (W.contents writer.new)) }
-        ensures cause { IfErr result (λ e. MayStopWriting e (W.has_failed writer.new)) }
+        ensures ok { OnOk result (
+            Appends (W.contents writer.old) (W.contents writer.new) self.old.replies) }
+        ensures new { OnOk result (self.new ≡ record self.old { replies = [] }) }
+        ensures some { OnErr result ((part : List ℕ) × (more : List ℕ)
+            × (self.old.replies ≡ part ++ more)
+            × Appends (W.contents writer.old) (W.contents writer.new) part) }
+        ensures cause { IfErr result (λ e. (e ≡ Refusal.WriteFailed)
+            × (W.has_failed writer.new ≡ true)) }
     {
-        make_reply(self.alloc, &mut self.machine, &self.held, &mut self.reply)?;
-        write_text(rt, writer, &self.reply)?;
-        self.held.clear();
+        write_text(rt, writer, &self.replies)?;
+        self.replies.clear();
         Ok(())
     }
 
@@ -138,35 +185,33 @@ impl<M: LineMachine> Session<M> {
         rt: &X,
         writer: &mut W,
     ) -> Result<(), Refusal>
+        requires { self.old.replies ≡ [] }
         ensures ok { OnOk result (Ends M.may_reply
             (between M.state self.old (W.contents writer.old))
-            (between M.state self.new (W.contents writer.new))) }
+            (M.state self.new.machine) (W.contents writer.new)) }
         ensures unfailed { OnOk result (W.has_failed writer.new ≡ false) }
         ensures err { OnErr result (StopsAtEnd M.may_reply
             (between M.state self.old (W.contents writer.old)) (W.contents writer.new)) }
         ensures cause { IfErr result (λ e. MayStopWriting e (W.has_failed writer.new)) }
     {
-        self.answer_last(rt, writer)?;
+        let answered = self.answer_last();
+        self.write_replies(rt, writer)?;
+        answered?;
         flush_all(rt, writer)
     }
 
     // Answers a last line without a line feed, where there is one.
-    fn answer_last<X: Wait, W: Write + Failed>(
-        &mut self,
-        rt: &X,
-        writer: &mut W,
-    ) -> Result<(), Refusal>
-        ensures ok { OnOk result (Ends M.may_reply
-            (between M.state self.old (W.contents writer.old))
-            (between M.state self.new (W.contents writer.new))) }
-        ensures err { OnErr result (StopsAtEnd M.may_reply
-            (between M.state self.old (W.contents writer.old)) (W.contents writer.new)) }
-        ensures cause { IfErr result (λ e. MayStopWriting e (W.has_failed writer.new)) }
+    fn answer_last(&mut self) -> Result<(), Refusal>
+        ensures ok { OnOk result ((written : Option (List ℕ)) → Ends M.may_reply
+            (between M.state self.old written)
+            (M.state self.new.machine) (append_known written self.new.replies)) }
+        ensures kept { OnErr result (self.new.replies ≡ self.old.replies) }
+        ensures cause { IfErr result (λ e. e ≡ Refusal.NoMemory) }
     {
         if self.holds_nothing() {
             return Ok(());
         }
-        self.answer_held(rt, writer)
+        self.answer_held()
     }
 
     // Whether no byte of a line is held.
@@ -184,7 +229,7 @@ fn split_at_feed(bytes: &[u8]) -> Option<(&[u8], &[u8])>
     ensures whole { IfSome result (λ parts. bytes.now ≡ ended parts.0.now ++ parts.1.now) }
     ensures none { IfNone result (IsLine bytes.now) }
 {
-    let at = bytes.iter().position(|byte| *byte == b'\n')?;
+    let at = memchr(b'\n', bytes)?;
     Some((&bytes[..at], &bytes[at + 1..]))
 }
 

@@ -6,7 +6,7 @@ use Rattle.edn.specs.declared.refusal.Refusal.TheVariants.{ReadFailed}
 use Rattle.line_loop.specs.BetweenReads.{between, Stands}
 use Rattle.line_loop.specs.Stopping.{IsPartlyAnswered, Stops}
 use Rattle.line_loop.proofs.Results.{if_err, if_err_at}
-use Rattle.line_loop.proofs.Running.{stands_first, stopped_standing, halts_within, halts_ending, consumed_nothing, keeps_up}
+use Rattle.line_loop.proofs.Running.{stands_first, stopped_reading, halts_within, halts_ending, consumed_nothing, keeps_up}
 use Rattle.line_loop.proofs.answering.answer_lines.Goals as goal
 
 pub loop-init : goal.loop-init
@@ -15,34 +15,40 @@ loop-init g c =
     let w = g.W.Write in
     let session = c.new-session.result in
     let before = w.contents c.args.writer.now in
-    let here = between m.state session before in
     let state : m.state session.machine ≡ m.state c.args.machine = ap m.state c.new-session.ensures.machine in
-    let first : Stands m.may_reply (m.state session.machine) before [] here = stands_first m.may_reply here c.new-session.ensures.held in
-    (([], Consumes-nil (g.R.Read.remaining c.args.reader.now), subst (λ s. Stands m.may_reply s before [] here) state first), tt, tt)
+    let here = between m.state session before in
+    let first : Stands m.may_reply (m.state session.machine) before [] here = stands_first m.may_reply m.state session before c.new-session.ensures.held c.new-session.ensures.replies in
+    (([], Consumes-nil (g.R.Read.remaining c.args.reader.now), subst (λ s. Stands m.may_reply s before [] here) state first, c.new-session.ensures.replies), tt, tt)
+
+pub take_piece-requires : goal.take_piece-requires
+take_piece-requires g c = let ((_, _, _, none), _, _) = c.loop.invariant in none
+
+pub finish-requires : goal.finish-requires
+finish-requires g c = let ((_, _, _, none), _, _) = c.loop.invariant in none
 
 pub slice_bounds-piece-end : goal.slice_bounds-piece-end
 slice_bounds-piece-end g c = c.in_ok-n.ensures.bound c.in-Piece.n (ap Ok c.in-Piece.is)
 
 pub loop-preserved : goal.loop-preserved
 loop-preserved g c =
-    let ((seen, read, standing), _, _) = c.loop.invariant in
+    let ((seen, read, standing, none), _, _) = c.loop.invariant in
     let m = g.M.LineMachine in
     let w = g.W.Write in
     let more = take c.in-Piece.n c.read_some.new.piece in
     let took = c.in_ok-n.ensures.piece c.in-Piece.n (ap Ok c.in-Piece.is) in
-    ((seen ++ more, Consumes-trans _ _ _ seen more read took, c.in_ok-take_piece-in-Piece.ensures.ok (m.state c.args.machine) (w.contents c.args.writer.now) seen standing), tt, tt)
+    ((seen ++ more, Consumes-trans _ _ _ seen more read took, c.in_ok-take_piece-in-Piece.ensures.ok (m.state c.args.machine) (w.contents c.args.writer.now) seen standing, c.in_ok-take_piece-in-Piece.ensures.all), tt, tt)
 
 pub returns-in_err-n-clause-stopped : goal.returns-in_err-n-clause-stopped
 returns-in_err-n-clause-stopped g c =
-    let ((seen, read, standing), _, _) = c.loop.invariant in
+    let ((seen, read, standing, none), _, _) = c.loop.invariant in
     let m = g.M.LineMachine in
     let w = g.W.Write in
     let all : Consumes (g.R.Read.remaining c.args.reader.now) (g.R.Read.remaining c.read_some.new.reader) seen = consumed_nothing _ _ _ seen read c.in_err-n.ensures.err in
-    if_err _ (halts_within m.may_reply (m.state c.args.machine) _ _ _ _ seen all (stopped_standing m.may_reply (m.state c.args.machine) (w.contents c.args.writer.now) seen (between m.state c.loop.session (w.contents c.loop.writer)) standing))
+    if_err _ (halts_within m.may_reply (m.state c.args.machine) _ _ _ _ seen all (stopped_reading m.may_reply m.state (m.state c.args.machine) (w.contents c.args.writer.now) seen c.loop.session (w.contents c.loop.writer) none standing))
 
 pub returns-in_err-take_piece-in-Piece-clause-stopped : goal.returns-in_err-take_piece-in-Piece-clause-stopped
 returns-in_err-take_piece-in-Piece-clause-stopped g c =
-    let ((seen, read, standing), _, _) = c.loop.invariant in
+    let ((seen, read, standing, none), _, _) = c.loop.invariant in
     let m = g.M.LineMachine in
     let w = g.W.Write in
     let more = take c.in-Piece.n c.read_some.new.piece in
@@ -52,7 +58,7 @@ returns-in_err-take_piece-in-Piece-clause-stopped g c =
 
 pub returns-in_err-finish-in-End-clause-stopped : goal.returns-in_err-finish-in-End-clause-stopped
 returns-in_err-finish-in-End-clause-stopped g c =
-    let ((seen, read, standing), _, _) = c.loop.invariant in
+    let ((seen, read, standing, none), _, _) = c.loop.invariant in
     let m = g.M.LineMachine in
     let w = g.W.Write in
     let (end, took) = c.in_ok-n.ensures.end (ap Ok c.in-End.is) in
@@ -67,8 +73,8 @@ returns-in_err-finish-in-End-clause-stopped g c =
 
 pub returns-in_err-n-clause-live : goal.returns-in_err-n-clause-live
 returns-in_err-n-clause-live g c =
-    let ((seen, read, standing), _, _) = c.loop.invariant in
+    let ((seen, read, standing, none), _, _) = c.loop.invariant in
     let m = g.M.LineMachine in
     let w = g.W.Write in
     let all : Consumes (g.R.Read.remaining c.args.reader.now) (g.R.Read.remaining c.read_some.new.reader) seen = consumed_nothing _ _ _ seen read c.in_err-n.ensures.err in
-    λ _. keeps_up m.may_reply (m.state c.args.machine) _ _ (w.contents c.args.writer.now) seen (between m.state c.loop.session (w.contents c.loop.writer)) all standing
+    λ _. keeps_up m.may_reply m.state (m.state c.args.machine) _ _ (w.contents c.args.writer.now) seen c.loop.session (w.contents c.loop.writer) none all standing

@@ -1,58 +1,43 @@
-use Rattle.std.proofs.Common.{◌≡◌, [], ◌++◌, ap, refl, sym, ◌∙◌, append_assoc, subst}
-use Rattle.std.proofs.lemmas.Result.{on_ok_weaker}
-use Rattle.line_loop.specs.Lines.{ended}
-use Rattle.line_loop.specs.BetweenReads.{between, GoesOn, StopsIn}
-use Rattle.line_loop.proofs.Results.{on_err}
-use Rattle.line_loop.proofs.Running.{goes_nowhere, goes_then, stops_at_once, stops_before, stops_then}
+use Rattle.std.proofs.Common.{ap}
+use Rattle.std.proofs.lemmas.Result.{on_ok_weaker, on_err_weaker}
+use Rattle.std.specs.Io.KnownBytes.{append_known}
+use Rattle.line_loop.specs.BetweenReads.{between}
+use Rattle.line_loop.proofs.Results.{on_ok, on_err}
+use Rattle.line_loop.proofs.Running.{goes_written, stops_written, stops_short, stops_either}
 use Rattle.line_loop.proofs.session.Session.take_piece.Goals as goal
-
-pub loop-front-init : goal.loop-front-init
-loop-front-init g c =
-    let m = g.M.LineMachine in
-    let w = g.W.Write in
-    ([], refl, goes_nowhere m.may_reply (between m.state c.args.self.now (w.contents c.args.writer.now)))
-
-pub loop-front-preserved : goal.loop-front-preserved
-loop-front-preserved g c =
-    let m = g.M.LineMachine in
-    let w = g.W.Write in
-    let (taken, whole, went) = c.loop-front.invariant in
-    let front = ended c.in-Some.front.now in
-    let here = between m.state c.args.self.now (w.contents c.args.writer.now) in
-    let mid = between m.state c.loop-front.self (w.contents c.loop-front.writer) in
-    let there = between m.state c.take_front.new.self (w.contents c.take_front.new.writer) in (
-      taken ++ front,
-      whole ∙ ap (λ l. taken ++ l) c.in-Some.ensures.whole ∙ sym (append_assoc taken front c.in-Some.others.now),
-      goes_then m.may_reply taken front here mid there went c.in_ok-take_front.ensures.ok,
-    )
-
-pub returns-in_err-take_front-clause-err : goal.returns-in_err-take_front-clause-err
-returns-in_err-take_front-clause-err g c =
-    let m = g.M.LineMachine in
-    let w = g.W.Write in
-    let (taken, whole, went) = c.loop-front.invariant in
-    let front = ended c.in-Some.front.now in
-    let here = between m.state c.args.self.now (w.contents c.args.writer.now) in
-    let mid = between m.state c.loop-front.self (w.contents c.loop-front.writer) in
-    let after = w.contents c.take_front.new.writer in
-    let all : taken ++ front ++ c.in-Some.others.now ≡ c.args.piece.now = append_assoc taken front c.in-Some.others.now ∙ sym (whole ∙ ap (λ l. taken ++ l) c.in-Some.ensures.whole) in
-    on_err _ (subst (λ l. StopsIn m.may_reply l here after) all (stops_before m.may_reply (taken ++ front) c.in-Some.others.now here after (stops_then m.may_reply taken front here mid after went c.in_err-take_front.ensures.err)))
-
-pub returns-clause-err : goal.returns-clause-err
-returns-clause-err g c =
-    let m = g.M.LineMachine in
-    let w = g.W.Write in
-    let (taken, whole, went) = c.loop-front.invariant in
-    let here = between m.state c.args.self.now (w.contents c.args.writer.now) in
-    let mid = between m.state c.loop-front.self (w.contents c.loop-front.writer) in
-    on_err _ (subst (λ l. StopsIn m.may_reply l here mid.written) (sym whole) (stops_then m.may_reply taken c.loop-front.rest.now here mid mid.written went (stops_at_once m.may_reply c.loop-front.rest.now mid)))
 
 pub returns-clause-ok : goal.returns-clause-ok
 returns-clause-ok g c =
     let m = g.M.LineMachine in
-    let w = g.W.Write in
-    let (taken, whole, went) = c.loop-front.invariant in
-    let here = between m.state c.args.self.now (w.contents c.args.writer.now) in
-    let mid = between m.state c.loop-front.self (w.contents c.loop-front.writer) in
-    let there = between m.state c.hold.new.self (w.contents c.loop-front.writer) in
-    on_ok_weaker c.hold.result (λ went_on. subst (λ l. GoesOn m.may_reply l here there) (sym whole) (goes_then m.may_reply taken c.loop-front.rest.now here mid there went (went_on mid.written))) c.hold.ensures.ok
+    let before = g.W.Write.contents c.args.writer.now in
+    let after = g.W.Write.contents c.write_replies.new.writer in
+    let here = between m.state c.args.self.now before in
+    on_ok_weaker c.answer_piece-answered.result
+    (λ went. goes_written m.may_reply m.state c.args.piece.now here c.answer_piece-answered.new.self c.write_replies.new.self before after c.in_ok-write_replies.ensures.new c.in_ok-write_replies.ensures.ok (went before))
+    c.answer_piece-answered.ensures.ok
+
+pub returns-clause-all : goal.returns-clause-all
+returns-clause-all g c = on_ok c.answer_piece-answered.result (ap (λ r. r.replies) c.in_ok-write_replies.ensures.new)
+
+pub returns-clause-err : goal.returns-clause-err
+returns-clause-err g c =
+    let m = g.M.LineMachine in
+    let before = g.W.Write.contents c.args.writer.now in
+    let after = g.W.Write.contents c.write_replies.new.writer in
+    let here = between m.state c.args.self.now before in
+    on_err_weaker c.answer_piece-answered.result
+    (λ stopped. stops_written m.may_reply c.args.piece.now here before after c.answer_piece-answered.new.self.replies c.in_ok-write_replies.ensures.ok (stopped before))
+    c.answer_piece-answered.ensures.err
+
+pub returns-in_err-write_replies-clause-err : goal.returns-in_err-write_replies-clause-err
+returns-in_err-write_replies-clause-err g c =
+    let m = g.M.LineMachine in
+    let before = g.W.Write.contents c.args.writer.now in
+    let after = g.W.Write.contents c.write_replies.new.writer in
+    let here = between m.state c.args.self.now before in
+    let there = between m.state c.answer_piece-answered.new.self before in
+    let answered = c.answer_piece-answered.result in
+    let stopped = stops_either m.may_reply answered c.args.piece.now here there
+    (on_ok_weaker answered (λ went. went before) c.answer_piece-answered.ensures.ok)
+    (on_err_weaker answered (λ stops. stops before) c.answer_piece-answered.ensures.err) in
+    on_err _ (stops_short m.may_reply c.args.piece.now here before after c.answer_piece-answered.new.self.replies (ap (append_known before) c.requires) c.in_err-write_replies.ensures.some stopped)
