@@ -26,6 +26,8 @@ returns-clause-found g c =
     let bytes = c.args.bytes.now in
     let begun = c.in_ok-history.history in
     let events = c.read_events.new.history.events in
-    let read = subst (IsRead bytes begun.concurrency begun.events events) c.in-Some.is c.in_ok-read_events.ensures.read in
-    (c.in_ok-check.ensures.within, refused_at (setup_of c.args.config) bytes events c.in-Some.taken c.in-Some.refusal
-    (subst (λ (h : HistoryView). IsRead bytes h.concurrency h.events events (Some (c.in-Some.taken, c.in-Some.refusal))) c.in_ok-history.ensures.opened read))
+    let read = subst (IsRead bytes begun.concurrency begun.events events) c.in-Some.is c.in_ok-read_events.ensures.read in (
+      c.in_ok-check.ensures.within,
+      refused_at (setup_of c.args.config) bytes events c.in-Some.taken c.in-Some.refusal
+          (subst (λ (h : HistoryView). IsRead bytes h.concurrency h.events events (Some (c.in-Some.taken, c.in-Some.refusal))) c.in_ok-history.ensures.opened read),
+    )
