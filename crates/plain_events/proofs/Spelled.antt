@@ -69,15 +69,18 @@ apart a b s t ne e =
     let same : a ≡ b = cc in
     ne same
 
-keys_apart : (index : Option ℕ) (kind process name value : Value) → AreDistinct (keys (with_index index (plain_pairs kind process name value)))
-keys_apart (Some n) kind process name value =
-    ((apart 105 116 _ _ (λ e. omega arith), (apart 105 112 _ _ (λ e. omega arith), (apart 105 102 _ _ (λ e. omega arith), (apart 105 118 _ _ (λ e. omega arith), tt)))),
-    keys_apart None kind process name value)
-keys_apart None kind process name value =
+four_apart : (kind process name value : Value) → AreDistinct (keys (plain_pairs kind process name value))
+four_apart kind process name value =
     ((apart 116 112 _ _ (λ e. omega arith), (apart 116 102 _ _ (λ e. omega arith), (apart 116 118 _ _ (λ e. omega arith), tt))),
     ((apart 112 102 _ _ (λ e. omega arith), (apart 112 118 _ _ (λ e. omega arith), tt)),
     ((apart 102 118 _ _ (λ e. omega arith), tt),
     (tt, tt))))
+
+keys_apart : (index : Option ℕ) (kind process name value : Value) → AreDistinct (keys (with_index index (plain_pairs kind process name value)))
+keys_apart (Some n) kind process name value =
+    ((apart 105 116 _ _ (λ e. omega arith), (apart 105 112 _ _ (λ e. omega arith), (apart 105 102 _ _ (λ e. omega arith), (apart 105 118 _ _ (λ e. omega arith), tt)))),
+    four_apart kind process name value)
+keys_apart None kind process name value = four_apart kind process name value
 
 abbrev pub event_by : Option ℕ → EventKind → ℕ → Name → ℕ → Part → Event
 event_by index kind process name key part =
@@ -87,8 +90,8 @@ event_by index kind process name key part =
 map_spells : (index : Option ℕ) (t u : List ℕ) (kind : EventKind) (process : ℕ) (name : Name) (key : ℕ) (part : Part) (value : Value) → IsIndexAt t index u → process < 2 ^ 32 →
     SpellsKeyed value key part → IsPartOf kind name part →
     Spells (pairs (with_index index (plain_pairs (keyword (text_of_kind kind)) (number process) (keyword (text_of name)) value))) (event_by index kind process name key part)
-map_spells (Some n) t u kind process name key part value i p s fits = record { head = ((refl, i.1), (refl, (refl, p))); body = (refl, s); in_tables = fits }
-map_spells None t u kind process name key part value i p s fits = record { head = (tt, (refl, (refl, p))); body = (refl, s); in_tables = fits }
+map_spells (Some n) t u kind process name key part value i p s fits = record { head = ((refl, i.1), refl, (refl, p)); body = (refl, s); in_tables = fits }
+map_spells None t u kind process name key part value i p s fits = record { head = (tt, refl, (refl, p)); body = (refl, s); in_tables = fits }
 
 pub map_begins : (text front inner second third fourth fifth closing rest : List ℕ) (index : Option ℕ) (kind : EventKind) (process : ℕ) (name : Name) (key : ℕ) (part : Part) → SkipsGap 0 text front →
     IsByteAt front 123 inner → IsIndexAt inner index second → IsPairAt second (codes "type") (keyword (text_of_kind kind)) third → IsPairAt third (codes "process") (number process) fourth → process < 2 ^ 32 →

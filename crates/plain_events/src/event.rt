@@ -1,5 +1,5 @@
 //! Events that are spelled plainly.
-ghost use Rattle.std.specs.Prelude.{◌≡◌, codes, IsTrue, IfSome};
+ghost use Rattle.std.specs.Prelude.{◌<◌, ◌^◌, codes, IsTrue, IfSome};
 ghost use Rattle.edn.specs.Value.{keyword};
 ghost use Rattle.history.specs.Spelling.{text_of_kind};
 ghost use Rattle.history.specs.EventMap.{number};
@@ -52,7 +52,9 @@ fn kind_pair(text: &[u8]) -> Option<(EventKind, &[u8])>
 
 // The pair of `:process` and the number of a client's.
 fn process_pair(text: &[u8]) -> Option<(u32, &[u8])>
-    ensures { IfSome result (λ x. IsPairAt text.now (codes "process") (number x.0) x.1.now) }
+    ensures pair { IfSome result
+        (λ x. IsPairAt text.now (codes "process") (number x.0) x.1.now) }
+    ensures below { IfSome result (λ x. x.0 < 2 ^ 32) }
 {
     let value = past_keyword(text, "process")?;
     number(value)
@@ -112,7 +114,10 @@ pub fn plain_event(text: &[u8]) -> Option<(Event, &[u8])>
     let (name, rest) = name_pair(rest)?;
     let (key, part, rest) = value_pair(rest)?;
     let (last, rest) = rest.split_first()?;
-    if *last != b'}' || !is_part_of(kind, name, &part) {
+    if *last != b'}' {
+        return None;
+    }
+    if !is_part_of(kind, name, &part) {
         return None;
     }
     let event = Event {

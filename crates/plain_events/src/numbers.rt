@@ -1,5 +1,5 @@
 //! Integers of at most 18 digits.
-ghost use Rattle.std.specs.Prelude.{◌≡◌, IfSome};
+ghost use Rattle.std.specs.Prelude.{◌≡◌, ◌<◌, ◌≤◌, ◌^◌, pos, neg_ℤ, IfSome};
 ghost use Rattle.edn.specs.Value.{int};
 ghost use Rattle.edn.specs.Bytes.{is_digit};
 ghost use Rattle.edn.specs.Longest.{TakesDigit};
@@ -58,24 +58,39 @@ fn numeral(text: &[u8]) -> Option<(u64, &[u8])>
     Some((value, rest))
 }
 
+fn plain(size: u64) -> i64
+    requires { size ≤ 999999999999999999 }
+    ensures { result ≡ pos size }
+{
+    size as i64
+}
+
+fn negated(size: u64) -> i64
+    requires { size ≤ 999999999999999999 }
+    ensures { result ≡ neg_ℤ (pos size) }
+{
+    -(size as i64)
+}
+
 /// An integer, and what follows it and the white space behind it.
 pub fn integer(text: &[u8]) -> Option<(i64, &[u8])>
     ensures { IfSome result (λ x. IsAtomAt text.now (int x.0) x.1.now) }
 {
-    let (first, behind) = text.split_first()?;
+    let (first, inner) = text.split_first()?;
     if *first == b'-' {
-        let (size, rest) = numeral(behind)?;
-        return Some((-(size as i64), rest));
+        let (size, rest) = numeral(inner)?;
+        return Some((negated(size), rest));
     }
     let (size, rest) = numeral(text)?;
-    Some((size as i64, rest))
+    Some((plain(size), rest))
 }
 
 /// A number of 32 bits, and what follows it and the white space behind it.
 pub fn number(text: &[u8]) -> Option<(u32, &[u8])>
-    ensures { IfSome result (λ x. IsAtomAt text.now (number x.0) x.1.now) }
+    ensures atom { IfSome result (λ x. IsAtomAt text.now (number x.0) x.1.now) }
+    ensures below { IfSome result (λ x. x.0 < 2 ^ 32) }
 {
-    let (value, rest) = numeral(text)?;
-    let value = u32::try_from(value).ok()?;
-    Some((value, rest))
+    let (size, rest) = numeral(text)?;
+    let small = u32::try_from(size).ok()?;
+    Some((small, rest))
 }

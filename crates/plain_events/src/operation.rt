@@ -1,14 +1,12 @@
 //! What is said of an operation.
-ghost use Rattle.std.specs.Prelude.{◌≡◌, codes, IsTrue, IfSome};
-ghost use Rattle.edn.specs.Value.{Value, keyword};
+ghost use Rattle.std.specs.Prelude.{◌<◌, ◌^◌, codes, IfSome};
+ghost use Rattle.edn.specs.Value.{keyword};
 ghost use Rattle.models.specs.Names.{text_of};
-ghost use Rattle.history.specs.WellFormed.{IsPart, IsOkPart, IsPartOf};
 ghost use Rattle.history.specs.EventMap.{number};
 ghost use Rattle.plain_events.specs.Fronts.{IsAtomAt, IsPairAt, AreTwoAt, IsPartAt, IsValueAt};
 
 use crate::numbers::{integer, number};
 use crate::word::{past_byte, past_keyword, past_word};
-use history::EventKind;
 use models::{Key, Name, Part, each_name};
 
 macro_rules! name_at {
@@ -62,7 +60,8 @@ fn part_at(text: &[u8]) -> Option<(Part, &[u8])>
 
 // A key, and what follows it and the white space behind it.
 fn key_at(text: &[u8]) -> Option<(Key, &[u8])>
-    ensures { IfSome result (λ x. IsAtomAt text.now (number x.0) x.1.now) }
+    ensures atom { IfSome result (λ x. IsAtomAt text.now (number x.0) x.1.now) }
+    ensures below { IfSome result (λ x. x.0 < 2 ^ 16) }
 {
     let (value, rest) = number(text)?;
     let key = u16::try_from(value).ok()?;
