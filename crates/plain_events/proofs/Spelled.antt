@@ -29,12 +29,25 @@ nil_part text rest w = record { value = nil; element = atom_at spelled_nil w 2; 
 pub int_part : (text : List ℕ) (a : ℤ) (rest : List ℕ) → IsAtomAt text (int a) rest → IsPartAt text (Int a) rest
 int_part text a rest h = record { value = int a; element = h 2; spells = refl }
 
-pub pair_part : (text inner : List ℕ) (a b : ℤ) (rest : List ℕ) → IsByteAt text 91 inner → AreTwoAt inner a b rest → IsPartAt text (Pair a b) rest
+pair_part : (text inner : List ℕ) (a b : ℤ) (rest : List ℕ) → IsByteAt text 91 inner → AreTwoAt inner a b rest → IsPartAt text (Pair a b) rest
 pair_part text inner a b rest o h = record {
   value = vector (more (int a) (more (int b) none));
   element = brackets 2 (omega arith) text inner h.closing rest (more (int a) (more (int b) none)) o (element_then (h.first 3) (element_then (h.then 3) (no_more no_gap))) h.end;
   spells = refl;
 }
+
+-- integers that are the same by equations
+pub two_by : (inner second closing rest : List ℕ) (a b x y : ℤ) → x ≡ a → y ≡ b → IsAtomAt inner (int a) second → IsAtomAt second (int b) closing → IsByteAt closing 93 rest → AreTwoAt inner x y rest
+two_by inner second closing rest a b x y e f h i k = record {
+  second = second;
+  closing = closing;
+  first = subst (λ z. IsAtomAt inner (int z) second) (sym e) h;
+  then = subst (λ z. IsAtomAt second (int z) closing) (sym f) i;
+  end = k;
+}
+
+pub pair_by : (text inner rest : List ℕ) (a b x y : ℤ) → x ≡ a → y ≡ b → IsByteAt text 91 inner → AreTwoAt inner a b rest → IsPartAt text (Pair x y) rest
+pair_by text inner rest a b x y e f o h = subst (λ z. IsPartAt text (Pair z y) rest) (sym e) (subst (λ z. IsPartAt text (Pair a z) rest) (sym f) (pair_part text inner a b rest o h))
 
 -- the pair of a key and a part
 pub value_at : (text value inner second closing rest : List ℕ) (key : ℕ) (part : Part) → IsAtomAt text (keyword (codes "value")) value → IsByteAt value 91 inner → IsAtomAt inner (number key) second →
