@@ -1,8 +1,8 @@
 -- The parts, the pairs and the map of an event that is spelled plainly
-use Rattle.std.proofs.Common.{◌≡◌, ℕ, ◌+◌, ◌<◌, ◌^◌, ℤ, Option, Some, None, List, [], ◌∷◌, codes, refl, sym, subst, arith}
-use Rattle.edn.specs.Value.{Value, nil, int, keyword, vector, pairs, Values, none, more, Pairs, no_pairs, pair, in_text, keys, AreDistinct}
+use Rattle.std.proofs.Common.{◌≡◌, ℕ, ◌<◌, ◌^◌, ℤ, Option, Some, None, List, [], ◌∷◌, codes, refl, sym, subst, arith}
+use Rattle.edn.specs.Value.{Value, nil, int, keyword, vector, pairs, none, more, Pairs, no_pairs, pair, in_text, keys, AreDistinct}
 use Rattle.edn.specs.Bytes.IsAtom.{spelled_nil}
-use Rattle.edn.specs.Text.{SkipsGap, Reads, ReadsAll}
+use Rattle.edn.specs.Text.{SkipsGap, ReadsAll}
 use Rattle.edn.specs.Text.SkipsGap.{no_gap}
 use Rattle.edn.specs.Text.ReadsAll.{no_more, one_more}
 use Rattle.models.specs.declared.operation.Name.{Name}
@@ -15,11 +15,11 @@ use Rattle.history.specs.declared.event.Process.TheVariants.{Client}
 use Rattle.history.specs.declared.event.Body.TheVariants.{Op as AnOp}
 use Rattle.history.specs.declared.event.Event.{Event}
 use Rattle.history.specs.EventMap.{number}
-use Rattle.history.specs.Spelling.{text_of_kind, SpellsPart, SpellsKeyed, Spells}
+use Rattle.history.specs.Spelling.{text_of_kind, SpellsKeyed, Spells}
 use Rattle.history.specs.WellFormed.{IsPartOf}
 use Rattle.plain_events.specs.Plain.{BeginsWith, IsLineOf}
-use Rattle.plain_events.specs.Fronts.{IsWordAt, IsByteAt, IsElementAt, IsAtomAt, IsPairAt, IsIndexAt, AreTwoAt, IsPartAt, IsValueAt}
-use Rattle.plain_events.proofs.Elements.{gap_after, element_then, pair_then, atom_at, brackets, braces}
+use Rattle.plain_events.specs.Fronts.{IsWordAt, IsByteAt, IsAtomAt, IsPairAt, IsIndexAt, AreTwoAt, IsPartAt, IsValueAt}
+use Rattle.plain_events.proofs.Elements.{element_then, pair_then, atom_at, brackets, braces}
 
 -- Parts
 
@@ -83,16 +83,22 @@ apart a b s t ne e =
     ne same
 
 four_apart : (kind process name value : Value) → AreDistinct (keys (plain_pairs kind process name value))
-four_apart kind process name value =
-    ((apart 116 112 _ _ (λ e. omega arith), (apart 116 102 _ _ (λ e. omega arith), (apart 116 118 _ _ (λ e. omega arith), tt))),
-    ((apart 112 102 _ _ (λ e. omega arith), (apart 112 118 _ _ (λ e. omega arith), tt)),
-    ((apart 102 118 _ _ (λ e. omega arith), tt),
-    (tt, tt))))
+four_apart kind process name value = (
+  (apart 116 112 _ _ (λ e. omega arith), (apart 116 102 _ _ (λ e. omega arith), (apart 116 118 _ _ (λ e. omega arith), tt))),
+  (
+    (apart 112 102 _ _ (λ e. omega arith), (apart 112 118 _ _ (λ e. omega arith), tt)),
+    (
+      (apart 102 118 _ _ (λ e. omega arith), tt),
+      (tt, tt),
+    ),
+  ),
+)
 
 keys_apart : (index : Option ℕ) (kind process name value : Value) → AreDistinct (keys (with_index index (plain_pairs kind process name value)))
-keys_apart (Some n) kind process name value =
-    ((apart 105 116 _ _ (λ e. omega arith), (apart 105 112 _ _ (λ e. omega arith), (apart 105 102 _ _ (λ e. omega arith), (apart 105 118 _ _ (λ e. omega arith), tt)))),
-    four_apart kind process name value)
+keys_apart (Some n) kind process name value = (
+  (apart 105 116 _ _ (λ e. omega arith), (apart 105 112 _ _ (λ e. omega arith), (apart 105 102 _ _ (λ e. omega arith), (apart 105 118 _ _ (λ e. omega arith), tt)))),
+  four_apart kind process name value,
+)
 keys_apart None kind process name value = four_apart kind process name value
 
 abbrev pub event_by : Option ℕ → EventKind → ℕ → Name → ℕ → Part → Event

@@ -1,7 +1,7 @@
 -- Invariant: what stands at the front of a text, with the gap behind it, for the functions behind `plain_event`
 use Rattle.std.specs.Prelude.{◌≡◌, ℕ, ◌<◌, ◌≤◌, ◌^◌, ℤ, Option, Some, None, List, ◌∷◌, ◌++◌, codes}
 use Rattle.std.specs.Str.Parse.{digits_value}
-use Rattle.edn.specs.Value.{Value, int, keyword, none, more}
+use Rattle.edn.specs.Value.{Value, int, keyword}
 use Rattle.edn.specs.Bytes.{MayFollowAtom, IsNumeral}
 use Rattle.edn.specs.Text.{SkipsGap, Reads}
 use Rattle.models.specs.declared.operation.Part.{Part}

@@ -1,4 +1,4 @@
-use Rattle.std.proofs.Common.{◌≡◌, arith}
+use Rattle.std.proofs.Common.{arith}
 use Rattle.std.proofs.lemmas.Int.{ints}
 use Rattle.plain_events.proofs.Spelled.{two_by}
 use Rattle.plain_events.proofs.operation.two.Goals as goal

@@ -1,4 +1,4 @@
-use Rattle.std.proofs.Common.{◌≡◌, ℕ, List, ◌∷◌, IsTrue, sym, subst, arith}
+use Rattle.std.proofs.Common.{◌≡◌, ◌∷◌, IsTrue, sym, subst, arith}
 use Rattle.edn.specs.Bytes.{is_white}
 use Rattle.edn.specs.Text.{SkipsGap}
 use Rattle.edn.specs.Text.SkipsGap.{no_gap, white}
