@@ -1,0 +1,14 @@
+-- Promise: the event that a text begins with, and the one that is all of a line
+use Rattle.std.specs.Prelude.{ℕ, List}
+use Rattle.edn.specs.Value.{Value, none, more}
+use Rattle.edn.specs.Text.{SkipsGap, Reads, IsText}
+use Rattle.history.specs.declared.event.Event.{Event}
+use Rattle.history.specs.Spelling.{Spells}
+
+-- behind a gap an element stands that spells the event, and rest follows it
+abbrev pub BeginsWith : List ℕ → Event → List ℕ → Type 0
+BeginsWith text event rest = (v : Value) × (u : List ℕ) × SkipsGap 0 text u × Reads 0 u v rest × Spells v event
+
+-- the line is a text of one element, which spells the event
+abbrev pub IsLineOf : List ℕ → Event → Type 0
+IsLineOf line event = (v : Value) × IsText line (more v none) × Spells v event
