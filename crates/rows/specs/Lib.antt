@@ -1,2 +1,3 @@
 pub mod RowSets
+pub mod WordSets
 pub mod Words

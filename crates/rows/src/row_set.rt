@@ -3,6 +3,7 @@ ghost use Rattle.std.specs.Prelude.{◌≡◌, ◌↔◌, ◌<◌, ◌≤◌, �
 ghost use Rattle.rows.specs.Words.{ArePacked, digits, items_of};
 ghost use Rattle.rows.specs.RowSets.{IsPut};
 
+use crate::word_set::WordSet;
 use crate::words::{changed, number_at, packed, unpack};
 use indexmap::IndexSet;
 use std::alloc::{AllocError, Global};
@@ -16,7 +17,7 @@ pub struct RowSet {
     long: usize,
     bits: u32,
     wide: bool,
-    words: IndexSet<u128>,
+    words: WordSet,
     lists: IndexSet<Vec<usize>>,
 }
 
@@ -26,9 +27,9 @@ impl Model for RowSet {
 
     ghost Value = { List (List ℕ) };
 
-    ghost view = { λ a. rows_in a.wide a.bits a.long a.words.keys a.lists.keys };
+    ghost view = { λ a. rows_in a.wide a.bits a.long a.words a.lists.keys };
 
-    ghost invariant = { λ a. ArePacked a.bits a.long a.words.keys };
+    ghost invariant = { λ a. ArePacked a.bits a.long a.words };
 }
 
 // How many bits each number has, where so many stand in a word, with room for two more.
@@ -76,21 +77,21 @@ fn put_list(lists: &mut IndexSet<Vec<usize>>, list: Vec<usize>) -> Result<(), Al
 // The rows of the words, as lists.
 fn listed(
     alloc: Global,
-    words: &IndexSet<u128>,
+    words: &WordSet,
     bits: u32,
     long: usize,
 ) -> Result<IndexSet<Vec<usize>>, AllocError>
-    requires { ArePacked bits long words.now.keys }
+    requires { ArePacked bits long words.now }
     ensures { IfOk result (λ lists.
-        map items_of lists.keys ≡ map (digits (2 ^ bits) long) words.now.keys) }
+        map items_of lists.keys ≡ map (digits (2 ^ bits) long) words.now) }
 {
     let mut lists = IndexSet::new(alloc);
     for at in 0..words.len() {
-        let Some(word) = words.get_index(at) else {
+        let Some(word) = words.get(at) else {
             unreachable!()
         };
         let mut list = Vec::with_capacity(alloc, long)?;
-        unpack(*word, bits, long, &mut list)?;
+        unpack(word, bits, long, &mut list)?;
         put_list(&mut lists, list)?;
     }
     Ok(lists)
@@ -110,13 +111,13 @@ fn number_in_list(lists: &IndexSet<Vec<usize>>, at: usize, place: usize) -> usiz
 }
 
 // The number at this place of the row of the word that stands here, and zero where there is none.
-fn number_in_word(words: &IndexSet<u128>, bits: u32, long: usize, at: usize, place: usize) -> usize
-    requires { ArePacked bits long words.now.keys }
-    ensures { let rows = map (digits (2 ^ bits) long) words.now.keys in
+fn number_in_word(words: &WordSet, bits: u32, long: usize, at: usize, place: usize) -> usize
+    requires { ArePacked bits long words.now }
+    ensures { let rows = map (digits (2 ^ bits) long) words.now in
         result ≡ get_or (get_or rows at []) place 0 }
 {
-    match words.get_index(at) {
-        Some(word) if bits > 0 && place < long => number_at(*word, bits, place),
+    match words.get(at) {
+        Some(word) if bits > 0 && place < long => number_at(word, bits, place),
         _ => 0,
     }
 }
@@ -131,7 +132,7 @@ impl RowSet {
             long,
             bits: bits_for(long),
             wide: false,
-            words: IndexSet::new(alloc),
+            words: WordSet::new(alloc),
             lists: IndexSet::new(alloc),
         }
     }
@@ -142,7 +143,7 @@ impl RowSet {
         ensures { self.new ≡ [] }
     {
         if self.words.capacity() / 16 > self.words.len().saturating_add(64) {
-            self.words = IndexSet::new(self.alloc);
+            self.words = WordSet::new(self.alloc);
         }
         self.words.clear();
         self.lists = IndexSet::new(self.alloc);
@@ -173,10 +174,10 @@ impl RowSet {
             };
             rewrite(row, list)
         } else {
-            let Some(word) = self.words.get_index(at) else {
+            let Some(word) = self.words.get(at) else {
                 unreachable!()
             };
-            unpack(*word, self.bits, self.long, row)
+            unpack(word, self.bits, self.long, row)
         }
     }
 
@@ -214,7 +215,7 @@ impl RowSet {
         if !self.wide {
             self.lists = listed(self.alloc, &self.words, self.bits, self.long)?;
             self.wide = true;
-            self.words = IndexSet::new(self.alloc);
+            self.words = WordSet::new(self.alloc);
         }
         put_list(&mut self.lists, list)
     }
@@ -236,10 +237,10 @@ impl RowSet {
         ensures err { OnErr result (self.new ≡ self.old) }
     {
         if !self.wide && self.bits > 0 && to >> self.bits == 0 && slot >> self.bits == 0 {
-            let Some(word) = self.words.get_index(from) else {
+            let Some(word) = self.words.get(from) else {
                 unreachable!()
             };
-            let next = changed(*word, self.bits, self.long, to, at, slot);
+            let next = changed(word, self.bits, self.long, to, at, slot);
             self.words.insert(next)?;
             return Ok(());
         }
@@ -277,7 +278,7 @@ impl RowSet {
     pub fn copied(&self) -> Result<RowSet, AllocError>
         ensures { IfOk result (λ rows. rows ≡ self.now) }
     {
-        let words = self.words.clone()?;
+        let words = self.words.copied()?;
         let lists = self.lists.clone()?;
         Ok(RowSet {
             alloc: self.alloc,
