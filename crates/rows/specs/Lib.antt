@@ -1,3 +1,2 @@
 pub mod RowSets
-pub mod WordSets
 pub mod Words

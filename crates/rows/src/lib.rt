@@ -2,7 +2,6 @@
 #![tactic(auto)]
 
 mod row_set;
-mod word_set;
 mod words;
 
 pub use row_set::RowSet;

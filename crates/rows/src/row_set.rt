@@ -3,7 +3,6 @@ ghost use Rattle.std.specs.Prelude.{◌≡◌, ◌↔◌, ◌<◌, ◌≤◌, �
 ghost use Rattle.rows.specs.Words.{ArePacked, digits, items_of};
 ghost use Rattle.rows.specs.RowSets.{IsPut};
 
-use crate::word_set::WordSet;
 use crate::words::{changed, number_at, packed, unpack};
 use indexmap::IndexSet;
 use std::alloc::{AllocError, Global};
@@ -17,7 +16,7 @@ pub struct RowSet {
     long: usize,
     bits: u32,
     wide: bool,
-    words: WordSet,
+    words: IndexSet<u128>,
     lists: IndexSet<Vec<usize>>,
 }
 
@@ -27,9 +26,9 @@ impl Model for RowSet {
 
     ghost Value = { List (List ℕ) };
 
-    ghost view = { λ a. rows_in a.wide a.bits a.long a.words a.lists.keys };
+    ghost view = { λ a. rows_in a.wide a.bits a.long a.words.keys a.lists.keys };
 
-    ghost invariant = { λ a. ArePacked a.bits a.long a.words };
+    ghost invariant = { λ a. ArePacked a.bits a.long a.words.keys };
 }
 
 // How many bits each number has, where so many stand in a word, with room for two more.
@@ -77,21 +76,21 @@ fn put_list(lists: &mut IndexSet<Vec<usize>>, list: Vec<usize>) -> Result<(), Al
 // The rows of the words, as lists.
 fn listed(
     alloc: Global,
-    words: &WordSet,
+    words: &IndexSet<u128>,
     bits: u32,
     long: usize,
 ) -> Result<IndexSet<Vec<usize>>, AllocError>
-    requires { ArePacked bits long words.now }
+    requires { ArePacked bits long words.now.keys }
     ensures { IfOk result (λ lists.
-        map items_of lists.keys ≡ map (digits (2 ^ bits) long) words.now) }
+        map items_of lists.keys ≡ map (digits (2 ^ bits) long) words.now.keys) }
 {
     let mut lists = IndexSet::new(alloc);
     for at in 0..words.len() {
-        let Some(word) = words.get(at) else {
+        let Some(word) = words.get_index(at) else {
             unreachable!()
         };
         let mut list = Vec::with_capacity(alloc, long)?;
-        unpack(word, bits, long, &mut list)?;
+        unpack(*word, bits, long, &mut list)?;
         put_list(&mut lists, list)?;
     }
     Ok(lists)
@@ -111,13 +110,13 @@ fn number_in_list(lists: &IndexSet<Vec<usize>>, at: usize, place: usize) -> usiz
 }
 
 // The number at this place of the row of the word that stands here, and zero where there is none.
-fn number_in_word(words: &WordSet, bits: u32, long: usize, at: usize, place: usize) -> usize
-    requires { ArePacked bits long words.now }
-    ensures { let rows = map (digits (2 ^ bits) long) words.now in
+fn number_in_word(words: &IndexSet<u128>, bits: u32, long: usize, at: usize, place: usize) -> usize
+    requires { ArePacked bits long words.now.keys }
+    ensures { let rows = map (digits (2 ^ bits) long) words.now.keys in
         result ≡ get_or (get_or rows at []) place 0 }
 {
-    match words.get(at) {
-        Some(word) if bits > 0 && place < long => number_at(word, bits, place),
+    match words.get_index(at) {
+        Some(word) if bits > 0 && place < long => number_at(*word, bits, place),
         _ => 0,
     }
 }
@@ -132,7 +131,7 @@ impl RowSet {
             long,
             bits: bits_for(long),
             wide: false,
-            words: WordSet::new(alloc),
+            words: IndexSet::new(alloc),
             lists: IndexSet::new(alloc),
         }
     }
@@ -143,7 +142,7 @@ impl RowSet {
         ensures { self.new ≡ [] }
     {
         if self.words.capacity() / 16 > self.words.len().saturating_add(64) {
-            self.words = WordSet::new(self.alloc);
+            self.words = IndexSet::new(self.alloc);
         }
         self.words.clear();
         self.lists = IndexSet::new(self.alloc);
@@ -174,10 +173,10 @@ impl RowSet {
             };
             rewrite(row, list)
         } else {
-            let Some(word) = self.words.get(at) else {
+            let Some(word) = self.words.get_index(at) else {
                 unreachable!()
             };
-            unpack(word, self.bits, self.long, row)
+            unpack(*word, self.bits, self.long, row)
         }
     }
 
@@ -215,7 +214,7 @@ impl RowSet {
         if !self.wide {
             self.lists = listed(self.alloc, &self.words, self.bits, self.long)?;
             self.wide = true;
-            self.words = WordSet::new(self.alloc);
+            self.words = IndexSet::new(self.alloc);
         }
         put_list(&mut self.lists, list)
     }
@@ -237,10 +236,10 @@ impl RowSet {
         ensures err { OnErr result (self.new ≡ self.old) }
     {
         if !self.wide && self.bits > 0 && to >> self.bits == 0 && slot >> self.bits == 0 {
-            let Some(word) = self.words.get(from) else {
+            let Some(word) = self.words.get_index(from) else {
                 unreachable!()
             };
-            let next = changed(word, self.bits, self.long, to, at, slot);
+            let next = changed(*word, self.bits, self.long, to, at, slot);
             self.words.insert(next)?;
             return Ok(());
         }
@@ -278,7 +277,7 @@ impl RowSet {
     pub fn copied(&self) -> Result<RowSet, AllocError>
         ensures { IfOk result (λ rows. rows ≡ self.now) }
     {
-        let words = self.words.copied()?;
+        let words = self.words.clone()?;
         let lists = self.lists.clone()?;
         Ok(RowSet {
             alloc: self.alloc,

@@ -8,7 +8,7 @@ pub returns-in-Some-clause-put : goal.returns-in-Some-clause-put
 returns-in-Some-clause-put c =
     let i = c.self.inside in
     let narrow = c.if-not-self.true in
-    let old = sym (shows_words i.wide i.bits i.long i.words i.lists.keys narrow) ∙ c.self.view_is in
-    subst (λ l. IsPut c.args.row.now l (rows_in i.wide i.bits i.long c.insert.new.self i.lists.keys)) old
-    (subst (IsPut c.args.row.now (map (digits (2 ^ i.bits) i.long) i.words)) (sym (shows_words i.wide i.bits i.long c.insert.new.self i.lists.keys narrow))
-    (put_word i.bits i.long c.args.row.now c.in-Some.word c.if-row-self.true c.in-Some.ensures i.words c.insert.new.self c.self.invariant c.in_ok-insert.ensures.put))
+    let old = sym (shows_words i.wide i.bits i.long i.words.keys i.lists.keys narrow) ∙ c.self.view_is in
+    subst (λ l. IsPut c.args.row.now l (rows_in i.wide i.bits i.long c.insert.new.self.keys i.lists.keys)) old
+    (subst (IsPut c.args.row.now (map (digits (2 ^ i.bits) i.long) i.words.keys)) (sym (shows_words i.wide i.bits i.long c.insert.new.self.keys i.lists.keys narrow))
+    (put_word i.bits i.long c.args.row.now c.in-Some.word c.if-row-self.true c.in-Some.ensures i.words.keys c.insert.new.self.keys c.self.invariant c.in_ok-insert.ensures.keys))
