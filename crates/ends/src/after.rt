@@ -59,7 +59,6 @@ fn fits_in_row<S: Ord + Drop>(
 // Puts the rows of those ends where what the open operation at this place found fits the answer, each without it, in place
 // of the rows that were there.
 fn settled_rows<S: Ord + Drop>(
-    alloc: Global,
     table: &Table<S>,
     calls: &[PendingOp],
     call: usize,
@@ -72,13 +71,10 @@ fn settled_rows<S: Ord + Drop>(
         (ShownWith (with_rows table.now rows.new) (filter (is_other id) calls.now) []
         (Along (Settles id answer.now) ends)) }
 {
-    rows.restart(calls.len());
-    let mut row = Vec::new(alloc);
+    rows.restart_like(&table.rows, calls.len());
     for at in 0..table.rows.len() {
         if fits_in_row(table, at, calls, call, answer) {
-            table.rows.read(at, &mut row)?;
-            let _slot = row.remove(call + 1);
-            rows.put(&row)?;
+            rows.put_without(&table.rows, at, call + 1)?;
         }
     }
     Ok(())
@@ -87,7 +83,6 @@ fn settled_rows<S: Ord + Drop>(
 /// Puts the rows after the operation has returned with this answer, of those where it is in and what it found fits, each
 /// without it, in place of the rows that were there.
 pub fn settled<S: Ord + Drop>(
-    alloc: Global,
     table: &Table<S>,
     calls: &[PendingOp],
     id: u32,
@@ -100,7 +95,7 @@ pub fn settled<S: Ord + Drop>(
         (Along (Settles id answer.now) ends)) }
 {
     match place_of_open(calls, id) {
-        Some(call) => settled_rows(alloc, table, calls, call, answer, rows),
+        Some(call) => settled_rows(table, calls, call, answer, rows),
         None => {
             rows.restart(calls.len());
             Ok(())

@@ -282,7 +282,7 @@ fn found_rows<M: SeqObject>(
     )? {
         return Ok(false);
     }
-    after::settled(alloc, table, calls, id, answer, &mut room.rows)?;
+    after::settled(table, calls, id, answer, &mut room.rows)?;
     Ok(true)
 }
 

@@ -2,3 +2,4 @@ pub mod Elements
 pub mod Digits
 pub mod Packing
 pub mod Putting
+pub mod Without

@@ -1,39 +1,18 @@
 -- words put with others, by the rows that they stand for
-use Rattle.std.proofs.Common.{◌≡◌, inl, inr, ⊎_elim, ℕ, ◌+◌, ◌*◌, ◌/◌, ◌%◌, ◌^◌, ◌<◌, ◌≤◌, Bool, true, false, nat_eq, List, [], ◌∷◌, ◌++◌, map, length, take, drop, slice_get, Some, option_map, zero, suc, get_or, Vec, Global, refl, sym, ap, ◌∙◌, subst, if◌then◌else◌, ◌||◌, arith, add-one}
-use Rattle.std.specs.List.{AllByRecursion, AllZip, Contains, each_same, IsDistinct, list_any}
-use Rattle.std.proofs.lemmas.Bool.{true≢false, eq-eqb, eqb-true}
-use Rattle.std.proofs.lemmas.Map.Keys.{IsDistinct-head, IsDistinct-tail}
-use Rattle.std.proofs.lemmas.List.{map_push, take-append-drop}
-use Rattle.indexmap.specs.IndexSet.{insert_key}
+use Rattle.std.proofs.Common.{◌≡◌, inl, inr, ⊎_elim, ℕ, ◌+◌, ◌*◌, ◌/◌, ◌%◌, ◌^◌, ◌<◌, ◌≤◌, Bool, true, false, List, [], ◌∷◌, ◌++◌, map, length, take, drop, slice_get, Some, None, option_map, zero, suc, get_or, Vec, Global, refl, sym, ap, ◌∙◌, subst, arith, add-one}
+use Rattle.std.specs.List.{AllZip, Contains, each_same}
+use Rattle.std.proofs.lemmas.List.{get_or-take, length-take, map_push, take-append-drop}
+use Rattle.std.proofs.lemmas.Grind.{get_or_default_zero}
 use Rattle.std.proofs.lemmas.List.Elements.{Contains-append_left, Contains-push_cases}
+use Rattle.rows.specs.Index.{AreApart}
 use Rattle.rows.specs.RowSets.{IsPut}
 use Rattle.rows.specs.Words.{ArePacked, IsWordOf, digits, items_of, rows_in, value}
 use Rattle.std.specs.Vec.{vec_len}
 use Rattle.std.proofs.Math.Nat.{mod-add-div, mul-div_cancel_left, mul-zero, zero-mod, zero-mul}
 use Rattle.std.proofs.lemmas.Nat.{div-add-mod', mod_below, pow_pos}
-use Rattle.std.proofs.lemmas.Option.{get_or_from_slice_get, slice_get-map}
+use Rattle.std.proofs.lemmas.Option.{get_or_from_slice_get, slice_get-map, slice_get_within}
 use Rattle.rows.proofs.Digits.{length-digits}
-use Rattle.rows.proofs.Elements.{Contains-cons_cases, Contains-head, Contains-nil, Contains-tail, clash, from_map, has_place, one_of, taken_more, to_map}
-
-word_there : (w : ℕ) (ws : List ℕ) → list_any (nat_eq w) ws ≡ true → Contains ws w
-word_there w [] e = absurd (true≢false (sym e))
-word_there w (x ∷ ws) e = by (nat_eq w x) refl (word_there w ws)
-  where
-    by : (b : Bool) → nat_eq w x ≡ b → (list_any (nat_eq w) ws ≡ true → Contains ws w) → Contains (x ∷ ws) w
-    by true is rest = subst (Contains (x ∷ ws)) (sym (eqb-true w x is)) (Contains-head x ws)
-    by false is rest = Contains-tail x ws w (rest (sym (ap (λ b. b || list_any (nat_eq w) ws) is) ∙ e))
-
-not_there : (w : ℕ) (ws : List ℕ) → list_any (nat_eq w) ws ≡ false → ¬ Contains ws w
-not_there w [] e h = Contains-nil w h
-not_there w (x ∷ ws) e h = by (nat_eq w x) refl (not_there w ws)
-  where
-    by : (b : Bool) → nat_eq w x ≡ b → (list_any (nat_eq w) ws ≡ false → ¬ Contains ws w) → ⊥
-    by true is rest = true≢false (sym (ap (λ b. b || list_any (nat_eq w) ws) is) ∙ e)
-    by false is rest =
-        ⊎_elim
-        (λ q. true≢false (sym (eq-eqb w x (sym q)) ∙ is))
-        (rest (sym (ap (λ b. b || list_any (nat_eq w) ws) is) ∙ e))
-        (Contains-cons_cases x ws w h)
+use Rattle.rows.proofs.Elements.{Contains-head, Contains-nil, Contains-tail, from_map, has_place, taken_more, to_map}
 
 module _ (bits long : ℕ) (row : List ℕ) (w : ℕ) (is_long : length row ≡ long) (is_word : IsWordOf (2 ^ bits) row w) where
   its_digits : digits (2 ^ bits) long w ≡ row
@@ -42,33 +21,30 @@ module _ (bits long : ℕ) (row : List ℕ) (w : ℕ) (is_long : length row ≡ 
   pub exact_word : value (2 ^ bits) (digits (2 ^ bits) long w) ≡ w
   exact_word = ap (value (2 ^ bits)) its_digits ∙ is_word.0
 
-  module _ (ws now : List ℕ) (are : ArePacked bits long ws) (is : now ≡ insert_key nat_eq ws w) where
+  module _ (ws now : List ℕ) (are : ArePacked bits long ws) (put : IsPut w ws now) where
     pub put_word : IsPut row (map (digits (2 ^ bits) long) ws) (map (digits (2 ^ bits) long) now)
-    put_word = by (list_any (nat_eq w) ws) refl
-      where
-        by : (b : Bool) → list_any (nat_eq w) ws ≡ b → IsPut row (map (digits (2 ^ bits) long) ws) (map (digits (2 ^ bits) long) now)
-        by true e = inl (
-          subst (Contains (map (digits (2 ^ bits) long) ws)) its_digits (to_map (digits (2 ^ bits) long) ws w (word_there w ws e)),
-          ap (map (digits (2 ^ bits) long)) (is ∙ ap (λ b. if b then ws else ws ++ w ∷ []) e),
-        )
-        by false e = inr (
+    put_word =
+        ⊎_elim
+        (λ old. inl (subst (Contains (map (digits (2 ^ bits) long) ws)) its_digits (to_map (digits (2 ^ bits) long) ws w old.0), ap (map (digits (2 ^ bits) long)) old.1))
+        (λ new. inr (
           (λ h.
               let k = from_map (digits (2 ^ bits) long) ws row h in
               let same : k.0 ≡ w = sym (are.exact k.0 k.1) ∙ ap (value (2 ^ bits)) k.2 ∙ is_word.0 in
-              not_there w ws e (subst (Contains ws) same k.1)),
-          ap (map (digits (2 ^ bits) long)) (is ∙ ap (λ b. if b then ws else ws ++ w ∷ []) e) ∙ map_push (digits (2 ^ bits) long) ws w ∙ ap (λ r. map (digits (2 ^ bits) long) ws ++ r ∷ []) its_digits,
-        )
+              new.0 (subst (Contains ws) same k.1)),
+          ap (map (digits (2 ^ bits) long)) new.1 ∙ map_push (digits (2 ^ bits) long) ws w ∙ ap (λ r. map (digits (2 ^ bits) long) ws ++ r ∷ []) its_digits,
+        ))
+        put
 
     pub packed_still : ArePacked bits long now
-    packed_still = by (list_any (nat_eq w) ws) refl
-      where
-        by : (b : Bool) → list_any (nat_eq w) ws ≡ b → ArePacked bits long now
-        by true e = subst (ArePacked bits long) (sym (is ∙ ap (λ b. if b then ws else ws ++ w ∷ []) e)) are
-        by false e = subst (ArePacked bits long) (sym (is ∙ ap (λ b. if b then ws else ws ++ w ∷ []) e)) (record {
+    packed_still =
+        ⊎_elim
+        (λ old. subst (ArePacked bits long) (sym old.1) are)
+        (λ new. subst (ArePacked bits long) (sym new.1) (record {
           few = are.few;
           room = are.room;
           exact = λ k h. ⊎_elim (are.exact k) (λ q. subst (λ x. value (2 ^ bits) (digits (2 ^ bits) long x) ≡ x) q exact_word) (Contains-push_cases ws w k h);
-        })
+        }))
+        put
 
 pub packed_none : (bits long : ℕ) (ws : List ℕ) → ws ≡ [] → bits ≤ 32 → bits * long ≤ 128 → ArePacked bits long ws
 packed_none bits long ws none few room = record {
@@ -78,29 +54,21 @@ packed_none bits long ws none few room = record {
 }
 
 -- words that are made lists, one after another
-all_at : (P : ℕ → Type 0) (ws : List ℕ) → AllByRecursion P ws → (i x : ℕ) → slice_get ws i ≡ Some x → P x
-all_at P [] all i x h = absurd (clash x _ refl h)
-all_at P (w ∷ ws) all zero x h = subst P (one_of w x h) all.0
-all_at P (w ∷ ws) all (suc i) x h = all_at P ws all.1 i x h
+not_before : (ws : List ℕ) → AreApart ws → (i x : ℕ) → slice_get ws i ≡ Some x → ¬ Contains (take i ws) x
+not_before ws apart i x here (k, lt, is) =
+    let within = slice_get_within ws i x here in
+    let before : k < i = omega (arith, lt, length-take i ws) in
+    apart k i before within (sym (get_or-take i ws k 0 before) ∙ sym (get_or_default_zero (take i ws) k x lt) ∙ is ∙ sym (get_or_from_slice_get ws i x 0 here))
 
-not_before : (ws : List ℕ) → IsDistinct nat_eq ws → (i x : ℕ) → slice_get ws i ≡ Some x → ¬ Contains (take i ws) x
-not_before [] distinct i x h = absurd (clash x _ refl h)
-not_before (w ∷ ws) distinct zero x h = λ k. Contains-nil x k
-not_before (w ∷ ws) distinct (suc i) x h = λ k.
-    ⊎_elim
-    (λ q. true≢false (sym (eq-eqb w x q) ∙ all_at (λ y. nat_eq w y ≡ false) ws (IsDistinct-head nat_eq w ws distinct) i x h))
-    (not_before ws (IsDistinct-tail nat_eq w ws distinct) i x h)
-    (Contains-cons_cases w (take i ws) x k)
-
-pub listed_more : (bits long : ℕ) (ws : List ℕ) → ArePacked bits long ws → IsDistinct nat_eq ws → (i w : ℕ) → slice_get ws i ≡ Some w → (row : List ℕ) → row ≡ digits (2 ^ bits) long w
+pub listed_more : (bits long : ℕ) (ws : List ℕ) → ArePacked bits long ws → AreApart ws → (i w : ℕ) → slice_get ws i ≡ Some w → (row : List ℕ) → row ≡ digits (2 ^ bits) long w
     → (old new : List (List ℕ)) → IsPut row old new → old ≡ map (digits (2 ^ bits) long) (take i ws) → new ≡ map (digits (2 ^ bits) long) (take (i + 1) ws)
-listed_more bits long ws are distinct i w here row is old new put so_far =
+listed_more bits long ws are apart i w here row is old new put so_far =
     ⊎_elim
     (λ p.
     let k = from_map (digits (2 ^ bits) long) (take i ws) row (subst (λ l. Contains l row) so_far p.0) in
     let among : Contains ws k.0 = subst (λ l. Contains l k.0) (take-append-drop i ws) (Contains-append_left (take i ws) (drop i ws) k.0 k.1) in
     let same : k.0 ≡ w = sym (are.exact k.0 among) ∙ ap (value (2 ^ bits)) (k.2 ∙ is) ∙ are.exact w (has_place ws i w here) in
-    absurd (not_before ws distinct i w here (subst (Contains (take i ws)) same k.1)))
+    absurd (not_before ws apart i w here (subst (Contains (take i ws)) same k.1)))
     (λ p.
     p.1 ∙ (λ j. so_far j ++ is j ∷ []) ∙ sym (map_push (digits (2 ^ bits) long) (take i ws) w) ∙ ap (map (digits (2 ^ bits) long)) (sym (taken_more ws i w here)))
     put
@@ -113,6 +81,11 @@ pub row_there : (rows : List (List ℕ)) (bits long from w : ℕ) (words : List 
 row_there rows bits long from w words is here =
     get_or_from_slice_get rows from (digits (2 ^ bits) long w) []
     (ap (λ l. slice_get l from) (sym is) ∙ slice_get-map (digits (2 ^ bits) long) words from ∙ ap (option_map (digits (2 ^ bits) long)) here)
+
+pub no_row : (bits long at : ℕ) (words : List ℕ) → slice_get words at ≡ None → get_or (map (digits (2 ^ bits) long) words) at [] ≡ []
+no_row bits long at [] none = refl
+no_row bits long zero (w ∷ ws) none = absurd (cc none)
+no_row bits long (suc at) (w ∷ ws) none = no_row bits long at ws none
 
 pub row_long : (bits long at : ℕ) (words : List ℕ) (rows : List (List ℕ)) → map (digits (2 ^ bits) long) words ≡ rows → at < length rows → length (get_or rows at []) ≡ long
 row_long bits long at words rows is lt =

@@ -1,8 +1,8 @@
--- Promise: what it is to put a row with others
-use Rattle.std.specs.Prelude.{◌≡◌, ℕ, ◌⊎◌, List, [], ◌∷◌, ◌++◌}
+-- Promise: what it is to put a thing with others, each of which is there once
+use Rattle.std.specs.Prelude.{◌≡◌, ◌⊎◌, List, [], ◌∷◌, ◌++◌}
 use Rattle.std.specs.List.{Contains}
 
--- the row is with the others
-abbrev pub IsPut : List ℕ → List (List ℕ) → List (List ℕ) → Type 0
-IsPut row old new =
-    (Contains old row × (new ≡ old)) ⊎ ((¬ Contains old row) × (new ≡ old ++ row ∷ []))
+-- it is with the others: it was, or was put behind them
+abbrev pub IsPut : {X : Type 0} → X → List X → List X → Type 0
+IsPut thing old new =
+    (Contains old thing × (new ≡ old)) ⊎ ((¬ Contains old thing) × (new ≡ old ++ thing ∷ []))

@@ -1,22 +1,25 @@
 //! Rows of numbers, each once.
-ghost use Rattle.std.specs.Prelude.{◌≡◌, ◌↔◌, ◌<◌, ◌≤◌, ◌*◌, ◌^◌, [], ◌∷◌, ◌++◌, false, Some, IsTrue, map, take, length, get_or, set, slice_get, IfOk, OnOk, OnErr};
+ghost use Rattle.std.specs.Prelude.{◌≡◌, ◌↔◌, ◌<◌, ◌≤◌, ◌*◌, ◌^◌, [], ◌∷◌, ◌++◌, true, false, Some, IsTrue, map, take, length, get_or, set, slice_get, IfOk, IfSome, OnOk, OnErr};
+ghost use Rattle.std.specs.List.{remove};
 ghost use Rattle.rows.specs.Words.{ArePacked, digits, items_of};
 ghost use Rattle.rows.specs.RowSets.{IsPut};
 
-use crate::words::{changed, number_at, packed, unpack};
+use crate::word_set::WordSet;
+use crate::words::{changed, number_at, packed, unpack, without};
 use indexmap::IndexSet;
 use std::alloc::{AllocError, Global};
 use std::marker::Model;
 
 /// Rows of numbers, none twice, in the order in which they were put. As long as they are of the expected length and
-/// their numbers small, each is one word; else each is a list of its own.
+/// their numbers small, each is one word, of which at first half is used; else each is a list of its own.
 #[derive(Drop)]
 pub struct RowSet {
     alloc: Global,
     long: usize,
     bits: u32,
+    whole: bool,
     wide: bool,
-    words: IndexSet<u128>,
+    words: WordSet,
     lists: IndexSet<Vec<usize>>,
 }
 
@@ -26,22 +29,22 @@ impl Model for RowSet {
 
     ghost Value = { List (List ℕ) };
 
-    ghost view = { λ a. rows_in a.wide a.bits a.long a.words.keys a.lists.keys };
+    ghost view = { λ a. rows_in a.wide a.bits a.long a.words a.lists.keys };
 
-    ghost invariant = { λ a. ArePacked a.bits a.long a.words.keys };
+    ghost invariant = { λ a. ArePacked a.bits a.long a.words };
 }
 
-// How many bits each number has, where so many stand in a word, with room for two more.
-fn bits_for(long: usize) -> u32
+// How many bits each number has, where so many stand in a word, with room for two more: in the whole of it or in half of it.
+fn bits_for(long: usize, whole: bool) -> u32
     ensures few { result ≤ 32 }
     ensures room { result * long ≤ 128 }
 {
-    if long <= 2 {
-        32
-    } else if long <= 126 {
-        128 / (long as u32 + 2)
-    } else {
+    if long > 126 {
         0
+    } else if whole || long > 30 {
+        128 / (long as u32 + 2).max(4)
+    } else {
+        64 / (long as u32 + 2).max(8)
     }
 }
 
@@ -76,24 +79,54 @@ fn put_list(lists: &mut IndexSet<Vec<usize>>, list: Vec<usize>) -> Result<(), Al
 // The rows of the words, as lists.
 fn listed(
     alloc: Global,
-    words: &IndexSet<u128>,
+    words: &WordSet,
     bits: u32,
     long: usize,
 ) -> Result<IndexSet<Vec<usize>>, AllocError>
-    requires { ArePacked bits long words.now.keys }
+    requires { ArePacked bits long words.now }
     ensures { IfOk result (λ lists.
-        map items_of lists.keys ≡ map (digits (2 ^ bits) long) words.now.keys) }
+        map items_of lists.keys ≡ map (digits (2 ^ bits) long) words.now) }
 {
     let mut lists = IndexSet::new(alloc);
     for at in 0..words.len() {
-        let Some(word) = words.get_index(at) else {
+        let Some(word) = words.get(at) else {
             unreachable!()
         };
         let mut list = Vec::with_capacity(alloc, long)?;
-        unpack(*word, bits, long, &mut list)?;
+        unpack(word, bits, long, &mut list)?;
         put_list(&mut lists, list)?;
     }
     Ok(lists)
+}
+
+// The words of the same rows, with so many bits for each number, or none where one has more.
+fn repacked(
+    alloc: Global,
+    words: &WordSet,
+    bits: u32,
+    long: usize,
+    more: u32,
+) -> Result<Option<WordSet>, AllocError>
+    requires packed { ArePacked bits long words.now }
+    requires few { more ≤ 32 }
+    requires room { more * long ≤ 128 }
+    ensures rows { IfOk result (λ found. IfSome found (λ other.
+        map (digits (2 ^ more) long) other ≡ map (digits (2 ^ bits) long) words.now)) }
+    ensures packed { IfOk result (λ found. IfSome found (ArePacked more long)) }
+{
+    let mut other = WordSet::new(alloc);
+    let mut row = Vec::new(alloc);
+    for at in 0..words.len() {
+        let Some(word) = words.get(at) else {
+            unreachable!()
+        };
+        unpack(word, bits, long, &mut row)?;
+        match packed(&row, more) {
+            Some(wider) => other.put(wider)?,
+            None => return Ok(None),
+        }
+    }
+    Ok(Some(other))
 }
 
 // The number at this place of the list that stands here, and zero where there is none.
@@ -110,13 +143,13 @@ fn number_in_list(lists: &IndexSet<Vec<usize>>, at: usize, place: usize) -> usiz
 }
 
 // The number at this place of the row of the word that stands here, and zero where there is none.
-fn number_in_word(words: &IndexSet<u128>, bits: u32, long: usize, at: usize, place: usize) -> usize
-    requires { ArePacked bits long words.now.keys }
-    ensures { let rows = map (digits (2 ^ bits) long) words.now.keys in
+fn number_in_word(words: &WordSet, bits: u32, long: usize, at: usize, place: usize) -> usize
+    requires { ArePacked bits long words.now }
+    ensures { let rows = map (digits (2 ^ bits) long) words.now in
         result ≡ get_or (get_or rows at []) place 0 }
 {
-    match words.get_index(at) {
-        Some(word) if bits > 0 && place < long => number_at(*word, bits, place),
+    match words.get(at) {
+        Some(word) if bits > 0 && place < long => number_at(word, bits, place),
         _ => 0,
     }
 }
@@ -129,9 +162,10 @@ impl RowSet {
         RowSet {
             alloc,
             long,
-            bits: bits_for(long),
+            bits: bits_for(long, false),
+            whole: false,
             wide: false,
-            words: IndexSet::new(alloc),
+            words: WordSet::new(alloc),
             lists: IndexSet::new(alloc),
         }
     }
@@ -141,14 +175,35 @@ impl RowSet {
     pub fn restart(&mut self, long: usize)
         ensures { self.new ≡ [] }
     {
+        self.restart_with(long, bits_for(long, false), false);
+    }
+
+    /// The same, where rows are expected to have numbers as those of the other.
+    pub fn restart_like(&mut self, other: &RowSet, long: usize)
+        ensures { self.new ≡ [] }
+    {
+        if long <= 128 && other.bits as usize * long <= 128 {
+            self.restart_with(long, other.bits, other.whole);
+        } else {
+            self.restart(long);
+        }
+    }
+
+    // The same, with so many bits for each number.
+    fn restart_with(&mut self, long: usize, bits: u32, whole: bool)
+        requires few { bits ≤ 32 }
+        requires room { bits * long ≤ 128 }
+        ensures { self.new ≡ [] }
+    {
         if self.words.capacity() / 16 > self.words.len().saturating_add(64) {
-            self.words = IndexSet::new(self.alloc);
+            self.words = WordSet::new(self.alloc);
         }
         self.words.clear();
         self.lists = IndexSet::new(self.alloc);
         self.wide = false;
+        self.whole = whole;
         self.long = long;
-        self.bits = bits_for(long);
+        self.bits = bits;
     }
 
     /// How many rows there are.
@@ -173,10 +228,10 @@ impl RowSet {
             };
             rewrite(row, list)
         } else {
-            let Some(word) = self.words.get_index(at) else {
+            let Some(word) = self.words.get(at) else {
                 unreachable!()
             };
-            unpack(*word, self.bits, self.long, row)
+            unpack(word, self.bits, self.long, row)
         }
     }
 
@@ -196,14 +251,50 @@ impl RowSet {
         ensures put { OnOk result (IsPut row.now self.old self.new) }
         ensures err { OnErr result (self.new ≡ self.old) }
     {
-        if !self.wide && row.len() == self.long {
-            if let Some(word) = packed(row, self.bits) {
-                self.words.insert(word)?;
+        if self.put_packed(row)? {
+            return Ok(());
+        }
+        if self.widen()? {
+            if self.put_packed(row)? {
                 return Ok(());
             }
         }
         let list = copied(self.alloc, row)?;
         self.put_wide(list)
+    }
+
+    // Puts the row with the others, if it is not there, as a word; or tells that it is none.
+    fn put_packed(&mut self, row: &[usize]) -> Result<bool, AllocError>
+        ensures put { IfOk result (λ is_put. is_put ≡ true → IsPut row.now self.old self.new) }
+        ensures not_put { IfOk result (λ is_put. is_put ≡ false → self.new ≡ self.old) }
+        ensures err { OnErr result (self.new ≡ self.old) }
+    {
+        if !self.wide && row.len() == self.long {
+            if let Some(word) = packed(row, self.bits) {
+                self.words.put(word)?;
+                return Ok(true);
+            }
+        }
+        Ok(false)
+    }
+
+    // Gives each row the whole of a word, and tells whether it had half of one.
+    fn widen(&mut self) -> Result<bool, AllocError>
+        ensures { self.new ≡ self.old }
+    {
+        if self.wide || self.whole {
+            return Ok(false);
+        }
+        let bits = bits_for(self.long, true);
+        match repacked(self.alloc, &self.words, self.bits, self.long, bits)? {
+            Some(words) => {
+                self.words = words;
+                self.bits = bits;
+                self.whole = true;
+                Ok(true)
+            }
+            None => Ok(false),
+        }
     }
 
     // Puts the list with the others, all as lists.
@@ -214,7 +305,7 @@ impl RowSet {
         if !self.wide {
             self.lists = listed(self.alloc, &self.words, self.bits, self.long)?;
             self.wide = true;
-            self.words = IndexSet::new(self.alloc);
+            self.words = WordSet::new(self.alloc);
         }
         put_list(&mut self.lists, list)
     }
@@ -236,18 +327,50 @@ impl RowSet {
         ensures err { OnErr result (self.new ≡ self.old) }
     {
         if !self.wide && self.bits > 0 && to >> self.bits == 0 && slot >> self.bits == 0 {
-            let Some(word) = self.words.get_index(from) else {
+            let Some(word) = self.words.get(from) else {
                 unreachable!()
             };
-            let next = changed(*word, self.bits, self.long, to, at, slot);
-            self.words.insert(next)?;
+            let next = changed(word, self.bits, self.long, to, at, slot);
+            self.words.put(next)?;
             return Ok(());
         }
         let mut next = Vec::new(self.alloc);
         self.read(from, &mut next)?;
         next[0] = to;
         next[at] = slot;
-        self.put_wide(next)
+        self.put(&next)
+    }
+
+    /// Puts the row of the other set that stands here without the number at this place, if that is not there.
+    pub fn put_without(
+        &mut self,
+        other: &RowSet,
+        from: usize,
+        place: usize,
+    ) -> Result<(), AllocError>
+        requires from { from < length other.now }
+        requires within { place < length (get_or other.now from []) }
+        ensures put { OnOk result
+            (IsPut (remove (get_or other.now from []) place) self.old self.new) }
+        ensures err { OnErr result (self.new ≡ self.old) }
+    {
+        if !self.wide
+            && !other.wide
+            && other.bits > 0
+            && self.bits == other.bits
+            && self.long + 1 == other.long
+        {
+            let Some(word) = other.words.get(from) else {
+                unreachable!()
+            };
+            let left = without(word, other.bits, other.long, place);
+            self.words.put(left)?;
+            return Ok(());
+        }
+        let mut left = Vec::new(self.alloc);
+        other.read(from, &mut left)?;
+        let _number = left.remove(place);
+        self.put(&left)
     }
 
     /// Each row gets a zero behind it, if that takes no memory, and it is told whether.
@@ -277,12 +400,13 @@ impl RowSet {
     pub fn copied(&self) -> Result<RowSet, AllocError>
         ensures { IfOk result (λ rows. rows ≡ self.now) }
     {
-        let words = self.words.clone()?;
+        let words = self.words.copied(self.alloc)?;
         let lists = self.lists.clone()?;
         Ok(RowSet {
             alloc: self.alloc,
             long: self.long,
             bits: self.bits,
+            whole: self.whole,
             wide: self.wide,
             words,
             lists,

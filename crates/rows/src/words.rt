@@ -1,5 +1,6 @@
 //! Rows of numbers as words.
 ghost use Rattle.std.specs.Prelude.{◌≡◌, ◌+◌, ◌-◌, ◌*◌, ◌/◌, ◌%◌, ◌^◌, ◌<◌, ◌≤◌, length, get_or, set, IfSome, OnOk};
+ghost use Rattle.std.specs.List.{remove};
 ghost use Rattle.rows.specs.Words.{IsWordOf, digits, value};
 
 use std::alloc::AllocError;
@@ -57,18 +58,56 @@ pub fn number_at(word: u128, bits: u32, at: usize) -> usize
     first_of(word >> (bits * at as u32), bits)
 }
 
+// Writes the numbers of the word, which is of 64 bits.
+fn unpack_half(word: u64, bits: u32, row: &mut Vec<usize>)
+    requires { bits ≤ 32 }
+    ensures { row.new.items ≡ digits (2 ^ bits) (length row.old.items) word }
+{
+    let largest = largest_of(bits);
+    let mut rest = word;
+    for place in 0..row.len() {
+        row[place] = (rest & largest) as usize;
+        rest = rest >> bits;
+    }
+}
+
+// Writes the numbers of the word.
+fn unpack_whole(word: u128, bits: u32, row: &mut Vec<usize>)
+    requires { bits ≤ 32 }
+    ensures { row.new.items ≡ digits (2 ^ bits) (length row.old.items) word }
+{
+    let mut rest = word;
+    for place in 0..row.len() {
+        row[place] = first_of(rest, bits);
+        rest = rest >> bits;
+    }
+}
+
 /// Writes the numbers of the word: so many, each of so many bits, the first from the lowest.
 pub fn unpack(word: u128, bits: u32, long: usize, row: &mut Vec<usize>) -> Result<(), AllocError>
     requires { bits ≤ 32 }
     ensures { OnOk result (row.new.items ≡ digits (2 ^ bits) long word) }
 {
     row.resize(long, 0)?;
-    let mut rest = word;
-    for place in 0..long {
-        row[place] = first_of(rest, bits);
-        rest = rest >> bits;
+    match u64::try_from(word) {
+        Ok(half) => unpack_half(half, bits, row),
+        Err(_) => unpack_whole(word, bits, row),
     }
     Ok(())
+}
+
+/// The word without the number at this place.
+pub fn without(word: u128, bits: u32, long: usize, at: usize) -> u128
+    requires bits { bits ≤ 32 }
+    requires some { 0 < bits }
+    requires room { bits * long ≤ 128 }
+    requires within { at < long }
+    requires exact { value (2 ^ bits) (digits (2 ^ bits) long word) ≡ word }
+    ensures { IsWordOf (2 ^ bits) (remove (digits (2 ^ bits) long word) at) result }
+{
+    let shift = bits * at as u32;
+    let rest = word >> shift;
+    word - (rest << shift) + (rest >> bits << shift)
 }
 
 /// The word of the row, if none of its numbers has more bits.

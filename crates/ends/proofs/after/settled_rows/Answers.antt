@@ -8,12 +8,12 @@ use Rattle.ends.specs.Tables.{ShownWith, rows_of, with_rows}
 use Rattle.ends.proofs.Settling.{says_without, settles_less}
 use Rattle.ends.proofs.Showing.{end_at, shown_after, shown_first, shown_no_rows, widens_itself, widens_rows}
 use Rattle.ends.proofs.after.settled_rows.Goals as goal
-use Rattle.ends.proofs.after.settled_rows.Goals.{then-fits_in_row+in_ok-read+in_ok-put, else-fits_in_row}
+use Rattle.ends.proofs.after.settled_rows.Goals.{then-fits_in_row+in_ok-put_without, else-fits_in_row}
 
 pub loop-at-init : goal.loop-at-init
 loop-at-init g c once id here ends shown =
-    shown_first (filter (is_other id) c.args.calls.now) (with_rows c.args.table.now c.restart.new.self) (Settles id c.args.answer.now)
-    (shown_no_rows c.args.calls.now (filter (is_other id) c.args.calls.now) c.args.table.now ends shown c.restart.new.self c.restart.ensures)
+    shown_first (filter (is_other id) c.args.calls.now) (with_rows c.args.table.now c.restart_like.new.self) (Settles id c.args.answer.now)
+    (shown_no_rows c.args.calls.now (filter (is_other id) c.args.calls.now) c.args.table.now ends shown c.restart_like.new.self c.restart_like.ensures)
 
 pub loop-at-preserved : goal.loop-at-preserved
 loop-at-preserved g c once id here ends shown =
@@ -21,15 +21,15 @@ loop-at-preserved g c once id here ends shown =
     let row = get_or (rows_of c.args.table.now) c.loop-at.at [] in
     let p = end_at c.args.calls.now c.args.table.now ends shown c.loop-at.at row (slice_get-get_or (rows_of c.args.table.now) c.loop-at.at [] (omega arith)) in
     elim c.if-fits_in_row.branch [
-      | then-fits_in_row+in_ok-read+in_ok-put w ↦
+      | then-fits_in_row+in_ok-put_without w ↦
           subst (λ rows. ShownWith (with_rows c.args.table.now rows) left [] (Along (Settles id c.args.answer.now) (take (c.loop-at.at + 1) ends))) (sym w.rows-is)
-          (shown_after left (with_rows c.args.table.now c.loop-at.rows) (with_rows c.args.table.now c.loop-at.rows) (with_rows c.args.table.now w.put.new.self)
-          (Settles id c.args.answer.now) ends c.loop-at.at p.0 (settled p.0 id) w.deref.result.now p.1
+          (shown_after left (with_rows c.args.table.now c.loop-at.rows) (with_rows c.args.table.now c.loop-at.rows) (with_rows c.args.table.now w.put_without.new.self)
+          (Settles id c.args.answer.now) ends c.loop-at.at p.0 (settled p.0 id) (remove row (c.args.call + 1)) p.1
           (λ f q. ((c.fits_in_row.ensures.fits id p.0 here p.2).0 w.if-fits_in_row.true, q)) (λ f r. r.1)
           (widens_itself _) refl
-          (says_without c.args.table.now.states c.args.table.now.founds c.args.calls.now once c.args.call id here p.0 row w.deref.result.now p.2
-          (w.deref.ensures.value ∙ w.remove-slot.ensures.items ∙ ap (λ (l : List ℕ). remove l (c.args.call + 1)) (sym (get_or_from_slice_get (rows_of c.args.table.now) c.loop-at.at w.read.new.row.items [] w.in_ok-read.ensures))))
-          (widens_rows _ _ refl refl) w.in_ok-put.ensures.put (c.loop-at.invariant once id here ends shown))
+          (says_without c.args.table.now.states c.args.table.now.founds c.args.calls.now once c.args.call id here p.0 row (remove row (c.args.call + 1)) p.2
+          refl)
+          (widens_rows _ _ refl refl) w.in_ok-put_without.ensures.put (c.loop-at.invariant once id here ends shown))
       | else-fits_in_row w ↦
           subst (λ rows. ShownWith (with_rows c.args.table.now rows) left [] (Along (Settles id c.args.answer.now) (take (c.loop-at.at + 1) ends))) (sym w.rows-is)
           (settles_less left (with_rows c.args.table.now c.loop-at.rows) ends id c.args.answer.now c.loop-at.at p.0 p.1

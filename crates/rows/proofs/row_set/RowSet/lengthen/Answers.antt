@@ -3,10 +3,10 @@ use Rattle.rows.proofs.Packing.{longer_rows, packed_longer, shows_words}
 use Rattle.rows.proofs.row_set.RowSet.lengthen.Goals as goal
 
 pub invariant_of-self : goal.invariant_of-self
-invariant_of-self c = packed_longer c.self.inside.bits c.self.inside.long c.self.inside.words.keys c.if-self-gt128.false c.self.invariant
+invariant_of-self c = packed_longer c.self.inside.bits c.self.inside.long c.self.inside.words c.if-self-gt128.false c.self.invariant
 
 pub returns-clause-longer : goal.returns-clause-longer
 returns-clause-longer c _ =
     let i = c.self.inside in
-    shows_words i.wide i.bits (i.long + 1) i.words.keys i.lists.keys c.if-self.false ∙ longer_rows i.bits i.long i.words.keys c.self.invariant.exact
-    ∙ ap (map (λ row. row ++ 0 ∷ [])) (sym (shows_words i.wide i.bits i.long i.words.keys i.lists.keys c.if-self.false) ∙ c.self.view_is)
+    shows_words i.wide i.bits (i.long + 1) i.words i.lists.keys c.if-self.false ∙ longer_rows i.bits i.long i.words c.self.invariant.exact
+    ∙ ap (map (λ row. row ++ 0 ∷ [])) (sym (shows_words i.wide i.bits i.long i.words i.lists.keys c.if-self.false) ∙ c.self.view_is)

@@ -1,4 +1,4 @@
-use Rattle.std.proofs.Common.{◌^◌, [], map, length, get_or, set, sym, ap, ◌∙◌, subst, arith}
+use Rattle.std.proofs.Common.{ℕ, ◌^◌, List, [], map, length, get_or, set, sym, ap, ◌∙◌, subst, OnOk, arith}
 use Rattle.std.proofs.lemmas.List.{length-set}
 use Rattle.std.proofs.lemmas.Option.{get_or_from_slice_get}
 use Rattle.rows.specs.RowSets.{IsPut}
@@ -10,40 +10,40 @@ use Rattle.rows.proofs.row_set.RowSet.put_next.Goals as goal
 pub changed-next-requires-clause-within : goal.changed-next-requires-clause-within
 changed-next-requires-clause-within c =
     let i = c.self.inside in
-    let rows = sym (shows_words i.wide i.bits i.long i.words.keys i.lists.keys c.if-not-self.true) ∙ c.self.view_is in
-    let there = row_there c.args.self.now i.bits i.long c.args.from c.in-Some.word.now i.words.keys rows (sym c.in-Some.ensures.key) in
-    let long = ap length there ∙ length-digits (2 ^ i.bits) i.long c.in-Some.word.now in
+    let rows = sym (shows_words i.wide i.bits i.long i.words i.lists.keys c.if-not-self.true) ∙ c.self.view_is in
+    let there = row_there c.args.self.now i.bits i.long c.args.from c.in-Some.word i.words rows (sym c.in-Some.ensures) in
+    let long = ap length there ∙ length-digits (2 ^ i.bits) i.long c.in-Some.word in
     let within = c.requires.within in
     omega (arith, long, within)
 
 pub changed-next-requires-clause-zero_there : goal.changed-next-requires-clause-zero_there
 changed-next-requires-clause-zero_there c =
     let i = c.self.inside in
-    let rows = sym (shows_words i.wide i.bits i.long i.words.keys i.lists.keys c.if-not-self.true) ∙ c.self.view_is in
-    let there = row_there c.args.self.now i.bits i.long c.args.from c.in-Some.word.now i.words.keys rows (sym c.in-Some.ensures.key) in
+    let rows = sym (shows_words i.wide i.bits i.long i.words i.lists.keys c.if-not-self.true) ∙ c.self.view_is in
+    let there = row_there c.args.self.now i.bits i.long c.args.from c.in-Some.word i.words rows (sym c.in-Some.ensures) in
     ap (λ l. get_or l c.args.at 0) (sym there) ∙ c.requires.zero_there
 
 pub invariant_of-self-then-slot-self-eq0 : goal.invariant_of-self-then-slot-self-eq0
 invariant_of-self-then-slot-self-eq0 c =
     let i = c.self.inside in
-    let row = digits (2 ^ i.bits) i.long c.in-Some.word.now in
+    let row = digits (2 ^ i.bits) i.long c.in-Some.word in
     packed_still i.bits i.long (set (set row 0 c.args.to) c.args.at c.args.slot) c.changed-next.result
-    (length-set (set row 0 c.args.to) c.args.at c.args.slot ∙ length-set row 0 c.args.to ∙ length-digits (2 ^ i.bits) i.long c.in-Some.word.now)
-    c.changed-next.ensures i.words.keys c.insert.new.self.keys c.self.invariant c.in_ok-insert.ensures.keys
+    (length-set (set row 0 c.args.to) c.args.at c.args.slot ∙ length-set row 0 c.args.to ∙ length-digits (2 ^ i.bits) i.long c.in-Some.word)
+    c.changed-next.ensures i.words c.put.new.self c.self.invariant c.in_ok-put.ensures.put
 
 pub returns-then-slot-self-eq0-clause-put : goal.returns-then-slot-self-eq0-clause-put
 returns-then-slot-self-eq0-clause-put c =
     let i = c.self.inside in
-    let row = digits (2 ^ i.bits) i.long c.in-Some.word.now in
-    let rows = sym (shows_words i.wide i.bits i.long i.words.keys i.lists.keys c.if-not-self.true) ∙ c.self.view_is in
-    let there = row_there c.args.self.now i.bits i.long c.args.from c.in-Some.word.now i.words.keys rows (sym c.in-Some.ensures.key) in
-    let after = rows_in i.wide i.bits i.long c.insert.new.self.keys i.lists.keys in
+    let row = digits (2 ^ i.bits) i.long c.in-Some.word in
+    let rows = sym (shows_words i.wide i.bits i.long i.words i.lists.keys c.if-not-self.true) ∙ c.self.view_is in
+    let there = row_there c.args.self.now i.bits i.long c.args.from c.in-Some.word i.words rows (sym c.in-Some.ensures) in
+    let after = rows_in i.wide i.bits i.long c.put.new.self i.lists.keys in
     subst (λ r. IsPut (set (set r 0 c.args.to) c.args.at c.args.slot) c.args.self.now after) (sym there)
     (subst (λ l. IsPut (set (set row 0 c.args.to) c.args.at c.args.slot) l after) rows
-    (subst (IsPut (set (set row 0 c.args.to) c.args.at c.args.slot) (map (digits (2 ^ i.bits) i.long) i.words.keys)) (sym (shows_words i.wide i.bits i.long c.insert.new.self.keys i.lists.keys c.if-not-self.true))
+    (subst (IsPut (set (set row 0 c.args.to) c.args.at c.args.slot) (map (digits (2 ^ i.bits) i.long) i.words)) (sym (shows_words i.wide i.bits i.long c.put.new.self i.lists.keys c.if-not-self.true))
     (put_word i.bits i.long (set (set row 0 c.args.to) c.args.at c.args.slot) c.changed-next.result
-    (length-set (set row 0 c.args.to) c.args.at c.args.slot ∙ length-set row 0 c.args.to ∙ length-digits (2 ^ i.bits) i.long c.in-Some.word.now)
-    c.changed-next.ensures i.words.keys c.insert.new.self.keys c.self.invariant c.in_ok-insert.ensures.keys)))
+    (length-set (set row 0 c.args.to) c.args.at c.args.slot ∙ length-set row 0 c.args.to ∙ length-digits (2 ^ i.bits) i.long c.in-Some.word)
+    c.changed-next.ensures i.words c.put.new.self c.self.invariant c.in_ok-put.ensures.put)))
 
 pub index_mut-requires : goal.index_mut-requires
 index_mut-requires c =
@@ -62,4 +62,4 @@ index_mut-requires-2 c =
 pub returns-clause-put : goal.returns-clause-put
 returns-clause-put c =
     let there = get_or_from_slice_get c.args.self.now c.args.from c.read.new.row.items [] c.in_ok-read.ensures in
-    rw there c.put_wide.ensures.put
+    rw there (subst (λ (r : List ℕ). OnOk c.put-2.result (IsPut r c.args.self.now c.put-2.new.self)) c.deref.ensures.value c.put-2.ensures.put)

@@ -1,0 +1,26 @@
+use Rattle.std.proofs.Common.{◌≤◌, ◌*◌, ◌^◌, map, length, sym, ap, ◌∙◌, subst}
+use Rattle.rows.specs.Words.{digits}
+use Rattle.rows.proofs.Digits.{length-digits}
+use Rattle.rows.proofs.Packing.{listed_more, packed_still, put_word}
+use Rattle.rows.proofs.row_set.repacked.Goals as goal
+
+pub packed-requires-clause-room : goal.packed-requires-clause-room
+packed-requires-clause-room c =
+    let long = ap length (c.deref.ensures.value ∙ c.in_ok-unpack.ensures) ∙ length-digits (2 ^ c.args.bits) c.args.long c.in-Some.word in
+    subst (λ n. c.args.more * n ≤ 128) (sym long) c.requires.room
+
+pub loop-at-preserved : goal.loop-at-preserved
+loop-at-preserved c =
+    let row = c.deref.result.now in
+    let is = c.deref.ensures.value ∙ c.in_ok-unpack.ensures in
+    let long = ap length is ∙ length-digits (2 ^ c.args.bits) c.args.long c.in-Some.word in
+    let wider = c.in-Some-packed.wider in
+    let old = c.loop-at.other in
+    let new = c.put.new.self in
+    let so = c.loop-at.invariant in
+    record {
+      rows = listed_more c.args.bits c.args.long c.args.words.now c.requires.packed c.len-at-end.ensures.apart c.loop-at.at c.in-Some.word (sym c.in-Some.ensures) row is
+          (map (digits (2 ^ c.args.more) c.args.long) old) (map (digits (2 ^ c.args.more) c.args.long) new)
+          (put_word c.args.more c.args.long row wider long c.in-Some-packed.ensures old new so.packed c.in_ok-put-in-Some-packed.ensures.put) so.rows;
+      packed = packed_still c.args.more c.args.long row wider long c.in-Some-packed.ensures old new so.packed c.in_ok-put-in-Some-packed.ensures.put;
+    }

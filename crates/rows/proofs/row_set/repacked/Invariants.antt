@@ -1,0 +1,10 @@
+-- So far the rows are the same.
+use Rattle.std.proofs.Common.{◌≡◌, ◌^◌, map, take}
+use Rattle.rows.specs.Words.{ArePacked, digits}
+use Rattle.rows.proofs.row_set.repacked.Given as goal
+
+abbrev pub invariant-loop-at : goal.invariant-loop-at
+invariant-loop-at l = record {
+  rows : map (digits (2 ^ l.more) l.long) l.other ≡ map (digits (2 ^ l.bits) l.long) (take l.at l.words);
+  packed : ArePacked l.more l.long l.other;
+}

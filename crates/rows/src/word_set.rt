@@ -1,0 +1,127 @@
+//! Words, none twice.
+ghost use Rattle.std.specs.Prelude.{◌≡◌, [], take, length, slice_get, IfOk, OnOk, OnErr};
+ghost use Rattle.std.specs.List.{Contains};
+ghost use Rattle.rows.specs.Index.{AreApart};
+ghost use Rattle.rows.specs.RowSets.{IsPut};
+
+use crate::index::{Index, index_words, put_indexed};
+use std::alloc::{AllocError, Global};
+use std::marker::Model;
+
+// Fewer words are looked through.
+const FEW: usize = 12;
+
+// And so are more, since an index has places of 32 bits.
+const MANY: usize = 2147483584;
+
+/// Words, none twice, in the order in which they were put. Where there are more than a few, an index finds them; it is made
+/// when a word is put.
+#[derive(Drop)]
+pub struct WordSet {
+    words: Vec<u128>,
+    index: Index,
+}
+
+impl Model for WordSet {
+    ghost use Rattle.std.specs.Prelude.{List, ℕ, length};
+    ghost use Rattle.rows.specs.Index.{AreApart, IsIndex, bucket};
+
+    ghost Value = { List ℕ };
+
+    ghost view = { λ s. s.words.items };
+
+    ghost invariant = { λ s. AreApart s.words.items × IsIndex (bucket (length s.index.last.items)) s.words.items s.index.last.items s.index.before.items };
+}
+
+impl WordSet {
+    /// No words.
+    pub fn new(alloc: Global) -> WordSet
+        ensures { result ≡ [] }
+    {
+        WordSet {
+            words: Vec::new(alloc),
+            index: Index {
+                last: Vec::new(alloc),
+                before: Vec::new(alloc),
+            },
+        }
+    }
+
+    /// How many words there are.
+    pub fn len(&self) -> usize
+        ensures len { result ≡ length self.now }
+        ensures apart { AreApart self.now }
+    {
+        self.words.len()
+    }
+
+    /// For how many words there is room.
+    pub fn capacity(&self) -> usize {
+        self.words.capacity()
+    }
+
+    /// The word that stands here.
+    pub fn get(&self, at: usize) -> Option<u128>
+        ensures { result ≡ slice_get self.now at }
+    {
+        self.words.get(at).copied()
+    }
+
+    /// Takes all words out.
+    pub fn clear(&mut self)
+        ensures { self.new ≡ [] }
+    {
+        self.words.clear();
+        self.index.last.clear();
+        self.index.before.clear();
+    }
+
+    /// Leaves so many words, the first ones.
+    pub fn truncate(&mut self, len: usize)
+        ensures { self.new ≡ take len self.old }
+    {
+        if len < self.index.before.len() {
+            self.index.last.clear();
+            self.index.before.clear();
+        }
+        self.words.truncate(len);
+    }
+
+    /// Puts the word with the others, if it is not there.
+    pub fn put(&mut self, word: u128) -> Result<(), AllocError>
+        ensures put { OnOk result (IsPut word self.old self.new) }
+        ensures err { OnErr result (self.new ≡ self.old) }
+    {
+        if self.words.len() < FEW || self.words.len() >= MANY {
+            return self.put_looked_through(word);
+        }
+        index_words(&self.words, &mut self.index)?;
+        put_indexed(&mut self.words, &mut self.index, word)
+    }
+
+    // The same, where all are looked through.
+    fn put_looked_through(&mut self, word: u128) -> Result<(), AllocError>
+        ensures put { OnOk result (IsPut word self.old self.new) }
+        ensures err { OnErr result (self.new ≡ self.old) }
+    {
+        if !self.words.contains(&word) {
+            self.words.push(word)?;
+        }
+        Ok(())
+    }
+
+    /// The same words. They are indexed when one is put.
+    pub fn copied(&self, alloc: Global) -> Result<WordSet, AllocError>
+        ensures { IfOk result (λ words. words ≡ self.now) }
+    {
+        let mut words = Vec::with_capacity(alloc, self.words.len())?;
+        words.extend_from_slice(&self.words)?;
+        Ok(WordSet {
+            words,
+            index: Index {
+                last: Vec::new(alloc),
+                before: Vec::new(alloc),
+            },
+        })
+    }
+}
