@@ -123,6 +123,23 @@ def run_live():
     return faults
 
 
+def run_half_a_line():
+    """Whole lines are answered though half a line stands behind them in one piece, and that one when the rest of it comes."""
+    case = TOP / "tests" / "cases" / "write_then_read"
+    lines, wants = (read(case / name).splitlines(True) for name in ("stdin", "stdout"))
+    half = len(lines[-1]) // 2
+    process = subprocess.Popen([str(PROGRAM)] + words(case), stdin=subprocess.PIPE, stdout=subprocess.PIPE)
+    try:
+        first = ask(process, b"".join(lines[:-1]) + lines[-1][:half])
+        while len(first) < len(b"".join(wants[:-1])) and b"(" not in first:
+            first += ask(process, b"")
+        got = first + ask(process, lines[-1][half:])
+        return [] if got == b"".join(wants) else [f"it answered {got!r} in place of {wants!r}"]
+    finally:
+        process.kill()
+        process.wait()
+
+
 def run_with(stdin, stdout):
     """Runs write_then_read with these streams in place of its own: the status and standard error."""
     ran = subprocess.run([str(PROGRAM), "script"], stdin=stdin, stdout=stdout, stderr=subprocess.PIPE, timeout=60)
@@ -550,7 +567,8 @@ def start_time():
 def all_cases():
     """Each case by its name."""
     cases = [(c.name, lambda c=c: run_case(c)) for c in sorted((TOP / "tests" / "cases").iterdir()) if c.is_dir()]
-    cases += [("replies_are_live", run_live), ("starts_in_milliseconds", run_start),
+    cases += [("replies_are_live", run_live), ("half_a_line_holds_none_back", run_half_a_line),
+              ("starts_in_milliseconds", run_start),
               ("any_cutting", run_any_cutting), ("cut_off_at_each_byte", run_cut_off_at_each_byte),
               ("failing_reader", run_failing_reader),
               ("reader_breaks_off", run_broken_reader), ("failing_writer", run_failing_writer),
