@@ -76,7 +76,7 @@ fn next_event(
 
 // The event that the element spells. By itself, for the prover's sake, since the element is dropped.
 fn spelled_by(alloc: Global, element: Edn) -> Result<Event, Refusal>
-    ensures { IsSpelled (value_of element.entry) result }
+    ensures { IsSpelled (value_of element) result }
 {
     from_edn(alloc, &element)
 }
