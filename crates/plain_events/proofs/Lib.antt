@@ -1,4 +1,0 @@
-pub mod Elements
-pub mod Words
-pub mod Numerals
-pub mod Spelled
