@@ -1,5 +1,5 @@
 -- elements that are taken one after the other
-use Rattle.std.proofs.Common.{◌≡◌, ◌≢◌, ℕ, ◌+◌, ◌⊎◌, inl, inr, ⊎_elim, Bool, Option, Some, None, IfSome, IfOk, OnOk, Result, Ok, Err, String, string_bytes, List, [], ◌∷◌, ◌++◌, take, length, refl, sym, ap, ◌∙◌, subst, arith}
+use Rattle.std.proofs.Common.{◌≡◌, ◌≢◌, ℕ, ◌+◌, ◌⊎◌, inl, inr, ⊎_elim, Bool, Option, Some, None, IfSome, IfOk, IfErr, OnOk, Result, Ok, Err, String, string_bytes, List, [], ◌∷◌, ◌++◌, take, length, refl, sym, ap, ◌∙◌, subst, arith}
 use Rattle.std.specs.Prelude.{codes}
 use Rattle.std.specs.declared.alloc.AllocError.{AllocError}
 use Rattle.std.specs.declared.alloc.Global.{Global}
@@ -37,6 +37,10 @@ at_some {A} P o x is h = subst (λ (w : Option A). IfSome w P) is h
 pub if_ok_so : {X E : Type 0} {P Q : X → Type 0} (r : Result X E) → ((x : X) → P x → Q x) → IfOk r P → IfOk r Q
 if_ok_so (Ok x) so p = so x p
 if_ok_so (Err e) so p = tt
+
+pub if_err_so : {X E : Type 0} {P Q : E → Type 0} (r : Result X E) → ((e : E) → P e → Q e) → IfErr r P → IfErr r Q
+if_err_so (Ok x) so p = tt
+if_err_so (Err e) so p = so e p
 
 -- the line of want of memory, spelled out
 thirteen : decimal 13 ≡ 49 ∷ 51 ∷ []

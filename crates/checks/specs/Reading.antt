@@ -1,13 +1,24 @@
 -- Invariant: the events that are read of a text, into a history of c threads
-use Rattle.std.specs.Prelude.{◌≡◌, ℕ, ◌⊎◌, Option, Some, None, List, [], ◌∷◌, ◌++◌}
+use Rattle.std.specs.Prelude.{◌≡◌, ℕ, ◌<◌, ◌⊎◌, Option, Some, None, Result, Ok, Err, List, [], ◌∷◌, ◌++◌, length}
 use Rattle.edn.specs.Value.{Value, Values, none, more, joined}
 use Rattle.edn.specs.Text.{IsText}
-use Rattle.edn.specs.Elements.{count_of}
+use Rattle.edn.specs.Elements.{Reading as ReadingText, IsLeftBehind, count_of}
 use Rattle.edn.specs.declared.refusal.Refusal.{Refusal}
 use Rattle.edn.specs.declared.refusal.Refusal.TheVariants.{BadValue}
 use Rattle.history.specs.declared.event.Event.{Event}
-use Rattle.history.specs.Spelling.{Spells}
+use Rattle.history.specs.Spelling.{Spells, WhyUnspelled}
 use Rattle.history.specs.WellFormed.{IsWellFormed, Refuses}
+
+-- the element spells this event, or none for this
+abbrev pub IsSpelled : Value → Result Event Refusal → Type 0
+IsSpelled v (Ok event) = Spells v event
+IsSpelled v (Err why) = WhyUnspelled v why
+
+-- in a text that is read, an element of this value stood next, and is passed over
+abbrev pub PassesOver : ReadingText → Value → ReadingText → Type 0
+PassesOver old v new =
+    ((given : Values) → IsLeftBehind old.bytes given old.left → IsLeftBehind old.bytes (joined given (more v none)) new.left)
+    × (length new.left < length old.left)
 
 -- the element spells an event that may come next: with it the events are the new ones
 abbrev pub PushesElement : ℕ → List Event → Value → List Event → Type 0

@@ -1,15 +1,16 @@
 //! The events of a recorded history, as they are read.
-ghost use Rattle.std.specs.Prelude.{◌≡◌, ◌≢◌, Some, IfOk, IfErr, OnOk, OnErr};
-ghost use Rattle.edn.specs.Value.{Values};
+ghost use Rattle.std.specs.Prelude.{◌≡◌, ◌≢◌, ◌<◌, Some, length, IfOk, IfErr, IfSome, IfNone, OnOk, OnErr};
+ghost use Rattle.edn.specs.Value.{Value, Values, none, more, joined};
 ghost use Rattle.edn.specs.Text.{IsText};
 ghost use Rattle.edn.specs.Elements.{IsLeftBehind};
 ghost use Rattle.edn.specs.Refusals.{IsWhy};
 ghost use Rattle.edn.specs.View.{value_of};
-ghost use Rattle.checks.specs.Reading.{PushesElement, RefusesNext, IsRead};
+ghost use Rattle.checks.specs.Reading.{IsSpelled, PassesOver, PushesElement, RefusesNext, IsRead};
 
 use edn::{Edn, Elements, Refusal};
-use history::{History, from_edn};
+use history::{Event, History, from_edn};
 use onlookers::Onlooker;
+use plain_events::plain_event;
 use std::alloc::Global;
 
 /// Pushes the events that the elements of a text spell, in turn, up to the first that is refused: it is given where there is
@@ -35,11 +36,11 @@ pub(crate) fn read_events<L: Onlooker>(
     let mut elements = Elements::new(bytes);
     let mut pushed: usize = 0;
     'elements: loop {
-        let element = match elements.next(alloc)? {
-            Some(element) => element,
+        let spelled = match next_event(alloc, &mut elements)? {
+            Some(spelled) => spelled,
             None => return Ok(None),
         };
-        match push_element(alloc, history, element) {
+        match push_spelled(history, spelled) {
             Ok(()) => {
                 pushed += 1;
                 onlooker.taken(pushed);
@@ -49,16 +50,47 @@ pub(crate) fn read_events<L: Onlooker>(
     }
 }
 
-// Pushes the event that the element spells.
-fn push_element(alloc: Global, history: &mut History, element: Edn) -> Result<(), Refusal>
-    ensures pushed { OnOk result (PushesElement history.old.concurrency history.old.events
-        (value_of element) history.new.events) }
-    ensures refused { IfErr result (λ why. why ≢ Refusal.NoMemory
-        → RefusesNext history.old.concurrency history.old.events (value_of element) why) }
+// The event that the next element of a text spells, or why it spells none; or none at the end of the text. No element is made
+// of an event that is spelled plainly.
+fn next_event(
+    alloc: Global,
+    elements: &mut Elements,
+) -> Result<Option<Result<Event, Refusal>>, Refusal>
+    ensures bytes { elements.new.bytes ≡ elements.old.bytes }
+    ensures given { IfOk result (λ found. IfSome found (λ spelled. (v : Value) × IsSpelled v spelled
+        × PassesOver elements.old v elements.new)) }
+    ensures end { IfOk result (λ found. IfNone found ((given : Values)
+        → IsLeftBehind elements.old.bytes given elements.old.left
+        → IsText elements.old.bytes given)) }
+    ensures refused { IfErr result (λ why. IsWhy elements.old.bytes why) }
+{
+    if let Some((event, rest)) = plain_event(elements.left()) {
+        elements.pass_to(rest);
+        return Ok(Some(Ok(event)));
+    }
+    match elements.next(alloc)? {
+        Some(element) => Ok(Some(spelled_by(alloc, element))),
+        None => Ok(None),
+    }
+}
+
+// The event that the element spells. By itself, for the prover's sake, since the element is dropped.
+fn spelled_by(alloc: Global, element: Edn) -> Result<Event, Refusal>
+    ensures { IsSpelled (value_of element) result }
+{
+    from_edn(alloc, &element)
+}
+
+// Pushes the event that an element spells, or says why it spells none.
+fn push_spelled(history: &mut History, spelled: Result<Event, Refusal>) -> Result<(), Refusal>
+    ensures pushed { OnOk result ((v : Value) → IsSpelled v spelled
+        → PushesElement history.old.concurrency history.old.events v history.new.events) }
+    ensures refused { IfErr result (λ why. why ≢ Refusal.NoMemory → (v : Value) → IsSpelled v spelled
+        → RefusesNext history.old.concurrency history.old.events v why) }
     ensures err { OnErr result (history.new.events ≡ history.old.events) }
     ensures concurrency { history.new.concurrency ≡ history.old.concurrency }
 {
-    let event = from_edn(alloc, &element)?;
+    let event = spelled?;
     history.push(event)
 }
 

@@ -1,7 +1,7 @@
 -- Promise: a text of which elements are given one after the other
 use Rattle.std.specs.Prelude.{◌≡◌, ℕ, ◌+◌, List}
-use Rattle.edn.specs.Value.{Values, none, more, joined}
-use Rattle.edn.specs.Text.{IsText}
+use Rattle.edn.specs.Value.{Value, Values, none, more, joined}
+use Rattle.edn.specs.Text.{SkipsGap, Reads, IsText}
 
 -- the whole input, and what is left of it behind the elements that were given
 pub record Reading : Type 0 where
@@ -12,6 +12,10 @@ pub record Reading : Type 0 where
 pub record IsLeftBehind (bytes : List ℕ) (given : Values) (left : List ℕ) : Type 0 where
   pub sound : (values : Values) → IsText left values → IsText bytes (joined given values)
   pub complete : (values : Values) → IsText bytes values → (others : Values) × (values ≡ joined given others) × IsText left others
+
+-- behind a gap at the front of the text an element of this value stands, and rest follows it
+abbrev pub IsNextAt : List ℕ → Value → List ℕ → Type 0
+IsNextAt text v rest = (u : List ℕ) × SkipsGap 0 text u × Reads 0 u v rest
 
 abbrev pub count_of : Values → ℕ
 count_of none = 0

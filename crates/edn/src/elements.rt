@@ -1,9 +1,9 @@
 //! The elements of a text, one after the other.
 
 ghost use Rattle.std.specs.Prelude.{◌≡◌, ◌<◌, [], length, option_map, IfOk, IfErr, IfSome, IfNone, OnErr};
-ghost use Rattle.edn.specs.Value.{Values, none, more, joined};
+ghost use Rattle.edn.specs.Value.{Value, Values, none, more, joined};
 ghost use Rattle.edn.specs.Text.{IsText};
-ghost use Rattle.edn.specs.Elements.{Reading, IsLeftBehind, count_of};
+ghost use Rattle.edn.specs.Elements.{Reading, IsLeftBehind, IsNextAt, count_of};
 ghost use Rattle.edn.specs.Reading.{FindsNext};
 ghost use Rattle.edn.specs.Refusals.{IsWhy};
 ghost use Rattle.edn.specs.View.{value_of};
@@ -66,6 +66,27 @@ impl<'a> Elements<'a> {
         let (found, left) = found_in(alloc, self.bytes, self.rest)?;
         self.rest = left;
         Ok(found)
+    }
+
+    /// What stands behind the elements that were given: the gap in front of the next one, that element, and so on.
+    pub fn left(&self) -> &'a [u8]
+        ensures { result.now ≡ self.now.left }
+    {
+        self.rest
+    }
+
+    /// Passes over the next element, which the caller has read at the front of [`left`](Elements::left) by itself: rest
+    /// follows it.
+    pub fn pass_to(&mut self, rest: &'a [u8])
+        requires { (v : Value) × IsNextAt self.old.left v rest.now }
+        ensures bytes { self.new.bytes ≡ self.old.bytes }
+        ensures left { self.new.left ≡ rest.now }
+        ensures given { (v : Value) → IsNextAt self.old.left v rest.now → (given : Values)
+            → IsLeftBehind self.old.bytes given self.old.left
+            → IsLeftBehind self.old.bytes (joined given (more v none)) rest.now }
+        ensures shorter { length rest.now < length self.old.left }
+    {
+        self.rest = rest;
     }
 }
 

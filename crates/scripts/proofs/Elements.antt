@@ -93,6 +93,11 @@ appended (keyword s) asked is appends = appends
 appended (pairs ps) asked is appends = appends
 appended (members vs) asked is appends = appends
 
+-- an element that spells an event is a map
+pub spelled_asks : (v : Value) (event : Event) → Spells v event → ElementAsks v (Ok (Append event))
+spelled_asks (pairs ps) event spells = spells
+spelled_asks _ event spells = absurd spells.head.1
+
 pub appends : (v : Value) (event : Event) → elements_in v ≡ None → Spells v event → ElementAsks v (Ok (Append event))
 appends v event is spells = appended v (Ok (Append event)) is spells
 

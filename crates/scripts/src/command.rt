@@ -6,6 +6,7 @@ ghost use Rattle.scripts.specs.Command.{verdict_by, rewind_by, rewind_to, model_
 use edn::{Edn, Refusal};
 use harness::Command;
 use models::{Key, ModelKind};
+use plain_events::plain_line;
 use std::alloc::Global;
 
 /// Reads a line as a command, or as nothing where it has no element. A map spells an event to append; `[:verdict]` asks for
@@ -20,6 +21,9 @@ use std::alloc::Global;
 pub fn read_command(alloc: Global, line: &[u8]) -> Result<Option<Command>, Refusal>
     ensures { result ≢ Err Refusal.NoMemory → Asks line.now result }
 {
+    if let Some(event) = plain_line(line) {
+        return Ok(Some(Command::Append(event)));
+    }
     let elements = edn::read_all(alloc, line)?;
     asked_by(alloc, elements.as_slice())
 }

@@ -1,0 +1,4 @@
+pub mod Elements
+pub mod Words
+pub mod Numerals
+pub mod Spelled

@@ -1,0 +1,25 @@
+-- What calls of the functions below give, as what their callers give
+use Rattle.std.proofs.Common.{◌≡◌, ℕ, List, ◌∷◌, ◌++◌, Option, Some, None, Bor, IfSome, sym, subst, IsTrue}
+use Rattle.edn.specs.Value.{Value, keyword}
+use Rattle.edn.specs.Bytes.{ends_atom, MayFollowAtom, IsKeywordText}
+use Rattle.edn.specs.Text.{SkipsGap}
+use Rattle.plain_events.specs.Fronts.{IsWordAt, IsAtomAt, IsPairAt}
+use Rattle.plain_events.proofs.Elements.{keyword_at}
+
+pub may_follow : (text : List ℕ) (b : ℕ) (rest : List ℕ) → text ≡ b ∷ rest → IsTrue (ends_atom b) → MayFollowAtom text
+may_follow text b rest e on = subst MayFollowAtom (sym e) on
+
+pub word_from : (text word behind : List ℕ) (r : Option (Bor (List ℕ))) → text ≡ word ++ behind → IfSome r (λ rest. MayFollowAtom behind) → IfSome r (λ rest. (d : ℕ) → SkipsGap d behind rest.now)
+    → IfSome r (λ rest. IsWordAt text word rest.now)
+word_from text word behind None e m g = tt
+word_from text word behind (Some x) e m g = record { behind = behind; cut = e; ends = m; gap = g }
+
+pub keyword_from : (text inner name bytes : List ℕ) (r : Option (Bor (List ℕ))) → text ≡ 58 ∷ inner → bytes ≡ name → IsKeywordText name → IfSome r (λ rest. IsWordAt inner bytes rest.now)
+    → IfSome r (λ rest. IsAtomAt text (keyword name) rest.now)
+keyword_from text inner name bytes None e same k w = tt
+keyword_from text inner name bytes (Some x) e same k w = keyword_at e k (subst (λ l. IsWordAt inner l x.now) same w)
+
+pub pair_from : {X : Type 0} (V : X → Value) (text value name : List ℕ) (r : Option (X × Bor (List ℕ))) → IsAtomAt text (keyword name) value → IfSome r (λ x. IsAtomAt value (V x.0) x.1.now)
+    → IfSome r (λ x. IsPairAt text name (V x.0) x.1.now)
+pair_from V text value name None k h = tt
+pair_from V text value name (Some x) k h = record { behind = value; key = k 1; value = h 1 }

@@ -1,0 +1,9 @@
+use Rattle.std.proofs.Common.{codes}
+use Rattle.edn.specs.Value.{keyword}
+use Rattle.history.specs.declared.event.EventKind.{EventKind}
+use Rattle.history.specs.Spelling.{text_of_kind}
+use Rattle.plain_events.proofs.Words.{pair_from}
+use Rattle.plain_events.proofs.event.kind_pair.Goals as goal
+
+pub returns : goal.returns
+returns c = pair_from (λ (k : EventKind). keyword (text_of_kind k)) _ _ (codes "type") c.kind_at.result c.in_ok-value.ensures c.kind_at.ensures

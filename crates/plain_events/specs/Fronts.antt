@@ -1,0 +1,79 @@
+-- Invariant: what stands at the front of a text, with the gap behind it, for the functions behind `plain_event`
+use Rattle.std.specs.Prelude.{◌≡◌, ℕ, ◌<◌, ◌≤◌, ◌^◌, ℤ, Option, Some, None, List, ◌∷◌, ◌++◌, codes}
+use Rattle.std.specs.Str.Parse.{digits_value}
+use Rattle.edn.specs.Value.{Value, int, keyword}
+use Rattle.edn.specs.Bytes.{MayFollowAtom, IsNumeral}
+use Rattle.edn.specs.Text.{SkipsGap, Reads}
+use Rattle.models.specs.declared.operation.Part.{Part}
+use Rattle.history.specs.EventMap.{number}
+use Rattle.history.specs.Spelling.{SpellsPart, SpellsKeyed}
+
+-- the text begins with these bytes, behind which an atom may end, and rest follows them and a gap
+pub record IsWordAt (text bytes rest : List ℕ) : Type 0 where
+  pub behind : List ℕ
+  pub cut : text ≡ bytes ++ behind
+  pub ends : MayFollowAtom behind
+  pub gap : (d : ℕ) → SkipsGap d behind rest
+
+-- the same of one byte, behind which anything may stand
+pub record IsByteAt (text : List ℕ) (byte : ℕ) (rest : List ℕ) : Type 0 where
+  pub behind : List ℕ
+  pub cut : text ≡ byte ∷ behind
+  pub gap : (d : ℕ) → SkipsGap d behind rest
+
+-- the text begins with an element, and rest follows it and a gap, while d collections are open
+pub record IsElementAt (d : ℕ) (text : List ℕ) (v : Value) (rest : List ℕ) : Type 0 where
+  pub behind : List ℕ
+  pub element : Reads d text v behind
+  pub gap : SkipsGap d behind rest
+
+-- an atom is one however many are open
+abbrev pub IsAtomAt : List ℕ → Value → List ℕ → Type 0
+IsAtomAt text v rest = (d : ℕ) → IsElementAt d text v rest
+
+-- the text begins with digits that write n, which are 18 at most
+pub record BeginsNumeral (text : List ℕ) (n : ℕ) (rest : List ℕ) : Type 0 where
+  pub digits : List ℕ
+  pub cut : text ≡ digits ++ rest
+  pub shape : IsNumeral digits
+  pub writes : digits_value 10 digits ≡ n
+  pub small : n ≤ 999999999999999999
+
+-- and these are a whole word
+pub record IsNumeralAt (text : List ℕ) (n : ℕ) (rest : List ℕ) : Type 0 where
+  pub digits : List ℕ
+  pub word : IsWordAt text digits rest
+  pub shape : IsNumeral digits
+  pub writes : digits_value 10 digits ≡ n
+  pub small : n ≤ 999999999999999999
+
+-- a pair of a map: its key, a keyword, and its value
+pub record IsPairAt (text name : List ℕ) (v : Value) (rest : List ℕ) : Type 0 where
+  pub behind : List ℕ
+  pub key : IsElementAt 1 text (keyword name) behind
+  pub value : IsElementAt 1 behind v rest
+
+-- the pair of an index, or nothing
+abbrev pub IsIndexAt : List ℕ → Option ℕ → List ℕ → Type 0
+IsIndexAt text (Some n) rest = IsPairAt text (codes "index") (number n) rest × (n < 2 ^ 32)
+IsIndexAt text None rest = text ≡ rest
+
+-- two integers, and the bracket that closes a vector, with the gap behind it
+pub record AreTwoAt (text : List ℕ) (a b : ℤ) (rest : List ℕ) : Type 0 where
+  pub second : List ℕ
+  pub closing : List ℕ
+  pub first : IsAtomAt text (int a) second
+  pub then : IsAtomAt second (int b) closing
+  pub end : IsByteAt closing 93 rest
+
+-- an element of a vector in a map, which spells the part
+pub record IsPartAt (text : List ℕ) (part : Part) (rest : List ℕ) : Type 0 where
+  pub value : Value
+  pub element : IsElementAt 2 text value rest
+  pub spells : SpellsPart value part
+
+-- the pair of a vector of a key and a part
+pub record IsValueAt (text : List ℕ) (key : ℕ) (part : Part) (rest : List ℕ) : Type 0 where
+  pub value : Value
+  pub pair : IsPairAt text (codes "value") value rest
+  pub spells : SpellsKeyed value key part

@@ -1,0 +1,15 @@
+-- Promise: the event that a text begins with, and the one that is all of a line
+use Rattle.std.specs.Prelude.{ℕ, List}
+use Rattle.edn.specs.Value.{Value, none, more}
+use Rattle.edn.specs.Text.{IsText}
+use Rattle.edn.specs.Elements.{IsNextAt}
+use Rattle.history.specs.declared.event.Event.{Event}
+use Rattle.history.specs.Spelling.{Spells}
+
+-- behind a gap an element stands that spells the event, and rest follows it
+abbrev pub BeginsWith : List ℕ → Event → List ℕ → Type 0
+BeginsWith text event rest = (v : Value) × IsNextAt text v rest × Spells v event
+
+-- the line is a text of one element, which spells the event
+abbrev pub IsLineOf : List ℕ → Event → Type 0
+IsLineOf line event = (v : Value) × IsText line (more v none) × Spells v event

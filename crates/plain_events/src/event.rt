@@ -1,0 +1,145 @@
+//! Events that are spelled plainly.
+ghost use Rattle.std.specs.Prelude.{◌<◌, ◌^◌, codes, IsTrue, IfSome};
+ghost use Rattle.edn.specs.Value.{keyword};
+ghost use Rattle.history.specs.Spelling.{text_of_kind};
+ghost use Rattle.history.specs.EventMap.{number};
+ghost use Rattle.history.specs.WellFormed.{IsPart, IsOkPart, IsPartOf};
+ghost use Rattle.plain_events.specs.Plain.{BeginsWith, IsLineOf};
+ghost use Rattle.plain_events.specs.Fronts.{IsAtomAt, IsPairAt, IsIndexAt};
+
+use crate::numbers::number;
+use crate::operation::{name_pair, value_pair};
+use crate::word::{past_byte, past_keyword, past_white};
+use history::{Body, Event, EventKind, Process};
+use models::{Name, Op, Part, each_name};
+
+// The pair of `:index` and a number, where it is there.
+fn index_pair(text: &[u8]) -> Option<(Option<u32>, &[u8])>
+    ensures { IfSome result (λ x. IsIndexAt text.now x.0 x.1.now) }
+{
+    let Some(value) = past_keyword(text, "index") else {
+        return Some((None, text));
+    };
+    let (index, rest) = number(value)?;
+    Some((Some(index), rest))
+}
+
+// What happens to the operation.
+fn kind_at(text: &[u8]) -> Option<(EventKind, &[u8])>
+    ensures { IfSome result (λ x. IsAtomAt text.now (keyword (text_of_kind x.0)) x.1.now) }
+{
+    if let Some(rest) = past_keyword(text, "invoke") {
+        return Some((EventKind::Invoke, rest));
+    }
+    if let Some(rest) = past_keyword(text, "ok") {
+        return Some((EventKind::Ok, rest));
+    }
+    if let Some(rest) = past_keyword(text, "fail") {
+        return Some((EventKind::Fail, rest));
+    }
+    let rest = past_keyword(text, "info")?;
+    Some((EventKind::Info, rest))
+}
+
+// The pair of `:type` and what happens to the operation.
+fn kind_pair(text: &[u8]) -> Option<(EventKind, &[u8])>
+    ensures { IfSome result
+        (λ x. IsPairAt text.now (codes "type") (keyword (text_of_kind x.0)) x.1.now) }
+{
+    let value = past_keyword(text, "type")?;
+    kind_at(value)
+}
+
+// The pair of `:process` and the number of a client's.
+fn process_pair(text: &[u8]) -> Option<(u32, &[u8])>
+    ensures pair { IfSome result
+        (λ x. IsPairAt text.now (codes "process") (number x.0) x.1.now) }
+    ensures below { IfSome result (λ x. x.0 < 2 ^ 32) }
+{
+    let value = past_keyword(text, "process")?;
+    number(value)
+}
+
+macro_rules! is_invoked {
+    ($name:expr, $part:expr; $($N:ident $text:literal $P:ident $how:ident [$($A:ident)*]),*) => {
+        match $name {
+            $(Name::$N => matches!($part, Part::$P { .. }),)*
+        }
+    };
+}
+
+macro_rules! is_answer {
+    ($name:expr, $part:expr; $($N:ident $text:literal $P:ident $how:ident [$($A:ident)*]),*) => {
+        match $name {
+            $(Name::$N => matches!($part, $(Part::$A { .. })|*),)*
+        }
+    };
+}
+
+// Whether the part is one of an invocation, a fail or an info of this name.
+fn is_part(name: Name, part: &Part) -> bool
+    ensures { IsTrue result → IsPart name part.now }
+{
+    each_name!(is_invoked; name, part)
+}
+
+// Whether the part is one of an ok of this name.
+fn is_ok_part(name: Name, part: &Part) -> bool
+    ensures { IsTrue result → IsOkPart name part.now }
+{
+    each_name!(is_answer; name, part)
+}
+
+// Whether the part is one that an event of this kind and name may have.
+fn is_part_of(kind: EventKind, name: Name, part: &Part) -> bool
+    ensures { IsTrue result → IsPartOf kind name part.now }
+{
+    match kind {
+        EventKind::Ok => is_ok_part(name, part),
+        _ => is_part(name, part),
+    }
+}
+
+/// The event of a client that is spelled plainly at the front, behind any white space, and what follows it; or none, which
+/// says nothing. Takes no memory.
+///
+/// The time is that of one pass over the event.
+pub fn plain_event(text: &[u8]) -> Option<(Event, &[u8])>
+    ensures { IfSome result (λ x. BeginsWith text.now x.0 x.1.now) }
+{
+    let inner = past_byte(past_white(text), b'{')?;
+    let (index, rest) = index_pair(inner)?;
+    let (kind, rest) = kind_pair(rest)?;
+    let (process, rest) = process_pair(rest)?;
+    let (name, rest) = name_pair(rest)?;
+    let (key, part, rest) = value_pair(rest)?;
+    let (last, rest) = rest.split_first()?;
+    if *last != b'}' {
+        return None;
+    }
+    if !is_part_of(kind, name, &part) {
+        return None;
+    }
+    let event = Event {
+        index,
+        kind,
+        process: Process::Client(process),
+        body: Body::Op(Op { name, key, part }),
+    };
+    Some((event, rest))
+}
+
+/// The event of a client that a line spells plainly, with white space alone around it; or none, which says nothing. Takes
+/// no memory.
+///
+/// The time is that of one pass over the line.
+pub fn plain_line(line: &[u8]) -> Option<Event>
+    ensures { IfSome result (λ event. IsLineOf line.now event) }
+{
+    let (event, rest) = plain_event(line)?;
+    if past_white(rest).is_empty() {
+        Some(event)
+    } else {
+        None
+    }
+}

@@ -1,0 +1,96 @@
+//! Integers of at most 18 digits.
+ghost use Rattle.std.specs.Prelude.{◌≡◌, ◌<◌, ◌≤◌, ◌^◌, pos, neg_ℤ, IfSome};
+ghost use Rattle.edn.specs.Value.{int};
+ghost use Rattle.edn.specs.Bytes.{is_digit};
+ghost use Rattle.edn.specs.Longest.{TakesDigit};
+ghost use Rattle.history.specs.EventMap.{number};
+ghost use Rattle.plain_events.specs.Fronts.{IsAtomAt, BeginsNumeral, IsNumeralAt};
+
+use crate::word::past_end;
+
+// The greatest number of 18 digits.
+const MOST: u64 = 999_999_999_999_999_999;
+
+fn is_digit(b: u8) -> bool
+    ensures { result ≡ is_digit b }
+{
+    b.is_ascii_digit()
+}
+
+// The number with the digit at the front added to it, and what follows that digit.
+fn with_digit(value: u64, text: &[u8]) -> Option<(u64, &[u8])>
+    ensures { IfSome result
+        (λ x. TakesDigit 999999999999999999 value text.now x.0 x.1.now) }
+{
+    let (first, rest) = text.split_first()?;
+    if !is_digit(*first) {
+        return None;
+    }
+    if value > MOST / 10 {
+        return None;
+    }
+    let digit = u64::from(*first - b'0');
+    Some((10 * value + digit, rest))
+}
+
+// The number of the digits at the front, and what follows them.
+fn digits(text: &[u8]) -> Option<(u64, &[u8])>
+    ensures { IfSome result (λ x. BeginsNumeral text.now x.0 x.1.now) }
+{
+    let (first, behind) = text.split_first()?;
+    if *first == b'0' {
+        return Some((0, behind));
+    }
+    let (mut value, mut rest) = with_digit(0, text)?;
+    while let Some((more, next)) = with_digit(value, rest) {
+        value = more;
+        rest = next;
+    }
+    Some((value, rest))
+}
+
+// The number of a whole numeral, and what follows it and the white space behind it.
+fn numeral(text: &[u8]) -> Option<(u64, &[u8])>
+    ensures { IfSome result (λ x. IsNumeralAt text.now x.0 x.1.now) }
+{
+    let (value, behind) = digits(text)?;
+    let rest = past_end(behind)?;
+    Some((value, rest))
+}
+
+fn plain(size: u64) -> i64
+    requires { size ≤ 999999999999999999 }
+    ensures { result ≡ pos size }
+{
+    size as i64
+}
+
+fn negated(size: u64) -> i64
+    requires { size ≤ 999999999999999999 }
+    ensures { result ≡ neg_ℤ (pos size) }
+{
+    -(size as i64)
+}
+
+/// An integer, and what follows it and the white space behind it.
+pub fn integer(text: &[u8]) -> Option<(i64, &[u8])>
+    ensures { IfSome result (λ x. IsAtomAt text.now (int x.0) x.1.now) }
+{
+    let (first, inner) = text.split_first()?;
+    if *first == b'-' {
+        let (size, rest) = numeral(inner)?;
+        return Some((negated(size), rest));
+    }
+    let (size, rest) = numeral(text)?;
+    Some((plain(size), rest))
+}
+
+/// A number of 32 bits, and what follows it and the white space behind it.
+pub fn number(text: &[u8]) -> Option<(u32, &[u8])>
+    ensures atom { IfSome result (λ x. IsAtomAt text.now (number x.0) x.1.now) }
+    ensures below { IfSome result (λ x. x.0 < 2 ^ 32) }
+{
+    let (size, rest) = numeral(text)?;
+    let small = u32::try_from(size).ok()?;
+    Some((small, rest))
+}

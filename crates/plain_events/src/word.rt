@@ -1,0 +1,78 @@
+//! Words, and the gaps of white space behind them.
+ghost use Rattle.std.specs.Prelude.{◌≡◌, ℕ, IfSome};
+ghost use Rattle.edn.specs.Value.{keyword};
+ghost use Rattle.edn.specs.Bytes.{is_white, ends_atom, MayFollowAtom, IsKeywordText};
+ghost use Rattle.edn.specs.Text.{SkipsGap};
+ghost use Rattle.plain_events.specs.Fronts.{IsWordAt, IsByteAt, IsAtomAt};
+
+fn is_white(b: u8) -> bool
+    ensures { result ≡ is_white b }
+{
+    matches!(b, b' ' | b'\t' | b'\n' | b'\r' | b',')
+}
+
+fn ends_atom(b: u8) -> bool
+    ensures { result ≡ ends_atom b }
+{
+    matches!(
+        b,
+        b' ' | b'\t' | b'\n' | b'\r' | b',' | b';' | b'"' | b'[' | b']' | b'{' | b'}'
+    )
+}
+
+/// What follows the white space at the front.
+pub fn past_white(text: &[u8]) -> &[u8]
+    ensures { (d : ℕ) → SkipsGap d text.now result.now }
+{
+    let mut rest = text;
+    while let Some((first, behind)) = rest.split_first() {
+        if !is_white(*first) {
+            break;
+        }
+        rest = behind;
+    }
+    rest
+}
+
+/// What follows the white space at the front, where an atom may end in front of it.
+pub fn past_end(text: &[u8]) -> Option<&[u8]>
+    ensures ends { IfSome result (λ rest. MayFollowAtom text.now) }
+    ensures gap { IfSome result (λ rest. (d : ℕ) → SkipsGap d text.now rest.now) }
+{
+    let (first, _) = text.split_first()?;
+    if !ends_atom(*first) {
+        return None;
+    }
+    Some(past_white(text))
+}
+
+/// What follows a whole word of these bytes, and the white space behind it.
+pub fn past_word<'a>(text: &'a [u8], word: &[u8]) -> Option<&'a [u8]>
+    ensures { IfSome result (λ rest. IsWordAt text.now word.now rest.now) }
+{
+    let behind = text.strip_prefix(word)?;
+    past_end(behind)
+}
+
+/// What follows this byte, and the white space behind it.
+pub fn past_byte(text: &[u8], byte: u8) -> Option<&[u8]>
+    ensures { IfSome result (λ rest. IsByteAt text.now byte rest.now) }
+{
+    let (first, behind) = text.split_first()?;
+    if *first != byte {
+        return None;
+    }
+    Some(past_white(behind))
+}
+
+/// What follows the keyword of this name, and the white space behind it.
+pub fn past_keyword<'a>(text: &'a [u8], name: &str) -> Option<&'a [u8]>
+    requires { IsKeywordText name.now }
+    ensures { IfSome result (λ rest. IsAtomAt text.now (keyword name.now) rest.now) }
+{
+    let (first, inner) = text.split_first()?;
+    if *first != b':' {
+        return None;
+    }
+    past_word(inner, name.as_bytes())
+}
