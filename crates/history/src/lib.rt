@@ -13,6 +13,7 @@ mod history;
 mod laws;
 mod spelling;
 
+pub use allowed::is_part_of;
 pub use event::{Body, Event, EventKind, Fault, Process};
 pub use groups::Groups;
 pub use history::History;

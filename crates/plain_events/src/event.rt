@@ -1,17 +1,16 @@
 //! Events that are spelled plainly.
-ghost use Rattle.std.specs.Prelude.{◌<◌, ◌^◌, codes, IsTrue, IfSome};
+ghost use Rattle.std.specs.Prelude.{◌<◌, ◌^◌, codes, IfSome};
 ghost use Rattle.edn.specs.Value.{keyword};
 ghost use Rattle.history.specs.Spelling.{text_of_kind};
 ghost use Rattle.history.specs.EventMap.{number};
-ghost use Rattle.history.specs.WellFormed.{IsPart, IsOkPart, IsPartOf};
 ghost use Rattle.plain_events.specs.Plain.{BeginsWith, IsLineOf};
 ghost use Rattle.plain_events.specs.Fronts.{IsAtomAt, IsPairAt, IsIndexAt};
 
 use crate::numbers::number;
 use crate::operation::{name_pair, value_pair};
 use crate::word::{past_byte, past_keyword, past_white};
-use history::{Body, Event, EventKind, Process};
-use models::{Name, Op, Part, each_name};
+use history::{Body, Event, EventKind, Process, is_part_of};
+use models::Op;
 
 // The pair of `:index` and a number, where it is there.
 fn index_pair(text: &[u8]) -> Option<(Option<u32>, &[u8])>
@@ -58,46 +57,6 @@ fn process_pair(text: &[u8]) -> Option<(u32, &[u8])>
 {
     let value = past_keyword(text, "process")?;
     number(value)
-}
-
-macro_rules! is_invoked {
-    ($name:expr, $part:expr; $($N:ident $text:literal $P:ident $how:ident [$($A:ident)*]),*) => {
-        match $name {
-            $(Name::$N => matches!($part, Part::$P { .. }),)*
-        }
-    };
-}
-
-macro_rules! is_answer {
-    ($name:expr, $part:expr; $($N:ident $text:literal $P:ident $how:ident [$($A:ident)*]),*) => {
-        match $name {
-            $(Name::$N => matches!($part, $(Part::$A { .. })|*),)*
-        }
-    };
-}
-
-// Whether the part is one of an invocation, a fail or an info of this name.
-fn is_part(name: Name, part: &Part) -> bool
-    ensures { IsTrue result → IsPart name part.now }
-{
-    each_name!(is_invoked; name, part)
-}
-
-// Whether the part is one of an ok of this name.
-fn is_ok_part(name: Name, part: &Part) -> bool
-    ensures { IsTrue result → IsOkPart name part.now }
-{
-    each_name!(is_answer; name, part)
-}
-
-// Whether the part is one that an event of this kind and name may have.
-fn is_part_of(kind: EventKind, name: Name, part: &Part) -> bool
-    ensures { IsTrue result → IsPartOf kind name part.now }
-{
-    match kind {
-        EventKind::Ok => is_ok_part(name, part),
-        _ => is_part(name, part),
-    }
 }
 
 /// The event of a client that is spelled plainly at the front, behind any white space, and what follows it; or none, which
