@@ -21,6 +21,7 @@ fn ends_atom(b: u8) -> bool
 }
 
 /// What follows the white space at the front.
+#[inline(always)]
 pub fn past_white(text: &[u8]) -> &[u8]
     ensures { (d : ℕ) → SkipsGap d text.now result.now }
 {
@@ -35,6 +36,7 @@ pub fn past_white(text: &[u8]) -> &[u8]
 }
 
 /// What follows the white space at the front, where an atom may end in front of it.
+#[inline(always)]
 pub fn past_end(text: &[u8]) -> Option<&[u8]>
     ensures ends { IfSome result (λ rest. MayFollowAtom text.now) }
     ensures gap { IfSome result (λ rest. (d : ℕ) → SkipsGap d text.now rest.now) }
@@ -47,6 +49,7 @@ pub fn past_end(text: &[u8]) -> Option<&[u8]>
 }
 
 /// What follows a whole word of these bytes, and the white space behind it.
+#[inline(always)]
 pub fn past_word<'a>(text: &'a [u8], word: &[u8]) -> Option<&'a [u8]>
     ensures { IfSome result (λ rest. IsWordAt text.now word.now rest.now) }
 {
@@ -66,6 +69,7 @@ pub fn past_byte(text: &[u8], byte: u8) -> Option<&[u8]>
 }
 
 /// What follows the keyword of this name, and the white space behind it.
+#[inline(always)]
 pub fn past_keyword<'a>(text: &'a [u8], name: &str) -> Option<&'a [u8]>
     requires { IsKeywordText name.now }
     ensures { IfSome result (λ rest. IsAtomAt text.now (keyword name.now) rest.now) }

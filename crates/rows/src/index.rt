@@ -75,6 +75,7 @@ fn make_buckets(many: usize, index: &mut Index) -> Result<(), AllocError>
 }
 
 /// Indexes all words.
+#[inline(never)]
 pub fn index_words(words: &[u128], index: &mut Index) -> Result<(), AllocError>
     requires index { IsIndex (bucket (length index.old.last.items)) words.now index.old.last.items index.old.before.items }
     requires few { length words.now < 2147483584 }
@@ -111,6 +112,7 @@ fn has_word(words: &[u128], index: &Index, its: usize, word: u128) -> bool
 }
 
 /// Puts the word with the others, which are all indexed, if it is not there.
+#[inline(never)]
 pub fn put_indexed(words: &mut Vec<u128>, index: &mut Index, word: u128) -> Result<(), AllocError>
     requires index { IsIndex (bucket (length index.old.last.items)) words.old.items index.old.last.items index.old.before.items }
     requires all { length index.old.before.items ≡ length words.old.items }

@@ -49,6 +49,7 @@ fn bits_for(long: usize, whole: bool) -> u32
 }
 
 // Writes the numbers of the row in place of those that were there.
+#[inline(never)]
 fn rewrite(next: &mut Vec<usize>, row: &[usize]) -> Result<(), AllocError>
     ensures { OnOk result (next.new.items ≡ row.now) }
 {
@@ -218,6 +219,7 @@ impl RowSet {
     }
 
     /// Writes the row at this place, in place of what was there.
+    #[inline(always)]
     pub fn read(&self, at: usize, row: &mut Vec<usize>) -> Result<(), AllocError>
         requires { at < length self.now }
         ensures { OnOk result (slice_get self.now at ≡ Some row.new.items) }
@@ -311,6 +313,7 @@ impl RowSet {
     }
 
     /// Puts the row at a place with this first number, and with this number where it has zero, if that is not there.
+    #[inline(always)]
     pub fn put_next(
         &mut self,
         from: usize,
@@ -334,6 +337,25 @@ impl RowSet {
             self.words.put(next)?;
             return Ok(());
         }
+        self.put_next_by_list(from, to, at, slot)
+    }
+
+    // The same, by way of a list.
+    #[inline(never)]
+    fn put_next_by_list(
+        &mut self,
+        from: usize,
+        to: usize,
+        at: usize,
+        slot: usize,
+    ) -> Result<(), AllocError>
+        requires from { from < length self.old }
+        requires after { 0 < at }
+        requires within { at < length (get_or self.old from []) }
+        ensures put { OnOk result
+            (IsPut (set (set (get_or self.old from []) 0 to) at slot) self.old self.new) }
+        ensures err { OnErr result (self.new ≡ self.old) }
+    {
         let mut next = Vec::new(self.alloc);
         self.read(from, &mut next)?;
         next[0] = to;
@@ -367,18 +389,46 @@ impl RowSet {
             self.words.put(left)?;
             return Ok(());
         }
+        self.put_without_by_list(other, from, place)
+    }
+
+    // The same, by way of a list.
+    #[inline(never)]
+    fn put_without_by_list(
+        &mut self,
+        other: &RowSet,
+        from: usize,
+        place: usize,
+    ) -> Result<(), AllocError>
+        requires from { from < length other.now }
+        requires within { place < length (get_or other.now from []) }
+        ensures put { OnOk result
+            (IsPut (remove (get_or other.now from []) place) self.old self.new) }
+        ensures err { OnErr result (self.new ≡ self.old) }
+    {
         let mut left = Vec::new(self.alloc);
         other.read(from, &mut left)?;
         let _number = left.remove(place);
         self.put(&left)
     }
 
-    /// Each row gets a zero behind it, if that takes no memory, and it is told whether.
+    // How many bits of a word the numbers may have: half of it, where that was enough until now.
+    fn room(&self) -> usize
+        ensures { result ≤ 128 }
+    {
+        if self.whole || self.bits as usize * self.long > 64 {
+            128
+        } else {
+            64
+        }
+    }
+
+    /// Each row gets a zero behind it, if there is room for it without new memory, and it is told whether.
     pub fn lengthen(&mut self) -> bool
         ensures longer { IsTrue result → self.new ≡ map (λ row. row ++ 0 ∷ []) self.old }
         ensures same { result ≡ false → self.new ≡ self.old }
     {
-        if self.wide || self.long >= 128 || self.bits as usize * (self.long + 1) > 128 {
+        if self.wide || self.long >= 128 || self.bits as usize * (self.long + 1) > self.room() {
             return false;
         }
         self.long += 1;

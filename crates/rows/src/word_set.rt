@@ -88,6 +88,7 @@ impl WordSet {
     }
 
     /// Puts the word with the others, if it is not there.
+    #[inline(always)]
     pub fn put(&mut self, word: u128) -> Result<(), AllocError>
         ensures put { OnOk result (IsPut word self.old self.new) }
         ensures err { OnErr result (self.new ≡ self.old) }
@@ -95,11 +96,14 @@ impl WordSet {
         if self.words.len() < FEW || self.words.len() >= MANY {
             return self.put_looked_through(word);
         }
-        index_words(&self.words, &mut self.index)?;
+        if self.index.before.len() < self.words.len() || self.index.last.len() <= self.words.len() {
+            index_words(&self.words, &mut self.index)?;
+        }
         put_indexed(&mut self.words, &mut self.index, word)
     }
 
     // The same, where all are looked through.
+    #[inline(never)]
     fn put_looked_through(&mut self, word: u128) -> Result<(), AllocError>
         ensures put { OnOk result (IsPut word self.old self.new) }
         ensures err { OnErr result (self.new ≡ self.old) }

@@ -59,9 +59,10 @@ pub fn number_at(word: u128, bits: u32, at: usize) -> usize
 }
 
 // Writes the numbers of the word, which is of 64 bits.
-fn unpack_half(word: u64, bits: u32, row: &mut Vec<usize>)
+#[inline(always)]
+fn unpack_half(word: u64, bits: u32, row: &mut [usize])
     requires { bits ≤ 32 }
-    ensures { row.new.items ≡ digits (2 ^ bits) (length row.old.items) word }
+    ensures { row.new ≡ digits (2 ^ bits) (length row.old) word }
 {
     let largest = largest_of(bits);
     let mut rest = word;
@@ -72,9 +73,10 @@ fn unpack_half(word: u64, bits: u32, row: &mut Vec<usize>)
 }
 
 // Writes the numbers of the word.
-fn unpack_whole(word: u128, bits: u32, row: &mut Vec<usize>)
+#[inline(never)]
+fn unpack_whole(word: u128, bits: u32, row: &mut [usize])
     requires { bits ≤ 32 }
-    ensures { row.new.items ≡ digits (2 ^ bits) (length row.old.items) word }
+    ensures { row.new ≡ digits (2 ^ bits) (length row.old) word }
 {
     let mut rest = word;
     for place in 0..row.len() {
@@ -83,12 +85,23 @@ fn unpack_whole(word: u128, bits: u32, row: &mut Vec<usize>)
     }
 }
 
+// Makes room for so many numbers.
+#[inline(never)]
+fn lengthen(row: &mut Vec<usize>, long: usize) -> Result<(), AllocError>
+    ensures { OnOk result (length row.new.items ≡ long) }
+{
+    row.resize(long, 0)
+}
+
 /// Writes the numbers of the word: so many, each of so many bits, the first from the lowest.
+#[inline(always)]
 pub fn unpack(word: u128, bits: u32, long: usize, row: &mut Vec<usize>) -> Result<(), AllocError>
     requires { bits ≤ 32 }
     ensures { OnOk result (row.new.items ≡ digits (2 ^ bits) long word) }
 {
-    row.resize(long, 0)?;
+    if row.len() != long {
+        lengthen(row, long)?;
+    }
     match u64::try_from(word) {
         Ok(half) => unpack_half(half, bits, row),
         Err(_) => unpack_whole(word, bits, row),

@@ -7,8 +7,8 @@ use Rattle.rows.proofs.words.unpack_half.Goals as goal
 
 pub loop-place-preserved : goal.loop-place-preserved
 loop-place-preserved c =
-    let row = c.loop-place.row.items in
-    let all = length c.args.row.now.items in
+    let row = c.loop-place.row in
+    let all = length c.args.row.now in
     let long = c.loop-place.invariant.long in
     let rest = c.loop-place.rest in
     let number = bit_and rest c.largest_of-largest.result in

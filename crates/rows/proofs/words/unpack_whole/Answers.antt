@@ -6,10 +6,10 @@ use Rattle.rows.proofs.words.unpack_whole.Goals as goal
 
 pub loop-place-preserved : goal.loop-place-preserved
 loop-place-preserved c =
-    let row = c.loop-place.row.items in
+    let row = c.loop-place.row in
     let long = c.loop-place.invariant.long in
     record {
       long = length-set row c.loop-place.place c.first_of.result ∙ long;
-      rest = read_more (2 ^ c.args.bits) (length c.args.row.now.items) c.loop-place.place c.loop-place.rest (c.loop-place.rest / 2 ^ c.args.bits) (take c.loop-place.place row) _ (digits (2 ^ c.args.bits) (length c.args.row.now.items) c.args.word)
+      rest = read_more (2 ^ c.args.bits) (length c.args.row.now) c.loop-place.place c.loop-place.rest (c.loop-place.rest / 2 ^ c.args.bits) (take c.loop-place.place row) _ (digits (2 ^ c.args.bits) (length c.args.row.now) c.args.word)
           (omega arith) (take_more_set row c.loop-place.place c.first_of.result (omega (arith, long)) ∙ ap (λ (x : ℕ). take c.loop-place.place row ++ x ∷ []) c.first_of.ensures) refl c.loop-place.invariant.rest;
     }

@@ -5,6 +5,6 @@ use Rattle.rows.proofs.words.unpack_whole.Given as goal
 abbrev pub invariant-loop-place : goal.invariant-loop-place
 invariant-loop-place l =
     record {
-      long : length l.row.items ≡ length l.initial.row.items;
-      rest : take l.place l.row.items ++ digits (2 ^ l.bits) (length l.initial.row.items - l.place) l.rest ≡ digits (2 ^ l.bits) (length l.initial.row.items) l.word;
+      long : length l.row ≡ length l.initial.row;
+      rest : take l.place l.row ++ digits (2 ^ l.bits) (length l.initial.row - l.place) l.rest ≡ digits (2 ^ l.bits) (length l.initial.row) l.word;
     }

@@ -1,9 +1,9 @@
-use Rattle.std.proofs.Common.{◌+◌, ◌++◌, ◌∷◌, [], map, ap, sym, ◌∙◌}
+use Rattle.std.proofs.Common.{◌+◌, ◌++◌, ◌∷◌, [], map, ap, sym, ◌∙◌, arith}
 use Rattle.rows.proofs.Packing.{longer_rows, packed_longer, shows_words}
 use Rattle.rows.proofs.row_set.RowSet.lengthen.Goals as goal
 
 pub invariant_of-self : goal.invariant_of-self
-invariant_of-self c = packed_longer c.self.inside.bits c.self.inside.long c.self.inside.words c.if-self-gt128.false c.self.invariant
+invariant_of-self c = packed_longer c.self.inside.bits c.self.inside.long c.self.inside.words (let fits = c.if-self-room.false in let most = c.room.ensures in omega (arith, fits, most)) c.self.invariant
 
 pub returns-clause-longer : goal.returns-clause-longer
 returns-clause-longer c _ =

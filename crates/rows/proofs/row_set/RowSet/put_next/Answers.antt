@@ -1,6 +1,5 @@
-use Rattle.std.proofs.Common.{ℕ, ◌^◌, List, [], map, length, get_or, set, sym, ap, ◌∙◌, subst, OnOk, arith}
+use Rattle.std.proofs.Common.{ℕ, ◌^◌, List, [], map, length, get_or, set, sym, ap, ◌∙◌, subst, arith}
 use Rattle.std.proofs.lemmas.List.{length-set}
-use Rattle.std.proofs.lemmas.Option.{get_or_from_slice_get}
 use Rattle.rows.specs.RowSets.{IsPut}
 use Rattle.rows.specs.Words.{digits, rows_in}
 use Rattle.rows.proofs.Digits.{length-digits}
@@ -44,22 +43,3 @@ returns-then-slot-self-eq0-clause-put c =
     (put_word i.bits i.long (set (set row 0 c.args.to) c.args.at c.args.slot) c.changed-next.result
     (length-set (set row 0 c.args.to) c.args.at c.args.slot ∙ length-set row 0 c.args.to ∙ length-digits (2 ^ i.bits) i.long c.in-Some.word)
     c.changed-next.ensures i.words c.put.new.self c.self.invariant c.in_ok-put.ensures.put)))
-
-pub index_mut-requires : goal.index_mut-requires
-index_mut-requires c =
-    let there = get_or_from_slice_get c.args.self.now c.args.from c.read.new.row.items [] c.in_ok-read.ensures in
-    let long = ap length there in
-    let within = c.requires.within in
-    omega (arith, long, within)
-
-pub index_mut-requires-2 : goal.index_mut-requires-2
-index_mut-requires-2 c =
-    let there = get_or_from_slice_get c.args.self.now c.args.from c.read.new.row.items [] c.in_ok-read.ensures in
-    let long = ap length there in
-    let within = c.requires.within in
-    omega (arith, long, within)
-
-pub returns-clause-put : goal.returns-clause-put
-returns-clause-put c =
-    let there = get_or_from_slice_get c.args.self.now c.args.from c.read.new.row.items [] c.in_ok-read.ensures in
-    rw there (subst (λ (r : List ℕ). OnOk c.put-2.result (IsPut r c.args.self.now c.put-2.new.self)) c.deref.ensures.value c.put-2.ensures.put)

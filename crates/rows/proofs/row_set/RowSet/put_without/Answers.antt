@@ -1,7 +1,6 @@
-use Rattle.std.proofs.Common.{ℕ, ◌<◌, ◌^◌, List, [], map, length, sym, ap, ◌∙◌, subst, OnOk, arith}
+use Rattle.std.proofs.Common.{ℕ, ◌<◌, ◌^◌, List, [], map, length, sym, ap, ◌∙◌, subst, arith}
 use Rattle.std.specs.List.{remove}
 use Rattle.std.proofs.lemmas.List.Edits.{length-remove}
-use Rattle.std.proofs.lemmas.Option.{get_or_from_slice_get}
 use Rattle.rows.specs.RowSets.{IsPut}
 use Rattle.rows.specs.Words.{IsWordOf, digits, rows_in}
 use Rattle.rows.proofs.Digits.{length-digits}
@@ -50,15 +49,3 @@ returns-then-self-other-2-clause-put c =
     (subst (IsPut (remove row c.args.place) (map (digits (2 ^ i.bits) i.long) i.words)) (sym (shows_words i.wide i.bits i.long c.put.new.self i.lists.keys c.if-not-self.true))
     (put_word i.bits i.long (remove row c.args.place) c.without-left.result (omega (arith, all, gone, one))
     (subst (λ b. IsWordOf (2 ^ b) (remove row c.args.place) c.without-left.result) (sym c.if-self-other.true) c.without-left.ensures) i.words c.put.new.self c.self.invariant c.in_ok-put.ensures.put)))
-
-pub remove-number-requires : goal.remove-number-requires
-remove-number-requires c =
-    let there = get_or_from_slice_get c.args.other.now c.args.from c.read.new.row.items [] c.in_ok-read.ensures in
-    let long = ap length there in
-    let within = c.requires.within in
-    omega (arith, long, within)
-
-pub returns-clause-put : goal.returns-clause-put
-returns-clause-put c =
-    let there = get_or_from_slice_get c.args.other.now c.args.from c.read.new.row.items [] c.in_ok-read.ensures in
-    rw there (subst (λ (r : List ℕ). OnOk c.put-2.result (IsPut r c.args.self.now c.put-2.new.self)) (c.deref.ensures.value ∙ c.remove-number.ensures.items) c.put-2.ensures.put)
