@@ -13,6 +13,7 @@ use crate::table::{self, Table};
 use models::{Answer, SeqObject, finding};
 use rows::RowSet;
 use std::alloc::{AllocError, Global};
+use std::hash::Hash;
 
 // Whether the call is of this operation, which is open.
 fn is_open(call: &PendingOp, id: u32) -> bool
@@ -36,7 +37,7 @@ fn place_of_open(calls: &[PendingOp], id: u32) -> Option<usize>
 }
 
 // Whether what the open operation at this place found, by the row that stands here, fits the answer.
-fn fits_in_row<S: Ord + Drop>(
+fn fits_in_row<S: Hash + Drop>(
     table: &Table<S>,
     from: usize,
     calls: &[PendingOp],
@@ -58,7 +59,7 @@ fn fits_in_row<S: Ord + Drop>(
 
 // Puts the rows of those ends where what the open operation at this place found fits the answer, each without it, in place
 // of the rows that were there.
-fn settled_rows<S: Ord + Drop>(
+fn settled_rows<S: Hash + Drop>(
     table: &Table<S>,
     calls: &[PendingOp],
     call: usize,
@@ -82,7 +83,7 @@ fn settled_rows<S: Ord + Drop>(
 
 /// Puts the rows after the operation has returned with this answer, of those where it is in and what it found fits, each
 /// without it, in place of the rows that were there.
-pub fn settled<S: Ord + Drop>(
+pub fn settled<S: Hash + Drop>(
     table: &Table<S>,
     calls: &[PendingOp],
     id: u32,

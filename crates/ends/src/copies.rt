@@ -43,7 +43,7 @@ fn put_again<M: SeqObject>(
     let Some(state) = table.states.get(table.rows.number(from, 0)) else {
         return Ok(false);
     };
-    let number = states::number_of::<M>(alloc, &mut other.states, M::copy(alloc, state)?)?;
+    let number = states::number_of::<M>(&mut other.states, M::copy(alloc, state)?)?;
     if row.is_empty() {
         return Ok(false);
     }

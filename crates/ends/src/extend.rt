@@ -18,6 +18,7 @@ use crate::table::{self, Table};
 use models::{Answer, SeqObject};
 use rows::RowSet;
 use std::alloc::{AllocError, Global};
+use std::hash::Hash;
 
 /// Memory that an ok works in, kept for the next one: what calls do in states, the row that is looked at, and the rows that are left.
 #[derive(Drop)]
@@ -39,7 +40,7 @@ impl<S> Room<S> {
 }
 
 // Puts the row that stands here, with each of these numbers of a state and at the place, behind the others.
-fn put_each<S: Ord + Drop>(
+fn put_each<S: Hash + Drop>(
     table: &mut Table<S>,
     from: usize,
     place: usize,
@@ -67,7 +68,7 @@ fn put_each<S: Ord + Drop>(
 }
 
 // Puts the row that stands here, with the numbers of each target of the move, behind the others.
-fn put_led<S: Ord + Drop>(
+fn put_led<S: Hash + Drop>(
     table: &mut Table<S>,
     from: usize,
     place: usize,
@@ -103,6 +104,7 @@ fn grow_at<M: SeqObject>(
     table: &mut Table<M::State>,
     moves: &mut Moves<M::State>,
     from: usize,
+    number: usize,
     row: &[usize],
     calls: &[PendingOp],
     at: usize,
@@ -110,6 +112,7 @@ fn grow_at<M: SeqObject>(
 ) -> Result<(), AllocError>
     requires within { at < length calls.now }
     requires here { from < length (rows_of table.old) }
+    requires number { number ≡ get_or row.now 0 0 }
     requires row { row.now ≡ get_or (rows_of table.old) from [] }
     ensures moves { AreMoves M.apply_to table.old calls.now moves.old.known.items moves.old.targets.items
         → OnOk result (AreMoves M.apply_to table.new calls.now moves.new.known.items moves.new.targets.items) }
@@ -123,7 +126,7 @@ fn grow_at<M: SeqObject>(
     ensures front { IsFront (rows_of table.old) (rows_of table.new) }
     ensures cost { applied.new ≤ applied.old + 1 }
 {
-    let to = table::led_to::<M>(alloc, table, moves, row, calls, at, applied)?;
+    let to = table::led_to::<M>(alloc, table, moves, number, row, calls, at, applied)?;
     if let Move::Nowhere = to {
         return Ok(());
     }
@@ -155,8 +158,9 @@ fn grow_from<M: SeqObject>(
     ensures front { IsFront (rows_of table.old) (rows_of table.new) }
     ensures cost { applied.new ≤ applied.old + length calls.now }
 {
+    let number = table::number_of_state(row);
     for at in first..calls.len() {
-        grow_at::<M>(alloc, table, moves, from, row, calls, at, applied)?;
+        grow_at::<M>(alloc, table, moves, from, number, row, calls, at, applied)?;
     }
     Ok(())
 }

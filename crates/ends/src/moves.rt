@@ -1,5 +1,5 @@
 //! What calls do in states, by numbers.
-ghost use Rattle.std.specs.Prelude.{◌≡◌, ◌+◌, ◌*◌, ◌<◌, ◌≤◌, ◌⊎◌, ℕ, List, [], ◌++◌, Some, length, get_or};
+ghost use Rattle.std.specs.Prelude.{◌≡◌, ◌+◌, ◌-◌, ◌*◌, ◌^◌, ◌<◌, ◌≤◌, ◌⊎◌, ℕ, List, [], ◌++◌, Some, length, get_or};
 ghost use Rattle.std.specs.Prelude.{slice_get};
 ghost use Rattle.std.specs.Prelude.{IfOk, OnOk, IfSome};
 ghost use Rattle.ends.specs.Moves.{AreMoves, AreTo, IsKnown, IsTo, LeadsTo, known_at, targets_of};
@@ -50,11 +50,11 @@ impl<S> Moves<S> {
     }
 }
 
-// Where the call at this place stands in the state with this number, among so many calls.
-fn place_of(number: usize, at: usize, calls: usize) -> Option<usize>
-    ensures { IfSome result (λ place. place ≡ number * calls + at) }
+// Where the call at this place stands in the state with this number, among so many calls, or behind all places that a list has.
+fn place_of(number: usize, at: usize, calls: usize) -> usize
+    ensures { (result ≡ number * calls + at) ⊎ (result ≡ 2 ^ 64 - 1) }
 {
-    number.checked_mul(calls)?.checked_add(at)
+    number.saturating_mul(calls).saturating_add(at)
 }
 
 /// Forgets all moves. Keeps their memory, if it is not much.
@@ -85,9 +85,9 @@ fn forget_many<S: Drop>(alloc: Global, moves: &mut Moves<S>)
 fn known(moves: &[Move], number: usize, at: usize, calls: usize) -> Move
     ensures { (result ≡ Move.Untried) ⊎ (result ≡ known_at moves.now calls number at) }
 {
-    match place_of(number, at, calls) {
-        Some(place) if place < moves.len() => moves[place],
-        _ => Move::Untried,
+    match moves.get(place_of(number, at, calls)) {
+        Some(to) => *to,
+        None => Move::Untried,
     }
 }
 
@@ -116,15 +116,15 @@ fn remember(
     ensures { (p : ℕ) → let now = get_or moves.new.items p Move.Untried in
         (now ≡ get_or moves.old.items p Move.Untried) ⊎ ((p ≡ number * calls + at) × (now ≡ to)) }
 {
-    match place_of(number, at, calls) {
-        Some(place) if place < MOST => put_at(moves, place, to),
-        _ => Ok(()),
+    let place = place_of(number, at, calls);
+    if place >= MOST {
+        return Ok(());
     }
+    put_at(moves, place, to)
 }
 
 // The target that is this outcome.
 fn target_of<M: SeqObject>(
-    alloc: Global,
     table: &mut Table<M::State>,
     crashed: bool,
     state: M::State,
@@ -134,14 +134,13 @@ fn target_of<M: SeqObject>(
     ensures widens { Widens table.old table.new }
     ensures rows { rows_of table.new ≡ rows_of table.old }
 {
-    let number = number_of::<M>(alloc, &mut table.states, state)?;
+    let number = number_of::<M>(&mut table.states, state)?;
     let slot = founds::slot_at(&mut table.founds, table::told_by(crashed, found))?;
     Ok((number, slot))
 }
 
 // Puts the targets that are these outcomes behind the others.
 fn put_targets<M: SeqObject>(
-    alloc: Global,
     table: &mut Table<M::State>,
     targets: &mut Vec<(usize, usize)>,
     crashed: bool,
@@ -154,7 +153,7 @@ fn put_targets<M: SeqObject>(
     ensures rows { rows_of table.new ≡ rows_of table.old }
 {
     while let Some((state, found)) = outcomes.pop() {
-        let target = target_of::<M>(alloc, table, crashed, state, found)?;
+        let target = target_of::<M>(table, crashed, state, found)?;
         targets.push(target)?;
     }
     Ok(())
@@ -162,7 +161,6 @@ fn put_targets<M: SeqObject>(
 
 // The move to these outcomes, whose targets are put behind the others.
 fn move_to_each<M: SeqObject>(
-    alloc: Global,
     table: &mut Table<M::State>,
     targets: &mut Vec<(usize, usize)>,
     crashed: bool,
@@ -174,13 +172,12 @@ fn move_to_each<M: SeqObject>(
     ensures rows { rows_of table.new ≡ rows_of table.old }
 {
     let first = targets.len();
-    put_targets::<M>(alloc, table, targets, crashed, outcomes)?;
+    put_targets::<M>(table, targets, crashed, outcomes)?;
     Ok(Move::ToEach(first, targets.len()))
 }
 
 // The move to these outcomes. Where there is one, it needs no place in the list of targets.
 fn move_to<M: SeqObject>(
-    alloc: Global,
     table: &mut Table<M::State>,
     targets: &mut Vec<(usize, usize)>,
     crashed: bool,
@@ -192,11 +189,11 @@ fn move_to<M: SeqObject>(
     ensures rows { rows_of table.new ≡ rows_of table.old }
 {
     if outcomes.len() > 1 {
-        return move_to_each::<M>(alloc, table, targets, crashed, outcomes);
+        return move_to_each::<M>(table, targets, crashed, outcomes);
     }
     match outcomes.pop() {
         Some((state, found)) => {
-            let (number, slot) = target_of::<M>(alloc, table, crashed, state, found)?;
+            let (number, slot) = target_of::<M>(table, crashed, state, found)?;
             Ok(Move::To(number, slot))
         }
         None => Ok(Move::Nowhere),
@@ -247,13 +244,7 @@ pub fn tried<M: SeqObject>(
         return Ok(Move::Nowhere);
     };
     table::step::<M>(alloc, state, &call.op, &mut moves.outcomes, applied)?;
-    let to = move_to::<M>(
-        alloc,
-        table,
-        &mut moves.targets,
-        call.crashed,
-        &mut moves.outcomes,
-    )?;
+    let to = move_to::<M>(table, &mut moves.targets, call.crashed, &mut moves.outcomes)?;
     remember(&mut moves.known, number, at, calls.len(), to)?;
     Ok(to)
 }

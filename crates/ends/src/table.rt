@@ -18,12 +18,13 @@ use interned::{Founds, States, founds, states};
 use models::{Found, Op, SeqObject};
 use rows::RowSet;
 use std::alloc::{AllocError, Global};
+use std::hash::Hash;
 
 /// The ends that an ok finds, each a row of numbers. The first says where its state stands; then comes one for each call:
 /// zero where it is not in, and else one more than where what it found stands. States and what was found stand once, so
 /// equal ends are equal rows.
 #[derive(Drop)]
-pub struct Table<S: Ord + Drop> {
+pub struct Table<S: Hash + Drop> {
     pub states: States<S>,
     pub founds: Founds,
     pub rows: RowSet,
@@ -73,7 +74,7 @@ fn row_of<M: SeqObject>(
 {
     let state = M::copy(alloc, &kept.state)?;
     let mut row = Vec::with_capacity(alloc, calls.len().saturating_add(1))?;
-    row.push(states::number_of::<M>(alloc, &mut table.states, state)?)?;
+    row.push(states::number_of::<M>(&mut table.states, state)?)?;
     for call in calls {
         let found = found_by(kept, call)?;
         row.push(slot_of(&mut table.founds, found)?)?;
@@ -98,7 +99,7 @@ pub fn step<M: SeqObject>(
 }
 
 /// The state with this number: that of the end of each row that has this number first.
-pub fn state_numbered<S: Ord + Drop>(table: &Table<S>, number: usize) -> Option<&S>
+pub fn state_numbered<S: Hash + Drop>(table: &Table<S>, number: usize) -> Option<&S>
     ensures { (calls : List PendingOp) (row : List ℕ) (e : End S) → number ≡ get_or row 0 0
         → Shows table.now calls row e → IsSomeAnd result (λ s. s.now ≡ e.state) }
 {
@@ -132,17 +133,19 @@ pub fn has_zero(row: &[usize], place: usize) -> bool
     }
 }
 
-/// Where the call at this place leads from the end of the row: nowhere where it is in that end.
+/// Where the call at this place leads from the end of the row, whose state has this number: nowhere where it is in that end.
 pub fn led_to<M: SeqObject>(
     alloc: Global,
     table: &mut Table<M::State>,
     moves: &mut Moves<M::State>,
+    number: usize,
     row: &[usize],
     calls: &[PendingOp],
     at: usize,
     applied: &mut u64,
 ) -> Result<Move, AllocError>
     requires within { at < length calls.now }
+    requires number { number ≡ get_or row.now 0 0 }
     ensures moves { AreMoves M.apply_to table.old calls.now moves.old.known.items moves.old.targets.items
         → OnOk result (AreMoves M.apply_to table.new calls.now moves.new.known.items moves.new.targets.items) }
     ensures next { let object = of_table M.State M.start_state M.apply_to in
@@ -162,7 +165,6 @@ pub fn led_to<M: SeqObject>(
     if !has_zero(row, at + 1) {
         return Ok(Move::Nowhere);
     }
-    let number = number_of_state(row);
     match moves::recalled(moves, number, at, calls.len()) {
         Some(to) => Ok(to),
         None => moves::tried::<M>(alloc, table, moves, number, calls, at, applied),
@@ -192,7 +194,7 @@ pub fn of_ends<M: SeqObject>(
 }
 
 /// What the call at this place found, by the row that stands here, if it is in.
-pub fn found_in_row<'a, S: Ord + Drop>(
+pub fn found_in_row<'a, S: Hash + Drop>(
     table: &'a Table<S>,
     from: usize,
     calls: &[PendingOp],
@@ -214,7 +216,7 @@ pub fn found_in_row<'a, S: Ord + Drop>(
 }
 
 // What the call at this place tells goes into the end.
-fn include_at<S: Ord + Drop>(
+fn include_at<S: Hash + Drop>(
     kept: &mut KeptEnd<S>,
     table: &Table<S>,
     from: usize,

@@ -4,6 +4,7 @@ ghost use Rattle.std.specs.Prelude.{◌≡◌, IfOk};
 use ends::{PendingOp, Table};
 use models::Op;
 use std::alloc::AllocError;
+use std::hash::Hash;
 
 /// An operation that was invoked: its id, and what it is.
 #[derive(Drop)]
@@ -14,7 +15,7 @@ pub struct Fresh {
 
 /// What a prepared event makes of a frontier. To carry it out takes no memory.
 #[derive(Drop)]
-pub enum Change<S: Ord + Drop> {
+pub enum Change<S: Hash + Drop> {
     /// Nothing.
     Nothing,
     /// This operation is invoked.
@@ -22,11 +23,11 @@ pub enum Change<S: Ord + Drop> {
     /// The operation with this id has returned: the rows in the room take the place of the others.
     Returned(u32),
     /// These calls and this table take the place of the others, and so many of the calls count as tried.
-    Anew(Vec<PendingOp>, Table<S>, usize),
+    Anew(Vec<PendingOp>, Box<Table<S>>, usize),
 }
 
 /// Nothing is prepared any more.
-pub fn drop_change<S: Ord + Drop>(change: &mut Change<S>)
+pub fn drop_change<S: Hash + Drop>(change: &mut Change<S>)
     ensures { change.new ≡ Change.Nothing }
 {
     *change = Change::Nothing;

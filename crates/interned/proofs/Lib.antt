@@ -1,3 +1,3 @@
 pub mod Lists
-pub mod Stating
 pub mod Founding
+mod Distinct

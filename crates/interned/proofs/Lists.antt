@@ -1,7 +1,7 @@
 -- places of lists
-use Rattle.std.proofs.Common.{◌≡◌, ℕ, zero, suc, ◌+◌, ◌<◌, ◌⊎◌, inl, inr, ⊎_elim, Option, Some, None, unwrap_or, List, [], ◌∷◌, ◌++◌, map, length, take, slice_get, get_or, refl, sym, ap, ◌∙◌, subst, arith}
+use Rattle.std.proofs.Common.{◌≡◌, ℕ, zero, suc, ◌+◌, ◌<◌, ◌⊎◌, inl, inr, ⊎_elim, Option, Some, None, unwrap_or, List, [], ◌∷◌, ◌++◌, map, length, take, drop, slice_get, get_or, refl, sym, ap, ◌∙◌, subst, arith}
 use Rattle.std.specs.List.{Contains}
-use Rattle.std.proofs.lemmas.List.{take_more}
+use Rattle.std.proofs.lemmas.List.{take_more, take-append-drop}
 use Rattle.std.proofs.lemmas.Option.{slice_get_read, slice_get_within, get_or_from_slice_get}
 use Rattle.history.specs.Events.{IsFront}
 use Rattle.interned.specs.Numbers.{IsOnceIn}
@@ -30,6 +30,9 @@ get_left (y ∷ xs) ys (suc i) x e = get_left xs ys i x e
 
 pub get_front : {X : Type 0} (xs ys : List X) (i : ℕ) (x : X) → IsFront xs ys → slice_get xs i ≡ Some x → slice_get ys i ≡ Some x
 get_front xs ys i x front e = subst (λ l. slice_get l i ≡ Some x) front.1 (get_left xs front.0 i x e)
+
+pub get_taken : {X : Type 0} (xs : List X) (n i : ℕ) (x : X) → slice_get (take n xs) i ≡ Some x → slice_get xs i ≡ Some x
+get_taken xs n i x e = subst (λ l. slice_get l i ≡ Some x) (take-append-drop n xs) (get_left (take n xs) (drop n xs) i x e)
 
 pub get_last : {X : Type 0} (xs : List X) (x : X) → slice_get (xs ++ x ∷ []) (length xs) ≡ Some x
 get_last [] x = refl

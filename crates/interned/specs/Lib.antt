@@ -1,4 +1,3 @@
 pub mod Numbers
-pub mod States
 pub mod FoundKeys
 pub mod Founds

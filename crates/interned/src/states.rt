@@ -1,41 +1,35 @@
 //! States by number.
-ghost use Rattle.std.specs.Prelude.{◌≡◌, [], true, length, Some, slice_get, option_copied, IfOk};
-ghost use Rattle.std.specs.Ordering.{is_eq};
+ghost use Rattle.std.specs.Prelude.{◌≡◌, [], length, Some, slice_get, option_copied, IfOk};
 ghost use Rattle.history.specs.Events.{IsFront};
-ghost use Rattle.interned.specs.States.{ArePlaces};
 ghost use Rattle.interned.specs.Numbers.{IsOnceIn};
 
+use indexmap::IndexSet;
 use models::SeqObject;
 use std::alloc::{AllocError, Global};
-use std::collections::BTreeMap;
+use std::hash::Hash;
 use std::marker::Model;
 
-/// Different states, each with a number, which is its place. A state is found by the order of states.
+/// Different states, each with a number, which is its place.
 #[derive(Drop)]
-pub struct States<S: Ord + Drop> {
-    items: Vec<S>,
-    places: BTreeMap<S, usize>,
+pub struct States<S: Hash + Drop> {
+    items: IndexSet<S>,
 }
 
-impl<S: Ord + Drop> Model for States<S> {
+impl<S: Hash + Drop> Model for States<S> {
     ghost use Rattle.std.specs.Prelude.{List};
-    ghost use Rattle.interned.specs.States.{ArePlaces};
 
     ghost Value = { List S };
 
-    ghost view = { λ a. a.items.items };
-
-    ghost invariant = { λ a. ArePlaces S.cmp a.places a.items.items };
+    ghost view = { λ a. a.items.keys };
 }
 
-impl<S: Ord + Drop> States<S> {
+impl<S: Hash + Drop> States<S> {
     /// No states.
     pub fn new(alloc: Global) -> States<S>
         ensures { result ≡ [] }
     {
         States {
-            items: Vec::new(alloc),
-            places: BTreeMap::new(alloc),
+            items: IndexSet::new(alloc),
         }
     }
 
@@ -51,13 +45,12 @@ impl<S: Ord + Drop> States<S> {
     pub fn get(&self, at: usize) -> Option<&S>
         ensures { option_copied result ≡ slice_get self.now at }
     {
-        self.items.get(at)
+        self.items.get_index(at)
     }
 }
 
 /// The number of the state, which is put with the others if it is new.
 pub fn number_of<M: SeqObject>(
-    alloc: Global,
     states: &mut States<M::State>,
     state: M::State,
 ) -> Result<usize, AllocError>
@@ -65,17 +58,8 @@ pub fn number_of<M: SeqObject>(
     ensures front { IsFront states.old states.new }
     ensures once { IsOnceIn states.new }
 {
-    if let Some(at) = states.places.get(&state) {
-        return Ok(*at);
-    }
-    let at = states.items.len();
-    let key = M::copy(alloc, &state)?;
-    states.items.reserve(1)?;
-    states.places.insert(key, at)?;
-    match states.items.push(state) {
-        Ok(_) => Ok(at),
-        Err(_full) => unreachable!(),
-    }
+    let (at, _new) = states.items.insert_full(state)?;
+    Ok(at)
 }
 
 /// The same states, with the same numbers.
@@ -85,13 +69,12 @@ pub fn copied<M: SeqObject>(
 ) -> Result<States<M::State>, AllocError>
     ensures { IfOk result (λ copy. copy ≡ states.now) }
 {
-    let mut items = Vec::with_capacity(alloc, states.items.len())?;
-    let mut places = BTreeMap::new(alloc);
+    let mut items = IndexSet::with_capacity(alloc, states.items.len())?;
     for at in 0..states.items.len() {
-        let state = M::copy(alloc, &states.items[at])?;
-        let key = M::copy(alloc, &state)?;
-        places.insert(key, at)?;
-        items.push(state)?;
+        let Some(state) = states.items.get_index(at) else {
+            unreachable!()
+        };
+        items.insert(M::copy(alloc, state)?)?;
     }
-    Ok(States { items, places })
+    Ok(States { items })
 }

@@ -2,6 +2,7 @@
 use Rattle.std.specs.Prelude.{◌≡◌, ℤ, Bool, Option, Some, None, true, List}
 use Rattle.std.specs.Bool.{beq}
 use Rattle.std.specs.Option.{option_eq}
+use Rattle.std.specs.Hash as fed
 use Rattle.std.specs.Ordering.{int_eq, int_cmp, eq_by_cmp}
 use Rattle.std.specs.Cmp.{IsPartialEquivalence, IsEquivalence, IsPartialOrder, IsTotalOrder, partial_equiv_from_equiv, partial_order_from_agreeing_total, booleans_Decides}
 use Rattle.std.specs.Cmp.Lexicographic.{pointwise, pointwise_decides, slice_cmp, lists_equiv, lists_total, lists_ties}
@@ -39,3 +40,7 @@ ints_tie = lists_ties int_cmp (λ x y. refl)
 
 pub ints_ordered : IsPartialOrder (pointwise int_eq) (λ a b. Some (slice_cmp int_cmp a b))
 ints_ordered = partial_order_from_agreeing_total (slice_cmp int_cmp) ints_ranked ints_agree ints_tie
+
+-- equal lists of integers are hashed alike
+pub ints_fed : (a b : List ℤ) → pointwise int_eq a b ≡ true → fed.slice fed.i64 a ≡ fed.slice fed.i64 b
+ints_fed = (fed.same_Alike (fed.slice fed.i64) (pointwise_decides Decides-int_eq)).fed

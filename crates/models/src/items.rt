@@ -1,11 +1,13 @@
 //! The items of a queue.
+ghost use Rattle.std.specs.Hash as fed;
 ghost use Rattle.std.specs.Prelude.{◌≡◌, IfOk, [], ◌∷◌, ◌++◌, List, ℤ, Some};
 ghost use Rattle.std.specs.Ordering.{int_cmp, int_eq};
 ghost use Rattle.std.specs.Cmp.Lexicographic.{pointwise, slice_cmp};
-ghost use Rattle.models.specs.Comparisons.{ints_alike, ints_equal, ints_ordered, ints_ranked, ints_agree, ints_tie};
+ghost use Rattle.models.specs.Comparisons.{ints_alike, ints_equal, ints_fed};
 
+use crate::copies::copy_with_room;
 use std::alloc::{AllocError, Global};
-use std::cmp::Ordering;
+use std::hash::{Hash, Hasher};
 use std::marker::Model;
 
 /// Integers, the front first.
@@ -57,7 +59,7 @@ impl Items {
     pub fn with(&self, value: i64) -> Result<Items, AllocError>
         ensures { IfOk result (λ more. more ≡ self.now ++ value ∷ []) }
     {
-        let mut items = Vec::from_slice(*self.items.allocator(), self.as_slice())?;
+        let mut items = copy_with_room(*self.items.allocator(), self.as_slice())?;
         items.push(value)?;
         Ok(Items { items })
     }
@@ -77,26 +79,12 @@ impl Eq for Items {
     ghost laws = { ints_equal };
 }
 
-impl PartialOrd for Items {
-    ghost partial_cmp = { λ a b. Some (slice_cmp int_cmp a b) };
+impl Hash for Items {
+    ghost hash_input = { fed.slice fed.i64 };
 
-    ghost laws = { ints_ordered };
+    ghost respects_eq = { ints_fed };
 
-    fn partial_cmp(&self, other: &Items) -> Option<Ordering> {
-        Some(self.cmp(other))
-    }
-}
-
-impl Ord for Items {
-    ghost cmp = { slice_cmp int_cmp };
-
-    ghost total = { ints_ranked };
-
-    ghost matches_partial_cmp = { ints_agree };
-
-    ghost matches_eq = { ints_tie };
-
-    fn cmp(&self, other: &Items) -> Ordering {
-        self.as_slice().cmp(other.as_slice())
+    fn hash<H: Hasher>(&self, state: &mut H) {
+        self.as_slice().hash(state);
     }
 }

@@ -3,6 +3,7 @@
 
 pub mod any_state;
 pub mod cas_register;
+mod copies;
 pub mod fifo_queue;
 pub mod finding;
 pub mod items;

@@ -1,13 +1,16 @@
 //! Sets of integers.
+ghost use Rattle.std.specs.Hash as fed;
 ghost use Rattle.std.specs.Prelude.{◌≡◌, ◌↔◌, IsTrue, IfOk, [], List, ℤ, Some};
 ghost use Rattle.std.specs.List.{Contains};
 ghost use Rattle.std.specs.Ordering.{int_cmp, int_eq};
 ghost use Rattle.std.specs.Cmp.Lexicographic.{pointwise, slice_cmp};
 ghost use Rattle.models.specs.Members.{IsAscending, put_in};
-ghost use Rattle.models.specs.Comparisons.{ints_alike, ints_equal, ints_ordered, ints_ranked, ints_agree, ints_tie};
+ghost use Rattle.models.specs.Comparisons.{ints_alike, ints_equal, ints_ordered, ints_ranked, ints_agree, ints_tie, ints_fed};
 
+use crate::copies::copy_with_room;
 use std::alloc::{AllocError, Global};
 use std::cmp::Ordering;
+use std::hash::{Hash, Hasher};
 use std::marker::Model;
 
 /// A set of integers, ascending.
@@ -86,7 +89,7 @@ impl Members {
         match members.binary_search(&value) {
             Ok(_) => self.copy(),
             Err(at) => {
-                let mut items = Vec::from_slice(*self.items.allocator(), members)?;
+                let mut items = copy_with_room(*self.items.allocator(), members)?;
                 items.insert(at, value)?;
                 Ok(Members { items })
             }
@@ -106,6 +109,16 @@ impl PartialEq for Members {
 
 impl Eq for Members {
     ghost laws = { ints_equal };
+}
+
+impl Hash for Members {
+    ghost hash_input = { fed.slice fed.i64 };
+
+    ghost respects_eq = { ints_fed };
+
+    fn hash<H: Hasher>(&self, state: &mut H) {
+        self.as_slice().hash(state);
+    }
 }
 
 impl PartialOrd for Members {

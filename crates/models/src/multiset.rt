@@ -1,12 +1,14 @@
 //! Multisets of integers.
+ghost use Rattle.std.specs.Hash as fed;
 ghost use Rattle.std.specs.Prelude.{◌≡◌, ◌≤◌, ◌<◌, ◌<ℤ◌, ◌≤ℤ◌, ℕ, ℤ, List, [], Some, IfOk, get_or, length, remove};
 ghost use Rattle.std.specs.Ordering.{int_cmp, int_eq};
 ghost use Rattle.std.specs.Cmp.Lexicographic.{pointwise, slice_cmp};
 ghost use Rattle.models.specs.Multisets.{NeverFalls, with_one};
-ghost use Rattle.models.specs.Comparisons.{ints_alike, ints_equal, ints_ordered, ints_ranked, ints_agree, ints_tie};
+ghost use Rattle.models.specs.Comparisons.{ints_alike, ints_equal, ints_fed};
 
+use crate::copies::copy_with_room;
 use std::alloc::{AllocError, Global};
-use std::cmp::Ordering;
+use std::hash::{Hash, Hasher};
 use std::marker::Model;
 
 /// A multiset of integers: its values ascending, each as often as it is in.
@@ -70,7 +72,7 @@ impl Multiset {
     {
         let old = self.as_slice();
         let at = place_of(old, value);
-        let mut values = Vec::from_slice(*self.values.allocator(), old)?;
+        let mut values = copy_with_room(*self.values.allocator(), old)?;
         values.insert(at, value)?;
         Ok(Multiset { values })
     }
@@ -102,26 +104,12 @@ impl Eq for Multiset {
     ghost laws = { ints_equal };
 }
 
-impl PartialOrd for Multiset {
-    ghost partial_cmp = { λ a b. Some (slice_cmp int_cmp a b) };
+impl Hash for Multiset {
+    ghost hash_input = { fed.slice fed.i64 };
 
-    ghost laws = { ints_ordered };
+    ghost respects_eq = { ints_fed };
 
-    fn partial_cmp(&self, other: &Multiset) -> Option<Ordering> {
-        Some(self.cmp(other))
-    }
-}
-
-impl Ord for Multiset {
-    ghost cmp = { slice_cmp int_cmp };
-
-    ghost total = { ints_ranked };
-
-    ghost matches_partial_cmp = { ints_agree };
-
-    ghost matches_eq = { ints_tie };
-
-    fn cmp(&self, other: &Multiset) -> Ordering {
-        self.as_slice().cmp(other.as_slice())
+    fn hash<H: Hasher>(&self, state: &mut H) {
+        self.as_slice().hash(state);
     }
 }

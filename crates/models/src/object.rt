@@ -7,12 +7,13 @@ ghost use Rattle.models.specs.Objects.{AreApart, ReadsLeave, of_table};
 use crate::finding::Found;
 use crate::operation::Op;
 use std::alloc::{AllocError, Global};
+use std::hash::Hash;
 
 /// A sequential object: its states, the one it starts in, and the outcomes of each operation in each state, which are a
 /// function of the state and the operation alone.
 pub trait SeqObject {
-    /// Its states. They compare and are ordered lawfully, and states that compare equal are the same.
-    type State: Drop + Ord;
+    /// Its states. They compare and are hashed lawfully, and states that compare equal are the same.
+    type State: Drop + Hash;
 
     /// The start state.
     ghost start_state: { Self.State };

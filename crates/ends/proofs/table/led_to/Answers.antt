@@ -28,9 +28,9 @@ returns-in-Some-clause-next g c known once call e here shows =
     let out = not_in_by e call.id call.crashed
     (zero_none c.args.table.now.founds (get_or row (c.args.at + 1) 0) (found_by e call)
     (get_or_from_slice_get row (c.args.at + 1) 0 0 (c.has_zero.ensures.0 c.if-not-has_zero.false)) (shows.slots c.args.at call here)) in
-    let told = subst (λ r. IfSome r (λ to. (to ≡ known_at c.args.moves.now.known.items (length c.args.calls.now) c.number_of_state-number.result c.args.at) × IsKnown to targets)) c.in-Some.is c.recalled.ensures in
+    let told = subst (λ r. IfSome r (λ to. (to ≡ known_at c.args.moves.now.known.items (length c.args.calls.now) c.args.number c.args.at) × IsKnown to targets)) c.in-Some.is c.recalled.ensures in
     are_led g.row.M-State.Denot g.M.SeqObject.start_state g.M.SeqObject.apply_to e call out t c.args.calls.now row c.args.at (targets_of c.in-Some.to targets) once here shows
-    (known_does g.M.SeqObject.apply_to c.args.calls.now t c.number_of_state-number.result c.args.at call here e.state (ap (slice_get t.states) c.number_of_state-number.ensures ∙ shows.state) c.args.moves.now.known.items targets c.in-Some.to known told.0 told.1)
+    (known_does g.M.SeqObject.apply_to c.args.calls.now t c.args.number c.args.at call here e.state (ap (slice_get t.states) c.requires.number ∙ shows.state) c.args.moves.now.known.items targets c.in-Some.to known told.0 told.1)
 
 pub returns-in-None-clause-next : goal.returns-in-None-clause-next
 returns-in-None-clause-next g c known once call e here shows =
@@ -43,4 +43,4 @@ returns-in-None-clause-next g c known once call e here shows =
     (λ to. AreLed (of_table g.row.M-State.Denot g.M.SeqObject.start_state g.M.SeqObject.apply_to) c.tried.new.table c.args.calls.now row c.args.at e call (targets_of to c.tried.new.moves.targets.items))
     (λ to are. are_led g.row.M-State.Denot g.M.SeqObject.start_state g.M.SeqObject.apply_to e call out c.tried.new.table c.args.calls.now row c.args.at (targets_of to c.tried.new.moves.targets.items) once here
     (shows_more c.args.calls.now c.args.table.now c.tried.new.table row e c.tried.ensures.widens shows) are)
-    (c.tried.ensures.does e.state call (ap (slice_get c.args.table.now.states) c.number_of_state-number.ensures ∙ shows.state) here)
+    (c.tried.ensures.does e.state call (ap (slice_get c.args.table.now.states) c.requires.number ∙ shows.state) here)
