@@ -71,7 +71,7 @@ Makes (ToInvoked fresh) f g = IsOf g f.table f.calls.items f.tried (Some fresh)
 Makes (ToReturned id) f g =
     let left = filter (is_other id) f.calls.items in
     IsOf g (with_rows f.table f.room.rows) left (length left) f.fresh
-Makes (Anew calls table tried) f g = IsOf g table calls.items tried f.fresh
+Makes (Anew calls table tried) f g = IsOf g table.value calls.items tried f.fresh
 
 -- with what is prepared the frontier will stand for the history
 pub record WillStandFor {M : Type 0} (o : Object) (f : Frontier M o.State) (marks : List Mark)

@@ -159,7 +159,7 @@ impl<M: SeqObject> Frontier<M> {
             }
             Change::Anew(calls, table, tried) => {
                 self.calls = calls;
-                self.table = table;
+                self.table = Box::into_inner(table);
                 self.tried = tried;
             }
         }
@@ -364,7 +364,8 @@ impl<M: SeqObject> Frontier<M> {
         ends::drop_call(&mut calls, id);
         let table = ends::of_ends::<M>(self.alloc, &ends, &calls)?;
         let left = table.rows.len();
-        self.next = Change::Anew(calls, table, self.tried.saturating_sub(1));
+        let boxed = Box::new(self.alloc, table)?;
+        self.next = Change::Anew(calls, boxed, self.tried.saturating_sub(1));
         Ok(step_of(left))
     }
 
@@ -400,7 +401,8 @@ impl<M: SeqObject> Frontier<M> {
         let mut calls = ends::copy_calls(self.alloc, &self.calls)?;
         ends::crash_call(&mut calls, id, counts);
         let table = ends::of_ends::<M>(self.alloc, &after, &calls)?;
-        self.next = Change::Anew(calls, table, 0);
+        let boxed = Box::new(self.alloc, table)?;
+        self.next = Change::Anew(calls, boxed, 0);
         Ok(())
     }
 

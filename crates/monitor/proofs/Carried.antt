@@ -1,5 +1,7 @@
 -- what holds of the parts once a change is carried out
 use Rattle.std.proofs.Common.{◌≡◌, ℕ, zero, suc, Option, Some, None, IfSome, IsSome, List, [], ◌∷◌, ◌++◌, slice_get, refl, sym, ap, ◌∙◌, subst}
+use Rattle.std.specs.declared.boxed.Box.{Box}
+use Rattle.std.specs.Global.{Global}
 use Rattle.std.proofs.lemmas.Bool.{false≢true}
 use Rattle.std.proofs.lemmas.List.{map-append}
 use Rattle.indexmap.specs.Layout.{set_value_at}
@@ -74,8 +76,8 @@ module _ (history history' : HistoryView) (kinds : SettingsView ModelKind) (budg
       sound_at_rest history' kinds budgets lines' (with_events_of history.next (judged_by_parts history kinds budgets)) ready.rows v
       (events_carried history history' kinds budgets ready.taken carried) (are ready.rows ready.brings) ready.judged
 
-  pub begin_carried : (key : ℕ) (line : KeyLineView) → IsReady history kinds budgets lines (Begin key line) v → lines'.rows ≡ lines.rows ++ (key, line) ∷ []
+  pub begin_carried : (key : ℕ) (line : Box KeyLineView Global) → IsReady history kinds budgets lines (Begin key line) v → lines'.rows ≡ lines.rows ++ (key, line.value) ∷ []
       → IsSoundMonitor history' kinds budgets lines' v None
   begin_carried key line ready are =
       sound_at_rest history' kinds budgets lines' (with_events_of history.next (judged_by_parts history kinds budgets)) ready.rows v
-      (events_carried history history' kinds budgets ready.taken carried) (ap nows are ∙ nows_push lines.rows key line ∙ sym ready.brings.2) ready.judged
+      (events_carried history history' kinds budgets ready.taken carried) (ap nows are ∙ nows_push lines.rows key line.value ∙ sym ready.brings.2) ready.judged

@@ -1,5 +1,7 @@
 -- what holds of the parts once a change is prepared
 use Rattle.std.proofs.Common.{◌≡◌, ◌⊎◌, ℕ, ◌<◌, ◌≤◌, Option, Some, None, IfSome, IsSomeAnd, List, [], ◌∷◌, ◌++◌, length, nat_eq, option_map, take, slice_get, refl, sym, ap, ◌∙◌, subst, arith}
+use Rattle.std.specs.declared.boxed.Box.{Box}
+use Rattle.std.specs.Global.{Global}
 use Rattle.std.specs.List.{filter, position}
 use Rattle.std.specs.Map.{keys_of}
 use Rattle.std.proofs.lemmas.List.{length_push}
@@ -156,17 +158,17 @@ begin_judged law h rows v e event k index kind budget line status w judged well 
     (first_judged law h rows v e k status w judged well key at (subst (λ (x : KeyHistory). IsStatusOf x status) same is_status) with_it)
 
 pub first_ready : JudgingLaw → (history history' : HistoryView) (kinds : SettingsView ModelKind) (budgets : SettingsView ℕ) (lines lines' : LinesView)
-    (v : Verdict) (before : Option Prepared) (e event : Event) (k index : ℕ) (kind : ModelKind) (budget : ℕ) (line : KeyLineView) (status : KeyStatus) (w : Verdict)
+    (v : Verdict) (before : Option Prepared) (e event : Event) (k index : ℕ) (kind : ModelKind) (budget : ℕ) (line : Box KeyLineView Global) (status : KeyStatus) (w : Verdict)
     → IsSoundMonitor history kinds budgets lines v before → history' ≡ with_next (history.events ++ e ∷ []) history → IsWellFormed history.concurrency history.events e → key_of e ≡ Some k
     → position (nat_eq k) (keys_in_order history.events) ≡ None → index ≡ length history.events → event ≡ e → kind ≡ setting_of kinds k → budget ≡ setting_of budgets k
-    → lines'.rows ≡ lines.rows → 0 < lines'.room → line ≡ at_rest (with_pushed index event (without_events kind budget)) 1 → IsStatusOf line.now status → JoinsWith v k status w
+    → lines'.rows ≡ lines.rows → 0 < lines'.room → line.value ≡ at_rest (with_pushed index event (without_events kind budget)) 1 → IsStatusOf line.value.now status → JoinsWith v k status w
     → IsSoundMonitor history' kinds budgets lines' v (Some (record { change = Begin k line; verdict = w }))
 first_ready law history history' kinds budgets lines lines' v before e event k index kind budget line status w sound is well key at index_is event_is kind_is budget_is kept room line_is is_status with_it =
     subst (λ (x : HistoryView). IsSoundMonitor x kinds budgets lines' v (Some (record { change = Begin k line; verdict = w }))) (sym is)
     (record {
       now = subst (λ (l : List (ℕ × KeyLineView)). IsJudged (judged_by_parts history kinds budgets) (nows l) v) (sym kept) sound.now;
       ready = record {
-        rows = nows lines'.rows ++ (k, line.now) ∷ [];
+        rows = nows lines'.rows ++ (k, line.value.now) ∷ [];
         taken = refl;
         long = grows history.events e;
         brings = (
@@ -174,7 +176,7 @@ first_ready law history history' kinds budgets lines lines' v before e event k i
           ap (λ (l : List ℕ). position (nat_eq k) l) (ap keys_of kept ∙ keys_of_lines (judged_by_parts history kinds budgets) lines.rows sound.now.rows_are) ∙ at,
           refl,
         );
-        judged = begin_judged law (judged_by_parts history kinds budgets) (nows lines'.rows) v e event k index kind budget line status w
+        judged = begin_judged law (judged_by_parts history kinds budgets) (nows lines'.rows) v e event k index kind budget line.value status w
             (subst (λ (l : List (ℕ × KeyLineView)). IsJudged (judged_by_parts history kinds budgets) (nows l) v) (sym kept) sound.now) well key at index_is event_is kind_is budget_is line_is is_status with_it;
       };
     })

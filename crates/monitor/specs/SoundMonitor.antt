@@ -50,7 +50,7 @@ abbrev pub BringsRows : LinesView → Change → List (ℕ × KeyHistory) → Ty
 BringsRows lines Fault rows = rows ≡ nows lines.rows
 BringsRows lines (Append place) rows = AreRowsWith lines (Some place) rows
 BringsRows lines (Begin key line) rows =
-    (0 < lines.room) × (position (nat_eq key) (keys_of lines.rows) ≡ None) × (rows ≡ nows lines.rows ++ (key, line.now) ∷ [])
+    (0 < lines.room) × (position (nat_eq key) (keys_of lines.rows) ≡ None) × (rows ≡ nows lines.rows ++ (key, line.value.now) ∷ [])
 BringsRows lines (Rewind n kept) rows =
     AreCutAt n lines.rows
     × (filter (λ row. begins_below n row.1) (nows lines.rows) ≡ take kept (nows lines.rows))

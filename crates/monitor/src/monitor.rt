@@ -55,7 +55,7 @@ enum Change {
     /// The history and the line at this place have an event more.
     Append(usize),
     /// The history has an event more, and the key its first one, in this line.
-    Begin(Key, KeyLine),
+    Begin(Key, Box<KeyLine>),
     /// The history and the lines are cut at this length, after which so many lines are left.
     Rewind(u32, usize),
     /// A key is of this kind, and so is the line at this place, if it has events.
@@ -281,7 +281,7 @@ impl Monitor {
             }
             Change::Begin(key, line) => {
                 self.history.commit();
-                self.lines.add(key, line);
+                self.lines.add(key, Box::into_inner(line));
             }
             Change::Rewind(n, kept) => {
                 self.history.commit();

@@ -42,14 +42,14 @@ pub(crate) fn first_line(
     budget: u32,
     index: u32,
     event: Event,
-) -> Result<KeyLine, AllocError>
+) -> Result<Box<KeyLine>, AllocError>
     requires { IsHistory ((index, event) ∷ []) }
     ensures { IfOk result (λ line.
-        line ≡ at_rest (with_pushed index event (without_events kind budget)) 1) }
+        line.value ≡ at_rest (with_pushed index event (without_events kind budget)) 1) }
 {
     let mut line = KeyLine::new(alloc, kind, budget)?;
     line.push(index, event)?;
-    Ok(line)
+    Ok(Box::new(alloc, line)?)
 }
 
 /// Prepares that the key with the line at this place, if there is one, is judged by this kind and budget. Gives the verdict

@@ -26,4 +26,4 @@ returns-in-Returned-clause-stands g c marks =
 pub returns-in-Anew-clause-stands : goal.returns-in-Anew-clause-stands
 returns-in-Anew-clause-stands g c marks =
     let o = of_table g.row.M-State.Denot g.M.SeqObject.start_state g.M.SeqObject.apply_to in
-    made_by o c.args.self.now _ marks (Anew c.in-Anew.calls c.in-Anew.table c.in-Anew.tried) c.in-Anew.ensures.value (refl, refl, refl, refl)
+    made_by o c.args.self.now _ marks (Anew c.in-Anew.calls c.in-Anew.table c.in-Anew.tried) c.in-Anew.ensures.value (c.into_inner.ensures, refl, refl, refl)

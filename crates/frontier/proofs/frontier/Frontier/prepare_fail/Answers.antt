@@ -75,6 +75,6 @@ returns-clause-next g c =
           (calls_after_fail f.calls.items marks stands.well_kept.pending id) (once_without f.calls.items id stands.well_kept.calls_once) included
           (failed_tried o f marks stands id is_open c.in_ok-ends.ends.items c.retain.new.self.items are is c.saturating_sub.result c.saturating_sub.ensures)
           (failed_closed o f marks stands id is_open c.in_ok-ends.ends.items c.retain.new.self.items are is c.saturating_sub.result c.saturating_sub.ensures) in
-          will_by o _ (marks ++ Failed id ∷ []) (Anew h.calls h.table h.tried) refl l.none h.table h.calls.items h.tried (λ g made. made)
+          will_by o _ (marks ++ Failed id ∷ []) (Anew h.calls c.in_ok-boxed.boxed h.tried) refl l.none h.table h.calls.items h.tried (λ g made. (made.0 ∙ c.in_ok-boxed.ensures, made.1, made.2, made.3))
           (λ g table calls tried. lists_like o h g table calls tried (marks ++ Failed id ∷ []) lists);
     }

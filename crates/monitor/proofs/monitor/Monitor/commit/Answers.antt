@@ -1,4 +1,5 @@
-use Rattle.std.proofs.Common.{Option, sym, ◌∙◌, subst}
+use Rattle.std.proofs.Common.{Option, ◌∷◌, ◌++◌, [], ap, sym, ◌∙◌, subst}
+use Rattle.checkpoints.specs.KeyLineView.{KeyLineView}
 use Rattle.monitor.specs.SoundMonitor.{IsSoundMonitor}
 use Rattle.monitor.specs.declared.monitor.Prepared.{Prepared}
 use Rattle.monitor.specs.declared.monitor.Change.TheVariants.{Append, Begin}
@@ -21,4 +22,4 @@ invariant_of-self-in-Begin c =
     (sym c.take.ensures.after)
     (begin_carried c.self.inside.history c.commit-in-Begin.new.self c.self.inside.kinds c.self.inside.budgets c.self.inside.lines c.add.new.self c.in-Some.prepared.verdict c.commit-in-Begin.ensures c.in-Begin.key c.in-Begin.line
     (prepared_ready c.self.inside.history c.self.inside.kinds c.self.inside.budgets c.self.inside.lines c.self.inside.verdict c.self.inside.prepared c.in-Some.prepared (Begin c.in-Begin.key c.in-Begin.line)
-    c.self.invariant (sym c.take.ensures.value ∙ c.in-Some.is) c.in-Begin.is) c.add.ensures)
+    c.self.invariant (sym c.take.ensures.value ∙ c.in-Some.is) c.in-Begin.is) (c.add.ensures ∙ ap (λ (l : KeyLineView). c.self.inside.lines.rows ++ (c.in-Begin.key, l) ∷ []) c.into_inner.ensures))

@@ -1,5 +1,6 @@
 use Rattle.std.proofs.Common.{◌≡◌, None, nat_eq, sym, subst}
 use Rattle.std.specs.List.{position}
+use Rattle.checkpoints.specs.KeyLineView.{IsStatusOf, KeyLineView}
 use Rattle.monitor.specs.JudgedHistory.{IsVerdictOn, with_event, keys_in_order}
 use Rattle.monitor.specs.Monitors.{MonitorView}
 use Rattle.monitor.specs.SoundMonitor.{judged_by_parts}
@@ -22,12 +23,12 @@ invariant_of-self-2 c =
     c.join_with-verdict.result c.self.invariant c.in_ok-index.ensures.prepared c.in_ok-index.ensures.well_formed c.requires.key
     (subst (λ (s : MonitorView). position (nat_eq c.args.key) (keys_in_order s.now.events) ≡ None) (sym c.self.view_is) c.requires.new)
     c.in_ok-index.ensures.copied.0 c.in_ok-index.ensures.copied.1 c.of-kind.ensures c.of-budget.ensures c.in_ok-reserve.ensures.same c.in_ok-reserve.ensures.room c.in_ok-line.ensures
-    c.status.ensures c.join_with-verdict.ensures)
+    (subst (λ (l : KeyLineView). IsStatusOf l.now c.status.result) c.deref.ensures c.status.ensures) c.join_with-verdict.ensures)
 
 pub returns-clause-verdict : goal.returns-clause-verdict
 returns-clause-verdict c =
     subst (λ (s : MonitorView). IsVerdictOn (with_event c.args.event s.now) c.join_with-verdict.result) c.self.view_is
     (begin_judged c.judging_law.ensures (judged_by_parts c.self.inside.history c.self.inside.kinds c.self.inside.budgets) _ c.self.inside.verdict c.args.event c.in_ok-index.event c.args.key c.in_ok-index.index
-    c.of-kind.result c.of-budget.result c.in_ok-line.line c.status.result c.join_with-verdict.result c.self.invariant.now c.in_ok-index.ensures.well_formed c.requires.key
+    c.of-kind.result c.of-budget.result c.in_ok-line.line.value c.status.result c.join_with-verdict.result c.self.invariant.now c.in_ok-index.ensures.well_formed c.requires.key
     (subst (λ (s : MonitorView). position (nat_eq c.args.key) (keys_in_order s.now.events) ≡ None) (sym c.self.view_is) c.requires.new)
-    c.in_ok-index.ensures.copied.0 c.in_ok-index.ensures.copied.1 c.of-kind.ensures c.of-budget.ensures c.in_ok-line.ensures c.status.ensures c.join_with-verdict.ensures).is_verdict
+    c.in_ok-index.ensures.copied.0 c.in_ok-index.ensures.copied.1 c.of-kind.ensures c.of-budget.ensures c.in_ok-line.ensures (subst (λ (l : KeyLineView). IsStatusOf l.now c.status.result) c.deref.ensures c.status.ensures) c.join_with-verdict.ensures).is_verdict
