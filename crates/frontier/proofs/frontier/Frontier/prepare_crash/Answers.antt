@@ -54,5 +54,12 @@ returns-clause-next g c marks given is_open =
     (generates_after_crash o stands.kept marks id is_open (generates_of o f marks stands) g.met.M.SeqObject.reads counted tells (map end_kept c.in_ok-after.after.items) each)
     (pending_after_crash f.calls.items marks stands.well_kept.pending id is_open counted tells)
     (once_after_crash counted f.calls.items id stands.well_kept.calls_once) included none (closed_none o (map end_kept c.in_ok-after.after.items)) in
-    will_by o _ (marks ++ Crashed id ∷ []) (Anew h.calls c.in_ok-boxed.boxed h.tried) refl l.none h.table h.calls.items h.tried (λ g made. (made.0 ∙ c.in_ok-boxed.ensures, made.1, made.2, made.3))
+    will_by o _ (marks ++ Crashed id ∷ []) (Anew h.calls c.in_ok-boxed.boxed h.tried) refl l.none h.table h.calls.items h.tried (λ g made. (made.0 ∙ c.in_ok-boxed.ensures.ok, made.1, made.2, made.3))
     (λ g table calls tried. lists_like o h g table calls tried (marks ++ Crashed id ∷ []) lists)
+
+pub returns-in_err-boxed-clause-now : goal.returns-in_err-boxed-clause-now
+returns-in_err-boxed-clause-now g c marks given =
+    let o = of_table g.row.M-State.Denot g.M.SeqObject.start_state g.M.SeqObject.apply_to in
+    let f = c.list_fresh.new.self in
+    let l = c.in_ok-list_fresh.ensures.listed marks given in
+    listed_stands o f marks l.none l.lists

@@ -75,6 +75,13 @@ returns-clause-next g c =
           (calls_after_fail f.calls.items marks stands.well_kept.pending id) (once_without f.calls.items id stands.well_kept.calls_once) included
           (failed_tried o f marks stands id is_open c.in_ok-ends.ends.items c.retain.new.self.items are is c.saturating_sub.result c.saturating_sub.ensures)
           (failed_closed o f marks stands id is_open c.in_ok-ends.ends.items c.retain.new.self.items are is c.saturating_sub.result c.saturating_sub.ensures) in
-          will_by o _ (marks ++ Failed id ∷ []) (Anew h.calls c.in_ok-boxed.boxed h.tried) refl l.none h.table h.calls.items h.tried (λ g made. (made.0 ∙ c.in_ok-boxed.ensures, made.1, made.2, made.3))
+          will_by o _ (marks ++ Failed id ∷ []) (Anew h.calls c.in_ok-boxed.boxed h.tried) refl l.none h.table h.calls.items h.tried (λ g made. (made.0 ∙ c.in_ok-boxed.ensures.ok, made.1, made.2, made.3))
           (λ g table calls tried. lists_like o h g table calls tried (marks ++ Failed id ∷ []) lists);
     }
+
+pub returns-in_err-boxed-clause-now : goal.returns-in_err-boxed-clause-now
+returns-in_err-boxed-clause-now g c marks given =
+    let o = of_table g.row.M-State.Denot g.M.SeqObject.start_state g.M.SeqObject.apply_to in
+    let f = c.list_fresh.new.self in
+    let l = c.in_ok-list_fresh.ensures.listed marks given in
+    listed_stands o f marks l.none l.lists
