@@ -59,7 +59,7 @@ def clauses(text, module, modules, items):
         if line == "}":
             holder, in_trait = None, False
         call = re.match(r"\s*(pub )?(?:final )?(?:const )?fn (\w+)", line)
-        ghost = re.match(r"\s+ghost (?!use|view|invariant|inverse|laws|total|exact|matches)\w+\s*[:=]", line)
+        ghost = re.match(r"\s+ghost (?!use|view|invariant|inverse|laws|total|exact|matches|respects)\w+\s*[:=]", line)
         is_public = module in modules or (module, holder if holder else (call.group(2) if call else "")) in items
         if is_public and (call and (call.group(1) or in_trait) or ghost and holder):
             while at < len(lines):
