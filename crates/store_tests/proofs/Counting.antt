@@ -1,5 +1,5 @@
 -- What calls of a store do to the number of serves, by the store's own law
-use Rattle.std.proofs.Common.{◌≡◌, ℕ, ◌+◌, ◌≤◌, Result, Ok, Err, IfOk, OnOk, OnErr, sym, ap, subst, arith}
+use Rattle.std.proofs.Common.{◌≡◌, ℕ, ◌+◌, ◌≤◌, Result, Ok, Err, IfOk, OnOk, OnErr, sym, subst, arith}
 use Rattle.std.specs.declared.alloc.AllocError.{AllocError}
 use Rattle.edn.specs.declared.refusal.Refusal.{Refusal}
 use Rattle.models.specs.declared.operation.Op.{Op}
@@ -7,7 +7,6 @@ use Rattle.models.specs.declared.model_kind.ModelKind.{ModelKind}
 use Rattle.history.specs.declared.event.Fault.{Fault}
 use Rattle.test_store.specs.declared.outcome.Mode.{Mode}
 use Rattle.test_store.specs.declared.outcome.Outcome.{Outcome}
-use Rattle.test_store.specs.declared.outcome.Outcome.TheVariants.{Done, Refused, Lost}
 use Rattle.test_store.specs.Store.{Cluster, opening, MayServe, after_fault, VersionsWithin, StoreView, at_rest}
 
 -- what the law says of an opening, of a serve and of a fault
@@ -31,16 +30,6 @@ pub serve_counted : ServeCounts → (old new : Cluster) (e : ℕ) (op : Op) (r :
 serve_counted law old new e op (Ok outcome) n served same within = law old new e op outcome n served within
 serve_counted law old new e op (Err x) n served same within =
     subst (λ s. VersionsWithin s (n + 1)) (sym same) (λ key held h. (let l : held.version ≤ n = within key held h in omega arith))
-
-serve_replicas : (old new : Cluster) (e : ℕ) (op : Op) (outcome : Outcome) → MayServe old e op outcome new → new.replicas ≡ old.replicas
-serve_replicas old new e op Refused may = ap (λ (s : Cluster). s.replicas) may.1
-serve_replicas old new e op (Done found) may = ap (λ (s : Cluster). s.replicas) may.3
-serve_replicas old new e op Lost may = ap (λ (s : Cluster). s.replicas) may.4
-
-pub replicas_counted : (old new : Cluster) (e : ℕ) (op : Op) (r : Result Outcome AllocError)
-    → IfOk r (λ outcome. MayServe old e op outcome new) → OnErr r (new ≡ old) → new.replicas ≡ old.replicas
-replicas_counted old new e op (Ok outcome) served same = serve_replicas old new e op outcome served
-replicas_counted old new e op (Err x) served same = ap (λ (s : Cluster). s.replicas) same
 
 pub fault_counted : {A : Type 0} → FaultCounts → (old new : Cluster) (fault : Fault) (r : Result A Refusal) (n : ℕ)
     → OnOk r (new ≡ after_fault fault old) → OnErr r (new ≡ old) → VersionsWithin old n → VersionsWithin new n
