@@ -31,25 +31,24 @@ fn read() -> Item {
 }
 
 // What a draw answered, in a word.
-fn word(drawn: &Result<Drawn, AllocError>) -> &'static str {
+fn word(drawn: &Drawn) -> &'static str {
     match drawn {
-        Err(_) => "no memory",
-        Ok(Drawn::Pending) => "pending",
-        Ok(Drawn::Done) => "done",
-        Ok(Drawn::Op(Item::Op(op))) => op.name.text(),
-        Ok(Drawn::Op(Item::Fault(Fault::Heal))) => "heal",
-        Ok(Drawn::Op(Item::Fault(_))) => "fault",
+        Drawn::Pending => "pending",
+        Drawn::Done => "done",
+        Drawn::Op(Item::Op(op)) => op.name.text(),
+        Drawn::Op(Item::Fault(Fault::Heal)) => "heal",
+        Drawn::Op(Item::Fault(_)) => "fault",
     }
 }
 
-fn drawn(source: &mut Source, idle: &[bool], asker: Asker) -> &'static str {
-    word(&source.draw(idle, asker))
+fn drawn<R: Abort>(rt: &R, source: &mut Source, idle: &[bool], asker: Asker) -> &'static str {
+    word(&source.draw(idle, asker).expect(rt, "a draw"))
 }
 
 // Each asker in turn, while both threads are idle, draws what its row says.
 fn follow<R: Abort>(rt: &R, source: &mut Source, rows: &[(Asker, &'static str)]) {
     for &(asker, want) in rows {
-        assert_eq!(rt; drawn(source, &BOTH, asker), want);
+        assert_eq!(rt; drawn(rt, source, &BOTH, asker), want);
     }
 }
 
@@ -99,7 +98,7 @@ fn phases_wait_for_idle(rt: HostRuntime) {
         ([false, true], ONE, "pending"),
         (BOTH, ONE, "read"),
     ] {
-        assert_eq!(rt; drawn(&mut source, &idle, asker), want);
+        assert_eq!(rt; drawn(&rt, &mut source, &idle, asker), want);
     }
 }
 
@@ -161,7 +160,7 @@ fn mix_moves_the_stream(rt: HostRuntime) {
         let mut source = mixed_with_nothing(rt.alloc(), seed).expect(&rt, "a source");
         let first = ChaCha8Rng::seed_from_u64(seed).next_u32();
         let place = if first % 2 == 0 { 2 } else { 1 };
-        assert_eq!(rt; drawn(&mut source, &BOTH, ZERO), "read");
+        assert_eq!(rt; drawn(&rt, &mut source, &BOTH, ZERO), "read");
         assert_eq!(rt; source.place(), place, "{seed}");
         let copy = source.copy().expect(&rt, "a copy");
         assert_eq!(rt; copy.place(), place);
@@ -171,7 +170,7 @@ fn mix_moves_the_stream(rt: HostRuntime) {
 #[test]
 fn empty_ops_is_done(rt: HostRuntime) {
     let mut source = Source::new(rt.alloc(), empty(rt.alloc()), 0);
-    assert_eq!(rt; drawn(&mut source, &BOTH, ZERO), "done");
+    assert_eq!(rt; drawn(&rt, &mut source, &BOTH, ZERO), "done");
 }
 
 // A mix of two, so that the order of the answers is that of the stream.
@@ -193,9 +192,9 @@ fn words_are_those_of_the_seed(rt: HostRuntime) {
             "read"
         };
         assert_eq!(rt; source.place(), u128::from(before));
-        assert_eq!(rt; drawn(&mut source, &BOTH, ZERO), want);
+        assert_eq!(rt; drawn(&rt, &mut source, &BOTH, ZERO), want);
     }
-    assert_eq!(rt; drawn(&mut source, &BOTH, ZERO), "done");
+    assert_eq!(rt; drawn(&rt, &mut source, &BOTH, ZERO), "done");
     assert_eq!(rt; source.place(), 40);
 }
 
@@ -203,20 +202,20 @@ fn words_are_those_of_the_seed(rt: HostRuntime) {
 fn copies_draw_the_same(rt: HostRuntime) {
     let mut source = mixed(rt.alloc(), 3).expect(&rt, "a source");
     for _ in 0..5 {
-        assert_ne!(rt; drawn(&mut source, &BOTH, ZERO), "no memory");
+        drawn(&rt, &mut source, &BOTH, ZERO);
     }
     let mut copy = source.copy().expect(&rt, "a copy");
     for _ in 0..40 {
         assert_eq!(rt; copy.place(), source.place());
         assert_eq!(rt;
-            drawn(&mut copy, &BOTH, ONE),
-            drawn(&mut source, &BOTH, ONE)
+            drawn(&rt, &mut copy, &BOTH, ONE),
+            drawn(&rt, &mut source, &BOTH, ONE)
         );
     }
 }
 
-fn prepared(source: &mut Source, asker: Asker) -> &'static str {
-    word(&source.prepare(&BOTH, asker))
+fn prepared<R: Abort>(rt: &R, source: &mut Source, asker: Asker) -> &'static str {
+    word(&source.prepare(&BOTH, asker).expect(rt, "a draw"))
 }
 
 // The place after a commit.
@@ -231,9 +230,9 @@ fn prepared_draw_changes_nothing(rt: HostRuntime) {
     let mut source = mixed(rt.alloc(), 5).expect(&rt, "a source");
     for before in 0..10u64 {
         let place = u128::from(before);
-        let first = prepared(&mut source, ZERO);
+        let first = prepared(&rt, &mut source, ZERO);
         assert_eq!(rt; source.place(), place);
-        assert_eq!(rt; prepared(&mut source, ONE), first);
+        assert_eq!(rt; prepared(&rt, &mut source, ONE), first);
         assert_eq!(rt; source.place(), place);
         for _ in 0..2 {
             assert_eq!(rt; committed(&mut source), place + 1);
