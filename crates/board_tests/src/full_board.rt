@@ -1,46 +1,42 @@
 //! A board with all its seats.
 ghost use Rattle.std.specs.Prelude.{◌≡◌, length};
 
-use crate::boards::{blank, write_then_read_another};
-use crate::said::{Said, answer_of, plain_of};
+use crate::acts::{Act, Line, Row, act_in_turn};
+use crate::boards::blank;
+use crate::said::{Said, plain_of};
 use crate::shared::SharedBoard;
 use board::{Blank, Tag};
-use harness::Command;
+use std::alloc::{AllocError, Global};
 use std::marker::Brand;
+use std::panic::Expect;
 use std::process::Abort;
 use std::sync::Wait;
 use std::thread::{Threads, join};
 
 const SEATS: u32 = 64;
 
+// Each seat calls once.
+fn one_call_each(alloc: Global) -> Result<Vec<Row>, AllocError> {
+    let mut rows = Vec::new(alloc);
+    for number in 0..SEATS {
+        let (line, said) = match number {
+            0 => (Line::WriteBegins, Said::Legal),
+            1 => (Line::WriteEnds, Said::Legal),
+            2 => (Line::ReadBegins, Said::Legal),
+            3 => (Line::ReadEnds(4), Said::Illegal(7, 3)),
+            _ => (Line::Verdict, Said::Illegal(7, 3)),
+        };
+        rows.push((number, Act::Call(line), u64::from(number) + 1, said))?;
+    }
+    Ok(rows)
+}
+
 /// Each of 64 seats calls in turn, and the object that the end gives stands after all calls.
 #[test]
 fn seats_in_turn(rt: HostRuntime) {
-    take_turns::<Brand, _>(&rt, blank(&rt, rt.alloc(), SEATS));
-}
-
-fn take_turns<B: Tag, R: Wait + Abort>(rt: &R, blank: Blank)
-    requires names { (blank.word ≡ B.word) × (blank.ledger.name ≡ B.name)
-        × (blank.ledger.parts ≡ B.parts) }
-{
-    let Ok((board, mut seats)) = blank.open::<B>() else {
-        panic!(rt; "not opened")
-    };
-    assert_eq!(rt; seats.len(), 64);
-    for (line, seat) in (0..SEATS).zip(seats.iter_mut()) {
-        let command = match line {
-            0..4 => write_then_read_another(line),
-            _ => Command::Verdict,
-        };
-        let said = match line {
-            0..3 => Said::Legal,
-            _ => Said::Illegal(7, 3),
-        };
-        let answer = answer_of(&board.call(rt, seat, command));
-        assert_eq!(rt; answer, (u64::from(line) + 1, said));
-    }
-    let core = board.end(rt, seats);
-    assert_eq!(rt; plain_of(core.verdict()), Said::Illegal(7, 3));
+    let rows = one_call_each(rt.alloc()).expect(&rt, "rows");
+    let last = act_in_turn(&rt, blank(&rt, rt.alloc(), SEATS), rows.as_slice());
+    assert_eq!(rt; last, Said::Illegal(7, 3));
 }
 
 /// The commits of some calls, as bits, and how many glances showed less than their seat's call, or nothing.

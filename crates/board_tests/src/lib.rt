@@ -3,6 +3,10 @@
 #![tactic(auto)]
 
 #[cfg(test)]
+mod acts;
+#[cfg(test)]
+mod beside;
+#[cfg(test)]
 mod boards;
 #[cfg(test)]
 mod drawn;

@@ -1,19 +1,13 @@
 -- What calls of a store do to the number of serves, by the store's own law
-use Rattle.std.proofs.Common.{◌≡◌, ℕ, ◌+◌, ◌≤◌, Result, Ok, Err, IfOk, OnOk, OnErr, sym, ap, subst, arith}
+use Rattle.std.proofs.Common.{◌≡◌, ℕ, ◌+◌, ◌≤◌, Result, Ok, Err, IfOk, OnOk, OnErr, sym, subst, arith}
 use Rattle.std.specs.declared.alloc.AllocError.{AllocError}
 use Rattle.edn.specs.declared.refusal.Refusal.{Refusal}
 use Rattle.models.specs.declared.operation.Op.{Op}
-use Rattle.models.specs.declared.model_kind.ModelKind.{ModelKind}
 use Rattle.history.specs.declared.event.Fault.{Fault}
-use Rattle.test_store.specs.declared.outcome.Mode.{Mode}
 use Rattle.test_store.specs.declared.outcome.Outcome.{Outcome}
-use Rattle.test_store.specs.declared.outcome.Outcome.TheVariants.{Done, Refused, Lost}
-use Rattle.test_store.specs.Store.{Cluster, opening, MayServe, after_fault, VersionsWithin, StoreView, at_rest}
+use Rattle.test_store.specs.Store.{Cluster, MayServe, after_fault, VersionsWithin, StoreView, at_rest}
 
--- what the law says of an opening, of a serve and of a fault
-abbrev pub OpeningCounts : Type 0
-OpeningCounts = (n : ℕ) (mode : Mode) (kind : ModelKind) → VersionsWithin (opening n mode kind) 0
-
+-- what the law says of a serve and of a fault
 abbrev pub ServeCounts : Type 0
 ServeCounts = (old new : Cluster) (e : ℕ) (op : Op) (outcome : Outcome) (n : ℕ)
     → MayServe old e op outcome new → VersionsWithin old n → VersionsWithin new (n + 1)
@@ -21,33 +15,16 @@ ServeCounts = (old new : Cluster) (e : ℕ) (op : Op) (outcome : Outcome) (n : �
 abbrev pub FaultCounts : Type 0
 FaultCounts = (fault : Fault) (s : Cluster) (n : ℕ) → VersionsWithin s n → VersionsWithin (after_fault fault s) n
 
-pub opening_counted : {E : Type 0} → OpeningCounts → (n : ℕ) (mode : Mode) (kind : ModelKind) (r : Result StoreView E)
-    → IfOk r (λ (store : StoreView). store ≡ at_rest (opening n mode kind)) → IfOk r (λ (store : StoreView). VersionsWithin store.now 0)
-opening_counted law n mode kind (Ok store) is = subst (λ (s : StoreView). VersionsWithin s.now 0) (sym is) (law n mode kind)
-opening_counted law n mode kind (Err e) is = tt
-
 pub serve_counted : ServeCounts → (old new : Cluster) (e : ℕ) (op : Op) (r : Result Outcome AllocError) (n : ℕ)
     → IfOk r (λ outcome. MayServe old e op outcome new) → OnErr r (new ≡ old) → VersionsWithin old n → VersionsWithin new (n + 1)
 serve_counted law old new e op (Ok outcome) n served same within = law old new e op outcome n served within
 serve_counted law old new e op (Err x) n served same within =
     subst (λ s. VersionsWithin s (n + 1)) (sym same) (λ key held h. (let l : held.version ≤ n = within key held h in omega arith))
 
-serve_replicas : (old new : Cluster) (e : ℕ) (op : Op) (outcome : Outcome) → MayServe old e op outcome new → new.replicas ≡ old.replicas
-serve_replicas old new e op Refused may = ap (λ (s : Cluster). s.replicas) may.1
-serve_replicas old new e op (Done found) may = ap (λ (s : Cluster). s.replicas) may.3
-serve_replicas old new e op Lost may = ap (λ (s : Cluster). s.replicas) may.4
-
-pub replicas_counted : (old new : Cluster) (e : ℕ) (op : Op) (r : Result Outcome AllocError)
-    → IfOk r (λ outcome. MayServe old e op outcome new) → OnErr r (new ≡ old) → new.replicas ≡ old.replicas
-replicas_counted old new e op (Ok outcome) served same = serve_replicas old new e op outcome served
-replicas_counted old new e op (Err x) served same = ap (λ (s : Cluster). s.replicas) same
-
 pub fault_counted : {A : Type 0} → FaultCounts → (old new : Cluster) (fault : Fault) (r : Result A Refusal) (n : ℕ)
     → OnOk r (new ≡ after_fault fault old) → OnErr r (new ≡ old) → VersionsWithin old n → VersionsWithin new n
 fault_counted law old new fault (Ok u) n struck same within = subst (λ s. VersionsWithin s n) (sym struck) (law fault old n within)
 fault_counted law old new fault (Err x) n struck same within = subst (λ s. VersionsWithin s n) (sym same) within
 
-pub copy_counted : {E : Type 0} (s : Cluster) (n : ℕ) (r : Result StoreView E)
-    → IfOk r (λ (store : StoreView). store ≡ at_rest s) → VersionsWithin s n → IfOk r (λ (store : StoreView). VersionsWithin store.now n)
-copy_counted s n (Ok store) is within = subst (λ (x : StoreView). VersionsWithin x.now n) (sym is) within
-copy_counted s n (Err e) is within = tt
+pub rest_counted : (s : Cluster) (store : StoreView) (n : ℕ) → store ≡ at_rest s → VersionsWithin s n → VersionsWithin store.now n
+rest_counted s store n is within = subst (λ (x : StoreView). VersionsWithin x.now n) (sym is) within

@@ -5,9 +5,14 @@ use models::{Name, Op, Part};
 use rand_chacha::ChaCha8Rng;
 use rand_core::{Rng, SeedableRng};
 use std::alloc::{AllocError, Global};
-use std::test::Fail;
+use std::panic::Expect;
+use std::process::Abort;
 
 const BOTH: [bool; 2] = [true, true];
+
+const ZERO: Asker = Asker::Thread(0);
+
+const ONE: Asker = Asker::Thread(1);
 
 fn write() -> Item {
     Item::Op(Op {
@@ -36,189 +41,218 @@ fn word(drawn: &Drawn) -> &'static str {
     }
 }
 
-fn drawn(source: &mut Source, idle: &[bool], asker: Asker) -> Result<&'static str, AllocError> {
-    Ok(word(&source.draw(idle, asker)?))
+fn drawn<R: Abort>(rt: &R, source: &mut Source, idle: &[bool], asker: Asker) -> &'static str {
+    word(&source.draw(idle, asker).expect(rt, "a draw"))
 }
 
-fn writes(alloc: Global) -> Result<Gen, AllocError> {
-    Ok(Gen::Ops(Cycle::new(vec![in alloc; write()]?)))
+// Each asker in turn, while both threads are idle, draws what its row says.
+fn follow<R: Abort>(rt: &R, source: &mut Source, rows: &[(Asker, &'static str)]) {
+    for &(asker, want) in rows {
+        assert_eq!(rt; drawn(rt, source, &BOTH, asker), want);
+    }
 }
 
-fn reads(alloc: Global) -> Result<Gen, AllocError> {
-    Ok(Gen::Ops(Cycle::new(vec![in alloc; read()]?)))
+fn writes_and_reads(alloc: Global) -> Result<Cycle, AllocError> {
+    Ok(Cycle::new(vec![in alloc; write(), read()]?))
 }
 
-fn heals(alloc: Global) -> Result<Gen, AllocError> {
-    Ok(Gen::Ops(Cycle::new(vec![in alloc; Item::Fault(Fault::Heal)]?)))
+fn only(alloc: Global, item: Item) -> Result<Gen, AllocError> {
+    Ok(Gen::Ops(Cycle::new(vec![in alloc; item]?)))
 }
 
 fn limit(alloc: Global, most: u64, child: Gen) -> Result<Gen, AllocError> {
     Ok(Gen::Limit(most, Box::new(alloc, child)?))
 }
 
-const ZERO: Asker = Asker::Thread(0);
-
-const ONE: Asker = Asker::Thread(1);
+// The first three of writes and reads in turn.
+fn three_of_two(alloc: Global) -> Result<Source, AllocError> {
+    let both = Gen::Ops(writes_and_reads(alloc)?);
+    Ok(Source::new(alloc, limit(alloc, 3, both)?, 0))
+}
 
 #[test]
-fn limit_and_cycle(rt: HostRuntime) -> Result<(), Fail> {
-    let alloc = rt.alloc();
-    let both = Gen::Ops(Cycle::new(vec![in alloc; write(), read()]?));
-    let mut source = Source::new(alloc, limit(alloc, 3, both)?, 0);
-    for want in ["write", "read", "write", "done"] {
-        assert_eq!(rt; drawn(&mut source, &BOTH, ZERO)?, want);
-    }
+fn limit_and_cycle(rt: HostRuntime) {
+    let mut source = three_of_two(rt.alloc()).expect(&rt, "a source");
+    let rows = &[
+        (ZERO, "write"),
+        (ZERO, "read"),
+        (ZERO, "write"),
+        (ZERO, "done"),
+    ];
+    follow(&rt, &mut source, rows);
     assert_eq!(rt; source.place(), 0);
-    Ok(())
+}
+
+// A write and then reads, in phases.
+fn phases(alloc: Global) -> Result<Source, AllocError> {
+    let first = limit(alloc, 1, only(alloc, write())?)?;
+    let children = vec![in alloc; first, only(alloc, read())?]?;
+    Ok(Source::new(alloc, Gen::Phases(children), 0))
 }
 
 #[test]
-fn phases_wait_for_idle(rt: HostRuntime) -> Result<(), Fail> {
-    let alloc = rt.alloc();
-    let first = limit(alloc, 1, writes(alloc)?)?;
-    let children = vec![in alloc; first, reads(alloc)?]?;
-    let mut source = Source::new(alloc, Gen::Phases(children), 0);
-    assert_eq!(rt; drawn(&mut source, &BOTH, ZERO)?, "write");
-    assert_eq!(rt; drawn(&mut source, &[false, true], ONE)?, "pending");
-    assert_eq!(rt; drawn(&mut source, &BOTH, ONE)?, "read");
-    Ok(())
+fn phases_wait_for_idle(rt: HostRuntime) {
+    let mut source = phases(rt.alloc()).expect(&rt, "a source");
+    for (idle, asker, want) in [
+        (BOTH, ZERO, "write"),
+        ([false, true], ONE, "pending"),
+        (BOTH, ONE, "read"),
+    ] {
+        assert_eq!(rt; drawn(&rt, &mut source, &idle, asker), want);
+    }
+}
+
+// A read for each thread.
+fn read_each(alloc: Global) -> Result<Source, AllocError> {
+    let child = limit(alloc, 1, only(alloc, read())?)?;
+    Ok(Source::new(alloc, Gen::each_thread(alloc, 2, child)?, 0))
 }
 
 #[test]
-fn each_thread_once(rt: HostRuntime) -> Result<(), Fail> {
-    let alloc = rt.alloc();
-    let child = limit(alloc, 1, reads(alloc)?)?;
-    let mut source = Source::new(alloc, Gen::each_thread(alloc, 2, child)?, 0);
-    for (asker, want) in [
+fn each_thread_once(rt: HostRuntime) {
+    let mut source = read_each(rt.alloc()).expect(&rt, "a source");
+    let rows = &[
         (ZERO, "read"),
         (ZERO, "pending"),
         (ONE, "read"),
         (ZERO, "done"),
         (Asker::Nemesis, "done"),
-    ] {
-        assert_eq!(rt; drawn(&mut source, &BOTH, asker)?, want);
-    }
-    Ok(())
+    ];
+    follow(&rt, &mut source, rows);
+}
+
+// A heal of the nemesis, and then reads of the clients.
+fn heal_then_reads(alloc: Global) -> Result<Source, AllocError> {
+    let heals = Gen::Nemesis(Box::new(alloc, only(alloc, Item::Fault(Fault::Heal))?)?);
+    let heal = limit(alloc, 1, heals)?;
+    let clients = Gen::Clients(Box::new(alloc, only(alloc, read())?)?);
+    let children = vec![in alloc; heal, clients]?;
+    Ok(Source::new(alloc, Gen::Seq(children), 0))
 }
 
 #[test]
-fn nemesis_then_clients(rt: HostRuntime) -> Result<(), Fail> {
-    let alloc = rt.alloc();
-    let heal = Gen::Nemesis(Box::new(alloc, heals(alloc)?)?);
-    let heal = limit(alloc, 1, heal)?;
-    let clients = Gen::Clients(Box::new(alloc, reads(alloc)?)?);
-    let children = vec![in alloc; heal, clients]?;
-    let mut source = Source::new(alloc, Gen::Seq(children), 0);
-    for (asker, want) in [
+fn nemesis_then_clients(rt: HostRuntime) {
+    let mut source = heal_then_reads(rt.alloc()).expect(&rt, "a source");
+    let rows = &[
         (ZERO, "pending"),
         (Asker::Nemesis, "heal"),
         (ZERO, "read"),
         (Asker::Nemesis, "done"),
-    ] {
-        assert_eq!(rt; drawn(&mut source, &BOTH, asker)?, want);
-    }
-    Ok(())
+    ];
+    follow(&rt, &mut source, rows);
+}
+
+fn empty(alloc: Global) -> Gen {
+    Gen::Ops(Cycle::new(Vec::new(alloc)))
+}
+
+// A mix of an inner mix that gives nothing, and of reads.
+fn mixed_with_nothing(alloc: Global, seed: u64) -> Result<Source, AllocError> {
+    let inner = Gen::Mix(vec![in alloc; empty(alloc)]?);
+    let children = vec![in alloc; inner, only(alloc, read())?]?;
+    Ok(Source::new(alloc, Gen::Mix(children), seed))
 }
 
 // An inner mix that gives nothing takes a word of its own where it is asked first.
 #[test]
-fn mix_moves_the_stream(rt: HostRuntime) -> Result<(), Fail> {
-    let alloc = rt.alloc();
+fn mix_moves_the_stream(rt: HostRuntime) {
     for seed in 0..16 {
-        let inner = Gen::Mix(vec![in alloc; Gen::Ops(Cycle::new(Vec::new(alloc)))]?);
-        let children = vec![in alloc; inner, reads(alloc)?]?;
-        let mut source = Source::new(alloc, Gen::Mix(children), seed);
+        let mut source = mixed_with_nothing(rt.alloc(), seed).expect(&rt, "a source");
         let first = ChaCha8Rng::seed_from_u64(seed).next_u32();
-        assert_eq!(rt; drawn(&mut source, &BOTH, ZERO)?, "read");
-        assert_eq!(rt;
-            source.place(),
-            if first % 2 == 0 { 2 } else { 1 },
-            "{seed}"
-        );
-        assert_eq!(rt; source.copy()?.place(), source.place());
+        let place = if first % 2 == 0 { 2 } else { 1 };
+        assert_eq!(rt; drawn(&rt, &mut source, &BOTH, ZERO), "read");
+        assert_eq!(rt; source.place(), place, "{seed}");
+        let copy = source.copy().expect(&rt, "a copy");
+        assert_eq!(rt; copy.place(), place);
     }
-    Ok(())
 }
 
 #[test]
-fn empty_ops_is_done(rt: HostRuntime) -> Result<(), Fail> {
-    let alloc = rt.alloc();
-    let mut source = Source::new(alloc, Gen::Ops(Cycle::new(Vec::new(alloc))), 0);
-    assert_eq!(rt; drawn(&mut source, &BOTH, ZERO)?, "done");
-    Ok(())
+fn empty_ops_is_done(rt: HostRuntime) {
+    let mut source = Source::new(rt.alloc(), empty(rt.alloc()), 0);
+    assert_eq!(rt; drawn(&rt, &mut source, &BOTH, ZERO), "done");
 }
 
 // A mix of two, so that the order of the answers is that of the stream.
 fn mixed(alloc: Global, seed: u64) -> Result<Source, AllocError> {
-    let children = vec![in alloc; writes(alloc)?, reads(alloc)?]?;
+    let children = vec![in alloc; only(alloc, write())?, only(alloc, read())?]?;
     let generator = limit(alloc, 40, Gen::Mix(children))?;
     Ok(Source::new(alloc, generator, seed))
 }
 
 // The low bit of each word says which child is asked first, and both always give an item.
 #[test]
-fn words_are_those_of_the_seed(rt: HostRuntime) -> Result<(), Fail> {
-    let mut source = mixed(rt.alloc(), 7)?;
+fn words_are_those_of_the_seed(rt: HostRuntime) {
+    let mut source = mixed(rt.alloc(), 7).expect(&rt, "a source");
     let mut words = ChaCha8Rng::seed_from_u64(7);
     for before in 0..40u64 {
-        assert_eq!(rt; source.place(), u128::from(before));
         let want = if words.next_u32() % 2 == 0 {
             "write"
         } else {
             "read"
         };
-        assert_eq!(rt; drawn(&mut source, &BOTH, ZERO)?, want);
+        assert_eq!(rt; source.place(), u128::from(before));
+        assert_eq!(rt; drawn(&rt, &mut source, &BOTH, ZERO), want);
     }
-    assert_eq!(rt; drawn(&mut source, &BOTH, ZERO)?, "done");
+    assert_eq!(rt; drawn(&rt, &mut source, &BOTH, ZERO), "done");
     assert_eq!(rt; source.place(), 40);
-    Ok(())
 }
 
 #[test]
-fn copies_draw_the_same(rt: HostRuntime) -> Result<(), Fail> {
-    let mut source = mixed(rt.alloc(), 3)?;
+fn copies_draw_the_same(rt: HostRuntime) {
+    let mut source = mixed(rt.alloc(), 3).expect(&rt, "a source");
     for _ in 0..5 {
-        let _ = drawn(&mut source, &BOTH, ZERO)?;
+        drawn(&rt, &mut source, &BOTH, ZERO);
     }
-    let mut copy = source.copy()?;
+    let mut copy = source.copy().expect(&rt, "a copy");
     for _ in 0..40 {
         assert_eq!(rt; copy.place(), source.place());
         assert_eq!(rt;
-            drawn(&mut copy, &BOTH, ONE)?,
-            drawn(&mut source, &BOTH, ONE)?
+            drawn(&rt, &mut copy, &BOTH, ONE),
+            drawn(&rt, &mut source, &BOTH, ONE)
         );
     }
-    Ok(())
+}
+
+fn prepared<R: Abort>(rt: &R, source: &mut Source, asker: Asker) -> &'static str {
+    word(&source.prepare(&BOTH, asker).expect(rt, "a draw"))
+}
+
+// The place after a commit.
+fn committed(source: &mut Source) -> u128 {
+    source.commit();
+    source.place()
 }
 
 // What is prepared is seen only once it is committed, and a commit of nothing changes nothing.
 #[test]
-fn prepared_draw_changes_nothing(rt: HostRuntime) -> Result<(), Fail> {
-    let mut source = mixed(rt.alloc(), 5)?;
-    for _ in 0..10 {
-        let first = word(&source.prepare(&BOTH, ZERO)?);
-        let place = source.place();
-        assert_eq!(rt; word(&source.prepare(&BOTH, ONE)?), first);
+fn prepared_draw_changes_nothing(rt: HostRuntime) {
+    let mut source = mixed(rt.alloc(), 5).expect(&rt, "a source");
+    for before in 0..10u64 {
+        let place = u128::from(before);
+        let first = prepared(&rt, &mut source, ZERO);
         assert_eq!(rt; source.place(), place);
-        source.commit();
-        assert_eq!(rt; source.place(), place + 1);
-        source.commit();
-        assert_eq!(rt; source.place(), place + 1);
+        assert_eq!(rt; prepared(&rt, &mut source, ONE), first);
+        assert_eq!(rt; source.place(), place);
+        for _ in 0..2 {
+            assert_eq!(rt; committed(&mut source), place + 1);
+        }
     }
-    Ok(())
+}
+
+fn one_of(alloc: Global, cycle: &Cycle) -> Result<Gen, AllocError> {
+    limit(alloc, 1, Gen::Ops(cycle.copy()?))
 }
 
 // A cycle has its items whatever was given, and a copy of a generator is as far as the generator.
 #[test]
-fn copies_of_generators(rt: HostRuntime) -> Result<(), Fail> {
-    let alloc = rt.alloc();
-    let mut cycle = Cycle::new(vec![in alloc; write(), read()]?);
+fn copies_of_generators(rt: HostRuntime) {
+    let mut cycle = writes_and_reads(rt.alloc()).expect(&rt, "a cycle");
     cycle.turn();
     assert_eq!(rt; cycle.items().len(), 2);
-    let generator = limit(alloc, 1, Gen::Ops(cycle.copy()?))?;
-    let mut source = Source::new(alloc, generator.copy(alloc)?, 0);
-    assert_eq!(rt; drawn(&mut source, &BOTH, ZERO)?, "read");
-    assert_eq!(rt; drawn(&mut source, &BOTH, ZERO)?, "done");
+    let generator = one_of(rt.alloc(), &cycle).expect(&rt, "a generator");
+    let copy = generator.copy(rt.alloc()).expect(&rt, "a copy");
+    let mut source = Source::new(rt.alloc(), copy, 0);
+    follow(&rt, &mut source, &[(ZERO, "read"), (ZERO, "done")]);
     assert!(rt; !generator.is_over());
-    Ok(())
 }

@@ -1,7 +1,8 @@
 //! A schedule by hand.
 use history::Fault;
 use nemesis::Schedule;
-use std::test::Fail;
+use std::alloc::{AllocError, Global};
+use std::panic::Expect;
 
 fn word(fault: Option<&Fault>) -> &'static str {
     match fault {
@@ -12,18 +13,26 @@ fn word(fault: Option<&Fault>) -> &'static str {
     }
 }
 
+fn scheduled(alloc: Global) -> Result<Schedule, AllocError> {
+    let faults = vec![in alloc; (2u32, Fault::Heal), (2, Fault::Pause(1))]?;
+    Ok(Schedule::new(faults))
+}
+
+// A fault is due until it is taken.
 #[test]
-fn schedule_in_turn(rt: HostRuntime) -> Result<(), Fail> {
-    let faults = vec![in rt.alloc(); (2u32, Fault::Heal), (2, Fault::Pause(1))]?;
-    let mut schedule = Schedule::new(faults);
-    assert_eq!(rt; word(schedule.due(1)), "none");
-    assert_eq!(rt; word(schedule.due(2)), "heal");
-    assert_eq!(rt; word(schedule.due(2)), "heal", "it is not taken yet");
-    schedule.advance();
-    assert_eq!(rt; word(schedule.due(2)), "pause 1");
-    schedule.advance();
-    assert_eq!(rt; word(schedule.due(2)), "none");
-    schedule.advance();
-    assert_eq!(rt; word(schedule.due(1_048_576)), "none");
-    Ok(())
+fn schedule_in_turn(rt: HostRuntime) {
+    let mut schedule = scheduled(rt.alloc()).expect(&rt, "a schedule");
+    for (length, want, taken) in [
+        (1, "none", false),
+        (2, "heal", false),
+        (2, "heal", true),
+        (2, "pause 1", true),
+        (2, "none", true),
+        (1_048_576, "none", false),
+    ] {
+        assert_eq!(rt; word(schedule.due(length)), want);
+        if taken {
+            schedule.advance();
+        }
+    }
 }

@@ -18,47 +18,43 @@ fn comes(flag: &AtomicBool) -> bool {
     false
 }
 
-/// What is known of a piece: it was begun; it saw the other one begun; it was ended.
+/// What is known of a piece: it was begun; it saw the other one begun, where it waits for that; it was ended.
 #[derive(Drop)]
 struct Piece {
+    waits: bool,
     begun: AtomicBool,
     saw: AtomicBool,
     ended: AtomicBool,
 }
 
 impl Piece {
-    fn new() -> Piece {
+    fn new(waits: bool) -> Piece {
         Piece {
+            waits,
             begun: AtomicBool::new(false),
             saw: AtomicBool::new(false),
             ended: AtomicBool::new(false),
         }
     }
 
-    // Begins, and waits for the other one to begin.
-    fn meet(&self, other: &Piece) {
+    fn begin(&self, other: &Piece) {
         self.begun.store(true, Ordering::SeqCst);
-        self.saw.store(comes(&other.begun), Ordering::SeqCst);
-    }
-
-    fn begin(&self) {
-        self.begun.store(true, Ordering::SeqCst);
+        if self.waits {
+            self.saw.store(comes(&other.begun), Ordering::SeqCst);
+        }
     }
 
     fn end(&self) {
         self.ended.store(true, Ordering::SeqCst);
     }
 
-    fn saw(&self) -> bool {
-        self.saw.load(Ordering::SeqCst)
-    }
-
-    fn ended(&self) -> bool {
-        self.ended.load(Ordering::SeqCst)
+    // Whether it saw the other one begun, where it waits for that, and has ended.
+    fn was_held(&self) -> bool {
+        (!self.waits || self.saw.load(Ordering::SeqCst)) && self.ended.load(Ordering::SeqCst)
     }
 }
 
-/// Pieces 0 and 1 wait for each other. Each other one passes.
+/// Piece 0 waits for piece 1, and piece 1 for piece 0 where both wait. Each other one passes.
 #[derive(Drop)]
 pub struct Meeting {
     first: Piece,
@@ -66,63 +62,31 @@ pub struct Meeting {
 }
 
 impl Meeting {
-    pub fn new() -> Meeting {
+    pub fn of_both() -> Meeting {
         Meeting {
-            first: Piece::new(),
-            second: Piece::new(),
+            first: Piece::new(true),
+            second: Piece::new(true),
         }
     }
 
-    /// Whether each of the two saw the other one begun, and both have ended.
+    pub fn of_first() -> Meeting {
+        Meeting {
+            first: Piece::new(true),
+            second: Piece::new(false),
+        }
+    }
+
+    /// Whether each that waits saw the other one begun, and both have ended.
     pub fn was_held(&self) -> bool {
-        self.first.saw() && self.second.saw() && self.first.ended() && self.second.ended()
+        self.first.was_held() && self.second.was_held()
     }
 }
 
 impl Gate for Meeting {
     fn begin(&self, place: u32) {
         match place {
-            0 => self.first.meet(&self.second),
-            1 => self.second.meet(&self.first),
-            _ => {}
-        }
-    }
-
-    fn end(&self, place: u32) {
-        match place {
-            0 => self.first.end(),
-            1 => self.second.end(),
-            _ => {}
-        }
-    }
-}
-
-/// Piece 0 waits for piece 1. Each other one passes.
-#[derive(Drop)]
-pub struct Overlap {
-    first: Piece,
-    second: Piece,
-}
-
-impl Overlap {
-    pub fn new() -> Overlap {
-        Overlap {
-            first: Piece::new(),
-            second: Piece::new(),
-        }
-    }
-
-    /// Whether piece 0 saw piece 1 begun, and both have ended.
-    pub fn was_seen(&self) -> bool {
-        self.first.saw() && self.first.ended() && self.second.ended()
-    }
-}
-
-impl Gate for Overlap {
-    fn begin(&self, place: u32) {
-        match place {
-            0 => self.first.meet(&self.second),
-            1 => self.second.begin(),
+            0 => self.first.begin(&self.second),
+            1 => self.second.begin(&self.first),
             _ => {}
         }
     }

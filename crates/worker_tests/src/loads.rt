@@ -2,38 +2,51 @@
 
 use crate::events::event;
 use crate::gates::Meeting;
+use edn::{Gate, Refusal};
 use history::{EventKind, History};
 use linspec::Verdict;
 use models::{ModelKind, Name, Part};
 use monitor::Monitor;
-use std::test::Fail;
+use std::alloc::Global;
+use std::panic::Expect;
+use std::thread::Threads;
 
-/// Two keys of four threads, which overlap: each key is judged by a worker of its own, and they wait for each other.
+// Two keys of four threads, which overlap.
+fn two_keys(alloc: Global) -> Result<History, Refusal> {
+    let mut history = History::new(alloc, 4)?;
+    for (process, kind, name, key, value) in [
+        (0, EventKind::Invoke, Name::Read, 1, None),
+        (1, EventKind::Invoke, Name::Read, 2, None),
+        (2, EventKind::Invoke, Name::Write, 2, Some(6)),
+        (3, EventKind::Invoke, Name::Write, 1, Some(5)),
+        (0, EventKind::Ok, Name::Read, 1, Some(5)),
+        (1, EventKind::Ok, Name::Read, 2, Some(6)),
+        (2, EventKind::Ok, Name::Write, 2, Some(6)),
+        (3, EventKind::Ok, Name::Write, 1, Some(5)),
+    ] {
+        let part = value.map_or(Part::Nil, Part::Int);
+        history.push(event(process, kind, name, key, part))?;
+    }
+    Ok(history)
+}
+
+fn loaded<R: Threads + Sync, G: Gate + Sync>(
+    rt: &R,
+    alloc: Global,
+    gate: &G,
+) -> Result<Monitor, Refusal> {
+    let history = two_keys(alloc)?;
+    Monitor::load(rt, alloc, history, ModelKind::Register, 4096, 2, gate)
+}
+
+/// Each of the two keys is judged by a worker of its own, and they wait for each other.
 #[test]
-fn load_by_two_workers(rt: HostRuntime) -> Result<(), Fail> {
-    let mut history = History::new(rt.alloc(), 4)?;
-    history.push(event(0, EventKind::Invoke, Name::Read, 1, Part::Nil))?;
-    history.push(event(1, EventKind::Invoke, Name::Read, 2, Part::Nil))?;
-    history.push(event(2, EventKind::Invoke, Name::Write, 2, Part::Int(6)))?;
-    history.push(event(3, EventKind::Invoke, Name::Write, 1, Part::Int(5)))?;
-    history.push(event(0, EventKind::Ok, Name::Read, 1, Part::Int(5)))?;
-    history.push(event(1, EventKind::Ok, Name::Read, 2, Part::Int(6)))?;
-    history.push(event(2, EventKind::Ok, Name::Write, 2, Part::Int(6)))?;
-    history.push(event(3, EventKind::Ok, Name::Write, 1, Part::Int(5)))?;
-    let meeting = Meeting::new();
-    let monitor = Monitor::load(
-        &rt,
-        rt.alloc(),
-        history,
-        ModelKind::Register,
-        4096,
-        2,
-        &meeting,
-    )?;
+fn load_by_two_workers(rt: HostRuntime) {
+    let meeting = Meeting::of_both();
+    let monitor = loaded(&rt, rt.alloc(), &meeting).expect(&rt, "a monitor");
     assert!(rt; meeting.was_held());
     assert!(rt; matches!(monitor.verdict(), Verdict::Legal));
     assert_eq!(rt; monitor.key_count(), 2);
     assert_eq!(rt; monitor.key_at(0).key, 1);
     assert_eq!(rt; monitor.key_at(1).events, 4);
-    Ok(())
 }

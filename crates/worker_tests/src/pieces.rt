@@ -1,17 +1,34 @@
 //! Pieces that are judged by several workers.
-ghost use Rattle.std.specs.Prelude.{◌≤◌};
+ghost use Rattle.std.specs.Prelude.{◌+◌, ◌<◌, ◌≤◌, ◌∷◌, []};
+ghost use Rattle.history.specs.ProcessRule.{IsHistory};
 
 use crate::events::event;
-use crate::gates::{Meeting, Overlap};
+use crate::gates::Meeting;
 use checkpoints::KeyLine;
 use edn::{Gate, OpenGate};
-use history::EventKind;
+use history::{Event, EventKind};
 use linspec::KeyStatus;
-use models::{ModelKind, Name, Part};
+use models::{Key, ModelKind, Name, Part};
 use parallel_recheck::{KeyEvents, recheck};
 use std::alloc::{AllocError, Global};
-use std::test::Fail;
 use std::thread::Threads;
+
+// The piece of a key with two events: one has this index, and the other one comes two later.
+fn piece<'a>(
+    alloc: Global,
+    key: Key,
+    index: u32,
+    invoke: &'a Event,
+    ok: &'a Event,
+) -> Result<KeyEvents<'a>, AllocError>
+    requires small { index < 2 }
+    requires rule { IsHistory ((index, invoke.now) ∷ (index + 2, ok.now) ∷ []) }
+{
+    let mut events = KeyEvents::new(alloc, key, ModelKind::Register, 4096);
+    events.push(index, invoke)?;
+    events.push(index + 2, ok)?;
+    Ok(events)
+}
 
 // The lines of two pieces. Key 7 is written, and key 9 is read: its answer, at index 3, is a value that nobody has written.
 fn lines_by<R: Threads + Sync, G: Gate + Sync>(
@@ -28,15 +45,9 @@ fn lines_by<R: Threads + Sync, G: Gate + Sync>(
         event(0, EventKind::Ok, Name::Write, 7, Part::Int(3)),
         event(1, EventKind::Ok, Name::Read, 9, Part::Int(4)),
     ];
-    let mut written = KeyEvents::new(alloc, 7, ModelKind::Register, 4096);
-    written.push(0, &events[0])?;
-    written.push(2, &events[2])?;
-    let mut read = KeyEvents::new(alloc, 9, ModelKind::Register, 4096);
-    read.push(1, &events[1])?;
-    read.push(3, &events[3])?;
-    let mut pieces = Vec::new(alloc);
-    pieces.push(written)?;
-    pieces.push(read)?;
+    let written = piece(alloc, 7, 0, &events[0], &events[2])?;
+    let read = piece(alloc, 9, 1, &events[1], &events[3])?;
+    let pieces = vec![in alloc; written, read]?;
     recheck(rt, alloc, pieces.as_slice(), workers, gate)
 }
 
@@ -47,32 +58,40 @@ fn are_lines(lines: &[KeyLine]) -> bool {
         && matches!(lines[1].status(), KeyStatus::Dead(3))
 }
 
+fn are_judged<R: Threads + Sync, G: Gate + Sync>(
+    rt: &R,
+    alloc: Global,
+    workers: u32,
+    gate: &G,
+) -> bool
+    requires { (1 ≤ workers) × (workers ≤ 64) }
+{
+    match lines_by(rt, alloc, workers, gate) {
+        Ok(lines) => are_lines(lines.as_slice()),
+        Err(_) => false,
+    }
+}
+
 /// Two pieces by two workers, which wait for each other. So a recheck by one thread, whatever it is asked for, fails here.
 #[test]
-fn workers_meet(rt: HostRuntime) -> Result<(), Fail> {
-    let meeting = Meeting::new();
-    let lines = lines_by(&rt, rt.alloc(), 2, &meeting)?;
+fn workers_meet(rt: HostRuntime) {
+    let meeting = Meeting::of_both();
+    assert!(rt; are_judged(&rt, rt.alloc(), 2, &meeting));
     assert!(rt; meeting.was_held());
-    assert!(rt; are_lines(lines.as_slice()));
-    Ok(())
 }
 
 /// The first of two pieces waits for the second, by two workers: they overlap.
 #[test]
-fn pieces_overlap(rt: HostRuntime) -> Result<(), Fail> {
-    let overlap = Overlap::new();
-    let lines = lines_by(&rt, rt.alloc(), 2, &overlap)?;
-    assert!(rt; overlap.was_seen());
-    assert!(rt; are_lines(lines.as_slice()));
-    Ok(())
+fn pieces_overlap(rt: HostRuntime) {
+    let meeting = Meeting::of_first();
+    assert!(rt; are_judged(&rt, rt.alloc(), 2, &meeting));
+    assert!(rt; meeting.was_held());
 }
 
 /// The lines are the same by one worker, and by more workers than there are pieces.
 #[test]
-fn any_number_of_workers(rt: HostRuntime) -> Result<(), Fail> {
+fn any_number_of_workers(rt: HostRuntime) {
     for workers in [1, 2, 3, 64] {
-        let lines = lines_by(&rt, rt.alloc(), workers, &OpenGate)?;
-        assert!(rt; are_lines(lines.as_slice()));
+        assert!(rt; are_judged(&rt, rt.alloc(), workers, &OpenGate));
     }
-    Ok(())
 }

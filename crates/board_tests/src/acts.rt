@@ -1,0 +1,138 @@
+//! What the seats of a board do in turn, and what they are told.
+ghost use Rattle.std.specs.Prelude.{◌≡◌};
+
+use crate::said::{Said, answer_of, plain_of, seen_of};
+use board::{Blank, Board, News, Seat, Tag};
+use harness::Command;
+use history::{Body, Event, EventKind, Process};
+use models::{Name, Op, Part};
+use std::marker::Brand;
+use std::process::Abort;
+use std::sync::Wait;
+
+/// What a seat calls. Process 0 writes 3 to key 7, and reads it.
+#[derive(Clone, Copy)]
+pub enum Line {
+    WriteBegins,
+    WriteEnds,
+    ReadBegins,
+    ReadEnds(i64),
+    Rewind(u32),
+    Verdict,
+    Draw(u32),
+    Serve(u32),
+    Finish(u32),
+    Nemesis,
+}
+
+/// What a seat does.
+#[derive(Clone, Copy)]
+pub enum Act {
+    Call(Line),
+    /// It calls, and once more where the call wanted memory and a glance then shows what was told last.
+    CallTwice(Line),
+    Glance,
+    /// It learns the news of the last call, and glances.
+    Learn,
+}
+
+/// The number of a seat, what it does, and the commit and what is said then.
+pub type Row = (u32, Act, u64, Said);
+
+fn append(kind: EventKind, name: Name, part: Part) -> Command {
+    Command::Append(Event {
+        index: None,
+        kind,
+        process: Process::Client(0),
+        body: Body::Op(Op { name, key: 7, part }),
+    })
+}
+
+fn command_of(line: Line) -> Command {
+    match line {
+        Line::WriteBegins => append(EventKind::Invoke, Name::Write, Part::Int(3)),
+        Line::WriteEnds => append(EventKind::Ok, Name::Write, Part::Int(3)),
+        Line::ReadBegins => append(EventKind::Invoke, Name::Read, Part::Nil),
+        Line::ReadEnds(value) => append(EventKind::Ok, Name::Read, Part::Int(value)),
+        Line::Rewind(length) => Command::Rewind(length),
+        Line::Verdict => Command::Verdict,
+        Line::Draw(thread) => Command::Draw(thread),
+        Line::Serve(ticket) => Command::Serve(ticket),
+        Line::Finish(ticket) => Command::Finish(ticket),
+        Line::Nemesis => Command::Nemesis,
+    }
+}
+
+// What the call is answered. Its news is kept.
+fn call<B: Tag, R: Wait>(
+    rt: &R,
+    board: &Board<B>,
+    seat: &mut Seat<B>,
+    line: Line,
+    news: &mut Option<News<B>>,
+) -> (u64, Said) {
+    let answer = board.call(rt, seat, command_of(line));
+    let said = answer_of(&answer);
+    *news = match answer {
+        Ok(answered) => Some(answered.news),
+        Err(_why) => None,
+    };
+    said
+}
+
+fn glance<B: Tag>(board: &Board<B>, seat: &mut Seat<B>) -> Option<(u64, Said)> {
+    seen_of(board.glance(seat))
+}
+
+// What a seat is told, where this was told last.
+fn act_once<B: Tag, R: Wait>(
+    rt: &R,
+    board: &Board<B>,
+    seat: &mut Seat<B>,
+    act: Act,
+    last: Option<(u64, Said)>,
+    news: &mut Option<News<B>>,
+) -> Option<(u64, Said)> {
+    match act {
+        Act::Call(line) => Some(call(rt, board, seat, line, news)),
+        Act::CallTwice(line) => {
+            let answer = call(rt, board, seat, line, news);
+            if answer != (0, Said::Refused(13)) || glance(board, seat) != last {
+                return Some(answer);
+            }
+            Some(call(rt, board, seat, line, news))
+        }
+        Act::Glance => glance(board, seat),
+        Act::Learn => {
+            if let Some(news) = news.take() {
+                seat.learn(news);
+            }
+            glance(board, seat)
+        }
+    }
+}
+
+/// Opens the board, and ends it after its seats did what the rows say, in turn. Gives the verdict of the end.
+pub fn act_in_turn<R: Wait + Abort>(rt: &R, blank: Blank, rows: &[Row]) -> Said {
+    act_by::<Brand, _>(rt, blank, rows)
+}
+
+fn act_by<B: Tag, R: Wait + Abort>(rt: &R, blank: Blank, rows: &[Row]) -> Said
+    requires names { (blank.word ≡ B.word) × (blank.ledger.name ≡ B.name)
+        × (blank.ledger.parts ≡ B.parts) }
+{
+    let count = blank.seats as usize;
+    let Ok((board, mut seats)) = blank.open::<B>() else {
+        panic!(rt; "not opened")
+    };
+    assert_eq!(rt; seats.len(), count);
+    let mut news = None;
+    let mut told = None;
+    for &(number, act, commit, said) in rows {
+        let number = number as usize;
+        assert!(rt; number < seats.len());
+        told = act_once(rt, &board, &mut seats[number], act, told, &mut news);
+        assert_eq!(rt; told, Some((commit, said)));
+    }
+    plain_of(board.end(rt, seats).verdict())
+}

@@ -1,0 +1,69 @@
+//! What one seat does beside a call of another that a gate holds.
+ghost use Rattle.std.specs.Prelude.{◌≡◌, length};
+
+use crate::said::Said;
+use crate::shared::SharedBoard;
+use board::{Blank, Tag};
+use edn::Gate;
+use std::marker::Brand;
+use std::process::Abort;
+use std::sync::Wait;
+use std::thread::{Threads, join};
+
+/// What a seat is answered or shown, if it came to that.
+pub type Told = Option<(u64, Said)>;
+
+/// A gate that holds a call, and what another seat does meanwhile, twice at most.
+pub trait Beside: Gate {
+    fn act<M: SharedBoard, R: Wait>(&self, rt: &R, board: &M, seat: &mut M::Seat) -> (Told, Told);
+}
+
+// The call of the second seat, and what the first does beside it.
+fn call_beside<M: SharedBoard + Sync, G: Beside + Sync, R: Threads + Wait + Sync>(
+    rt: &R,
+    board: &M,
+    seats: &mut [M::Seat],
+    gate: &G,
+) -> ((u64, Said), (Told, Told))
+where
+    M::Seat: Send,
+    requires { length seats.old ≡ 2 }
+{
+    let (left, right) = seats.split_at_mut(1);
+    let other = &mut left[0];
+    let caller = &mut right[0];
+    join(
+        rt,
+        move || board.call_at(rt, caller, gate),
+        move || gate.act(rt, board, other),
+    )
+}
+
+/// Opens the board, and ends it after the second seat called through the gate: what it was answered, and what the first was
+/// meanwhile.
+pub fn hold_call<G: Beside + Sync, R: Threads + Wait + Abort + Sync>(
+    rt: &R,
+    blank: Blank,
+    gate: &G,
+) -> ((u64, Said), (Told, Told))
+    requires seats { blank.seats ≡ 2 }
+{
+    hold_by::<Brand, _, _>(rt, blank, gate)
+}
+
+fn hold_by<B: Tag + Send + Sync, G: Beside + Sync, R: Threads + Wait + Abort + Sync>(
+    rt: &R,
+    blank: Blank,
+    gate: &G,
+) -> ((u64, Said), (Told, Told))
+    requires names { (blank.word ≡ B.word) × (blank.ledger.name ≡ B.name)
+        × (blank.ledger.parts ≡ B.parts) }
+    requires seats { blank.seats ≡ 2 }
+{
+    let Ok((board, mut seats)) = blank.open::<B>() else {
+        panic!(rt; "not opened")
+    };
+    let told = call_beside(rt, &board, seats.as_mut_slice(), gate);
+    board.end(rt, seats);
+    told
+}

@@ -1,0 +1,105 @@
+//! A store that counts its serves, and what it comes to in so many steps.
+ghost use Rattle.test_store.specs.Store.{VersionsWithin};
+
+use edn::Refusal;
+use history::Fault;
+use models::{Found, ModelKind, Name, Op, Part};
+use std::alloc::{AllocError, Global};
+use std::process::Abort;
+use test_store::{Mode, Outcome, Store, versions_law};
+
+/// A store, and how many serves it has had.
+#[derive(Drop)]
+pub struct Counted {
+    store: Store,
+    serves: u64,
+    ghost few: { VersionsWithin store.now serves },
+}
+
+/// What is done to a store. An operation is on key 7, and its value that of a write or of an enqueue.
+#[derive(Clone, Copy)]
+pub enum Step {
+    Serve(u8, Name, Option<i64>),
+    Pause(u8),
+    Resume(u8),
+    Crash(u8),
+    Restart(u8),
+}
+
+/// What a step came to.
+#[derive(Clone, Copy, Debug, PartialEq, Eq)]
+pub enum Said {
+    Done,
+    Found(Option<i64>),
+    Item(i64),
+    Refused,
+    Lost,
+    Struck,
+    Other,
+}
+
+pub fn told(outcome: Result<Outcome, AllocError>) -> Said {
+    match outcome {
+        Ok(Outcome::Done(Found::Unit)) => Said::Done,
+        Ok(Outcome::Done(Found::Reg(value))) => Said::Found(value),
+        Ok(Outcome::Done(Found::Item(value))) => Said::Item(value),
+        Ok(Outcome::Refused) => Said::Refused,
+        Ok(Outcome::Lost) => Said::Lost,
+        _ => Said::Other,
+    }
+}
+
+impl Counted {
+    /// A strict store of so many replicas.
+    pub fn new(alloc: Global, replicas: u8, kind: ModelKind) -> Result<Counted, Refusal> {
+        versions_law();
+        let store = Store::new(alloc, replicas, Mode::Strict, kind)?;
+        Ok(Counted { store, serves: 0 })
+    }
+
+    pub fn copy(&self) -> Result<Counted, AllocError> {
+        let store = self.store.copy()?;
+        let serves = self.serves;
+        Ok(Counted { store, serves })
+    }
+
+    /// Each step comes to what its row says.
+    pub fn follow<R: Abort>(&mut self, rt: &R, rows: &[(Step, Said)]) {
+        for &(step, want) in rows {
+            assert_eq!(rt; self.carry(step), want);
+        }
+    }
+
+    fn carry(&mut self, step: Step) -> Said {
+        let fault = match step {
+            Step::Serve(entry, name, value) => return self.serve(entry, name, value),
+            Step::Pause(replica) => Fault::Pause(replica),
+            Step::Resume(replica) => Fault::Resume(replica),
+            Step::Crash(replica) => Fault::Crash(replica),
+            Step::Restart(replica) => Fault::Restart(replica),
+        };
+        self.strike(&fault)
+    }
+
+    fn serve(&mut self, entry: u8, name: Name, value: Option<i64>) -> Said {
+        if self.store.replicas() <= entry || self.serves >= 100 {
+            return Said::Other;
+        }
+        let part = match value {
+            Some(value) => Part::Int(value),
+            None => Part::Nil,
+        };
+        versions_law();
+        let outcome = self.store.serve(entry, &Op { name, key: 7, part });
+        self.serves += 1;
+        told(outcome)
+    }
+
+    fn strike(&mut self, fault: &Fault) -> Said {
+        versions_law();
+        match self.store.fault(fault) {
+            Ok(()) => Said::Struck,
+            Err(_) => Said::Other,
+        }
+    }
+}
