@@ -1,5 +1,5 @@
 //! Worked histories, with the answers that the rule gives.
-use crate::histories::Deed::{CommitCut, CommitPush, Cut, PrepareCut, PreparePush, Push};
+use crate::histories::Deed::{Cut, CutInHalves, PreparePush, Push, PushInHalves};
 use edn::Refusal::{BadConcurrency, BadValue, Mismatch, NoSuchIndex, NotOpen, WrongProcess};
 use edn::{Refusal, read_all};
 use edn_writer::{in_profile, write};
@@ -78,15 +78,46 @@ fn faults_are_copied_and_counted(rt: HostRuntime) -> Result<(), Fail> {
     Ok(())
 }
 
-// What is done to a history: an event of a write, by its process and value, or a cut, in one call or in two halves.
+// How many events there are, if any, the process of thread 0, and its open invocation.
+type Seen = (Option<u32>, u32, Option<u32>);
+
+fn seen(history: &History) -> Seen {
+    prove!(history.concurrency() > 0);
+    let len = if history.is_empty() {
+        None
+    } else {
+        Some(history.len())
+    };
+    (len, history.current(0), history.open_at(0))
+}
+
+// What is done to a history: an event of a write, by its process and value, or a cut; in one call, in its first half alone,
+// or in two halves, where this is seen between them.
 #[derive(Clone, Copy)]
 enum Deed {
     Push(EventKind, u32, i64),
     PreparePush(EventKind, u32, i64),
-    CommitPush(EventKind, u32, i64),
+    PushInHalves(EventKind, u32, i64, Seen),
     Cut(u32),
-    PrepareCut(u32),
-    CommitCut(u32),
+    CutInHalves(u32, Seen),
+}
+
+fn push_in_halves(history: &mut History, event: Event, between: Seen) -> Result<(), Refusal> {
+    history.prepare_push(event)?;
+    if seen(history) != between {
+        return Err(Refusal::Idle);
+    }
+    history.commit();
+    Ok(())
+}
+
+fn cut_in_halves(history: &mut History, len: u32, between: Seen) -> Result<(), Refusal> {
+    history.prepare_cut(len)?;
+    if seen(history) != between {
+        return Err(Refusal::Idle);
+    }
+    history.commit();
+    Ok(())
 }
 
 // Does it, and tells the answer.
@@ -94,27 +125,12 @@ fn answer(history: &mut History, deed: Deed) -> Result<(), Refusal> {
     match deed {
         Push(kind, process, value) => history.push(written(kind, process, value)),
         PreparePush(kind, process, value) => history.prepare_push(written(kind, process, value)),
-        CommitPush(kind, process, value) => {
-            history.prepare_push(written(kind, process, value))?;
-            history.commit();
-            Ok(())
+        PushInHalves(kind, process, value, between) => {
+            push_in_halves(history, written(kind, process, value), between)
         }
         Cut(len) => history.cut(len),
-        PrepareCut(len) => history.prepare_cut(len),
-        CommitCut(len) => {
-            history.prepare_cut(len)?;
-            history.commit();
-            Ok(())
-        }
+        CutInHalves(len, between) => cut_in_halves(history, len, between),
     }
-}
-
-// How many events there are, the process of thread 0, and its open invocation.
-type Seen = (u32, u32, Option<u32>);
-
-fn seen(history: &History) -> Seen {
-    prove!(history.concurrency() > 0);
-    (history.len(), history.current(0), history.open_at(0))
 }
 
 // What is done, its answer, and what is seen then.
@@ -131,13 +147,16 @@ fn first_other(alloc: Global, concurrency: u32, rows: &[Row]) -> Result<Option<u
     Ok(None)
 }
 
-const PREPARED: [Row; 6] = [
-    (PreparePush(Invoke, 0, 3), Ok(()), (0, 0, None)),
-    (PreparePush(Done, 0, 3), Err(NotOpen), (0, 0, None)),
-    (PreparePush(Invoke, 0, 4), Ok(()), (0, 0, None)),
-    (CommitPush(Invoke, 0, 4), Ok(()), (1, 0, Some(0))),
-    (PreparePush(Done, 0, 3), Err(Mismatch), (1, 0, Some(0))),
-    (Push(Done, 0, 4), Ok(()), (2, 0, None)),
+const NONE: Seen = (None, 0, None);
+
+const ONE_OPEN: Seen = (Some(1), 0, Some(0));
+
+const PREPARED: [Row; 5] = [
+    (PreparePush(Invoke, 0, 3), Ok(()), NONE),
+    (PreparePush(Done, 0, 3), Err(NotOpen), NONE),
+    (PushInHalves(Invoke, 0, 4, NONE), Ok(()), ONE_OPEN),
+    (PreparePush(Done, 0, 3), Err(Mismatch), ONE_OPEN),
+    (Push(Done, 0, 4), Ok(()), (Some(2), 0, None)),
 ];
 
 // A prepared event is none of the events until it is committed; the next one takes its place, and where that is refused
@@ -148,20 +167,22 @@ fn prepared_events(rt: HostRuntime) -> Result<(), Fail> {
     Ok(())
 }
 
-const CUTS: [Row; 13] = [
-    (Push(Invoke, 0, 2), Ok(()), (1, 0, Some(0))),
-    (Push(Info, 0, 2), Ok(()), (2, 2, None)),
-    (Push(Invoke, 2, 9), Ok(()), (3, 2, Some(2))),
-    (Cut(4), Err(NoSuchIndex), (3, 2, Some(2))),
-    (Cut(3), Ok(()), (3, 2, Some(2))),
-    (PreparePush(Done, 2, 9), Ok(()), (3, 2, Some(2))),
-    (PrepareCut(1), Ok(()), (3, 2, Some(2))),
-    (CommitCut(1), Ok(()), (1, 0, Some(0))),
-    (Push(Invoke, 2, 9), Err(WrongProcess), (1, 0, Some(0))),
-    (Push(Done, 0, 2), Ok(()), (2, 0, None)),
-    (Cut(0), Ok(()), (0, 0, None)),
-    (Cut(1), Err(NoSuchIndex), (0, 0, None)),
-    (Push(Invoke, 0, 5), Ok(()), (1, 0, Some(0))),
+// A process has crashed, and the next one of its thread has invoked.
+const THREE: Seen = (Some(3), 2, Some(2));
+
+const CUTS: [Row; 12] = [
+    (Push(Invoke, 0, 2), Ok(()), ONE_OPEN),
+    (Push(Info, 0, 2), Ok(()), (Some(2), 2, None)),
+    (Push(Invoke, 2, 9), Ok(()), THREE),
+    (Cut(4), Err(NoSuchIndex), THREE),
+    (Cut(3), Ok(()), THREE),
+    (PreparePush(Done, 2, 9), Ok(()), THREE),
+    (CutInHalves(1, THREE), Ok(()), ONE_OPEN),
+    (Push(Invoke, 2, 9), Err(WrongProcess), ONE_OPEN),
+    (Push(Done, 0, 2), Ok(()), (Some(2), 0, None)),
+    (Cut(0), Ok(()), NONE),
+    (Cut(1), Err(NoSuchIndex), NONE),
+    (Push(Invoke, 0, 5), Ok(()), ONE_OPEN),
 ];
 
 // A cut leaves the first events, and the threads as these made them; it waits for its commit, and takes the place of another
