@@ -34,14 +34,19 @@ const BLOWN_TWICE: [Row; 6] = [
     (0, Done, Enqueue, &[5], Alive),
 ];
 
+// Whether a copy of the frontier, which takes its place, answers so.
+fn is_answered_by_a_copy(frontier: &mut AnyFrontier, row: &Row) -> Result<bool, AllocError> {
+    *frontier = frontier.copy()?;
+    is_answered(frontier, row)
+}
+
 // Five ends stand before the ok: no enqueue, either alone, and both in either order. Over leaves the frontier as it was:
 // the other enqueue may still fail, and then there are fewer. Each event goes to a copy made just before it.
 #[test]
 fn over_changes_nothing(rt: HostRuntime) -> Result<(), Fail> {
     let mut frontier = AnyFrontier::start(rt.alloc(), ModelKind::FifoQueue, 4)?;
     for (place, row) in BLOWN_TWICE.iter().enumerate() {
-        frontier = frontier.copy()?;
-        assert!(rt; is_answered(&mut frontier, row)?, "at {place}");
+        assert!(rt; is_answered_by_a_copy(&mut frontier, row)?, "at {place}");
     }
     Ok(())
 }
@@ -94,7 +99,6 @@ fn ok_applies_each_once(rt: HostRuntime) -> Result<(), Fail> {
 }
 
 /// An event by its own call.
-#[derive(Clone, Copy)]
 enum Call {
     Invoke(Name, &'static [i64]),
     Ok(i64),
@@ -103,29 +107,37 @@ enum Call {
 }
 
 // What the call for this operation answers; an invocation and a crash leave the frontier alive.
-fn answer(frontier: &mut Frontier<Register>, id: u32, call: Call) -> Result<Step, AllocError> {
+fn answer(frontier: &mut Frontier<Register>, id: u32, call: &Call) -> Result<Step, AllocError> {
     match call {
-        Call::Invoke(name, values) => frontier.invoke(id, op(name, values))?,
-        Call::Ok(value) => return frontier.ok(id, &Answer::Number(value)),
+        Call::Invoke(name, values) => frontier.invoke(id, op(*name, values))?,
+        Call::Ok(value) => return frontier.ok(id, &Answer::Number(*value)),
         Call::Fail => return frontier.fail(id),
         Call::Crash => frontier.crash(id)?,
     }
     Ok(Alive)
 }
 
-// The place of the first call that a new frontier answers otherwise.
+// The place of the first call that the frontier answers otherwise.
 fn first_other(
+    frontier: &mut Frontier<Register>,
+    rows: &[(u32, Call, Step)],
+) -> Result<Option<usize>, AllocError> {
+    for (place, (id, call, want)) in rows.iter().enumerate() {
+        if answer(frontier, *id, call)? != *want {
+            return Ok(Some(place));
+        }
+    }
+    Ok(None)
+}
+
+// The same, of a new frontier.
+fn first_other_of_new(
     alloc: Global,
     budget: u32,
     rows: &[(u32, Call, Step)],
 ) -> Result<Option<usize>, AllocError> {
     let mut frontier = Frontier::start(alloc, budget)?;
-    for (place, (id, call, want)) in rows.iter().enumerate() {
-        if answer(&mut frontier, *id, *call)? != *want {
-            return Ok(Some(place));
-        }
-    }
-    Ok(None)
+    first_other(&mut frontier, rows)
 }
 
 const BLOWN: [(u32, Call, Step); 2] = [
@@ -136,7 +148,7 @@ const BLOWN: [(u32, Call, Step); 2] = [
 // Just before the ok there are two ends: the write has taken place or not.
 #[test]
 fn budget_one_blown_by_a_write(rt: HostRuntime) -> Result<(), Fail> {
-    assert_eq!(rt; first_other(rt.alloc(), 1, &BLOWN)?, None);
+    assert_eq!(rt; first_other_of_new(rt.alloc(), 1, &BLOWN)?, None);
     Ok(())
 }
 
@@ -150,7 +162,7 @@ const FAILED_WRITE: [(u32, Call, Step); 4] = [
 // A read has found a write that then fails.
 #[test]
 fn failed_write_was_read(rt: HostRuntime) -> Result<(), Fail> {
-    assert_eq!(rt; first_other(rt.alloc(), 4096, &FAILED_WRITE)?, None);
+    assert_eq!(rt; first_other_of_new(rt.alloc(), 4096, &FAILED_WRITE)?, None);
     Ok(())
 }
 
@@ -170,6 +182,6 @@ const CRASHED_WRITE: [(u32, Call, Step); 10] = [
 // A write of 2 has crashed after a write of 1: a read may find 1 and the next one 2, and then none finds 1.
 #[test]
 fn crashed_write_takes_place_later(rt: HostRuntime) -> Result<(), Fail> {
-    assert_eq!(rt; first_other(rt.alloc(), 4096, &CRASHED_WRITE)?, None);
+    assert_eq!(rt; first_other_of_new(rt.alloc(), 4096, &CRASHED_WRITE)?, None);
     Ok(())
 }

@@ -33,15 +33,20 @@ fn answer(monitor: &mut Monitor, call: Call) -> Said {
     }
 }
 
-// The place of the first call that a monitor of two threads, of registers at first, answers otherwise.
-fn first_other(alloc: Global, rows: &[(Call, Said)]) -> Result<Option<usize>, Refusal> {
-    let mut monitor = Monitor::new(alloc, 2, ModelKind::Register, 4096)?;
+// The place of the first call that the monitor answers otherwise.
+fn first_other(monitor: &mut Monitor, rows: &[(Call, Said)]) -> Option<usize> {
     for (place, (call, want)) in rows.iter().enumerate() {
-        if answer(&mut monitor, *call) != *want {
-            return Ok(Some(place));
+        if answer(monitor, *call) != *want {
+            return Some(place);
         }
     }
-    Ok(None)
+    None
+}
+
+// The same, of a new monitor of two threads, of registers at first.
+fn first_other_of_new(alloc: Global, rows: &[(Call, Said)]) -> Result<Option<usize>, Refusal> {
+    let mut monitor = Monitor::new(alloc, 2, ModelKind::Register, 4096)?;
+    Ok(first_other(&mut monitor, rows))
 }
 
 const REWINDS: [(Call, Said); 7] = [
@@ -56,7 +61,7 @@ const REWINDS: [(Call, Said); 7] = [
 
 #[test]
 fn rewind_revives(rt: HostRuntime) -> Result<(), Fail> {
-    assert_eq!(rt; first_other(rt.alloc(), &REWINDS)?, None);
+    assert_eq!(rt; first_other_of_new(rt.alloc(), &REWINDS)?, None);
     Ok(())
 }
 
@@ -71,7 +76,7 @@ const MODELS: [(Call, Said); 6] = [
 
 #[test]
 fn model_changes(rt: HostRuntime) -> Result<(), Fail> {
-    assert_eq!(rt; first_other(rt.alloc(), &MODELS)?, None);
+    assert_eq!(rt; first_other_of_new(rt.alloc(), &MODELS)?, None);
     Ok(())
 }
 
@@ -87,6 +92,6 @@ const BUDGETS: [(Call, Said); 7] = [
 
 #[test]
 fn five_ends(rt: HostRuntime) -> Result<(), Fail> {
-    assert_eq!(rt; first_other(rt.alloc(), &BUDGETS)?, None);
+    assert_eq!(rt; first_other_of_new(rt.alloc(), &BUDGETS)?, None);
     Ok(())
 }

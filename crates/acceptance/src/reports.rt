@@ -1,40 +1,32 @@
 //! The report of what a monitor judges.
-use crate::plain::part;
 use edn::Refusal;
 use history::EventKind::{Invoke, Ok as Done};
 use history::{Body, Event, EventKind, Process};
-use models::{Key, ModelKind, Name, Op};
+use models::{Key, ModelKind, Name, Op, Part};
 use monitor::Monitor;
 use report::report;
 use std::alloc::Global;
 use std::test::Fail;
 
-// By key and process.
-const EVENTS: [(Key, u32, EventKind, Name, &[i64]); 5] = [
-    (1, 0, Invoke, Name::Enqueue, &[5]),
-    (1, 1, Invoke, Name::Enqueue, &[6]),
-    (1, 0, Done, Name::Enqueue, &[5]),
-    (2, 0, Invoke, Name::Read, &[]),
-    (2, 0, Done, Name::Read, &[8]),
-];
+fn event(key: Key, process: u32, kind: EventKind, name: Name, part: Part) -> Event {
+    Event {
+        index: None,
+        kind,
+        process: Process::Client(process),
+        body: Body::Op(Op { name, key, part }),
+    }
+}
 
 // A queue whose budget does not suffice, and a register from which a value was read that nobody wrote.
 fn blown_and_dead(alloc: Global) -> Result<Monitor, Refusal> {
     let mut monitor = Monitor::new(alloc, 2, ModelKind::Register, 4096)?;
     monitor.set_model(1, ModelKind::FifoQueue)?;
     monitor.set_budget(1, 4)?;
-    for (key, process, kind, name, values) in EVENTS {
-        monitor.append(Event {
-            index: None,
-            kind,
-            process: Process::Client(process),
-            body: Body::Op(Op {
-                name,
-                key,
-                part: part(values),
-            }),
-        })?;
-    }
+    monitor.append(event(1, 0, Invoke, Name::Enqueue, Part::Int(5)))?;
+    monitor.append(event(1, 1, Invoke, Name::Enqueue, Part::Int(6)))?;
+    monitor.append(event(1, 0, Done, Name::Enqueue, Part::Int(5)))?;
+    monitor.append(event(2, 0, Invoke, Name::Read, Part::Nil))?;
+    monitor.append(event(2, 0, Done, Name::Read, Part::Int(8)))?;
     Ok(monitor)
 }
 
