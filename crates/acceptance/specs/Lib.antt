@@ -1,1 +1,2 @@
 pub mod LongLine
+pub mod ShortLine

@@ -20,9 +20,6 @@ const OPEN: u32 = 8;
 /// More ends than histories of so few operations have.
 const BUDGET: u32 = 1_000_000;
 
-/// How many histories of each kind of object.
-const HISTORIES: u32 = 60;
-
 /// Numbers in no clear order, the same in each run: the linear congruential generator of Knuth's MMIX.
 #[derive(Drop)]
 struct Numbers {
@@ -104,6 +101,18 @@ impl Request {
         }
     }
 
+    /// How it ends.
+    fn end(self, numbers: &mut Numbers, form: Form) -> EventKind {
+        if form == Form::Crashing && self.name == Name::Read && numbers.below(2) == 0 {
+            return EventKind::Info;
+        }
+        match numbers.below(6) {
+            0 => EventKind::Fail,
+            1 => EventKind::Info,
+            _ => EventKind::Ok,
+        }
+    }
+
     /// The operation with this part.
     fn with(self, part: Part) -> Op {
         Op {
@@ -138,34 +147,68 @@ struct Thread {
     call: Option<Call>,
 }
 
-/// A history as it grows, with the frontier of its events.
-#[derive(Drop)]
-struct Run {
-    alloc: Global,
-    kind: ModelKind,
-    threads: u32,
-    history: History,
-    frontier: AnyFrontier,
-    invoked: u32,
-    alive: bool,
+/// What histories are like.
+#[derive(Clone, Copy, PartialEq, Eq)]
+enum Form {
+    /// Three threads go on in turn.
+    Mixed,
+    /// The same, but that half of the reads that end crash.
+    Crashing,
+    /// Eight operations are open at once, and then end in turn.
+    AllOpen,
+}
+
+/// What a history has come to.
+#[derive(Clone, Copy, Default)]
+struct Seen {
+    dead: bool,
     failed: bool,
     crashed: bool,
     crashed_read: bool,
 }
 
+impl Seen {
+    /// After an operation of this name has ended so, and the frontier has answered this. A crash is answered Alive, even of a
+    /// frontier that is dead.
+    fn after(self, name: Name, kind: EventKind, step: Step) -> Result<Seen, Fail> {
+        if step == Step::Over {
+            return Err("more ends than the budget".into());
+        }
+        let crashes = kind == EventKind::Info;
+        Ok(Seen {
+            dead: step == Step::Dead || crashes && self.dead,
+            failed: self.failed || kind == EventKind::Fail,
+            crashed: self.crashed || crashes,
+            crashed_read: self.crashed_read || crashes && name == Name::Read,
+        })
+    }
+}
+
+/// A history as it grows, with the frontier of its events.
+#[derive(Drop)]
+struct Run {
+    alloc: Global,
+    kind: ModelKind,
+    form: Form,
+    threads: u32,
+    history: History,
+    frontier: AnyFrontier,
+    invoked: u32,
+    seen: Seen,
+}
+
 impl Run {
-    fn new(alloc: Global, kind: ModelKind, threads: u32) -> Result<Run, Fail> {
+    fn new(alloc: Global, kind: ModelKind, form: Form) -> Result<Run, Fail> {
+        let threads = if form == Form::AllOpen { OPEN } else { 3 };
         Ok(Run {
             alloc,
             kind,
+            form,
             threads,
             history: History::new(alloc, threads)?,
             frontier: AnyFrontier::start(alloc, kind, BUDGET)?,
             invoked: 0,
-            alive: true,
-            failed: false,
-            crashed: false,
-            crashed_read: false,
+            seen: Seen::default(),
         })
     }
 
@@ -184,90 +227,64 @@ impl Run {
     /// What the thread does next.
     fn go_on(&mut self, numbers: &mut Numbers, thread: Thread) -> Result<Thread, Fail> {
         match thread.call {
-            Some(call) => self.complete(numbers, thread, call),
-            None => self.invoke(numbers, thread),
+            Some(call) => self.end(numbers, thread.process, call),
+            None => self.invoke(numbers, thread.process),
         }
     }
 
-    /// The same, but that a read which ends crashes half of the time.
-    fn go_on_crashing(&mut self, numbers: &mut Numbers, thread: Thread) -> Result<Thread, Fail> {
-        match thread.call {
-            Some(call) if call.request.name == Name::Read && numbers.below(2) == 0 => {
-                self.crash(thread, call)
-            }
-            _ => self.go_on(numbers, thread),
-        }
-    }
-
-    /// The thread invokes an operation, unless there are enough.
-    fn invoke(&mut self, numbers: &mut Numbers, thread: Thread) -> Result<Thread, Fail> {
+    /// The process invokes an operation, unless there are enough.
+    fn invoke(&mut self, numbers: &mut Numbers, process: u32) -> Result<Thread, Fail> {
         if self.invoked >= MOST_OPERATIONS {
-            return Ok(thread);
+            return Ok(idle(process));
         }
         self.invoked = self.invoked.wrapping_add(1);
         let request = Request::any(numbers, self.kind);
         let id = self.history.len();
         let op = request.with(request.part());
-        let _ = self.append(id, EventKind::Invoke, thread.process, op)?;
+        let _ = self.append(id, EventKind::Invoke, process, op)?;
         Ok(Thread {
-            process: thread.process,
+            process,
             call: Some(Call { id, request }),
         })
     }
 
-    /// The thread's open operation returns, fails or crashes.
-    fn complete(
-        &mut self,
-        numbers: &mut Numbers,
-        thread: Thread,
-        call: Call,
-    ) -> Result<Thread, Fail> {
-        match numbers.below(6) {
-            0 => self.fail(thread, call),
-            1 => self.crash(thread, call),
-            _ => self.answer(numbers, thread, call),
+    /// The open operation of the process returns, fails or crashes, and then the next process of the thread takes its place.
+    fn end(&mut self, numbers: &mut Numbers, process: u32, call: Call) -> Result<Thread, Fail> {
+        let kind = call.request.end(numbers, self.form);
+        let part = match kind {
+            EventKind::Ok => call.request.answer(self.alloc, numbers, self.kind)?,
+            _ => call.request.part(),
+        };
+        let step = self.append(call.id, kind, process, call.request.with(part))?;
+        self.seen = self.seen.after(call.request.name, kind, step)?;
+        match kind {
+            EventKind::Info => Ok(idle(process.wrapping_add(self.threads))),
+            _ => Ok(idle(process)),
         }
     }
 
-    fn answer(
-        &mut self,
-        numbers: &mut Numbers,
-        thread: Thread,
-        call: Call,
-    ) -> Result<Thread, Fail> {
-        let part = call.request.answer(self.alloc, numbers, self.kind)?;
-        let op = call.request.with(part);
-        let step = self.append(call.id, EventKind::Ok, thread.process, op)?;
-        self.settle(step)?;
-        Ok(idle(thread.process))
-    }
-
-    fn fail(&mut self, thread: Thread, call: Call) -> Result<Thread, Fail> {
-        let op = call.request.with(call.request.part());
-        let step = self.append(call.id, EventKind::Fail, thread.process, op)?;
-        self.settle(step)?;
-        self.failed = true;
-        Ok(idle(thread.process))
-    }
-
-    /// The process is replaced by the next one of its thread.
-    fn crash(&mut self, thread: Thread, call: Call) -> Result<Thread, Fail> {
-        let op = call.request.with(call.request.part());
-        let _ = self.append(call.id, EventKind::Info, thread.process, op)?;
-        self.crashed = true;
-        if call.request.name == Name::Read {
-            self.crashed_read = true;
+    /// Three threads go on in turn. Whether an operation is open at the end.
+    fn mix(&mut self, numbers: &mut Numbers) -> Result<bool, Fail> {
+        let mut threads = [idle(0), idle(1), idle(2)];
+        let least = if self.form == Form::Crashing { 8 } else { 6 };
+        for _ in 0..least + numbers.below(9) {
+            let place = numbers.below(3) as usize;
+            threads[place] = self.go_on(numbers, threads[place])?;
         }
-        Ok(idle(thread.process.wrapping_add(self.threads)))
+        Ok(threads.iter().any(|thread| thread.call.is_some()))
     }
 
-    fn settle(&mut self, step: Step) -> Result<(), Fail> {
-        match step {
-            Step::Alive => self.alive = true,
-            Step::Dead => self.alive = false,
-            Step::Over => return Err("more ends than the budget".into()),
+    /// Each thread invokes an operation, and then all but two at most end. Whether one stays open.
+    fn open_all(&mut self, numbers: &mut Numbers) -> Result<bool, Fail> {
+        let mut threads = Vec::new(self.alloc);
+        for process in 0..OPEN {
+            threads.push(self.invoke(numbers, process)?)?;
         }
-        Ok(())
+        let stay_open = numbers.below(3);
+        for thread in threads.iter().skip(stay_open as usize) {
+            let _ = self.go_on(numbers, *thread)?;
+        }
+        Ok(stay_open > 0)
     }
 }
 
@@ -279,7 +296,7 @@ fn idle(process: u32) -> Thread {
 }
 
 /// How many histories are such.
-#[derive(Clone, Copy)]
+#[derive(Clone, Copy, Default)]
 struct Tally {
     legal: u32,
     illegal: u32,
@@ -289,28 +306,19 @@ struct Tally {
     crashed_read: u32,
 }
 
-const NONE: Tally = Tally {
-    legal: 0,
-    illegal: 0,
-    open: 0,
-    failed: 0,
-    crashed: 0,
-    crashed_read: 0,
-};
-
 fn more(count: u32, is_such: bool) -> u32 {
     count.wrapping_add(u32::from(is_such))
 }
 
 impl Tally {
-    fn with(self, run: &Run, is_open: bool) -> Tally {
+    fn with(self, seen: Seen, is_open: bool) -> Tally {
         Tally {
-            legal: more(self.legal, run.alive),
-            illegal: more(self.illegal, !run.alive),
+            legal: more(self.legal, !seen.dead),
+            illegal: more(self.illegal, seen.dead),
             open: more(self.open, is_open),
-            failed: more(self.failed, run.failed),
-            crashed: more(self.crashed, run.crashed),
-            crashed_read: more(self.crashed_read, run.crashed_read),
+            failed: more(self.failed, seen.failed),
+            crashed: more(self.crashed, seen.crashed),
+            crashed_read: more(self.crashed_read, seen.crashed_read),
         }
     }
 
@@ -331,141 +339,90 @@ fn compare(
     alloc: Global,
     numbers: &mut Numbers,
     kind: ModelKind,
+    form: Form,
     tally: Tally,
 ) -> Result<Tally, Fail> {
-    let mut run = Run::new(alloc, kind, 3)?;
-    let (mut a, mut b, mut c) = (idle(0), idle(1), idle(2));
-    for _ in 0..6 + numbers.below(9) {
-        match numbers.below(3) {
-            0 => a = run.go_on(numbers, a)?,
-            1 => b = run.go_on(numbers, b)?,
-            _ => c = run.go_on(numbers, c)?,
-        }
-    }
-    if brute(alloc, &run.history, &[(KEY, kind)])? != run.alive {
+    let mut run = Run::new(alloc, kind, form)?;
+    let is_open = match form {
+        Form::Mixed | Form::Crashing => run.mix(numbers)?,
+        Form::AllOpen => run.open_all(numbers)?,
+    };
+    if brute(alloc, &run.history, &[(KEY, kind)])? == run.seen.dead {
         return Err("the answers differ".into());
     }
-    let is_open = a.call.is_some() || b.call.is_some() || c.call.is_some();
-    Ok(tally.with(&run, is_open))
+    Ok(tally.with(run.seen, is_open))
+}
+
+/// Compares so many histories of each of these kinds, of which so many must be legal.
+fn compare_all(
+    alloc: Global,
+    seed: u64,
+    form: Form,
+    count: u32,
+    kinds: &[(ModelKind, u32)],
+) -> Result<Tally, Fail> {
+    let mut numbers = Numbers { state: seed };
+    let mut all = Tally::default();
+    for (kind, legal) in kinds.iter() {
+        let mut of_kind = Tally::default();
+        for _ in 0..count {
+            of_kind = compare(alloc, &mut numbers, *kind, form, of_kind)?;
+        }
+        if (of_kind.legal, of_kind.illegal) != (*legal, count.saturating_sub(*legal)) {
+            return Err("more or fewer of a kind are legal".into());
+        }
+        all = all.and(of_kind);
+    }
+    Ok(all)
 }
 
 /// Of 360 histories, 60 of each kind, so many are legal and the others are not. In 311 an operation is open at the end, in
 /// 192 one has failed, in 190 one has crashed.
 #[test]
 fn orders_and_ends_agree(rt: HostRuntime) -> Result<(), Fail> {
-    let mut numbers = Numbers { state: 1 };
-    let mut all = NONE;
-    for (kind, legal) in [
+    let kinds = [
         (ModelKind::Register, 24),
         (ModelKind::CasRegister, 24),
         (ModelKind::Mutex, 34),
         (ModelKind::FifoQueue, 20),
         (ModelKind::Set, 14),
         (ModelKind::UnorderedQueue, 23),
-    ] {
-        let mut of_kind = NONE;
-        for _ in 0..HISTORIES {
-            of_kind = compare(rt.alloc(), &mut numbers, kind, of_kind)?;
-        }
-        assert_eq!(rt; (of_kind.legal, of_kind.illegal), (legal, 60 - legal));
-        all = all.and(of_kind);
-    }
+    ];
+    let all = compare_all(rt.alloc(), 1, Form::Mixed, 60, &kinds)?;
     assert_eq!(rt; (all.legal, all.illegal), (139, 221));
     assert_eq!(rt; (all.open, all.failed, all.crashed), (311, 192, 190));
     Ok(())
-}
-
-/// Counts one more history, in which eight operations are open at once and then end in turn, after both answers about it
-/// were compared.
-fn compare_open(
-    alloc: Global,
-    numbers: &mut Numbers,
-    kind: ModelKind,
-    tally: Tally,
-) -> Result<Tally, Fail> {
-    let mut run = Run::new(alloc, kind, OPEN)?;
-    let mut threads = Vec::new(alloc);
-    for process in 0..OPEN {
-        threads.push(run.invoke(numbers, idle(process))?)?;
-    }
-    let stay_open = numbers.below(3);
-    for thread in threads.iter().skip(stay_open as usize) {
-        let _ = run.go_on(numbers, *thread)?;
-    }
-    if brute(alloc, &run.history, &[(KEY, kind)])? != run.alive {
-        return Err("the answers differ".into());
-    }
-    Ok(tally.with(&run, stay_open > 0))
 }
 
 /// Of 120 more histories, 20 of each kind, each has eight operations that are open at once. So many are legal and the others
 /// are not. In 80 an operation has failed, in 89 one has crashed.
 #[test]
 fn orders_and_ends_agree_on_eight_open(rt: HostRuntime) -> Result<(), Fail> {
-    let mut numbers = Numbers { state: 2 };
-    let mut all = NONE;
-    for (kind, legal) in [
+    let kinds = [
         (ModelKind::Register, 14),
         (ModelKind::CasRegister, 13),
         (ModelKind::Mutex, 14),
         (ModelKind::FifoQueue, 8),
         (ModelKind::Set, 12),
         (ModelKind::UnorderedQueue, 8),
-    ] {
-        let mut of_kind = NONE;
-        for _ in 0..20 {
-            of_kind = compare_open(rt.alloc(), &mut numbers, kind, of_kind)?;
-        }
-        assert_eq!(rt; (of_kind.legal, of_kind.illegal), (legal, 20 - legal));
-        all = all.and(of_kind);
-    }
+    ];
+    let all = compare_all(rt.alloc(), 2, Form::AllOpen, 20, &kinds)?;
     assert_eq!(rt; (all.legal, all.illegal), (69, 51));
     assert_eq!(rt; (all.failed, all.crashed), (80, 89));
     Ok(())
 }
 
-/// Counts one more history, in which half of the reads that end crash, after both answers about it were compared.
-fn compare_crashing(
-    alloc: Global,
-    numbers: &mut Numbers,
-    kind: ModelKind,
-    tally: Tally,
-) -> Result<Tally, Fail> {
-    let mut run = Run::new(alloc, kind, 3)?;
-    let (mut a, mut b, mut c) = (idle(0), idle(1), idle(2));
-    for _ in 0..8 + numbers.below(9) {
-        match numbers.below(3) {
-            0 => a = run.go_on_crashing(numbers, a)?,
-            1 => b = run.go_on_crashing(numbers, b)?,
-            _ => c = run.go_on_crashing(numbers, c)?,
-        }
-    }
-    if brute(alloc, &run.history, &[(KEY, kind)])? != run.alive {
-        return Err("the answers differ".into());
-    }
-    let is_open = a.call.is_some() || b.call.is_some() || c.call.is_some();
-    Ok(tally.with(&run, is_open))
-}
-
-/// Of 200 more histories, 50 of each kind that reads and 50 of unordered queues, so many are legal and the others are not. In
-/// 110 a read has crashed, in 106 an operation has failed.
+/// Of 200 more histories, 50 of each kind that reads and 50 of unordered queues, half of the reads that end crash. So many are
+/// legal and the others are not. In 110 a read has crashed, in 106 an operation has failed.
 #[test]
 fn orders_and_ends_agree_on_crashed_reads(rt: HostRuntime) -> Result<(), Fail> {
-    let mut numbers = Numbers { state: 3 };
-    let mut all = NONE;
-    for (kind, legal) in [
+    let kinds = [
         (ModelKind::Register, 33),
         (ModelKind::CasRegister, 23),
         (ModelKind::Set, 24),
         (ModelKind::UnorderedQueue, 10),
-    ] {
-        let mut of_kind = NONE;
-        for _ in 0..50 {
-            of_kind = compare_crashing(rt.alloc(), &mut numbers, kind, of_kind)?;
-        }
-        assert_eq!(rt; (of_kind.legal, of_kind.illegal), (legal, 50 - legal));
-        all = all.and(of_kind);
-    }
+    ];
+    let all = compare_all(rt.alloc(), 3, Form::Crashing, 50, &kinds)?;
     assert_eq!(rt; (all.legal, all.illegal), (90, 110));
     assert_eq!(rt;
         (all.failed, all.crashed, all.crashed_read),

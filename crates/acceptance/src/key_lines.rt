@@ -96,18 +96,29 @@ fn replays_are_counted(rt: HostRuntime) -> Result<(), Fail> {
     Ok(())
 }
 
+// Two events, of indices 3 and 5.
+fn three_and_five(alloc: Global) -> Result<KeyLine, AllocError> {
+    let mut line = KeyLine::new(alloc, ModelKind::Register, 4096)?;
+    line.push(3, event(0, EventKind::Invoke, Name::Write, Part::Int(1)))?;
+    line.push(5, event(0, EventKind::Ok, Name::Write, Part::Int(1)))?;
+    Ok(line)
+}
+
 // Whether a cut takes events away, and whether there are events before it.
 #[test]
 fn cuts_of_a_line(rt: HostRuntime) -> Result<(), Fail> {
-    let mut line = KeyLine::new(rt.alloc(), ModelKind::Register, 4096)?;
-    assert!(rt; !line.loses(0));
-    assert!(rt; !line.begins_below(9));
-    line.push(3, event(0, EventKind::Invoke, Name::Write, Part::Int(1)))?;
-    line.push(5, event(0, EventKind::Ok, Name::Write, Part::Int(1)))?;
-    assert!(rt; line.loses(0));
-    assert!(rt; line.loses(5));
-    assert!(rt; !line.loses(6));
-    assert!(rt; !line.begins_below(3));
-    assert!(rt; line.begins_below(4));
+    let empty = KeyLine::new(rt.alloc(), ModelKind::Register, 4096)?;
+    assert!(rt; !empty.loses(0));
+    assert!(rt; !empty.begins_below(9));
+    let line = three_and_five(rt.alloc())?;
+    for (n, loses, begins) in [
+        (0, true, false),
+        (3, true, false),
+        (4, true, true),
+        (5, true, true),
+        (6, false, true),
+    ] {
+        assert_eq!(rt; (line.loses(n), line.begins_below(n)), (loses, begins));
+    }
     Ok(())
 }

@@ -7,8 +7,20 @@ use history::EventKind::{Invoke, Ok as Done};
 use models::{ModelKind, Name, Part};
 use std::test::Fail;
 
-fn write(process: u32, kind: EventKind, value: i64) -> Command {
-    Command::Append(event(process, kind, Name::Write, Part::Int(value)))
+/// An event of a write by process 0, or what asks for the verdict.
+#[derive(Clone, Copy)]
+enum Ask {
+    Write(EventKind, i64),
+    Verdict,
+}
+
+fn command_of(ask: Ask) -> Command {
+    match ask {
+        Ask::Write(kind, value) => {
+            Command::Append(event(0, kind, Name::Write, Part::Int(value)))
+        }
+        Ask::Verdict => Command::Verdict,
+    }
 }
 
 fn answer_of(answer: Result<Reply, Refusal>) -> Said {
@@ -27,17 +39,39 @@ fn prepared(core: &mut Core, command: Command) -> (Said, Option<Said>) {
     }
 }
 
+// The place of the first command that is prepared otherwise.
+fn first_other(core: &mut Core, rows: &[(Ask, Said, Option<Said>)]) -> Option<usize> {
+    for (place, (ask, said, verdict)) in rows.iter().enumerate() {
+        if prepared(core, command_of(*ask)) != (*said, *verdict) {
+            return Some(place);
+        }
+    }
+    None
+}
+
+const EARLY: [(Ask, Said, Option<Said>); 3] = [
+    (Ask::Write(Invoke, 3), Said::Legal, Some(Said::Legal)),
+    (Ask::Write(Done, 3), Said::Refused(3), None),
+    (Ask::Verdict, Said::Legal, Some(Said::Legal)),
+];
+
+const BLOWN: Said = Said::Unknown(7, 1);
+
+const LATE: [(Ask, Said, Option<Said>); 2] = [
+    (Ask::Write(Done, 3), Said::Refused(4), None),
+    (Ask::Write(Done, 4), BLOWN, Some(BLOWN)),
+];
+
 // What is prepared changes nothing until it is committed, and the next command takes its place.
 fn prepares_and_commits(core: &mut Core) -> bool {
-    let written = prepared(core, write(0, Invoke, 3)) == (Said::Legal, Some(Said::Legal));
-    let refused = prepared(core, write(0, Done, 3)) == (Said::Refused(3), None);
-    let asked = prepared(core, Command::Verdict) == (Said::Legal, Some(Said::Legal));
-    match core.prepare(write(0, Invoke, 4)) {
+    if first_other(core, &EARLY).is_some() {
+        return false;
+    }
+    match core.prepare(command_of(Ask::Write(Invoke, 4))) {
         Ok(_answer) => core.commit(),
         Err(_why) => return false,
     }
-    let other = prepared(core, write(0, Done, 3)) == (Said::Refused(4), None);
-    written && refused && asked && other
+    first_other(core, &LATE).is_none()
 }
 
 #[test]
@@ -45,9 +79,6 @@ fn prepared_commands(rt: HostRuntime) -> Result<(), Fail> {
     let config = Config::to_judge(rt.alloc(), 1, ModelKind::Register, 1);
     let mut core = Core::new(rt.alloc(), config)?;
     assert!(rt; prepares_and_commits(&mut core));
-    let blown = Said::Unknown(7, 1);
-    let done = prepared(&mut core, write(0, Done, 4));
-    assert_eq!(rt; done, (blown, Some(blown)));
     assert_eq!(rt; plain_of(core.verdict()), Said::Legal, "not committed");
     Ok(())
 }

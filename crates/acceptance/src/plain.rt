@@ -22,6 +22,15 @@ pub fn event(process: u32, kind: EventKind, name: Name, part: Part) -> Event
     }
 }
 
+/// The part of no integer, one or two.
+pub fn part(values: &[i64]) -> Part {
+    match values {
+        [value] => Part::Int(*value),
+        [value, other] => Part::Pair(*value, *other),
+        _ => Part::Nil,
+    }
+}
+
 /// What a call is answered by, as plain data.
 #[derive(Clone, Copy, Debug, PartialEq, Eq)]
 pub enum Said {

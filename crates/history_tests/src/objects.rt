@@ -28,17 +28,17 @@ fn found_by_dequeue(alloc: Global, values: &[i64]) -> Result<Vec<i64>, Fail> {
     Ok(found)
 }
 
+const FOUND_BY_DEQUEUE: [(&[i64], &[i64]); 3] = [
+    (&[], &[]),
+    (&[6, 5], &[5, 6]),
+    (&[5, 6, 5], &[5, 6]),
+];
+
 #[test]
 fn unordered_queue_finds_each_value_once(rt: HostRuntime) -> Result<(), Fail> {
-    assert_eq!(rt; found_by_dequeue(rt.alloc(), &[])?.len(), 0);
-    assert_eq!(rt;
-        found_by_dequeue(rt.alloc(), &[6, 5])?.as_slice(),
-        [5, 6].as_slice()
-    );
-    assert_eq!(rt;
-        found_by_dequeue(rt.alloc(), &[5, 6, 5])?.as_slice(),
-        [5, 6].as_slice()
-    );
+    for (values, found) in FOUND_BY_DEQUEUE {
+        assert_eq!(rt; found_by_dequeue(rt.alloc(), values)?.as_slice(), found);
+    }
     Ok(())
 }
 

@@ -20,20 +20,29 @@ fn integers(rt: &HostRuntime, text: &[u8]) -> Result<Vec<i64>, Fail> {
 // As many collections open at once as may be.
 const DEEPEST: &[u8] = b"[[[[[[[[[[[[[[[[[[[[[[[[[[[[[[[[]]]]]]]]]]]]]]]]]]]]]]]]]]]]]]]]";
 
+const INTEGERS: [(&[u8], &[i64]); 2] = [
+    (b"1 #_ [2 3] +4, ; x", &[1, 4]),
+    (
+        b"-9223372036854775808 9223372036854775807 -0",
+        &[i64::MIN, i64::MAX, 0],
+    ),
+];
+
+const COUNTS: [(&[u8], usize); 4] = [
+    (b"", 0),
+    (b"#_ #_ 1 2", 0),
+    (b"nil true\"\"#{}:a", 5),
+    (DEEPEST, 1),
+];
+
 #[test]
 fn elements_of_texts(rt: HostRuntime) -> Result<(), Fail> {
-    assert_eq!(rt;
-        integers(&rt, b"1 #_ [2 3] +4, ; x")?.as_slice(),
-        [1, 4].as_slice()
-    );
-    assert_eq!(rt;
-        integers(&rt, b"-9223372036854775808 9223372036854775807 -0")?.as_slice(),
-        [i64::MIN, i64::MAX, 0].as_slice()
-    );
-    assert_eq!(rt; read_all(rt.alloc(), b"")?.len(), 0);
-    assert_eq!(rt; read_all(rt.alloc(), b"#_ #_ 1 2")?.len(), 0);
-    assert_eq!(rt; read_all(rt.alloc(), b"nil true\"\"#{}:a")?.len(), 5);
-    assert_eq!(rt; read_all(rt.alloc(), DEEPEST)?.len(), 1);
+    for (text, found) in INTEGERS {
+        assert_eq!(rt; integers(&rt, text)?.as_slice(), found);
+    }
+    for (text, count) in COUNTS {
+        assert_eq!(rt; read_all(rt.alloc(), text)?.len(), count);
+    }
     Ok(())
 }
 
@@ -88,24 +97,24 @@ fn rewritten(rt: &HostRuntime, text: &[u8]) -> Result<Vec<u8>, Fail> {
     Ok(written)
 }
 
+const CANONICAL: [(&[u8], &[u8]); 4] = [
+    (
+        b"{:b #{2 1} , :a \"x\\\"y\"}",
+        b"> {:b #{2 1}, :a \"x\\\"y\"}",
+    ),
+    (
+        b"[nil true,false\t-0 +7 [ ] #{ } { } :a.b]",
+        b"> [nil true false 0 7 [] #{} {} :a.b]",
+    ),
+    (b"\"\t\\r\n\\\\\xc3\xa9;\"", b"> \"\\t\\r\\n\\\\\xc3\xa9;\""),
+    (b"-9223372036854775808", b"> -9223372036854775808"),
+];
+
 #[test]
 fn canonical_text(rt: HostRuntime) -> Result<(), Fail> {
-    assert_eq!(rt;
-        rewritten(&rt, b"{:b #{2 1} , :a \"x\\\"y\"}")?.as_slice(),
-        b"> {:b #{2 1}, :a \"x\\\"y\"}".as_slice()
-    );
-    assert_eq!(rt;
-        rewritten(&rt, b"[nil true,false\t-0 +7 [ ] #{ } { } :a.b]")?.as_slice(),
-        b"> [nil true false 0 7 [] #{} {} :a.b]".as_slice()
-    );
-    assert_eq!(rt;
-        rewritten(&rt, b"\"\t\\r\n\\\\\xc3\xa9;\"")?.as_slice(),
-        b"> \"\\t\\r\\n\\\\\xc3\xa9;\"".as_slice()
-    );
-    assert_eq!(rt;
-        rewritten(&rt, b"-9223372036854775808")?.as_slice(),
-        b"> -9223372036854775808".as_slice()
-    );
+    for (text, canonical) in CANONICAL {
+        assert_eq!(rt; rewritten(&rt, text)?.as_slice(), canonical);
+    }
     assert_eq!(rt; rewritten(&rt, DEEPEST)?.len(), DEEPEST.len() + 2);
     Ok(())
 }
@@ -123,54 +132,60 @@ fn values_without_a_text(rt: HostRuntime) -> Result<(), Fail> {
     Ok(())
 }
 
+const NAMES: [(&[u8], bool); 4] = [
+    (b"a.B-9?!*_", true),
+    (b"9a", false),
+    (b"a/b", false),
+    (b"", false),
+];
+
+const DIFFERING: [(&[u8], bool); 2] = [
+    (b"1 :a \"a\" [1 2] [2 1]", true),
+    (b"#{1 2} 3 #{2 1}", false),
+];
+
 #[test]
 fn names_and_keys(rt: HostRuntime) -> Result<(), Fail> {
-    assert!(rt; is_keyword_name(b"a.B-9?!*_"));
-    assert!(rt; !is_keyword_name(b"9a"));
-    assert!(rt; !is_keyword_name(b"a/b"));
-    assert!(rt; !is_keyword_name(b""));
-    let different = read_all(rt.alloc(), b"1 :a \"a\" [1 2] [2 1]")?;
-    assert!(rt; all_differ(different.as_slice()));
-    let repeated = read_all(rt.alloc(), b"#{1 2} 3 #{2 1}")?;
-    assert!(rt; !all_differ(repeated.as_slice()));
+    for (name, is_name) in NAMES {
+        assert_eq!(rt; is_keyword_name(name), is_name);
+    }
+    for (text, differ) in DIFFERING {
+        let elements = read_all(rt.alloc(), text)?;
+        assert_eq!(rt; all_differ(elements.as_slice()), differ);
+    }
     Ok(())
 }
 
-// The integers that come before the end, or before the place at which the input is refused.
-fn integers_and_place(rt: &HostRuntime, text: &[u8]) -> Result<(Vec<i64>, Option<usize>), Fail> {
+// The integers before the end, or before the place at which the input is refused.
+fn integers_and_refusal(
+    rt: &HostRuntime,
+    text: &[u8],
+) -> Result<(Vec<i64>, Option<Refusal>), Fail> {
     let mut integers = Vec::new(rt.alloc());
     let mut elements = Elements::new(text);
     for _ in 0..text.len() {
         match elements.next(rt.alloc()) {
             Ok(Some(element)) => integers.push(element.as_int().ok_or("no integer")?)?,
             Ok(None) => break,
-            Err(Refusal::Unreadable(place)) => return Ok((integers, Some(place))),
-            Err(why) => return Err(why.into()),
+            Err(why) => return Ok((integers, Some(why))),
         }
     }
     Ok((integers, None))
 }
 
+const ONE_BY_ONE: [(&[u8], &[i64], Result<usize, Refusal>); 3] = [
+    (b"1 #_ [2 3] +4, ; x", &[1, 4], Ok(2)),
+    (b"1 2 007", &[1, 2], Err(Refusal::Unreadable(5))),
+    (b"1 ]", &[1], Err(Refusal::Unreadable(2))),
+];
+
 #[test]
 fn elements_one_after_the_other(rt: HostRuntime) -> Result<(), Fail> {
-    let text = b"1 #_ [2 3] +4, ; x";
-    assert_eq!(rt; check_text(rt.alloc(), text)?, 2);
-    let (integers, place) = integers_and_place(&rt, text)?;
-    assert_eq!(rt; integers.as_slice(), [1, 4].as_slice());
-    assert_eq!(rt; place, None);
-    let (integers, place) = integers_and_place(&rt, b"1 2 007")?;
-    assert_eq!(rt; integers.as_slice(), [1, 2].as_slice());
-    assert_eq!(rt; place, Some(5));
-    let (integers, place) = integers_and_place(&rt, b"1 ]")?;
-    assert_eq!(rt; integers.as_slice(), [1].as_slice());
-    assert_eq!(rt; place, Some(2));
-    assert_eq!(rt;
-        check_text(rt.alloc(), b"1 2 007").err(),
-        Some(Refusal::Unreadable(5))
-    );
-    assert_eq!(rt;
-        check_text(rt.alloc(), b"1 ]").err(),
-        Some(Refusal::Unreadable(2))
-    );
+    for (text, integers, checked) in ONE_BY_ONE {
+        assert_eq!(rt; check_text(rt.alloc(), text), checked);
+        let (found, why) = integers_and_refusal(&rt, text)?;
+        assert_eq!(rt; found.as_slice(), integers);
+        assert_eq!(rt; why, checked.err());
+    }
     Ok(())
 }

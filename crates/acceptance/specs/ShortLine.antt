@@ -1,0 +1,21 @@
+-- Promise: events of process 0 at key 7, and a fault
+use Rattle.std.specs.Prelude.{None}
+use Rattle.models.specs.declared.operation.Name.{Name}
+use Rattle.models.specs.declared.operation.Part.{Part}
+use Rattle.history.specs.declared.event.EventKind.{EventKind}
+use Rattle.history.specs.declared.event.EventKind.TheVariants.{Info}
+use Rattle.history.specs.declared.event.Process.TheVariants.{Client, Nemesis}
+use Rattle.history.specs.declared.event.Body.TheVariants.{Op, Fault}
+use Rattle.history.specs.declared.event.Fault.TheVariants.{Heal}
+use Rattle.history.specs.declared.event.Event.{Event}
+
+abbrev pub event_by : EventKind → Name → Part → Event
+event_by kind name part = record {
+  index = None;
+  kind = kind;
+  process = Client 0;
+  body = Op (record { name = name; key = 7; part = part });
+}
+
+abbrev pub heal : Event
+heal = record { index = None; kind = Info; process = Nemesis; body = Fault Heal }
