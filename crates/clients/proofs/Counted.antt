@@ -23,6 +23,13 @@ one_entry k n b = go (k == n) refl (nat_lt k (n + 1)) refl (nat_lt k n) refl whe
   go false ex false ey true ez = absurd (grind (arith, nat_tests))
   go false ex false ey false ez = rw (ex, ey, ez) (omega arith)
 
+later_entry : (n seat k : ℕ) (b : Bool) → n ≤ seat → one_if ((k == seat) && b) ≤ one_if (not (nat_lt k n) && b)
+later_entry n seat k b le = go (k == seat) refl (nat_lt k n) refl where
+  go : (x : Bool) → (k == seat) ≡ x → (y : Bool) → nat_lt k n ≡ y → one_if ((k == seat) && b) ≤ one_if (not (nat_lt k n) && b)
+  go true ex true ey = absurd (grind (arith, nat_tests))
+  go true ex false ey = rw (ex, ey) (omega arith)
+  go false ex y ey = rw ex (omega arith)
+
 pub one_at_most : (b : Bool) → one_if b ≤ 1
 one_at_most true = omega arith
 one_at_most false = omega arith
@@ -76,6 +83,22 @@ module _ (is_such : Command → Bool) where
   counted tape n (s ∷ rest) own seen =
       let others = counted tape (n + 1) rest (others_counted n s rest own) (others_seen tape s rest seen) in
       omega (arith, first_counted tape n s rest own seen, others, one_seat n tape, sum_by-cons (λ (t : CoreSeat). t.count) s rest)
+
+  -- and beside it what later seats have there
+  pub counted_with : (tape : CoreTape) (n last : ℕ) (seats : List CoreSeat) → last ≡ n + length seats → AreCounted n seats
+      → All (λ (s : CoreSeat). IsPrefix s.tape tape) seats → sum_by (λ (s : CoreSeat). s.count) seats + such_from last tape ≤ such_from n tape
+  counted_with tape n last [] size own seen =
+      let same : such_from last tape ≡ such_from n tape = ap (λ (m : ℕ). such_from m tape) (omega (arith, size)) in
+      omega (arith, same)
+  counted_with tape n last (s ∷ rest) size own seen =
+      let others = counted_with tape (n + 1) last rest (omega (arith, size)) (others_counted n s rest own) (others_seen tape s rest seen) in
+      omega (arith, first_counted tape n s rest own seen, others, one_seat n tape, sum_by-cons (λ (t : CoreSeat). t.count) s rest)
+
+  -- a seat's calls are among those of the seats from a number on that is not above its own
+  pub among_later : (n seat : ℕ) → n ≤ seat → (tape : CoreTape) → asked is_such seat tape ≤ such_from n tape
+  among_later n seat le [] = omega arith
+  among_later n seat le (Opening m ∷ rest) = among_later n seat le rest
+  among_later n seat le (Call k c r ∷ rest) = omega (arith, later_entry n seat k (is_such c) le, among_later n seat le rest)
 
   -- and so is what one of them counts less than it has there
   pub counted_but : (tape : CoreTape) (n : ℕ) (seats : List CoreSeat) → AreCounted n seats

@@ -15,7 +15,7 @@ use Rattle.board.proofs.Prefixes.{prefix_self, prefix_trans}
 use Rattle.clients.specs.declared.client.Next.{Next}
 use Rattle.clients.specs.declared.client.Next.TheVariants.{Draw, End}
 use Rattle.clients.specs.Calls.{CoreSeat, Calls, MadeNone, MadeOne, HasMade, MayBeNoCall, IsTold}
-use Rattle.clients.specs.Plays.{Stage, draws, has_ended, gives_up, IsNext, after_reply, after_refusal, after_answer, Plays, AreStrikes, HasPlayed, HasStruck}
+use Rattle.clients.specs.Plays.{Stage, draws, has_ended, gives_up, IsNext, after_reply, after_refusal, after_answer, Plays, IsOfRun, AreStrikes, HasPlayed, HasStruck}
 use Rattle.clients.specs.Playing.{RefusesRun, IsAfterRefusal, StandsAt, CameFrom}
 
 pub none_self : (s : CoreSeat) → MadeNone s s
@@ -126,6 +126,11 @@ refused thread stage a b command why result next is e told after = go (subst (λ
   go (inl one) = ((command, Err why) ∷ [], (b, one, none_self b), (after_refusal why, (is, refl), stands_after why next after))
   go (inr none) = ([], none.0, (stage, refl, stands_lost stage why next none.1 after))
 
+-- nothing refuses no run
+pub spares : (o : Option Refusal) → ((why : Refusal) → ¬ (o ≡ Some why)) → ¬ RefusesRun o
+spares None none lost = lost
+spares (Some why) none lost = none why refl
+
 -- where the run is not refused for what it met, it came to its end
 pub has_played : (thread : ℕ) (a b : CoreSeat) (why : Option Refusal) → CameFrom thread draws a b (End why) → ¬ RefusesRun why → HasPlayed thread a b
 has_played thread a b why came heard = (came.0, came.1, to_end came.2.2) where
@@ -137,7 +142,7 @@ has_played thread a b why came heard = (came.0, came.1, to_end came.2.2) where
 
 strikes_then : (xs ys : Calls) → AreStrikes xs → AreStrikes ys → AreStrikes (xs ++ ys)
 strikes_then [] ys p q = q
-strikes_then (call ∷ xs) ys p q = (p.0, strikes_then xs ys p.1 q)
+strikes_then (call ∷ xs) ys p q = (p.0, p.1, strikes_then xs ys p.2 q)
 
 pub struck_self : (s : CoreSeat) → HasStruck s s
 struck_self s = ([], none_self s, tt)
@@ -148,6 +153,13 @@ struck_then a b c p q = (p.0 ++ q.0, made_then a b c p.0 q.0 p.1 q.1, strikes_th
 pub struck_none : (a b c : CoreSeat) → HasStruck a b → MadeNone b c → HasStruck a c
 struck_none a b c p q = (p.0, then_none a b c p.0 p.1 q, p.2)
 
-pub struck_by : (a b : CoreSeat) (reply : CoreReply) → IsTold a Nemesis reply b → HasStruck a b
-struck_by a b reply (inl one) = ((Nemesis, reply) ∷ [], (b, one, none_self b), (refl, tt))
-struck_by a b reply (inr none) = ([], none.0, tt)
+struck_by : (a b : CoreSeat) (reply : CoreReply) → ((why : Refusal) → reply ≡ Err why → ¬ IsOfRun why) → IsTold a Nemesis reply b → HasStruck a b
+struck_by a b reply fine (inl one) = ((Nemesis, reply) ∷ [], (b, one, none_self b), (refl, fine, tt))
+struck_by a b reply fine (inr none) = ([], none.0, tt)
+
+-- it was answered; or refused, and not for what the run is refused for
+pub struck_well : (a b : CoreSeat) (result : CoreReply) (reply : Reply) → result ≡ Ok reply → IsTold a Nemesis result b → HasStruck a b
+struck_well a b result reply is told = struck_by a b result (λ why e. absurd (cc (sym is ∙ e))) told
+
+pub struck_in_vain : (a b : CoreSeat) (result : CoreReply) (why : Refusal) → result ≡ Err why → ¬ IsOfRun why → IsTold a Nemesis result b → HasStruck a b
+struck_in_vain a b result why is fine told = struck_by a b result (λ other e. (let same : why ≡ other = cc (sym is ∙ e) in subst (λ (w : Refusal). ¬ IsOfRun w) same fine)) told

@@ -1,8 +1,8 @@
--- Where all seats of a board come back from clients and the nemesis, its tape has calls of trials alone, and of each client just
--- what it did.
-use Rattle.std.proofs.Common.{◌≡◌, ℕ, zero, suc, ◌+◌, ◌-◌, ◌<◌, ◌≤◌, Bool, true, false, List, [], ◌∷◌, ◌++◌, length, Some, refl, sym, ap, subst, ◌∙◌, arith, length-append}
-use Rattle.std.specs.Prelude.{slice_get, slice_index_or, nat_lt, not, ◌&&◌}
-use Rattle.std.proofs.lemmas.Bool.{false≢true}
+-- Where all seats of a board come back from clients and the nemesis, its tape has calls of trials alone: of each client, and of the
+-- nemesis, just what it did.
+use Rattle.std.proofs.Common.{◌≡◌, ℕ, zero, suc, ◌+◌, ◌-◌, ◌<◌, ◌≤◌, ◌≢◌, ⊎_elim, Bool, true, false, List, [], ◌∷◌, ◌++◌, length, Some, refl, sym, ap, subst, ◌∙◌, arith, length-append}
+use Rattle.std.specs.Prelude.{slice_get, slice_index_or, nat_lt, not, ◌&&◌, ◌==◌, if◌then◌else◌}
+use Rattle.std.proofs.lemmas.Bool.{false≢true, cases_eq, cases_lt}
 use Rattle.std.proofs.lemmas.Bool.Decides.{nat_tests}
 use Rattle.std.proofs.lemmas.Option.{get_or_from_slice_get}
 use mathlib.Core.List.{IsPrefix}
@@ -12,12 +12,12 @@ use Rattle.machine.specs.Machine.{Machine, IsOfTrial, AreOfTrial}
 use Rattle.board.specs.declared.tape.TapeEntry.TheVariants.{Opening, Call}
 use Rattle.board.specs.Tape.{IsTapeOf}
 use Rattle.board.specs.Seat.{IsFresh}
-use Rattle.board.specs.CoreTape.{CoreTape, opening_tape, calls_on}
+use Rattle.board.specs.CoreTape.{CoreReply, CoreTape, opening_tape, calls_on}
 use Rattle.clients.specs.Calls.{CoreSeat, Calls, HasMade}
 use Rattle.clients.specs.Plays.{Stage, draws, serves, finishes, has_ended, gives_up, IsNext, after_answer, Plays, AreStrikes, HaveRun}
-use Rattle.clients.specs.Runs.{calls_of, ArePlayed}
-use Rattle.clients.proofs.Asking.{one_if, asked, HasAskedOnly, AreSuch, asked_by}
-use Rattle.clients.proofs.Counted.{one_at_most, few_calls, such_from, few_such, AreCounted, counted, counted_but}
+use Rattle.clients.specs.Runs.{calls_of, ArePlayed, IsRun}
+use Rattle.clients.proofs.Asking.{one_if, asked, HasAskedOnly, AreSuch, asked_by, same_number}
+use Rattle.clients.proofs.Counted.{one_at_most, few_calls, such_from, few_such, AreCounted, counted, counted_with, among_later, counted_but}
 use Rattle.clients.proofs.OwnCalls.{any, all_are, as_many, calls_front, none_more, made_count, just_made}
 
 abbrev is_of_trial : Command → Bool
@@ -51,7 +51,38 @@ plays_are thread stage end (call ∷ calls) p =
 
 strikes_are : (calls : Calls) → AreStrikes calls → AreSuch is_of_trial calls
 strikes_are [] p = tt
-strikes_are (call ∷ calls) p = (subst (λ (x : Command). is_of_trial x ≡ true) (sym p.0) refl, strikes_are calls p.1)
+strikes_are (call ∷ calls) p = (subst (λ (x : Command). is_of_trial x ≡ true) (sym p.0) refl, strikes_are calls p.2)
+
+-- where the calls of each seat are of trials, so are all on the tape
+first_such : (b : Bool) (call : Command × CoreReply) (calls : Calls) → b ≡ true → AreSuch is_of_trial (if b then call ∷ calls else calls) → is_of_trial call.0 ≡ true
+first_such true call calls is p = p.0
+first_such false call calls is p = absurd (false≢true is)
+
+rest_such : (b : Bool) (call : Command × CoreReply) (calls : Calls) → AreSuch is_of_trial (if b then call ∷ calls else calls) → AreSuch is_of_trial calls
+rest_such true call calls p = p.1
+rest_such false call calls p = p
+
+each_of_trial : (tape : CoreTape) → ((seat : ℕ) → AreSuch is_of_trial (calls_of seat tape)) → AreOfTrial (calls_on tape)
+each_of_trial [] each = tt
+each_of_trial (Opening m ∷ rest) each = each_of_trial rest each
+each_of_trial (Call k c r ∷ rest) each = (
+  trial_is c (first_such (k == k) (c, r) (calls_of k rest) (same_number k) (each k)),
+  each_of_trial rest (λ seat. rest_such (k == seat) (c, r) (calls_of seat rest) (each seat)),
+)
+
+-- what comes of a run has calls of trials alone
+pub run_of_trial : (threads : ℕ) (first last : Machine) (run : IsRun threads first last) → AreOfTrial (calls_on run.tape)
+run_of_trial threads first last run = each_of_trial run.tape each where
+  each : (seat : ℕ) → AreSuch is_of_trial (calls_of seat run.tape)
+  each seat =
+      ⊎_elim
+      (λ (below : seat < threads). plays_are seat draws has_ended (calls_of seat run.tape) (run.played seat below))
+      (λ (above : threads ≤ seat).
+      ⊎_elim
+      (λ (last_one : seat ≡ threads). subst (λ (n : ℕ). AreSuch is_of_trial (calls_of n run.tape)) (sym last_one) (strikes_are (calls_of threads run.tape) run.struck))
+      (λ (other : seat ≢ threads). subst (λ (calls : Calls). AreSuch is_of_trial calls) (sym (run.others seat (omega arith))) tt)
+      (cases_eq seat threads))
+      (cases_lt seat threads)
 
 -- what each seat that ran has made, which belongs to trials alone
 ran : (seats back : List CoreSeat) (place : ℕ) (old new : CoreSeat) → HaveRun (λ (s : CoreSeat). s) seats back → place < length seats
@@ -130,20 +161,47 @@ module _ (m : Machine) (seats back : List CoreSeat) (fresh : IsFresh (opening_ta
       let here : asked any (0 + k) (Opening o ∷ rest) ≡ asked any k (Opening o ∷ rest) = ap (λ (n : ℕ). asked any n (Opening o ∷ rest)) (omega arith) in
       omega (arith, is.calls run.count, counted_but any (Opening o ∷ rest) 0 back all_counted is.seen k s at, few_such any 0 (Opening o ∷ rest), few_calls rest, here, as_many k (Opening o ∷ rest))
 
+  -- of each seat the tape has just the calls that it made
+  own_calls : (tape : CoreTape) → IsTapeOf (opening_tape m) back (length seats) tape → (k : ℕ) (old new : CoreSeat) → slice_get seats k ≡ Some old → slice_get back k ≡ Some new
+      → (calls : Calls) → HasMade old calls new → calls_of k tape ≡ calls
+  own_calls tape is k old new at_old at_new calls made =
+      let f = fresh k old at_old in
+      let count = made_count old new calls made in
+      let most = no_more tape is k new at_new in
+      let seen : IsPrefix new.tape tape = subst (λ (s : CoreSeat). IsPrefix s.tape tape) (get_or_from_slice_get back k new new at_new) (is.seen k new (get_within back k new at_new)) in
+      let front = calls_front k new.tape tape seen in
+      let longer : length (calls_of k tape) ≡ length (calls_of k new.tape) + length front.0 = ap length front.1 ∙ length-append (calls_of k new.tape) front.0 in
+      let none : calls_of k old.tape ≡ [] = rw f.2 refl in
+      let nothing : length (calls_of k old.tape) ≡ 0 = rw none refl in
+      let just : calls_of k new.tape ≡ calls_of k old.tape ++ calls = just_made k old new calls f.0 made (omega (arith, most, longer, count, f.1, nothing)) in
+      let own : calls_of k new.tape ≡ calls = just ∙ ap (λ (zs : Calls). zs ++ calls) none in
+      let whole : calls_of k tape ≡ calls_of k new.tape = none_more (calls_of k new.tape) (calls_of k tape) front.0 front.1 (omega (arith, most, count, f.1, ap length own)) in
+      whole ∙ own
+
   pub all_played : (threads : ℕ) → threads + 1 ≤ length seats → (tape : CoreTape) → IsTapeOf (opening_tape m) back (length seats) tape → ArePlayed threads tape
   all_played threads enough tape is thread below =
       let old = get_some seats thread (omega (arith, below, enough)) in
       let new = get_some back thread (omega (arith, below, enough, run.count)) in
       let p = run.clients thread old.0 new.0 (omega (arith, below, enough)) old.1 new.1 in
-      let f = fresh thread old.0 old.1 in
-      let count = made_count old.0 new.0 p.0 p.1 in
-      let most = no_more tape is thread new.0 new.1 in
-      let seen : IsPrefix new.0.tape tape = subst (λ (s : CoreSeat). IsPrefix s.tape tape) (get_or_from_slice_get back thread new.0 new.0 new.1) (is.seen thread new.0 (omega (arith, below, enough, run.count))) in
-      let front = calls_front thread new.0.tape tape seen in
-      let longer : length (calls_of thread tape) ≡ length (calls_of thread new.0.tape) + length front.0 = ap length front.1 ∙ length-append (calls_of thread new.0.tape) front.0 in
-      let none : calls_of thread old.0.tape ≡ [] = rw f.2 refl in
-      let nothing : length (calls_of thread old.0.tape) ≡ 0 = rw none refl in
-      let just : calls_of thread new.0.tape ≡ calls_of thread old.0.tape ++ p.0 = just_made thread old.0 new.0 p.0 f.0 p.1 (omega (arith, most, longer, count, f.1, nothing)) in
-      let own : calls_of thread new.0.tape ≡ p.0 = just ∙ ap (λ (zs : Calls). zs ++ p.0) none in
-      let whole : calls_of thread tape ≡ calls_of thread new.0.tape = none_more (calls_of thread new.0.tape) (calls_of thread tape) front.0 front.1 (omega (arith, most, count, f.1, ap length own)) in
-      subst (λ (calls : Calls). Plays thread draws calls has_ended) (sym (whole ∙ own)) p.2
+      subst (λ (calls : Calls). Plays thread draws calls has_ended) (sym (own_calls tape is thread old.0 new.0 old.1 new.1 p.0 p.1)) p.2
+
+  pub all_struck : (threads : ℕ) → length seats ≡ threads + 1 → (tape : CoreTape) → IsTapeOf (opening_tape m) back (length seats) tape → AreStrikes (calls_of threads tape)
+  all_struck threads size tape is =
+      let old = get_some seats threads (omega (arith, size)) in
+      let new = get_some back threads (omega (arith, size, run.count)) in
+      let last : threads ≡ length seats - 1 = omega (arith, size) in
+      let p = run.nemesis old.0 new.0 (subst (λ (k : ℕ). slice_get seats k ≡ Some old.0) last old.1) (subst (λ (k : ℕ). slice_get back k ≡ Some new.0) last new.1) in
+      subst (λ (calls : Calls). AreStrikes calls) (sym (own_calls tape is threads old.0 new.0 old.1 new.1 p.0 p.1)) p.2
+
+  -- no other seat has a call there
+  nothing_in : (calls : Calls) → length calls ≤ 0 → calls ≡ []
+  nothing_in [] few = refl
+  nothing_in (call ∷ calls) few = absurd (omega (arith, few))
+
+  pub no_others : (tape : CoreTape) → IsTapeOf (opening_tape m) back (length seats) tape → (seat : ℕ) → length seats ≤ seat → calls_of seat tape ≡ []
+  no_others [] is seat far = absurd (cc is.opens.1)
+  no_others (Call k c r ∷ rest) is seat far = absurd (cc is.opens.1)
+  no_others (Opening o ∷ rest) is seat far =
+      let counts = counted_with any (Opening o ∷ rest) 0 (length back) back (omega arith) all_counted is.seen in
+      let few = among_later any (length back) seat (omega (arith, far, run.count)) (Opening o ∷ rest) in
+      nothing_in (calls_of seat (Opening o ∷ rest)) (omega (arith, is.calls run.count, counts, few, few_such any 0 (Opening o ∷ rest), few_calls rest, as_many seat (Opening o ∷ rest)))

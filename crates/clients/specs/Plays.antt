@@ -61,9 +61,18 @@ abbrev pub HasPlayed : ℕ → CoreSeat → CoreSeat → Type 0
 HasPlayed thread old new =
     (calls : Calls) × HasMade old calls new × Plays thread draws calls has_ended
 
+-- why a run is refused: its history is full, its tape is, or memory ran out
+abbrev pub IsOfRun : Refusal → Type 0
+IsOfRun HistoryFull = Unit {0}
+IsOfRun TapeFull = Unit {0}
+IsOfRun NoMemory = Unit {0}
+IsOfRun why = ⊥
+
+-- these calls ask for faults alone, and none is refused for what a run is refused for
 abbrev pub AreStrikes : Calls → Type 0
 AreStrikes [] = Unit {0}
-AreStrikes (call ∷ calls) = (call.0 ≡ Nemesis) × AreStrikes calls
+AreStrikes (call ∷ calls) =
+    (call.0 ≡ Nemesis) × ((why : Refusal) → call.1 ≡ Err why → ¬ IsOfRun why) × AreStrikes calls
 
 -- since the seat was so, it was that of the nemesis
 abbrev pub HasStruck : CoreSeat → CoreSeat → Type 0
@@ -77,10 +86,3 @@ pub record HaveRun {A : Type 0} (view : A → CoreSeat) (seats back : List A) : 
       → HasPlayed thread (view old) (view new)
   pub nemesis : (old new : A) → slice_get seats (length seats - 1) ≡ Some old
       → slice_get back (length seats - 1) ≡ Some new → HasStruck (view old) (view new)
-
--- why a run is refused: its history is full, its tape is, or memory ran out
-abbrev pub IsOfRun : Refusal → Type 0
-IsOfRun HistoryFull = Unit {0}
-IsOfRun TapeFull = Unit {0}
-IsOfRun NoMemory = Unit {0}
-IsOfRun why = ⊥

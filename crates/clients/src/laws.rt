@@ -1,5 +1,5 @@
 //! Laws of runs.
-ghost use Rattle.std.specs.Prelude.{◌≡◌, ◌+◌, ◌≤◌, ℕ, List, length};
+ghost use Rattle.std.specs.Prelude.{◌≡◌, ◌+◌, ◌≤◌, ℕ, List, [], length};
 ghost use Rattle.history.specs.Events.{marks};
 ghost use Rattle.linspec.specs.Orders.{IsLinearizable, product};
 ghost use Rattle.linspec.specs.declared.verdict.Verdict.{Verdict};
@@ -11,14 +11,15 @@ ghost use Rattle.board.specs.Tape.{IsTapeOf};
 ghost use Rattle.board.specs.Seat.{IsFresh};
 ghost use Rattle.board.specs.CoreTape.{CoreTape, opening_tape, calls_on};
 ghost use Rattle.clients.specs.Calls.{CoreSeat};
-ghost use Rattle.clients.specs.Plays.{HaveRun};
-ghost use Rattle.clients.specs.Runs.{ArePlayed, IsRun};
+ghost use Rattle.clients.specs.Plays.{AreStrikes, HaveRun};
+ghost use Rattle.clients.specs.Runs.{ArePlayed, IsRun, calls_of};
 
 use machine::no_false_alarm;
 
 /// Where all seats of a board went to clients and the nemesis when they were new, and came back, the board's tape has calls of
 /// trials alone: each call of these seats is on it, once, and nothing else is. So each client has there just the calls that it
-/// made, from its first draw to its end.
+/// made, from its first draw to its end, and the nemesis has its own on the last seat. What comes of a run has calls of trials
+/// alone for that.
 pub fn trials_alone()
     ensures trials { (m : Machine) (seats back : List CoreSeat) (tape : CoreTape)
         → IsFresh (opening_tape m) seats → HaveRun (λ seat. seat) seats back
@@ -27,6 +28,16 @@ pub fn trials_alone()
         → threads + 1 ≤ length seats → IsFresh (opening_tape m) seats
         → HaveRun (λ seat. seat) seats back
         → IsTapeOf (opening_tape m) back (length seats) tape → ArePlayed threads tape }
+    ensures struck { (m : Machine) (threads : ℕ) (seats back : List CoreSeat) (tape : CoreTape)
+        → length seats ≡ threads + 1 → IsFresh (opening_tape m) seats
+        → HaveRun (λ seat. seat) seats back
+        → IsTapeOf (opening_tape m) back (length seats) tape → AreStrikes (calls_of threads tape) }
+    ensures others { (m : Machine) (seats back : List CoreSeat) (tape : CoreTape)
+        → IsFresh (opening_tape m) seats → HaveRun (λ seat. seat) seats back
+        → IsTapeOf (opening_tape m) back (length seats) tape
+        → (seat : ℕ) → length seats ≤ seat → calls_of seat tape ≡ [] }
+    ensures run { (threads : ℕ) (first last : Machine) (run : IsRun threads first last)
+        → AreOfTrial (calls_on run.tape) }
 {}
 
 /// No run of a strict store is a false alarm: the history to which it leads is linearizable, over all keys together. So no

@@ -5,6 +5,7 @@ ghost use Rattle.clients.specs.Plays.{HasPlayed, HasStruck, HaveRun, IsOfRun};
 ghost use Rattle.clients.specs.Playing.{HavePlayed, RefusesRun};
 
 use crate::client::play;
+use crate::pauses::let_nemesis_try;
 use crate::progress::Progress;
 use crate::shared_board::SharedBoard;
 use crate::striking::strike;
@@ -28,9 +29,10 @@ struct Ended<S> {
 ///
 /// A client draws, serves and finishes, one operation after the other, until there is none for it; where others completed
 /// or cut its operation, it draws again, and where there may be one later, it lets others go on before that. The nemesis
-/// strikes until all clients have ended; where no fault is due, it lets others make some calls first. The gate begins by the
-/// place of a client before its first command, and ends after the answer to that; it is called outside the lock. The watch is
-/// told how far the run has come, where it wants to know, by glances from the nemesis's seat: they take no lock.
+/// strikes until all clients have ended; where no fault is due, it lets others make some calls first. The clients begin once it
+/// has tried for the first time, or after some turns. The gate begins by the place of a client before its first command, and ends
+/// after the answer to that; it is called outside the lock. The watch is told how far the run has come, where it wants to know,
+/// by glances from the nemesis's seat: they take no lock.
 ///
 /// A client whose thread can't be started runs in the thread that was to start it, and so does the nemesis, once the clients
 /// have ended, which leaves its seat unused.
@@ -79,7 +81,7 @@ where
     let started = Progress::new();
     let progress = &started;
     let strike = move || -> Ended<M::Seat>
-        ensures struck { HasStruck (M.view last) (M.view result.seat) }
+        ensures struck { result.why ≡ None → HasStruck (M.view last) (M.view result.seat) }
         ensures refused { IfSome result.why IsOfRun }
     { strike_with(rt, board, progress, watch, last) };
     let play = move || -> Result<Vec<Ended<M::Seat>>, AllocError>
@@ -102,7 +104,8 @@ fn come_back<S: Drop>(
     requires struck { IfSome struck.why IsOfRun }
     ensures back { IfOk result (λ seats.
         seats.items ≡ map (λ ended. ended.seat) played.items ++ struck.seat ∷ []) }
-    ensures well { IfOk result (λ seats. All (λ ended. ended.why ≡ None) played.items) }
+    ensures well { IfOk result (λ seats. All (λ ended. ended.why ≡ None) played.items
+        × (struck.why ≡ None)) }
     ensures refused { IfErr result IsOfRun }
 {
     if let Some(why) = first_refusal(played.as_slice()) {
@@ -131,7 +134,7 @@ fn strike_with<M: SharedBoard, W: Watch, R: Wait>(
     watch: W,
     seat: M::Seat,
 ) -> Ended<M::Seat>
-    ensures struck { HasStruck (M.view seat) (M.view result.seat) }
+    ensures struck { result.why ≡ None → HasStruck (M.view seat) (M.view result.seat) }
     ensures refused { IfSome result.why IsOfRun }
 {
     let mut seat = seat;
@@ -176,7 +179,7 @@ fn of_run(why: Option<Refusal>) -> Option<Refusal>
     }
 }
 
-// The clients, each in a thread of its own where one can be made. Then they have all ended.
+// The clients, each in a thread of its own where one can be made, once the nemesis has tried to strike. Then they have all ended.
 fn play_all<M: SharedBoard + Sync, G: Gate + Sync, R: Threads + Wait + Sync>(
     rt: &R,
     board: &M,
@@ -196,6 +199,7 @@ where
         ensures played { result.why ≡ None → HasPlayed client.0 (M.view client.1) (M.view result.seat) }
         ensures refused { IfSome result.why IsOfRun }
     { play_with(rt, board, gate, progress, client) };
+    let_nemesis_try(progress);
     let played = thread::map_vec(rt, clients, &play);
     progress.end();
     played

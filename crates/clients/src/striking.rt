@@ -1,6 +1,7 @@
 //! What the nemesis does.
 ghost use Rattle.clients.specs.Calls.{MadeNone};
 ghost use Rattle.clients.specs.Plays.{HasStruck};
+ghost use Rattle.clients.specs.Playing.{RefusesRun};
 
 use crate::pauses::let_others_call;
 use crate::progress::Progress;
@@ -23,13 +24,13 @@ pub(crate) fn strike<M: SharedBoard, W: Watch, R: Wait>(
     watch: &mut W,
     seat: &mut M::Seat,
 ) -> Option<Refusal>
-    ensures { HasStruck (M.view seat.old) (M.view seat.new) }
+    ensures { ¬ RefusesRun result → HasStruck (M.view seat.old) (M.view seat.new) }
 {
     for _ in rt.forever() {
         if progress.has_ended() {
             return None;
         }
-        if let Some(why) = try_once(rt, board, seat) {
+        if let Some(why) = try_once(rt, board, progress, seat) {
             return Some(why);
         }
         tell(board, progress, watch, seat);
@@ -37,11 +38,18 @@ pub(crate) fn strike<M: SharedBoard, W: Watch, R: Wait>(
     unreachable!()
 }
 
-// One try, and the refusal that ends the nemesis, if that is one.
-fn try_once<M: SharedBoard, R: Wait>(rt: &R, board: &M, seat: &mut M::Seat) -> Option<Refusal>
-    ensures { HasStruck (M.view seat.old) (M.view seat.new) }
+// One try, which is noted, and the refusal that ends the nemesis, if that is one.
+fn try_once<M: SharedBoard, R: Wait>(
+    rt: &R,
+    board: &M,
+    progress: &Progress,
+    seat: &mut M::Seat,
+) -> Option<Refusal>
+    ensures { ¬ RefusesRun result → HasStruck (M.view seat.old) (M.view seat.new) }
 {
-    match board.call(rt, seat, Command::Nemesis) {
+    let tried = board.call(rt, seat, Command::Nemesis);
+    progress.note_try();
+    match tried {
         Ok(_) => None,
         Err(Refusal::Idle) => {
             let_others_call(board, seat, CALLS);

@@ -4,8 +4,9 @@ use Rattle.edn.specs.declared.refusal.Refusal.{Refusal}
 use Rattle.linspec.specs.declared.verdict.Verdict.{Verdict}
 use Rattle.monitor.specs.JudgedHistory.{IsVerdictOn}
 use Rattle.machine.specs.Machine.{Machine, Setup, opening}
+use Rattle.harness.specs.Setups.{MayNotOpen}
 use Rattle.line_loop.specs.RefusalLine.{refusal_line}
-use Rattle.clients.specs.Runs.{IsRun}
+use Rattle.clients.specs.Runs.{IsRun, MayNotRun}
 use Rattle.report.specs.Report.{IsReport}
 use Rattle.checks.specs.ExitStatus.{status_of}
 
@@ -16,8 +17,8 @@ pub record IsRunText (m : Machine) (text : List ℕ) (status : ℕ) : Type 0 whe
   pub judged : IsVerdictOn m.judged verdict
   pub status_is : status ≡ status_of verdict
 
--- what a run says: what it came to, or why there was none
+-- what a run says: what it came to, or why there was none: the object is not opened so, or there is no run of it
 abbrev pub MaySay : Setup → List ℕ → ℕ → Type 0
 MaySay setup text status =
     ((m : Machine) × IsRun setup.concurrency (opening setup) m × IsRunText m text status)
-    ⊎ ((why : Refusal) × (text ≡ refusal_line why) × (status ≡ 3))
+    ⊎ ((why : Refusal) × (MayNotOpen setup why ⊎ MayNotRun why) × (text ≡ refusal_line why) × (status ≡ 3))

@@ -1,6 +1,7 @@
 -- Invariant: lines that are on their way to their places
-use Rattle.std.specs.Prelude.{◌≡◌, ℕ, ◌<◌, ◌≤◌, ◌%◌, Option, Some, List, length, slice_get}
+use Rattle.std.specs.Prelude.{◌≡◌, ◌≢◌, ℕ, ◌<◌, ◌≤◌, ◌%◌, Option, Some, List, length, slice_get}
 use Rattle.std.specs.List.{All, Contains}
+use Rattle.linspec.specs.Orders.{Pairwise}
 use Rattle.checkpoints.specs.KeyLineView.{KeyLineView}
 use Rattle.parallel_recheck.specs.declared.workers.Placed.{Placed}
 
@@ -12,10 +13,20 @@ IsAmong lines placed = slice_get lines placed.place ≡ Some placed.line
 abbrev pub HasPlace : List Placed → ℕ → Type 0
 HasPlace all place = (placed : Placed) × Contains all placed × (placed.place ≡ place)
 
--- lines in their places, and among them those of all places below `count` that are theirs
+-- the line is of a place below `count` that is theirs
+abbrev pub IsOfTheirs : (ℕ → Type 0) → ℕ → Placed → Type 0
+IsOfTheirs IsTheirs count placed = (placed.place < count) × IsTheirs placed.place
+
+-- no two of them are of one place
+abbrev pub AreApart : List Placed → Type 0
+AreApart placed = Pairwise (λ p q. p.place ≢ q.place) placed
+
+-- lines in their places: one for each place below `count` that is theirs, and none for another
 pub record IsShare (lines : List KeyLineView) (IsTheirs : ℕ → Type 0) (count : ℕ) (placed : List Placed) : Type 0 where
   pub among : All (IsAmong lines) placed
   pub all : (place : ℕ) → place < count → IsTheirs place → HasPlace placed place
+  pub own : All (IsOfTheirs IsTheirs count) placed
+  pub apart : AreApart placed
 
 -- the place is one of this worker's; it is this worker's or a later one's
 abbrev pub IsOwn : ℕ → ℕ → ℕ → Type 0

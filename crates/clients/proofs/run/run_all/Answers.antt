@@ -23,5 +23,5 @@ returns-clause-back g c =
     let named : HavePlayed view (λ ended. ended.seat) (λ ended. ended.why) (enumerate_from 0 front) played = subst (λ l. HavePlayed view (λ ended. ended.seat) (λ ended. ended.why) l played) c.in_ok-clients.ensures done in
     let seats : front ++ last ∷ [] ≡ c.args.seats.items = sym (c.pop.ensures.items ∙ ap (λ o. front ++ option_to_list o) c.unwrap-last.ensures) in
     ok_both c.come_back.result c.come_back.ensures.back c.come_back.ensures.well (λ back is well.
-    let run : HaveRun view (front ++ last ∷ []) (map (λ ended. ended.seat) played ++ struck ∷ []) = have_run view (λ ended. ended.seat) (λ ended. ended.why) front last struck played named well c.join-struck.ensures.first.0 in
+    let run : HaveRun view (front ++ last ∷ []) (map (λ ended. ended.seat) played ++ struck ∷ []) = have_run view (λ ended. ended.seat) (λ ended. ended.why) front last struck played named well.0 (c.join-struck.ensures.first.0 well.1) in
     subst (λ l. HaveRun view c.args.seats.items l) (sym is) (subst (λ l. HaveRun view l (map (λ ended. ended.seat) played ++ struck ∷ [])) seats run))

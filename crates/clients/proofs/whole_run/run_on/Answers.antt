@@ -16,7 +16,8 @@ returns-in-Ok-clause-run g c =
     record {
       tape = ended.0;
       opens = ours.opens;
-      trials = c.trials_alone.ensures.trials m seats back ended.0 opened.fresh c.in-Ok.ensures.back ours;
       played = c.trials_alone.ensures.played m (c.args.blank.seats - 1) seats back ended.0 (omega (arith, opened.seats.0, c.requires.seats)) opened.fresh c.in-Ok.ensures.back ours;
+      struck = c.trials_alone.ensures.struck m (c.args.blank.seats - 1) seats back ended.0 (omega (arith, opened.seats.0, c.requires.seats)) opened.fresh c.in-Ok.ensures.back ours;
+      others = λ seat far. c.trials_alone.ensures.others m seats back ended.0 opened.fresh c.in-Ok.ensures.back ours seat (omega (arith, opened.seats.0, c.requires.seats, far));
       leads = ended.1;
     }

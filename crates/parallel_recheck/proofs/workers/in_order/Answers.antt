@@ -1,4 +1,4 @@
-use Rattle.std.proofs.Common.{◌≡◌, ◌≢◌, ◌+◌, ◌≤◌, ◌∷◌, ◌++◌, [], Some, sym, ap, ◌∙◌, arith}
+use Rattle.std.proofs.Common.{◌≢◌, ◌∷◌, ◌++◌, [], sym, ap, ◌∙◌, arith}
 use Rattle.parallel_recheck.proofs.Slots.{line_more}
 use Rattle.parallel_recheck.proofs.workers.in_order.Goals as goal
 

@@ -1,4 +1,4 @@
-use Rattle.std.proofs.Common.{◌≡◌, ◌<◌, ◌∙◌, length, map, sym, arith}
+use Rattle.std.proofs.Common.{◌<◌, ◌∙◌, length, map, sym, arith}
 use Rattle.std.proofs.lemmas.List.{length-map}
 use Rattle.parallel_recheck.specs.Pieces.{line_of}
 use Rattle.parallel_recheck.proofs.Slots.{empty_slots}
