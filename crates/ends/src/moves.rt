@@ -1,5 +1,5 @@
 //! What calls do in states, by numbers.
-ghost use Rattle.std.specs.Prelude.{◌≡◌, ◌+◌, ◌-◌, ◌*◌, ◌^◌, ◌<◌, ◌≤◌, ◌⊎◌, ℕ, List, [], ◌++◌, Some, length, get_or};
+ghost use Rattle.std.specs.Prelude.{◌≡◌, ◌+◌, ◌-◌, ◌*◌, ◌^◌, ◌<◌, ◌≤◌, ◌⊎◌, ℕ, List, [], ◌++◌, Some, IsTrue, length, get_or};
 ghost use Rattle.std.specs.Prelude.{slice_get};
 ghost use Rattle.std.specs.Prelude.{IfOk, OnOk, IfSome};
 ghost use Rattle.ends.specs.Moves.{AreMoves, AreTo, IsKnown, IsTo, LeadsTo, known_at, targets_of};
@@ -198,6 +198,14 @@ fn move_to<M: SeqObject>(
         }
         None => Ok(Move::Nowhere),
     }
+}
+
+/// Whether the call at this place is known to lead nowhere from the state with this number.
+#[inline(always)]
+pub fn leads_nowhere<S>(moves: &Moves<S>, number: usize, at: usize, calls: usize) -> bool
+    ensures { IsTrue result → known_at moves.now.known.items calls number at ≡ Move.Nowhere }
+{
+    matches!(known(&moves.known, number, at, calls), Move::Nowhere)
 }
 
 /// What is known of the call at this place in the state with this number, where it was tried.

@@ -165,6 +165,9 @@ pub fn led_to<M: SeqObject>(
     if !has_zero(row, at + 1) {
         return Ok(Move::Nowhere);
     }
+    if moves::leads_nowhere(moves, number, at, calls.len()) {
+        return Ok(Move::Nowhere);
+    }
     match moves::recalled(moves, number, at, calls.len()) {
         Some(to) => Ok(to),
         None => moves::tried::<M>(alloc, table, moves, number, calls, at, applied),

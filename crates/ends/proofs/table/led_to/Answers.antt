@@ -4,9 +4,10 @@ use Rattle.std.proofs.lemmas.Option.{get_or_from_slice_get, slice_get_within}
 use Rattle.std.proofs.lemmas.Result.{IfOk-weaker}
 use Rattle.models.specs.Objects.{of_table}
 use Rattle.linspec.proofs.Lists.{Contains-nil}
+use Rattle.ends.specs.declared.moves.Move.TheVariants.{Nowhere}
 use Rattle.ends.specs.Moves.{AreTo, IsKnown, known_at, targets_of}
 use Rattle.ends.specs.Tables.{AreLed, found_by}
-use Rattle.ends.proofs.Leading.{are_led}
+use Rattle.ends.proofs.Leading.{are_led, led_nowhere}
 use Rattle.ends.proofs.Moving.{known_does}
 use Rattle.ends.proofs.Rows.{in_unless, not_in_by, zero_none}
 use Rattle.ends.proofs.Showing.{shows_more}
@@ -19,6 +20,13 @@ returns-then-not-has_zero-clause-next g c known once call e here shows = record 
       (sym (in_unless c.args.table.now.founds e call c.args.row.now (c.args.at + 1) (let long = shows.long in let within = slice_get_within c.args.calls.now c.args.at call here in omega (arith, long, within))
       (shows.slots c.args.at call here) (λ h. true≢false (sym (c.has_zero.ensures.1 h) ∙ c.if-not-has_zero.true))) ∙ last.not_in));
 }
+
+pub returns-then-leads_nowhere-clause-next : goal.returns-then-leads_nowhere-clause-next
+returns-then-leads_nowhere-clause-next g c known once call e here shows =
+    let t = c.args.table.now in
+    let targets = c.args.moves.now.targets.items in
+    led_nowhere g.row.M-State.Denot g.M.SeqObject.start_state g.M.SeqObject.apply_to e call t c.args.calls.now c.args.row.now c.args.at
+    (known_does g.M.SeqObject.apply_to c.args.calls.now t c.args.number c.args.at call here e.state (ap (slice_get t.states) c.requires.number ∙ shows.state) c.args.moves.now.known.items targets Nowhere known (sym (c.leads_nowhere.ensures c.if-leads_nowhere.true)) tt)
 
 pub returns-in-Some-clause-next : goal.returns-in-Some-clause-next
 returns-in-Some-clause-next g c known once call e here shows =
