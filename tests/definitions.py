@@ -1,10 +1,14 @@
 #!/usr/bin/env python3
 """Compares the clauses of public calls with docs/DEFINITIONS.md: each definition of this repository that such a clause cites
 must be named there, in backticks. And each wrong body that docs/PROOFS.md names, as `crate`: `name`, must be there. Prints what
-is left out, and ends with 'N passed, M failed', one for each crate and one for the wrong bodies.
+is left out, and ends with 'N passed, M failed', one for each crate that is compared and one for the wrong bodies.
 
 A call is public where its crate's root gives it: an item of a `pub mod`, or one that `pub use` names. What a clause cites
 is found by the file's `ghost use` lines; generated modules (`specs.declared`) are types of the code and no definitions.
+
+The crates of INNER are not compared: only `frontier` calls them, or another one of them, and its public clauses cite no
+definition of theirs. So nobody has to believe one to believe a promise. Where a public clause of another crate cites one all
+the same, that is told.
 """
 import pathlib
 import re
@@ -13,6 +17,7 @@ import sys
 TOP = pathlib.Path(__file__).resolve().parent.parent
 CRATES = [line.split(":")[0].split()[0] for line in (TOP / "crates.txt").read_text().splitlines()
           if line.strip() and not line.startswith("#")]
+INNER = ["rows", "interned", "ends"]
 # A file of definitions, and not a type within one, whose variants go by their type's name.
 IMPORT = re.compile(r"ghost use Rattle\.(\w+)\.specs\.(?!declared|contracts)\w+\.\{([^}]*)\};")
 WORD = re.compile(r"[A-Za-z_][A-Za-z0-9_]*")
@@ -97,7 +102,8 @@ def bodies_gone():
 
 def main():
     names, failed = named(), 0
-    for crate in CRATES:
+    compared = [crate for crate in CRATES if crate not in INNER]
+    for crate in compared:
         missing = left_out(crate, names)
         failed += bool(missing)
         for path, name in missing:
@@ -106,7 +112,7 @@ def main():
     failed += bool(gone)
     for path in gone:
         print(f"docs/PROOFS.md names a wrong body that is not there: {path}")
-    print(f"{len(CRATES) + 1 - failed} passed, {failed} failed")
+    print(f"{len(compared) + 1 - failed} passed, {failed} failed")
     return 1 if failed else 0
 
 
