@@ -1,48 +1,33 @@
 //! The report of what a monitor judges.
-use crate::plain::part;
 use edn::Refusal;
 use history::EventKind::{Invoke, Ok as Done};
 use history::{Body, Event, EventKind, Process};
-use models::{Key, ModelKind, Name, Op};
+use models::{Key, ModelKind, Name, Op, Part};
 use monitor::Monitor;
 use report::report;
+use std::alloc::Global;
 use std::test::Fail;
 
-// By key and process.
-const EVENTS: [(Key, u32, EventKind, Name, &[i64]); 5] = [
-    (1, 0, Invoke, Name::Enqueue, &[5]),
-    (1, 1, Invoke, Name::Enqueue, &[6]),
-    (1, 0, Done, Name::Enqueue, &[5]),
-    (2, 0, Invoke, Name::Read, &[]),
-    (2, 0, Done, Name::Read, &[8]),
-];
-
-fn append_all(monitor: &mut Monitor) -> Result<(), Refusal> {
-    for (key, process, kind, name, values) in EVENTS {
-        monitor.append(Event {
-            index: None,
-            kind,
-            process: Process::Client(process),
-            body: Body::Op(Op {
-                name,
-                key,
-                part: part(values),
-            }),
-        })?;
+fn event(key: Key, process: u32, kind: EventKind, name: Name, part: Part) -> Event {
+    Event {
+        index: None,
+        kind,
+        process: Process::Client(process),
+        body: Body::Op(Op { name, key, part }),
     }
-    Ok(())
-}
-
-fn set(monitor: &mut Monitor, key: Key, kind: ModelKind, budget: u32) -> Result<(), Refusal> {
-    monitor.set_model(key, kind)?;
-    monitor.set_budget(key, budget)?;
-    Ok(())
 }
 
 // A queue whose budget does not suffice, and a register from which a value was read that nobody wrote.
-fn make_blown_and_dead(monitor: &mut Monitor) -> Result<(), Refusal> {
-    set(monitor, 1, ModelKind::FifoQueue, 4)?;
-    append_all(monitor)
+fn blown_and_dead(alloc: Global) -> Result<Monitor, Refusal> {
+    let mut monitor = Monitor::new(alloc, 2, ModelKind::Register, 4096)?;
+    monitor.set_model(1, ModelKind::FifoQueue)?;
+    monitor.set_budget(1, 4)?;
+    monitor.append(event(1, 0, Invoke, Name::Enqueue, Part::Int(5)))?;
+    monitor.append(event(1, 1, Invoke, Name::Enqueue, Part::Int(6)))?;
+    monitor.append(event(1, 0, Done, Name::Enqueue, Part::Int(5)))?;
+    monitor.append(event(2, 0, Invoke, Name::Read, Part::Nil))?;
+    monitor.append(event(2, 0, Done, Name::Read, Part::Int(8)))?;
+    Ok(monitor)
 }
 
 const REPORT: &str = "key 1 model fifo-queue budget 4 events 3 status over 2
@@ -52,8 +37,7 @@ illegal key 2 index 4
 
 #[test]
 fn illegal_beside_blown(rt: HostRuntime) -> Result<(), Fail> {
-    let mut monitor = Monitor::new(rt.alloc(), 2, ModelKind::Register, 4096)?;
-    make_blown_and_dead(&mut monitor)?;
+    let monitor = blown_and_dead(rt.alloc())?;
     let mut text = Vec::new(rt.alloc());
     report(rt.alloc(), &monitor, &mut text)?;
     assert!(rt; text.as_slice() == REPORT.as_bytes());

@@ -52,8 +52,8 @@ pub fn append_write(kind: EventKind) -> Command {
     })
 }
 
-/// So many operations, which are these in turn.
-pub fn config(alloc: Global, operations: u64, items: Vec<Item>) -> Result<Config, Refusal> {
+// So many operations, which are these in turn.
+fn config(alloc: Global, operations: u64, items: Vec<Item>) -> Result<Config, Refusal> {
     let child = Box::new(alloc, Gen::Ops(Cycle::new(items)))?;
     Ok(Config {
         generator: Gen::Limit(operations, child),

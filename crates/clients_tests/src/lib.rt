@@ -7,8 +7,6 @@ mod boards;
 #[cfg(test)]
 mod cut;
 #[cfg(test)]
-mod first_try;
-#[cfg(test)]
 mod news;
 #[cfg(test)]
 mod overlap;

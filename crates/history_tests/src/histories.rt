@@ -62,19 +62,15 @@ fn after_a_partition(alloc: Global) -> Result<History, Fail> {
     Ok(history)
 }
 
-// The groups of the partition that comes first.
-fn groups_of(history: &History) -> Option<&[Vec<u8>]> {
-    match &history.events().first()?.body {
-        Body::Fault(Fault::Partition(groups)) => Some(groups.groups()),
-        _ => None,
-    }
-}
-
 #[test]
 fn faults_are_copied_and_counted(rt: HostRuntime) -> Result<(), Fail> {
     let history = after_a_partition(rt.alloc())?;
     assert_eq!(rt; history.len(), 2);
-    let [first, second] = groups_of(&history).ok_or("no partition")? else {
+    let event = history.events().first().ok_or("no event")?;
+    let Body::Fault(Fault::Partition(groups)) = &event.body else {
+        return Err("the first event is the partition".into());
+    };
+    let [first, second] = groups.groups() else {
         return Err("there are two groups".into());
     };
     assert_eq!(rt; first.as_slice(), [0].as_slice());
@@ -198,22 +194,15 @@ fn cuts(rt: HostRuntime) -> Result<(), Fail> {
 }
 
 // Key 7 is written 3, and then read.
-const WRITE_AND_READ: [&str; 4] = [
-    "{:type :invoke, :process 0, :f :write, :value [7 3]}",
-    "{:type :ok, :process 0, :f :write, :value [7 3]}",
-    "{:type :invoke, :process 0, :f :read, :value [7 nil]}",
-    "{:type :ok, :process 0, :f :read, :value [7 3]}",
-];
-
-fn push_line(alloc: Global, history: &mut History, line: &str) -> Result<(), Fail> {
-    let event = event_of(alloc, line)?;
-    Ok(history.push(event)?)
-}
-
 fn write_and_read(alloc: Global) -> Result<History, Fail> {
     let mut history = History::new(alloc, 2)?;
-    for line in WRITE_AND_READ {
-        push_line(alloc, &mut history, line)?;
+    for line in [
+        "{:type :invoke, :process 0, :f :write, :value [7 3]}",
+        "{:type :ok, :process 0, :f :write, :value [7 3]}",
+        "{:type :invoke, :process 0, :f :read, :value [7 nil]}",
+        "{:type :ok, :process 0, :f :read, :value [7 3]}",
+    ] {
+        history.push(event_of(alloc, line)?)?;
     }
     Ok(history)
 }
@@ -233,25 +222,16 @@ fn event_text(rt: HostRuntime) -> Result<(), Fail> {
     Ok(())
 }
 
-const KINDS: [EventKind; 4] = [Invoke, Done, Invoke, Done];
-
-// The place of the first event that is not of that index and of the kind in that place.
-fn first_other_kind(events: &[(u32, Event)]) -> Option<usize> {
-    for (place, kind) in KINDS.iter().enumerate() {
-        match events.get(place) {
-            Some((index, event)) if *index as usize == place && event.kind == *kind => {}
-            _ => return Some(place),
-        }
-    }
-    None
-}
-
 #[test]
 fn events_of_a_key(rt: HostRuntime) -> Result<(), Fail> {
     let history = write_and_read(rt.alloc())?;
     let events = history.events_of(7)?;
-    assert_eq!(rt; events.len(), KINDS.len());
-    assert_eq!(rt; first_other_kind(events.as_slice()), None);
+    assert_eq!(rt; events.len(), 4);
+    let kinds = [Invoke, Done, Invoke, Done];
+    for (place, (event, kind)) in events.iter().zip(kinds.iter()).enumerate() {
+        assert_eq!(rt; event.0 as usize, place);
+        assert_eq!(rt; event.1.kind, *kind);
+    }
     assert_eq!(rt; history.events_of(8)?.len(), 0);
     Ok(())
 }

@@ -66,20 +66,16 @@ fn order_does_not_matter(rt: HostRuntime) -> Result<(), Fail> {
     Ok(())
 }
 
-// The elements of the vector at this key of a map.
-fn at<'a>(map: &'a Edn, key: &str) -> Option<&'a [Edn]> {
-    map.get(key)?.as_slice()
-}
-
 #[test]
 fn parts_of_elements(rt: HostRuntime) -> Result<(), Fail> {
     let map = element(&rt, b"{:a [1 :b nil]}")?;
     assert!(rt; map.get("b").is_none());
-    let [number, name, nothing] = at(&map, "a").ok_or("no vector")? else {
+    let a = map.get("a").ok_or("no value")?;
+    let [number, name, nothing] = a.as_slice().ok_or("no vector")? else {
         return Err("not three".into());
     };
     assert_eq!(rt; number.as_int(), Some(1));
-    assert_eq!(rt; name.as_keyword(), Some("b"));
+    assert_eq!(rt; name.as_keyword().ok_or("no keyword")?, "b");
     assert!(rt; nothing.is_nil());
     Ok(())
 }

@@ -13,15 +13,12 @@ fn good(alloc: Global) -> Result<Config, AllocError> {
     config(alloc, Mode::Strict, &[None])
 }
 
-// A core of this budget and concurrency, of so many replicas, and of a schedule that has this fault.
-fn opened(alloc: Global, numbers: (u32, u32, u8), fault: Option<Plain>) -> Result<Core, Refusal> {
+// A core of this budget and concurrency, and of so many replicas.
+fn numbers(alloc: Global, numbers: (u32, u32, u8)) -> Result<Core, Refusal> {
     let mut config = good(alloc)?;
     config.budget = numbers.0;
     config.concurrency = numbers.1;
     config.replicas = numbers.2;
-    if let Some(fault) = fault {
-        config.schedule = one_fault(alloc, 0, fault)?;
-    }
     Core::new(alloc, config)
 }
 
@@ -36,12 +33,27 @@ const NUMBERS: [((u32, u32, u8), u8); 8] = [
     ((65_536, 64, 7), 0),
 ];
 
+// Whether each is opened, or refused so.
+fn numbers_are_tested(alloc: Global) -> bool {
+    for (given, why) in NUMBERS {
+        if opening_said(numbers(alloc, given)) != why {
+            return false;
+        }
+    }
+    true
+}
+
 // Each number below and above its limits, and at them.
 #[test]
 fn numbers_out_of_limits(rt: HostRuntime) {
-    for (numbers, why) in NUMBERS {
-        assert_eq!(rt; opening_said(opened(rt.alloc(), numbers, None)), why);
-    }
+    assert!(rt; numbers_are_tested(rt.alloc()));
+}
+
+// A core whose schedule has this fault.
+fn scheduled(alloc: Global, fault: Plain) -> Result<Core, Refusal> {
+    let mut config = good(alloc)?;
+    config.schedule = one_fault(alloc, 0, fault)?;
+    Core::new(alloc, config)
 }
 
 // A core whose generator gives this fault.
@@ -62,14 +74,22 @@ const FAULTS: [(Plain, u8); 6] = [
     (Plain::Restart(2), 0),
 ];
 
+fn faults_are_tested(alloc: Global) -> bool {
+    for (fault, why) in FAULTS {
+        if opening_said(scheduled(alloc, fault)) != why {
+            return false;
+        }
+        if opening_said(generated(alloc, fault)) != why {
+            return false;
+        }
+    }
+    true
+}
+
 // Faults as a schedule has them, and as a generator gives them.
 #[test]
 fn bad_faults(rt: HostRuntime) {
-    for (fault, why) in FAULTS {
-        let scheduled = opened(rt.alloc(), (4096, 2, 3), Some(fault));
-        assert_eq!(rt; opening_said(scheduled), why);
-        assert_eq!(rt; opening_said(generated(rt.alloc(), fault)), why);
-    }
+    assert!(rt; faults_are_tested(rt.alloc()));
 }
 
 // A core whose generator gives this operation.
@@ -90,6 +110,16 @@ fn bad_operations(rt: HostRuntime) {
     assert_eq!(rt; [nil, found, half, right], [5, 5, 5, 0]);
 }
 
+// A core of these numbers and this fault.
+fn opened(alloc: Global, numbers: (u32, u32, u8), fault: Plain) -> Result<Core, Refusal> {
+    let mut config = good(alloc)?;
+    config.budget = numbers.0;
+    config.concurrency = numbers.1;
+    config.replicas = numbers.2;
+    config.schedule = one_fault(alloc, 0, fault)?;
+    Core::new(alloc, config)
+}
+
 const IN_ORDER: [((u32, u32, u8), Plain, u8); 6] = [
     ((0, 65, 0), Plain::Crash(3), 9),
     ((4096, 65, 0), Plain::Crash(3), 10),
@@ -99,10 +129,17 @@ const IN_ORDER: [((u32, u32, u8), Plain, u8); 6] = [
     ((4096, 2, 3), Plain::Heal, 0),
 ];
 
+fn tests_come_in_order(alloc: Global) -> bool {
+    for (numbers, fault, why) in IN_ORDER {
+        if opening_said(opened(alloc, numbers, fault)) != why {
+            return false;
+        }
+    }
+    true
+}
+
 // All that can be wrong is, and is put right one by one.
 #[test]
 fn openings_are_refused_in_order(rt: HostRuntime) {
-    for (numbers, fault, why) in IN_ORDER {
-        assert_eq!(rt; opening_said(opened(rt.alloc(), numbers, Some(fault))), why);
-    }
+    assert!(rt; tests_come_in_order(rt.alloc()));
 }

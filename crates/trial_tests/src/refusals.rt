@@ -5,9 +5,11 @@ use crate::setups::Ask::{
     Budget, Draw, Event, Finish, Nemesis, Numbered, Ok as OkOf, Rewind, Serve, Verdict,
 };
 use crate::setups::{Plain, calm, faulty};
+use edn::Refusal;
 use history::EventKind::{Fail as Failed, Info, Invoke, Ok as Done};
 use history::Process::Client;
 use history::{EventKind, Process};
+use std::alloc::Global;
 use std::test::Fail;
 use test_store::Mode;
 
@@ -21,10 +23,17 @@ const DRAWS: [Row; 6] = [
 ];
 
 // A thread draws where it is there and has no open operation. A draw that is refused asks no generator.
+fn threads_that_may_not_draw_row(alloc: Global) -> Result<bool, Refusal> {
+    let mut core = calm(alloc, &[Some(5), None])?;
+    if first_other(&mut core, &DRAWS).is_some() {
+        return Ok(false);
+    }
+    Ok(true)
+}
+
 #[test]
 fn threads_that_may_not_draw(rt: HostRuntime) -> Result<(), Fail> {
-    let mut core = calm(rt.alloc(), &[Some(5), None])?;
-    assert_eq!(rt; first_other(&mut core, &DRAWS), None);
+    assert!(rt; threads_that_may_not_draw_row(rt.alloc())?);
     Ok(())
 }
 
@@ -42,11 +51,20 @@ const FINISHED: [(EventKind, Process); 2] = [(Invoke, Client(0)), (Done, Client(
 
 // The ok of a served operation was handed in, so its ticket is not finished. A cut of that event alone opens the operation
 // again, and then the ticket is finished, once.
+fn finish_after_foreign_ok_row(alloc: Global) -> Result<bool, Refusal> {
+    let mut core = calm(alloc, &[Some(5)])?;
+    if first_other(&mut core, &FINISH_AFTER_OK).is_some() {
+        return Ok(false);
+    }
+    if !events_are(&core, &FINISHED) {
+        return Ok(false);
+    }
+    Ok(true)
+}
+
 #[test]
 fn finish_after_foreign_ok(rt: HostRuntime) -> Result<(), Fail> {
-    let mut core = calm(rt.alloc(), &[Some(5)])?;
-    assert_eq!(rt; first_other(&mut core, &FINISH_AFTER_OK), None);
-    assert!(rt; events_are(&core, &FINISHED));
+    assert!(rt; finish_after_foreign_ok_row(rt.alloc())?);
     Ok(())
 }
 
@@ -61,10 +79,17 @@ const SERVE_AFTER_FAIL: [Row; 6] = [
 
 // The fail of an operation that no one has served was handed in: the store does not carry it out, and there is nothing to
 // finish. A cut of that event alone opens it again.
+fn serve_after_foreign_fail_row(alloc: Global) -> Result<bool, Refusal> {
+    let mut core = calm(alloc, &[Some(5)])?;
+    if first_other(&mut core, &SERVE_AFTER_FAIL).is_some() {
+        return Ok(false);
+    }
+    Ok(true)
+}
+
 #[test]
 fn serve_after_foreign_fail(rt: HostRuntime) -> Result<(), Fail> {
-    let mut core = calm(rt.alloc(), &[Some(5)])?;
-    assert_eq!(rt; first_other(&mut core, &SERVE_AFTER_FAIL), None);
+    assert!(rt; serve_after_foreign_fail_row(rt.alloc())?);
     Ok(())
 }
 
@@ -81,28 +106,40 @@ const LIMITS: [Row; 10] = [
     (Budget(2), Said::Legal),
 ];
 
+fn rewinds_and_budgets_out_of_limits_row(alloc: Global) -> Result<bool, Refusal> {
+    let mut core = calm(alloc, &[Some(5)])?;
+    if first_other(&mut core, &LIMITS).is_some() {
+        return Ok(false);
+    }
+    Ok(true)
+}
+
 #[test]
 fn rewinds_and_budgets_out_of_limits(rt: HostRuntime) -> Result<(), Fail> {
-    let mut core = calm(rt.alloc(), &[Some(5)])?;
-    assert_eq!(rt; first_other(&mut core, &LIMITS), None);
+    assert!(rt; rewinds_and_budgets_out_of_limits_row(rt.alloc())?);
     Ok(())
 }
 
-const IDLE: [(&[Option<i64>], [Row; 2]); 2] = [
-    (
-        &[Some(5)],
-        [(Nemesis, Said::Refused(14)), (Draw(0), Said::Drawn(0, 0))],
-    ),
-    (&[], [(Nemesis, Said::Refused(14)), (Draw(0), Said::Over)]),
-];
+const IDLE: [Row; 2] = [(Nemesis, Said::Refused(14)), (Draw(0), Said::Drawn(0, 0))];
+
+const IDLE_AND_OVER: [Row; 2] = [(Nemesis, Said::Refused(14)), (Draw(0), Said::Over)];
 
 // No fault is due yet, and the generator gives none to the nemesis.
+fn nemesis_has_nothing_to_do_row(alloc: Global) -> Result<bool, Refusal> {
+    let mut core = faulty(alloc, Mode::Strict, &[Some(5)], 2, Plain::Heal)?;
+    if first_other(&mut core, &IDLE).is_some() {
+        return Ok(false);
+    }
+    let mut core = faulty(alloc, Mode::Strict, &[], 2, Plain::Heal)?;
+    if first_other(&mut core, &IDLE_AND_OVER).is_some() {
+        return Ok(false);
+    }
+    Ok(true)
+}
+
 #[test]
 fn nemesis_has_nothing_to_do(rt: HostRuntime) -> Result<(), Fail> {
-    for (values, rows) in IDLE {
-        let mut core = faulty(rt.alloc(), Mode::Strict, values, 2, Plain::Heal)?;
-        assert_eq!(rt; first_other(&mut core, &rows), None);
-    }
+    assert!(rt; nemesis_has_nothing_to_do_row(rt.alloc())?);
     Ok(())
 }
 
@@ -119,9 +156,16 @@ const OTHERS: [Row; 9] = [
 ];
 
 // Between commands of a trial an event that was handed in is refused as ever.
+fn events_of_others_row(alloc: Global) -> Result<bool, Refusal> {
+    let mut core = calm(alloc, &[Some(5)])?;
+    if first_other(&mut core, &OTHERS).is_some() {
+        return Ok(false);
+    }
+    Ok(true)
+}
+
 #[test]
 fn events_of_others(rt: HostRuntime) -> Result<(), Fail> {
-    let mut core = calm(rt.alloc(), &[Some(5)])?;
-    assert_eq!(rt; first_other(&mut core, &OTHERS), None);
+    assert!(rt; events_of_others_row(rt.alloc())?);
     Ok(())
 }

@@ -121,39 +121,44 @@ fn step(core: &mut Core, clients: &mut [Next; 3], word: u32) -> Result<(), Refus
     Ok(())
 }
 
-// How many operations were done, failed and crashed.
-fn counts(core: &Core) -> (u32, u32, u32) {
-    let (mut done, mut failed, mut crashed) = (0u32, 0u32, 0u32);
+// How many operations ended so.
+fn count(core: &Core, kind: EventKind) -> u32 {
+    let mut count = 0u32;
     for event in core.monitor().history().events() {
-        match (event.process, event.kind) {
-            (Process::Nemesis, _) | (_, EventKind::Invoke) => {}
-            (_, EventKind::Ok) => done = done.saturating_add(1),
-            (_, EventKind::Fail) => failed = failed.saturating_add(1),
-            (_, EventKind::Info) => crashed = crashed.saturating_add(1),
+        if event.kind == kind && event.process != Process::Nemesis {
+            count = count.saturating_add(1);
         }
     }
-    (done, failed, crashed)
+    count
 }
 
-// The first verdict of the trial that is not legal, where there is one.
-fn first_not_legal(core: &mut Core, seed: u64) -> Result<Verdict, Refusal> {
+// What came of a trial.
+#[derive(Drop)]
+struct Ended {
+    // The first verdict that is not legal, where there is one.
+    first: Verdict,
+    done: u32,
+    failed: u32,
+    crashed: u32,
+}
+
+fn trial(alloc: Global, mode: Mode, seed: u64) -> Result<Ended, Refusal> {
+    let mut core = opened(alloc, mode, seed)?;
     let mut words = ChaCha8Rng::seed_from_u64(seed);
     let mut clients = [Next::Draw; 3];
     let mut first = Verdict::Legal;
     for _ in 0..STEPS {
-        step(core, &mut clients, words.next_u32())?;
+        step(&mut core, &mut clients, words.next_u32())?;
         if first == Verdict::Legal {
             first = core.verdict();
         }
     }
-    Ok(first)
-}
-
-// What came of a trial: that verdict, and how many operations were done, failed and crashed.
-fn trial(alloc: Global, mode: Mode, seed: u64) -> Result<(Verdict, (u32, u32, u32)), Refusal> {
-    let mut core = opened(alloc, mode, seed)?;
-    let first = first_not_legal(&mut core, seed)?;
-    Ok((first, counts(&core)))
+    Ok(Ended {
+        first,
+        done: count(&core, EventKind::Ok),
+        failed: count(&core, EventKind::Fail),
+        crashed: count(&core, EventKind::Info),
+    })
 }
 
 // How many operations were done, failed and crashed, by seed.
@@ -184,23 +189,41 @@ const SLOPPY: [(Key, u32); 10] = [
     (0, 36),
 ];
 
+// Whether each trial of a strict store is legal at every step, and comes to these counts.
+fn strict_trials(alloc: Global) -> Result<bool, Refusal> {
+    for (seed, counts) in STRICT.iter().enumerate() {
+        let ended = trial(alloc, Mode::Strict, seed as u64)?;
+        if ended.first != Verdict::Legal {
+            return Ok(false);
+        }
+        if (ended.done, ended.failed, ended.crashed) != *counts {
+            return Ok(false);
+        }
+    }
+    Ok(true)
+}
+
+// Whether each trial of a sloppy store is illegal, from this event on.
+fn sloppy_trials(alloc: Global) -> Result<bool, Refusal> {
+    for (seed, (key, index)) in SLOPPY.iter().enumerate() {
+        let ended = trial(alloc, Mode::Sloppy, seed as u64)?;
+        if verdict_said(ended.first) != Said::Illegal(*key, *index) {
+            return Ok(false);
+        }
+    }
+    Ok(true)
+}
+
 // No trial of a strict store is a false alarm, and no budget is met.
 #[test]
 fn ten_thousand_seeded_steps(rt: HostRuntime) -> Result<(), Fail> {
-    for (seed, counts) in STRICT.iter().enumerate() {
-        let (first, ended) = trial(rt.alloc(), Mode::Strict, seed as u64)?;
-        assert_eq!(rt; verdict_said(first), Said::Legal);
-        assert_eq!(rt; ended, *counts);
-    }
+    assert!(rt; strict_trials(rt.alloc())?);
     Ok(())
 }
 
 // Each of the ten trials of a sloppy store is caught, where it should be.
 #[test]
 fn ten_sloppy_trials_are_illegal(rt: HostRuntime) -> Result<(), Fail> {
-    for (seed, (key, index)) in SLOPPY.iter().enumerate() {
-        let (first, _) = trial(rt.alloc(), Mode::Sloppy, seed as u64)?;
-        assert_eq!(rt; verdict_said(first), Said::Illegal(*key, *index));
-    }
+    assert!(rt; sloppy_trials(rt.alloc())?);
     Ok(())
 }

@@ -2,9 +2,11 @@
 use crate::answers::{Row, Said, Struck, events_are, first_other};
 use crate::setups::Ask::{Draw, Finish, Nemesis, Rewind, Serve};
 use crate::setups::{Plain, calm, faulty};
+use edn::Refusal;
 use history::EventKind::{Fail as Failed, Info, Invoke, Ok as Done};
 use history::Process::Client;
 use history::{EventKind, Process};
+use std::alloc::Global;
 use std::test::Fail;
 use test_store::Mode;
 
@@ -28,12 +30,21 @@ const MINORITY_EVENTS: [(EventKind, Process); 5] = [
 ];
 
 // The replica of thread 0 is cut off from the two others, so its write does not take place. That of thread 1 does.
+fn minority_refuses_row(alloc: Global) -> Result<bool, Refusal> {
+    let cut = Plain::Partition(&[0], &[1, 2]);
+    let mut core = faulty(alloc, Mode::Strict, &[Some(5), Some(6)], 0, cut)?;
+    if first_other(&mut core, &MINORITY).is_some() {
+        return Ok(false);
+    }
+    if !events_are(&core, &MINORITY_EVENTS) {
+        return Ok(false);
+    }
+    Ok(true)
+}
+
 #[test]
 fn minority_refuses(rt: HostRuntime) -> Result<(), Fail> {
-    let cut = Plain::Partition(&[0], &[1, 2]);
-    let mut core = faulty(rt.alloc(), Mode::Strict, &[Some(5), Some(6)], 0, cut)?;
-    assert_eq!(rt; first_other(&mut core, &MINORITY), None);
-    assert!(rt; events_are(&core, &MINORITY_EVENTS));
+    assert!(rt; minority_refuses_row(rt.alloc())?);
     Ok(())
 }
 
@@ -52,11 +63,18 @@ const HEAL: [Row; 10] = [
 
 // The heal takes the older write to all replicas. The newer one takes place at the replica of thread 0 alone, and then
 // thread 1 reads the older one.
+fn sloppy_heal_is_caught_row(alloc: Global) -> Result<bool, Refusal> {
+    let items = [Some(5), Some(6), None];
+    let mut core = faulty(alloc, Mode::Sloppy, &items, 2, Plain::Heal)?;
+    if first_other(&mut core, &HEAL).is_some() {
+        return Ok(false);
+    }
+    Ok(true)
+}
+
 #[test]
 fn sloppy_heal_is_caught(rt: HostRuntime) -> Result<(), Fail> {
-    let items = [Some(5), Some(6), None];
-    let mut core = faulty(rt.alloc(), Mode::Sloppy, &items, 2, Plain::Heal)?;
-    assert_eq!(rt; first_other(&mut core, &HEAL), None);
+    assert!(rt; sloppy_heal_is_caught_row(rt.alloc())?);
     Ok(())
 }
 
@@ -77,11 +95,20 @@ const STALE: [Row; 11] = [
 const STALE_EVENTS: [(EventKind, Process); 2] = [(Invoke, Client(0)), (Done, Client(0))];
 
 // A ticket is served once, and is finished after it is served. The cut of its invocation makes it stale for good.
+fn stale_ticket_row(alloc: Global) -> Result<bool, Refusal> {
+    let mut core = calm(alloc, &[Some(5)])?;
+    if first_other(&mut core, &STALE).is_some() {
+        return Ok(false);
+    }
+    if !events_are(&core, &STALE_EVENTS) {
+        return Ok(false);
+    }
+    Ok(true)
+}
+
 #[test]
 fn stale_ticket(rt: HostRuntime) -> Result<(), Fail> {
-    let mut core = calm(rt.alloc(), &[Some(5)])?;
-    assert_eq!(rt; first_other(&mut core, &STALE), None);
-    assert!(rt; events_are(&core, &STALE_EVENTS));
+    assert!(rt; stale_ticket_row(rt.alloc())?);
     Ok(())
 }
 
@@ -109,13 +136,26 @@ const LOST_AGAIN: [Row; 4] = [
 
 // A write whose reply is lost crashes its process, and the thread goes on with the next one. A cut of the completion alone
 // brings the process back, and its ticket can be finished again.
+fn lost_reply_and_stale_ticket_row(alloc: Global) -> Result<bool, Refusal> {
+    let lose = Plain::LoseReplies(1);
+    let mut core = faulty(alloc, Mode::Strict, &[Some(5), Some(6)], 0, lose)?;
+    if first_other(&mut core, &LOST).is_some() {
+        return Ok(false);
+    }
+    if !events_are(&core, &LOST_EVENTS) {
+        return Ok(false);
+    }
+    if first_other(&mut core, &LOST_AGAIN).is_some() {
+        return Ok(false);
+    }
+    if !events_are(&core, &LOST_EVENTS[..3]) {
+        return Ok(false);
+    }
+    Ok(true)
+}
+
 #[test]
 fn lost_reply_and_stale_ticket(rt: HostRuntime) -> Result<(), Fail> {
-    let lose = Plain::LoseReplies(1);
-    let mut core = faulty(rt.alloc(), Mode::Strict, &[Some(5), Some(6)], 0, lose)?;
-    assert_eq!(rt; first_other(&mut core, &LOST), None);
-    assert!(rt; events_are(&core, &LOST_EVENTS));
-    assert_eq!(rt; first_other(&mut core, &LOST_AGAIN), None);
-    assert!(rt; events_are(&core, &LOST_EVENTS[..3]));
+    assert!(rt; lost_reply_and_stale_ticket_row(rt.alloc())?);
     Ok(())
 }
