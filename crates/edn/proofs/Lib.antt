@@ -11,7 +11,6 @@ pub mod Matching
 pub mod PairMatching
 pub mod Pairing
 pub mod Repeats
-mod Rising
 pub mod Scalars
 pub mod Deciding
 pub mod Views
