@@ -65,7 +65,7 @@ fn items_keep_their_order(rt: HostRuntime) -> Result<(), Fail> {
     let items = Items::new(rt.alloc()).with(9)?.with(1)?;
     assert_eq!(rt; items.as_slice(), [9, 1].as_slice());
     assert!(rt; items.copy()? == items);
-    assert!(rt; Items::of_slice(rt.alloc(), &[9, 0])? < items);
+    assert!(rt; Items::of_slice(rt.alloc(), &[1, 9])? != items);
     Ok(())
 }
 
