@@ -3,9 +3,9 @@
 use models::each_kind;
 use onlookers::each_hint;
 
-/// The program's version, and the toolchain that proves and builds it: the first word that `rt version` prints.
+/// The program's version, and the logic in which it is proved: the last two words that `rt version` prints.
 pub const VERSION: &str = "1.0.0
-rattle-kit-13f";
+logic dac8208d650f15bf";
 
 pub const ABOUT: &str = "Judges whether what clients saw of a store is linearizable";
 
