@@ -94,6 +94,9 @@ module _ {S : Type 0} where
     all = λ o h. let x = are.all o h in (x.0, x.1, to_more t u crashed o x.0 w x.2);
   }
 
+  pub alike_to : (t : Table S) (apply : Op → S → List (S × Found)) (c d : PendingOp) (s : S) (targets : List (ℕ × ℕ)) → d.op ≡ c.op → d.crashed ≡ c.crashed → AreTo t d.crashed (apply d.op s) targets → AreTo t c.crashed (apply c.op s) targets
+  alike_to t apply c d s targets op crashed are = subst (λ b. AreTo t b (apply c.op s) targets) crashed (subst (λ o. AreTo t d.crashed (apply o s) targets) op are)
+
   pub are_to_none : (t : Table S) (crashed : Bool) → AreTo t crashed [] []
   are_to_none t crashed = record { each = λ x h. absurd (Contains-nil x h); all = λ o h. absurd h }
 

@@ -235,6 +235,21 @@ none_between (suc n) (x ∷ xs) = none_between n xs
 pub none_yet : (o : Object) (calls : List PendingOp) (first : ℕ) (e : End o.State) (ends : List (End o.State)) → Adds (Next o (drop first (take first calls)) e) ends ends
 none_yet o calls first e ends = subst (λ l. Adds (Next o l e) ends ends) (sym (none_between first calls)) (Adds-start (TakesLast o e) ends)
 
+-- an end that no call is left for
+none_left : {X : Type 0} (n : ℕ) (xs : List X) → length xs ≤ n → drop n xs ≡ []
+none_left zero [] le = refl
+none_left zero (x ∷ xs) le = absurd (omega (arith, le))
+none_left (suc n) [] le = refl
+none_left (suc n) (x ∷ xs) le = none_left n xs (omega (arith, le))
+
+pub none_more : (o : Object) (calls : List PendingOp) (t : Table o.State) (first : ℕ) (e : End o.State) (ends : List (End o.State)) → length calls ≤ first → AreShown t calls ends → ShownWith t calls ends (Next o (drop first calls) e)
+none_more o calls t first e ends le shown = record {
+  more = ends;
+  shown = shown;
+  front = IsFront-itself ends;
+  adds = subst (λ l. Adds (Next o l e) ends ends) (sym (none_left first calls le)) (Adds-start (TakesLast o e) ends);
+}
+
 -- the ends that were gone through lead nowhere else
 abbrev pub AreDone : (o : Object) → List PendingOp → List (End o.State) → ℕ → Type 0
 AreDone o calls ends n = (e g : End o.State) → Contains (take n ends) e → Next o calls e g → Contains ends g

@@ -59,3 +59,12 @@ AreMoves {S} apply t calls moves targets = (n at : ℕ) (c : PendingOp) → slic
     (known_at moves (length calls) n at ≡ Untried)
     ⊎ ((s : S) × (slice_get t.states n ≡ Some s)
     × LeadsTo t c.crashed (apply c.op s) targets (known_at moves (length calls) n at))
+
+-- a call at the other place does the same as the one at this place
+abbrev pub IsAlike : List PendingOp → ℕ → ℕ → Type 0
+IsAlike calls at place = (c : PendingOp) → slice_get calls at ≡ Some c
+    → (d : PendingOp) × (slice_get calls place ≡ Some d) × (d.op ≡ c.op) × (d.crashed ≡ c.crashed)
+
+-- at each place that is listed a call does the same as the one at the place of the list
+abbrev pub AreAlike : List PendingOp → List ℕ → Type 0
+AreAlike calls likes = (at place : ℕ) → slice_get likes at ≡ Some place → IsAlike calls at place

@@ -6,7 +6,7 @@ ghost use Rattle.models.specs.Objects.{of_table};
 ghost use Rattle.history.specs.Events.{IsFront};
 ghost use Rattle.linspec.specs.Ends.{End};
 ghost use Rattle.linspec.specs.Orders.{Pairwise};
-ghost use Rattle.ends.specs.Moves.{AreMoves, IsKnown, targets_of};
+ghost use Rattle.ends.specs.Moves.{AreAlike, AreMoves, IsKnown, targets_of};
 ghost use Rattle.ends.specs.EndSteps.{Along, AreClosed, TakesLast, Next, ReachesMoreThan, is_in};
 ghost use Rattle.ends.specs.Tables.{AreShown, HasEachOnce, Shows, Widens, row_led, rows_of};
 ghost use Rattle.ends.specs.Tables.{IsAdvanced, ShownWith, ShownGrown, with_rows};
@@ -117,11 +117,13 @@ fn grow_at<M: SeqObject>(
     ensures moves { AreMoves M.apply_to table.old calls.now moves.old.known.items moves.old.targets.items
         → OnOk result (AreMoves M.apply_to table.new calls.now moves.new.known.items moves.new.targets.items) }
     ensures adds { let object = of_table M.State M.start_state M.apply_to in
-        AreMoves M.apply_to table.old calls.now moves.old.known.items moves.old.targets.items → HasEachOnce calls.now
+        AreMoves M.apply_to table.old calls.now moves.old.known.items moves.old.targets.items
+        → AreAlike calls.now moves.old.likes.items → HasEachOnce calls.now
         → (c : PendingOp) (e : End M.State) (ends : List (End M.State))
         → slice_get calls.now at ≡ Some c → Shows table.old calls.now row.now e
         → AreShown table.old calls.now ends
         → OnOk result (ShownWith table.new calls.now ends (TakesLast object e c)) }
+    ensures likes { moves.new.likes ≡ moves.old.likes }
     ensures widens { Widens table.old table.new }
     ensures front { IsFront (rows_of table.old) (rows_of table.new) }
     ensures cost { applied.new ≤ applied.old + 1 }
@@ -149,11 +151,13 @@ fn grow_from<M: SeqObject>(
     ensures moves { AreMoves M.apply_to table.old calls.now moves.old.known.items moves.old.targets.items
         → OnOk result (AreMoves M.apply_to table.new calls.now moves.new.known.items moves.new.targets.items) }
     ensures adds { let object = of_table M.State M.start_state M.apply_to in
-        AreMoves M.apply_to table.old calls.now moves.old.known.items moves.old.targets.items → HasEachOnce calls.now
+        AreMoves M.apply_to table.old calls.now moves.old.known.items moves.old.targets.items
+        → AreAlike calls.now moves.old.likes.items → HasEachOnce calls.now
         → (e : End M.State) (ends : List (End M.State))
         → Shows table.old calls.now row.now e → AreShown table.old calls.now ends
         → OnOk result (ShownWith table.new calls.now ends
         (Next object (drop first calls.now) e)) }
+    ensures likes { moves.new.likes ≡ moves.old.likes }
     ensures widens { Widens table.old table.new }
     ensures front { IsFront (rows_of table.old) (rows_of table.new) }
     ensures cost { applied.new ≤ applied.old + length calls.now }
@@ -230,6 +234,7 @@ fn grow<M: SeqObject>(
     ensures cost { applied.new ≤ applied.old + (budget + 1) * length calls.now }
 {
     moves::forget(alloc, moves);
+    moves::note_likes(moves, calls)?;
     let kept = table.rows.len();
     for at in 0..budget as usize {
         if table.rows.len() > budget as usize {
@@ -239,6 +244,9 @@ fn grow<M: SeqObject>(
             return Ok(true);
         }
         let first = first_for(at, kept, tried);
+        if first >= calls.len() {
+            continue;
+        }
         table.rows.read(at, row)?;
         if leads_beyond::<M>(table, row, calls, first, budget) {
             return Ok(false);

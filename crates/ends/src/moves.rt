@@ -2,7 +2,7 @@
 ghost use Rattle.std.specs.Prelude.{◌≡◌, ◌+◌, ◌-◌, ◌*◌, ◌^◌, ◌<◌, ◌≤◌, ◌⊎◌, ℕ, List, [], ◌++◌, Some, IsTrue, length, get_or};
 ghost use Rattle.std.specs.Prelude.{slice_get};
 ghost use Rattle.std.specs.Prelude.{IfOk, OnOk, IfSome};
-ghost use Rattle.ends.specs.Moves.{AreMoves, AreTo, IsKnown, IsTo, LeadsTo, known_at, targets_of};
+ghost use Rattle.ends.specs.Moves.{AreAlike, AreMoves, AreTo, IsAlike, IsKnown, IsTo, LeadsTo, known_at, targets_of};
 ghost use Rattle.ends.specs.Tables.{Widens, rows_of};
 
 use crate::pending_op::PendingOp;
@@ -14,6 +14,9 @@ use std::alloc::{AllocError, Global};
 
 // More moves than these are not remembered.
 const MOST: usize = 1 << 20;
+
+// So many calls are looked through for one that does the same.
+const FEW: usize = 16;
 
 // The memory of more moves than these is not kept.
 const MOST_KEPT: usize = 1 << 14;
@@ -31,12 +34,14 @@ pub enum Move {
     ToEach(usize, usize),
 }
 
-/// What is known of calls in states, with the list of the targets of those that lead to several, and memory to try more of them.
+/// What is known of calls in states, with the list of the targets of those that lead to several, and memory to try more of them;
+/// and of each call where one stands that does the same, which is tried in its place.
 #[derive(Drop)]
 pub struct Moves<S> {
     known: Vec<Move>,
     pub targets: Vec<(usize, usize)>,
     outcomes: Vec<(S, Found)>,
+    likes: Vec<usize>,
 }
 
 impl<S> Moves<S> {
@@ -46,6 +51,7 @@ impl<S> Moves<S> {
             known: Vec::new(alloc),
             targets: Vec::new(alloc),
             outcomes: Vec::new(alloc),
+            likes: Vec::new(alloc),
         }
     }
 }
@@ -61,6 +67,7 @@ fn place_of(number: usize, at: usize, calls: usize) -> usize
 pub fn forget<S: Drop>(alloc: Global, moves: &mut Moves<S>)
     ensures known { moves.new.known.items ≡ [] }
     ensures targets { moves.new.targets.items ≡ [] }
+    ensures likes { moves.new.likes ≡ moves.old.likes }
 {
     if moves.known.capacity() > MOST_KEPT {
         moves.known = Vec::new(alloc);
@@ -74,7 +81,8 @@ pub fn forget<S: Drop>(alloc: Global, moves: &mut Moves<S>)
 
 // Forgets all moves where their targets are very many.
 fn forget_many<S: Drop>(alloc: Global, moves: &mut Moves<S>)
-    ensures { (moves.new ≡ moves.old) ⊎ (moves.new.known.items ≡ []) }
+    ensures moves { (moves.new ≡ moves.old) ⊎ (moves.new.known.items ≡ []) }
+    ensures likes { moves.new.likes ≡ moves.old.likes }
 {
     if moves.targets.len() > MOST {
         forget(alloc, moves);
@@ -200,6 +208,56 @@ fn move_to<M: SeqObject>(
     }
 }
 
+// Whether both calls do the same.
+fn is_alike(call: &PendingOp, other: &PendingOp) -> bool
+    ensures op { IsTrue result → call.now.op ≡ other.now.op }
+    ensures crashed { IsTrue result → call.now.crashed ≡ other.now.crashed }
+{
+    call.op.name == other.op.name
+        && call.op.key == other.op.key
+        && call.op.part.same(&other.op.part)
+        && call.crashed == other.crashed
+}
+
+// Where the first of the calls stands that does the same as the one at this place, if it is among the first few.
+fn first_alike(calls: &[PendingOp], at: usize) -> usize
+    requires within { at < length calls.now }
+    ensures { IsAlike calls.now at result }
+{
+    let call = &calls[at];
+    for place in 0..at.min(FEW) {
+        if is_alike(&calls[place], call) {
+            return place;
+        }
+    }
+    at
+}
+
+/// Notes which calls do the same.
+pub fn note_likes<S>(moves: &mut Moves<S>, calls: &[PendingOp]) -> Result<(), AllocError>
+    ensures likes { OnOk result (AreAlike calls.now moves.new.likes.items) }
+    ensures known { moves.new.known ≡ moves.old.known }
+    ensures targets { moves.new.targets ≡ moves.old.targets }
+{
+    moves.likes.clear();
+    for at in 0..calls.len() {
+        moves.likes.push(first_alike(calls, at))?;
+    }
+    Ok(())
+}
+
+/// Where a call stands that does the same as the one at this place.
+pub fn like<S>(moves: &Moves<S>, at: usize) -> usize
+    ensures within { result ≤ at }
+    ensures is { (calls : List PendingOp) → AreAlike calls moves.now.likes.items
+        → IsAlike calls at result }
+{
+    match moves.likes.get(at) {
+        Some(place) if *place <= at => *place,
+        _ => at,
+    }
+}
+
 /// Whether the call at this place is known to lead nowhere from the state with this number.
 #[inline(always)]
 pub fn leads_nowhere<S>(moves: &Moves<S>, number: usize, at: usize, calls: usize) -> bool
@@ -242,6 +300,7 @@ pub fn tried<M: SeqObject>(
         → IfOk result (λ to. AreTo table.new c.crashed (M.apply_to c.op s)
         (targets_of to moves.new.targets.items)) }
     ensures known { IfOk result (λ to. IsKnown to moves.new.targets.items) }
+    ensures likes { moves.new.likes ≡ moves.old.likes }
     ensures widens { Widens table.old table.new }
     ensures rows { rows_of table.new ≡ rows_of table.old }
     ensures cost { applied.new ≤ applied.old + 1 }

@@ -6,7 +6,7 @@ ghost use Rattle.history.specs.Events.{IsFront};
 ghost use Rattle.linspec.specs.Ends.{End};
 ghost use Rattle.ends.specs.KeptEnds.{AreIncluded, IsIncluded, end_kept};
 ghost use Rattle.ends.specs.EndSteps.{Along};
-ghost use Rattle.ends.specs.Moves.{AreMoves, IsKnown, targets_of};
+ghost use Rattle.ends.specs.Moves.{AreAlike, AreMoves, IsKnown, targets_of};
 ghost use Rattle.interned.specs.Numbers.{IsOnceIn, IsSlot};
 ghost use Rattle.ends.specs.Tables.{AreShown, HasEachOnce, IsThat, IsToldBefore, ShownWith, told_by};
 ghost use Rattle.ends.specs.Tables.{AreLed, Shows, Widens, found_by, rows_of};
@@ -150,12 +150,13 @@ pub fn led_to<M: SeqObject>(
         → OnOk result (AreMoves M.apply_to table.new calls.now moves.new.known.items moves.new.targets.items) }
     ensures next { let object = of_table M.State M.start_state M.apply_to in
         AreMoves M.apply_to table.old calls.now moves.old.known.items moves.old.targets.items
-        → HasEachOnce calls.now
+        → AreAlike calls.now moves.old.likes.items → HasEachOnce calls.now
         → (c : PendingOp) (e : End M.State) → slice_get calls.now at ≡ Some c
         → Shows table.old calls.now row.now e
         → IfOk result (λ to. AreLed object table.new calls.now row.now at e c
         (targets_of to moves.new.targets.items)) }
     ensures known { IfOk result (λ to. IsKnown to moves.new.targets.items) }
+    ensures likes { moves.new.likes ≡ moves.old.likes }
     ensures zero_there { IfOk result (λ to. 0 < length (targets_of to moves.new.targets.items)
         → slice_get row.now (at + 1) ≡ Some 0) }
     ensures widens { Widens table.old table.new }
@@ -165,12 +166,13 @@ pub fn led_to<M: SeqObject>(
     if !has_zero(row, at + 1) {
         return Ok(Move::Nowhere);
     }
-    if moves::leads_nowhere(moves, number, at, calls.len()) {
+    let place = moves::like(moves, at);
+    if moves::leads_nowhere(moves, number, place, calls.len()) {
         return Ok(Move::Nowhere);
     }
-    match moves::recalled(moves, number, at, calls.len()) {
+    match moves::recalled(moves, number, place, calls.len()) {
         Some(to) => Ok(to),
-        None => moves::tried::<M>(alloc, table, moves, number, calls, at, applied),
+        None => moves::tried::<M>(alloc, table, moves, number, calls, place, applied),
     }
 }
 

@@ -1,8 +1,8 @@
-use Rattle.std.proofs.Common.{ℕ, ◌+◌, List, arith, get_or, take, [], ap, refl, sym, ◌∙◌, subst}
+use Rattle.std.proofs.Common.{◌+◌, arith, get_or, take, [], refl, sym, ◌∙◌, subst}
 use Rattle.std.specs.List.{filter, remove}
 use Rattle.std.proofs.lemmas.Bool.{true≢false}
 use Rattle.std.proofs.lemmas.List.{take_all}
-use Rattle.std.proofs.lemmas.Option.{get_or_from_slice_get, slice_get-get_or}
+use Rattle.std.proofs.lemmas.Option.{slice_get-get_or}
 use Rattle.ends.specs.EndSteps.{Settles, settled, Along, is_other}
 use Rattle.ends.specs.Tables.{ShownWith, rows_of, with_rows}
 use Rattle.ends.proofs.Settling.{says_without, settles_less}

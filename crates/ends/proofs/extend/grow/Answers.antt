@@ -1,14 +1,17 @@
-use Rattle.std.proofs.Common.{rules, ◌≤◌, ◌<◌, length, sym, ◌∙◌, subst, arith}
+use Rattle.std.proofs.Common.{ℕ, Vec, Global, [], ap, rules, ◌≤◌, ◌<◌, length, sym, ◌∙◌, subst, arith}
 use Rattle.std.proofs.lemmas.Bool.{true≢false}
+use Rattle.std.proofs.lemmas.Option.{get_or_from_slice_get}
 use Rattle.models.specs.Objects.{of_table}
 use Rattle.linspec.proofs.Lists.{Contains-nil}
+use Rattle.ends.specs.declared.moves.Move.{Move}
+use Rattle.ends.specs.Moves.{AreAlike}
 use Rattle.ends.specs.Tables.{Shows, rows_of}
 use Rattle.ends.proofs.Growing.{Grows-itself, cost_more}
 use Rattle.ends.proofs.Closing.{all_tried}
 use Rattle.ends.proofs.Moving.{moves_none}
-use Rattle.ends.proofs.Showing.{all_done, done_on, end_at, grows_on, widens_itself, widens_on}
+use Rattle.ends.proofs.Showing.{all_done, done_on, end_at, grows_on, none_more, widens_itself, widens_on}
 use Rattle.ends.proofs.Beyond.{beyond_found, beyond_from}
-use Rattle.interned.proofs.Lists.{has_place}
+use Rattle.interned.proofs.Lists.{has_place, some_at}
 use Rattle.ends.proofs.Adding.{IsFront-itself, IsFront-trans}
 use Rattle.ends.proofs.extend.grow.Goals as goal
 
@@ -16,7 +19,8 @@ pub loop-at-init : goal.loop-at-init
 loop-at-init g c =
     let o = of_table g.row.M-State.Denot g.M.SeqObject.start_state g.M.SeqObject.apply_to in
     record {
-      moves = moves_none g.M.SeqObject.apply_to c.args.calls.now c.args.table.now c.forget.new.moves.known.items c.forget.new.moves.targets.items c.forget.ensures.known;
+      moves = moves_none g.M.SeqObject.apply_to c.args.calls.now c.args.table.now c.note_likes.new.moves.known.items c.note_likes.new.moves.targets.items (ap (λ (v : Vec Move Global). v.items) c.in_ok-note_likes.ensures.known ∙ c.forget.ensures.known);
+      alike = c.in_ok-note_likes.ensures.likes;
       widens = widens_itself c.args.table.now;
       front = IsFront-itself (rows_of c.args.table.now);
       grown = λ once ends shown closed. (ends, shown, Grows-itself o c.args.calls.now ends, (λ e f h n. absurd (Contains-nil e h)), IsFront-itself ends);
@@ -28,17 +32,44 @@ loop-at-preserved g c =
     let o = of_table g.row.M-State.Denot g.M.SeqObject.start_state g.M.SeqObject.apply_to in
     record {
       moves = c.in_ok-grow_from.ensures.moves c.loop-at.invariant.moves;
+      alike = subst (λ (v : Vec ℕ Global). AreAlike c.args.calls.now v.items) (sym c.in_ok-grow_from.ensures.likes) c.loop-at.invariant.alike;
       widens = widens_on c.args.table.now c.loop-at.table c.grow_from.new.table c.loop-at.invariant.widens c.in_ok-grow_from.ensures.widens;
       front = IsFront-trans (rows_of c.args.table.now) (rows_of c.loop-at.table) (rows_of c.grow_from.new.table) c.loop-at.invariant.front c.in_ok-grow_from.ensures.front;
       grown = λ once ends shown closed.
           let s = c.loop-at.invariant.grown once ends shown closed in
           let p = end_at c.args.calls.now c.loop-at.table s.0 s.1 c.loop-at.at c.read.new.row.items c.in_ok-read.ensures in
           let long = c.len-kept.ensures ∙ shown.long in
-          let v = c.in_ok-grow_from.ensures.adds c.loop-at.invariant.moves once p.0 s.0 (subst (λ r. Shows c.loop-at.table c.args.calls.now r p.0) (sym c.deref-in-loop-at.ensures.value) p.2) s.1 in
+          let v = c.in_ok-grow_from.ensures.adds c.loop-at.invariant.moves c.loop-at.invariant.alike once p.0 s.0 (subst (λ r. Shows c.loop-at.table c.args.calls.now r p.0) (sym c.deref-in-loop-at.ensures.value) p.2) s.1 in
           let w = all_tried o c.args.calls.now ends s.0 c.args.tried c.first_for-first.result c.loop-at.at p.0 p.1 s.4 closed (λ lt. c.first_for-first.ensures.old (omega (arith, long, lt))) (λ le. c.first_for-first.ensures.new (omega (arith, long, le))) c.grow_from.new.table v in
           (w.more, w.shown, grows_on o c.args.calls.now ends s.0 c.loop-at.at p.0 p.1 c.grow_from.new.table w s.2, done_on o c.args.calls.now ends s.0 c.loop-at.at p.0 p.1 c.grow_from.new.table w s.3, IsFront-trans ends s.0 w.more s.4 w.front);
       cost = cost_more c.args.applied.now c.loop-at.applied c.grow_from.new.applied c.loop-at.at (length c.args.calls.now) c.loop-at.invariant.cost c.in_ok-grow_from.ensures.cost;
     }
+
+pub loop-at-preserved-then-first-calls : goal.loop-at-preserved-then-first-calls
+loop-at-preserved-then-first-calls g c =
+    let o = of_table g.row.M-State.Denot g.M.SeqObject.start_state g.M.SeqObject.apply_to in
+    let i = c.loop-at.invariant in
+    let calls = c.args.calls.now in
+    let t = c.loop-at.table in
+    let at = c.loop-at.at in
+    let row = some_at (rows_of t) at (omega arith) in
+    record {
+      moves = i.moves;
+      alike = i.alike;
+      widens = i.widens;
+      front = i.front;
+      grown = λ once ends shown closed.
+          let s = i.grown once ends shown closed in
+          let p = end_at calls t s.0 s.1 at row.0 row.1 in
+          let long = c.len-kept.ensures ∙ shown.long in
+          let w = all_tried o calls ends s.0 c.args.tried c.first_for-first.result at p.0 p.1 s.4 closed (λ lt. c.first_for-first.ensures.old (omega (arith, long, lt))) (λ le. c.first_for-first.ensures.new (omega (arith, long, le))) t
+          (none_more o calls t c.first_for-first.result p.0 s.0 (omega arith) s.1) in
+          (w.more, w.shown, grows_on o calls ends s.0 at p.0 p.1 t w s.2, done_on o calls ends s.0 at p.0 p.1 t w s.3, IsFront-trans ends s.0 w.more s.4 w.front);
+      cost = cost_more c.args.applied.now c.loop-at.applied c.loop-at.applied at (length calls) i.cost (omega arith);
+    }
+
+pub grow_from-requires-clause-row : goal.grow_from-requires-clause-row
+grow_from-requires-clause-row g c = c.deref-in-loop-at.ensures.value ∙ sym (get_or_from_slice_get (rows_of c.loop-at.table) c.loop-at.at c.read.new.row.items [] c.in_ok-read.ensures)
 
 pub returns-then-at-len-clause-grows : goal.returns-then-at-len-clause-grows
 returns-then-at-len-clause-grows g c once ends shown closed =

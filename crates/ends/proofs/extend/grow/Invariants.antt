@@ -3,7 +3,7 @@ use Rattle.models.specs.Objects.{of_table}
 use Rattle.history.specs.Events.{IsFront}
 use Rattle.linspec.specs.Ends.{End}
 use Rattle.ends.specs.EndSteps.{AreClosed, Grows}
-use Rattle.ends.specs.Moves.{AreMoves}
+use Rattle.ends.specs.Moves.{AreAlike, AreMoves}
 use Rattle.ends.specs.Tables.{AreShown, HasEachOnce, Widens, rows_of}
 use Rattle.ends.proofs.Showing.{AreDone}
 use Rattle.ends.proofs.extend.grow.Given as goal
@@ -12,6 +12,7 @@ abbrev pub invariant-loop-at : goal.invariant-loop-at
 invariant-loop-at g l =
     record {
       moves : AreMoves g.M.SeqObject.apply_to l.table l.calls l.moves.known.items l.moves.targets.items;
+      alike : AreAlike l.calls l.moves.likes.items;
       widens : Widens l.initial.table l.table;
       front : IsFront (rows_of l.initial.table) (rows_of l.table);
       grown : HasEachOnce l.calls → (ends : List (End g.row.M-State.Denot)) → AreShown l.initial.table l.calls ends → AreClosed (of_table g.row.M-State.Denot g.M.SeqObject.start_state g.M.SeqObject.apply_to) (take l.tried l.calls) ends

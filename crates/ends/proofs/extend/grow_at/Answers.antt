@@ -15,7 +15,7 @@ returns-clause-moves g c known =
     (widens_rows c.led_to.new.table c.put_led.new.table c.put_led.ensures.states c.put_led.ensures.founds) (c.in_ok-to.ensures.moves known))
 
 pub returns-clause-adds : goal.returns-clause-adds
-returns-clause-adds g c known once call e ends here shows shown =
+returns-clause-adds g c known alike once call e ends here shows shown =
     let o = of_table g.row.M-State.Denot g.M.SeqObject.start_state g.M.SeqObject.apply_to in
     let calls = c.args.calls.now in
     let row = get_or (rows_of c.led_to.new.table) c.args.from [] in
@@ -23,7 +23,7 @@ returns-clause-adds g c known once call e ends here shows shown =
     let same : row ≡ c.args.row.now = ap (λ l. get_or l c.args.from []) c.in_ok-to.ensures.rows ∙ sym c.requires.row in
     let led : AreLed o c.led_to.new.table calls row c.args.at e call targets =
     subst (λ r. AreLed o c.led_to.new.table calls r c.args.at e call targets) (sym same)
-    (subst (λ l. AreLed o c.led_to.new.table calls c.args.row.now c.args.at e call (targets_of c.in_ok-to.to l)) (sym c.deref.ensures.value) (c.in_ok-to.ensures.next known once call e here shows)) in
+    (subst (λ l. AreLed o c.led_to.new.table calls c.args.row.now c.args.at e call (targets_of c.in_ok-to.to l)) (sym c.deref.ensures.value) (c.in_ok-to.ensures.next known alike once call e here shows)) in
     on_ok_weaker c.put_led.result
     (all_led o calls c.led_to.new.table c.put_led.new.table row c.args.at e call targets ends led)
     (c.put_led.ensures.puts calls ends (shown_more calls c.args.table.now c.led_to.new.table ends c.in_ok-to.ensures.widens c.in_ok-to.ensures.rows shown) (λ to h. let f = led.each to h in (f.0, f.2)))
@@ -32,13 +32,13 @@ pub returns-clause-widens : goal.returns-clause-widens
 returns-clause-widens g c = widens_on c.args.table.now c.led_to.new.table c.put_led.new.table c.in_ok-to.ensures.widens (widens_rows c.led_to.new.table c.put_led.new.table c.put_led.ensures.states c.put_led.ensures.founds)
 
 pub returns-in-Nowhere-clause-adds : goal.returns-in-Nowhere-clause-adds
-returns-in-Nowhere-clause-adds g c known once call e ends here shows shown =
+returns-in-Nowhere-clause-adds g c known alike once call e ends here shows shown =
     let o = of_table g.row.M-State.Denot g.M.SeqObject.start_state g.M.SeqObject.apply_to in
     let calls = c.args.calls.now in
     let t = c.led_to.new.table in
     let row = c.args.row.now in
     let led : AreLed o t calls row c.args.at e call [] =
-    subst (λ m. AreLed o t calls row c.args.at e call (targets_of m c.led_to.new.moves.targets.items)) c.in-Nowhere.is (c.in_ok-to.ensures.next known once call e here shows) in
+    subst (λ m. AreLed o t calls row c.args.at e call (targets_of m c.led_to.new.moves.targets.items)) c.in-Nowhere.is (c.in_ok-to.ensures.next known alike once call e here shows) in
     all_led o calls t t row c.args.at e call [] ends led
     (led_none calls t (λ x g. Shows t calls (row_led row (c.args.at + 1) x) g) ends (shown_more calls c.args.table.now t ends c.in_ok-to.ensures.widens c.in_ok-to.ensures.rows shown))
 

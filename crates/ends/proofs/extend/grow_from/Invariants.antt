@@ -3,7 +3,7 @@ use Rattle.models.specs.Objects.{of_table}
 use Rattle.history.specs.Events.{IsFront}
 use Rattle.linspec.specs.Ends.{End}
 use Rattle.ends.specs.EndSteps.{Next}
-use Rattle.ends.specs.Moves.{AreMoves}
+use Rattle.ends.specs.Moves.{AreAlike, AreMoves}
 use Rattle.ends.specs.Tables.{AreShown, HasEachOnce, Shows, ShownWith, Widens, rows_of}
 use Rattle.ends.proofs.extend.grow_from.Given as goal
 
@@ -15,8 +15,9 @@ invariant-loop-at g l =
       here : get_or (rows_of l.table) l.from [] ≡ get_or (rows_of l.initial.table) l.from [];
       within : l.from < length (rows_of l.table);
       moves : AreMoves g.M.SeqObject.apply_to l.initial.table l.calls l.initial.moves.known.items l.initial.moves.targets.items → AreMoves g.M.SeqObject.apply_to l.table l.calls l.moves.known.items l.moves.targets.items;
-      grown : AreMoves g.M.SeqObject.apply_to l.initial.table l.calls l.initial.moves.known.items l.initial.moves.targets.items → HasEachOnce l.calls → (e : End g.row.M-State.Denot) (ends : List (End g.row.M-State.Denot)) → Shows l.initial.table l.calls l.row e → AreShown l.initial.table l.calls ends
+      grown : AreMoves g.M.SeqObject.apply_to l.initial.table l.calls l.initial.moves.known.items l.initial.moves.targets.items → AreAlike l.calls l.initial.moves.likes.items → HasEachOnce l.calls → (e : End g.row.M-State.Denot) (ends : List (End g.row.M-State.Denot)) → Shows l.initial.table l.calls l.row e → AreShown l.initial.table l.calls ends
           → ShownWith l.table l.calls ends (Next (of_table g.row.M-State.Denot g.M.SeqObject.start_state g.M.SeqObject.apply_to) (drop l.first (take l.at l.calls)) e);
+      likes : l.moves.likes ≡ l.initial.moves.likes;
       from : l.first ≤ l.at;
       upto : l.at ≤ l.first + length l.calls;
       cost : l.applied + l.first ≤ l.initial.applied + l.at;

@@ -20,7 +20,7 @@ returns-clause-moves g c known =
     let state : slice_get t.states c.args.number ≡ Some s = search rules in
     let here : slice_get calls c.args.at ≡ Some call = slice_get_read calls (length calls) c.args.at call refl c.requires.within c.index-calls-at.is in
     let kept : AreMoves apply t calls m.known.items m.targets.items =
-    ⊎_elim (λ same. subst (λ x. AreMoves apply t calls x.known.items x.targets.items) (sym same) known) (λ none. moves_none apply calls t m.known.items m.targets.items none) c.forget_many.ensures in
+    ⊎_elim (λ same. subst (λ x. AreMoves apply t calls x.known.items x.targets.items) (sym same) known) (λ none. moves_none apply calls t m.known.items m.targets.items none) c.forget_many.ensures.moves in
     let more = c.in_ok-to.ensures.more in
     let leads : LeadsTo u call.crashed (apply call.op s) targets to = subst (λ l. LeadsTo u call.crashed l targets to) c.in_ok-step.ensures.outcomes c.in_ok-to.ensures.leads in
     moves_with apply calls u c.args.number c.args.at call here s (get_front t.states u.states c.args.number s c.in_ok-to.ensures.widens.states state)
