@@ -13,5 +13,6 @@ pub mod Beyond
 pub mod Showing
 pub mod Telling
 pub mod Moving
+pub mod Passing
 pub mod Settling
 pub mod Renewing

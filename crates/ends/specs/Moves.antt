@@ -1,11 +1,12 @@
 -- Invariant: what calls do in states, by numbers
-use Rattle.std.specs.Prelude.{◌≡◌, ◌≤◌, ℕ, ◌+◌, ◌*◌, ◌⊎◌, Bool, Some, List, [], ◌∷◌, length, slice_get, slice_range, get_or}
+use Rattle.std.specs.Prelude.{◌≡◌, ◌<◌, ◌≤◌, ℕ, ◌+◌, ◌-◌, ◌*◌, ◌⊎◌, Bool, Some, List, [], ◌∷◌, length, slice_get, slice_range, get_or}
 use Rattle.std.specs.List.{Contains}
 use Rattle.models.specs.declared.operation.Op.{Op}
 use Rattle.models.specs.declared.finding.Found.{Found}
 use Rattle.models.specs.Objects.{IsOneOf}
 use Rattle.ends.specs.declared.pending_op.PendingOp.{PendingOp}
 use Rattle.ends.specs.declared.table.Table.{Table}
+use Rattle.ends.specs.declared.moves.Like.{Like}
 use Rattle.ends.specs.declared.moves.Move.{Move}
 use Rattle.ends.specs.declared.moves.Move.TheVariants.{Untried, Nowhere, To, ToEach}
 use Rattle.ends.specs.Tables.{told_by}
@@ -65,6 +66,17 @@ abbrev pub IsAlike : List PendingOp → ℕ → ℕ → Type 0
 IsAlike calls at place = (c : PendingOp) → slice_get calls at ≡ Some c
     → (d : PendingOp) × (slice_get calls place ≡ Some d) × (d.op ≡ c.op) × (d.crashed ≡ c.crashed)
 
--- at each place that is listed a call does the same as the one at the place of the list
-abbrev pub AreAlike : List PendingOp → List ℕ → Type 0
-AreAlike calls likes = (at place : ℕ) → slice_get likes at ≡ Some place → IsAlike calls at place
+-- so many calls from this place on do the same as one at the place
+abbrev pub AreAll : List PendingOp → ℕ → Like → Type 0
+AreAll calls at like = (i : ℕ) → i < like.run → IsAlike calls (at + i) like.place
+
+-- the list says, from the last call on, which do the same
+abbrev pub AreAlike : List PendingOp → List Like → Type 0
+AreAlike calls likes = (behind : ℕ) (like : Like) → slice_get likes behind ≡ Some like
+    → AreAll calls (length calls - 1 - behind) like
+
+-- a call that does the same as this one is known to lead nowhere
+pub record IsStuck (calls : List PendingOp) (moves : List Move) (n at : ℕ) : Type 0 where
+  pub place : ℕ
+  pub nowhere : known_at moves (length calls) n place ≡ Nowhere
+  pub alike : IsAlike calls at place

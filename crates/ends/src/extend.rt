@@ -6,7 +6,7 @@ ghost use Rattle.models.specs.Objects.{of_table};
 ghost use Rattle.history.specs.Events.{IsFront};
 ghost use Rattle.linspec.specs.Ends.{End};
 ghost use Rattle.linspec.specs.Orders.{Pairwise};
-ghost use Rattle.ends.specs.Moves.{AreAlike, AreMoves, IsKnown, targets_of};
+ghost use Rattle.ends.specs.Moves.{AreAlike, AreMoves, IsAlike, IsKnown, targets_of};
 ghost use Rattle.ends.specs.EndSteps.{Along, AreClosed, TakesLast, Next, ReachesMoreThan, is_in};
 ghost use Rattle.ends.specs.Tables.{AreShown, HasEachOnce, Shows, Widens, row_led, rows_of};
 ghost use Rattle.ends.specs.Tables.{IsAdvanced, ShownWith, ShownGrown, with_rows};
@@ -98,7 +98,8 @@ fn put_led<S: Hash + Drop>(
     }
 }
 
-// Adds what the call at this place leads to from the end of this row, which stands here.
+// Adds what the call at this place, which is not in it, leads to from the end of this row, which stands here. The call at the
+// other place does the same.
 fn grow_at<M: SeqObject>(
     alloc: Global,
     table: &mut Table<M::State>,
@@ -108,17 +109,20 @@ fn grow_at<M: SeqObject>(
     row: &[usize],
     calls: &[PendingOp],
     at: usize,
+    place: usize,
     applied: &mut u64,
 ) -> Result<(), AllocError>
     requires within { at < length calls.now }
+    requires before { place ≤ at }
     requires here { from < length (rows_of table.old) }
     requires number { number ≡ get_or row.now 0 0 }
     requires row { row.now ≡ get_or (rows_of table.old) from [] }
+    requires zero_there { slice_get row.now (at + 1) ≡ Some 0 }
     ensures moves { AreMoves M.apply_to table.old calls.now moves.old.known.items moves.old.targets.items
         → OnOk result (AreMoves M.apply_to table.new calls.now moves.new.known.items moves.new.targets.items) }
     ensures adds { let object = of_table M.State M.start_state M.apply_to in
         AreMoves M.apply_to table.old calls.now moves.old.known.items moves.old.targets.items
-        → AreAlike calls.now moves.old.likes.items → HasEachOnce calls.now
+        → IsAlike calls.now at place → HasEachOnce calls.now
         → (c : PendingOp) (e : End M.State) (ends : List (End M.State))
         → slice_get calls.now at ≡ Some c → Shows table.old calls.now row.now e
         → AreShown table.old calls.now ends
@@ -128,7 +132,7 @@ fn grow_at<M: SeqObject>(
     ensures front { IsFront (rows_of table.old) (rows_of table.new) }
     ensures cost { applied.new ≤ applied.old + 1 }
 {
-    let to = table::led_to::<M>(alloc, table, moves, number, row, calls, at, applied)?;
+    let to = table::led_to::<M>(alloc, table, moves, number, row, calls, at, place, applied)?;
     if let Move::Nowhere = to {
         return Ok(());
     }
@@ -163,8 +167,22 @@ fn grow_from<M: SeqObject>(
     ensures cost { applied.new ≤ applied.old + length calls.now }
 {
     let number = table::number_of_state(row);
-    for at in first..calls.len() {
-        grow_at::<M>(alloc, table, moves, from, number, row, calls, at, applied)?;
+    let mut at = first;
+    'places: while at < calls.len() {
+        if !table::has_zero(row, at + 1) {
+            at += 1;
+            continue;
+        }
+        let like = moves::alike_at(moves, calls, at);
+        let stuck = moves::stuck(moves, number, like, calls, at);
+        if stuck > 0 {
+            at += stuck;
+            continue;
+        }
+        grow_at::<M>(
+            alloc, table, moves, from, number, row, calls, at, like.place, applied,
+        )?;
+        at += 1;
     }
     Ok(())
 }

@@ -2,7 +2,7 @@
 ghost use Rattle.std.specs.Prelude.{◌≡◌, ◌+◌, ◌-◌, ◌*◌, ◌^◌, ◌<◌, ◌≤◌, ◌⊎◌, ℕ, List, [], ◌++◌, Some, IsTrue, length, get_or};
 ghost use Rattle.std.specs.Prelude.{slice_get};
 ghost use Rattle.std.specs.Prelude.{IfOk, OnOk, IfSome};
-ghost use Rattle.ends.specs.Moves.{AreAlike, AreMoves, AreTo, IsAlike, IsKnown, IsTo, LeadsTo, known_at, targets_of};
+ghost use Rattle.ends.specs.Moves.{AreAlike, AreAll, AreMoves, AreTo, IsAlike, IsKnown, IsStuck, IsTo, LeadsTo, known_at, targets_of};
 ghost use Rattle.ends.specs.Tables.{Widens, rows_of};
 
 use crate::pending_op::PendingOp;
@@ -34,6 +34,13 @@ pub enum Move {
     ToEach(usize, usize),
 }
 
+/// Where a call stands that does the same as so many from some place on.
+#[derive(Clone, Copy)]
+pub struct Like {
+    pub place: usize,
+    run: usize,
+}
+
 /// What is known of calls in states, with the list of the targets of those that lead to several, and memory to try more of them;
 /// and of each call where one stands that does the same, which is tried in its place.
 #[derive(Drop)]
@@ -41,7 +48,7 @@ pub struct Moves<S> {
     known: Vec<Move>,
     pub targets: Vec<(usize, usize)>,
     outcomes: Vec<(S, Found)>,
-    likes: Vec<usize>,
+    likes: Vec<Like>,
 }
 
 impl<S> Moves<S> {
@@ -240,27 +247,66 @@ pub fn note_likes<S>(moves: &mut Moves<S>, calls: &[PendingOp]) -> Result<(), Al
     ensures targets { moves.new.targets ≡ moves.old.targets }
 {
     moves.likes.clear();
-    for at in 0..calls.len() {
-        moves.likes.push(first_alike(calls, at))?;
+    let mut like = Like { place: 0, run: 0 };
+    for behind in 0..calls.len() {
+        like = like_before(calls, calls.len() - 1 - behind, like);
+        moves.likes.push(like)?;
     }
     Ok(())
 }
 
-/// Where a call stands that does the same as the one at this place.
-pub fn like<S>(moves: &Moves<S>, at: usize) -> usize
-    ensures within { result ≤ at }
-    ensures is { (calls : List PendingOp) → AreAlike calls moves.now.likes.items
-        → IsAlike calls at result }
+// Which calls from this place on do the same, by which do from the next one on.
+fn like_before(calls: &[PendingOp], at: usize, next: Like) -> Like
+    requires within { at < length calls.now }
+    ensures { AreAll calls.now (at + 1) next → AreAll calls.now at result }
 {
-    match moves.likes.get(at) {
-        Some(place) if *place <= at => *place,
-        _ => at,
+    let place = first_alike(calls, at);
+    if place == next.place {
+        Like {
+            place,
+            run: next.run.saturating_add(1),
+        }
+    } else {
+        Like { place, run: 1 }
     }
 }
 
-/// Whether the call at this place is known to lead nowhere from the state with this number.
+/// Which calls from this place on do the same.
+pub fn alike_at<S>(moves: &Moves<S>, calls: &[PendingOp], at: usize) -> Like
+    requires within { at < length calls.now }
+    ensures within { result.place ≤ at }
+    ensures all { AreAlike calls.now moves.now.likes.items → AreAll calls.now at result }
+    ensures some { AreAlike calls.now moves.now.likes.items → IsAlike calls.now at result.place }
+{
+    match moves.likes.get(calls.len() - 1 - at) {
+        Some(like) if like.place <= at && like.run > 0 => *like,
+        _ => Like { place: at, run: 1 },
+    }
+}
+
+/// How many of the calls from this place on that do the same are known to lead nowhere from the state with this number: all or none.
 #[inline(always)]
-pub fn leads_nowhere<S>(moves: &Moves<S>, number: usize, at: usize, calls: usize) -> bool
+pub fn stuck<S>(
+    moves: &Moves<S>,
+    number: usize,
+    like: Like,
+    calls: &[PendingOp],
+    at: usize,
+) -> usize
+    requires within { at < length calls.now }
+    ensures upto { at + result ≤ length calls.now }
+    ensures stuck { AreAll calls.now at like → (i : ℕ) → i < result
+        → IsStuck calls.now moves.now.known.items number (at + i) }
+{
+    if leads_nowhere(moves, number, like.place, calls.len()) {
+        like.run.min(calls.len() - at)
+    } else {
+        0
+    }
+}
+
+// Whether the call at this place is known to lead nowhere from the state with this number.
+fn leads_nowhere<S>(moves: &Moves<S>, number: usize, at: usize, calls: usize) -> bool
     ensures { IsTrue result → known_at moves.now.known.items calls number at ≡ Move.Nowhere }
 {
     matches!(known(&moves.known, number, at, calls), Move::Nowhere)

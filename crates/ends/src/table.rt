@@ -6,7 +6,7 @@ ghost use Rattle.history.specs.Events.{IsFront};
 ghost use Rattle.linspec.specs.Ends.{End};
 ghost use Rattle.ends.specs.KeptEnds.{AreIncluded, IsIncluded, end_kept};
 ghost use Rattle.ends.specs.EndSteps.{Along};
-ghost use Rattle.ends.specs.Moves.{AreAlike, AreMoves, IsKnown, targets_of};
+ghost use Rattle.ends.specs.Moves.{AreMoves, IsAlike, IsKnown, targets_of};
 ghost use Rattle.interned.specs.Numbers.{IsOnceIn, IsSlot};
 ghost use Rattle.ends.specs.Tables.{AreShown, HasEachOnce, IsThat, IsToldBefore, ShownWith, told_by};
 ghost use Rattle.ends.specs.Tables.{AreLed, Shows, Widens, found_by, rows_of};
@@ -133,7 +133,8 @@ pub fn has_zero(row: &[usize], place: usize) -> bool
     }
 }
 
-/// Where the call at this place leads from the end of the row, whose state has this number: nowhere where it is in that end.
+/// Where the call at this place, which is not in it, leads from the end of the row, whose state has this number. The call at the
+/// other place does the same.
 pub fn led_to<M: SeqObject>(
     alloc: Global,
     table: &mut Table<M::State>,
@@ -142,34 +143,28 @@ pub fn led_to<M: SeqObject>(
     row: &[usize],
     calls: &[PendingOp],
     at: usize,
+    place: usize,
     applied: &mut u64,
 ) -> Result<Move, AllocError>
     requires within { at < length calls.now }
+    requires before { place ≤ at }
     requires number { number ≡ get_or row.now 0 0 }
+    requires zero_there { slice_get row.now (at + 1) ≡ Some 0 }
     ensures moves { AreMoves M.apply_to table.old calls.now moves.old.known.items moves.old.targets.items
         → OnOk result (AreMoves M.apply_to table.new calls.now moves.new.known.items moves.new.targets.items) }
     ensures next { let object = of_table M.State M.start_state M.apply_to in
         AreMoves M.apply_to table.old calls.now moves.old.known.items moves.old.targets.items
-        → AreAlike calls.now moves.old.likes.items → HasEachOnce calls.now
+        → IsAlike calls.now at place → HasEachOnce calls.now
         → (c : PendingOp) (e : End M.State) → slice_get calls.now at ≡ Some c
         → Shows table.old calls.now row.now e
         → IfOk result (λ to. AreLed object table.new calls.now row.now at e c
         (targets_of to moves.new.targets.items)) }
     ensures known { IfOk result (λ to. IsKnown to moves.new.targets.items) }
     ensures likes { moves.new.likes ≡ moves.old.likes }
-    ensures zero_there { IfOk result (λ to. 0 < length (targets_of to moves.new.targets.items)
-        → slice_get row.now (at + 1) ≡ Some 0) }
     ensures widens { Widens table.old table.new }
     ensures rows { rows_of table.new ≡ rows_of table.old }
     ensures cost { applied.new ≤ applied.old + 1 }
 {
-    if !has_zero(row, at + 1) {
-        return Ok(Move::Nowhere);
-    }
-    let place = moves::like(moves, at);
-    if moves::leads_nowhere(moves, number, place, calls.len()) {
-        return Ok(Move::Nowhere);
-    }
     match moves::recalled(moves, number, place, calls.len()) {
         Some(to) => Ok(to),
         None => moves::tried::<M>(alloc, table, moves, number, calls, place, applied),

@@ -1,8 +1,9 @@
-use Rattle.std.proofs.Common.{ℕ, Vec, Global, [], ap, rules, ◌≤◌, ◌<◌, length, sym, ◌∙◌, subst, arith}
+use Rattle.std.proofs.Common.{Vec, Global, [], ap, rules, ◌≤◌, ◌<◌, length, sym, ◌∙◌, subst, arith}
 use Rattle.std.proofs.lemmas.Bool.{true≢false}
 use Rattle.std.proofs.lemmas.Option.{get_or_from_slice_get}
 use Rattle.models.specs.Objects.{of_table}
 use Rattle.linspec.proofs.Lists.{Contains-nil}
+use Rattle.ends.specs.declared.moves.Like.{Like}
 use Rattle.ends.specs.declared.moves.Move.{Move}
 use Rattle.ends.specs.Moves.{AreAlike}
 use Rattle.ends.specs.Tables.{Shows, rows_of}
@@ -32,7 +33,7 @@ loop-at-preserved g c =
     let o = of_table g.row.M-State.Denot g.M.SeqObject.start_state g.M.SeqObject.apply_to in
     record {
       moves = c.in_ok-grow_from.ensures.moves c.loop-at.invariant.moves;
-      alike = subst (λ (v : Vec ℕ Global). AreAlike c.args.calls.now v.items) (sym c.in_ok-grow_from.ensures.likes) c.loop-at.invariant.alike;
+      alike = subst (λ (v : Vec Like Global). AreAlike c.args.calls.now v.items) (sym c.in_ok-grow_from.ensures.likes) c.loop-at.invariant.alike;
       widens = widens_on c.args.table.now c.loop-at.table c.grow_from.new.table c.loop-at.invariant.widens c.in_ok-grow_from.ensures.widens;
       front = IsFront-trans (rows_of c.args.table.now) (rows_of c.loop-at.table) (rows_of c.grow_from.new.table) c.loop-at.invariant.front c.in_ok-grow_from.ensures.front;
       grown = λ once ends shown closed.

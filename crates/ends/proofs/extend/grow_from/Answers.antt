@@ -1,16 +1,19 @@
-use Rattle.std.proofs.Common.{ℕ, Vec, Global, drop, refl, sym, ◌∙◌, subst, arith}
+use Rattle.std.proofs.Common.{◌≡◌, ◌+◌, Some, slice_get, Vec, Global, drop, refl, sym, ◌∙◌, subst, arith}
+use Rattle.std.proofs.lemmas.Bool.{true≢false}
 use Rattle.std.proofs.lemmas.List.{take_all}
 use Rattle.models.specs.Objects.{of_table}
+use Rattle.ends.specs.declared.moves.Like.{Like}
 use Rattle.ends.specs.EndSteps.{Next}
 use Rattle.ends.specs.Moves.{AreAlike}
 use Rattle.ends.specs.Tables.{ShownWith, rows_of}
 use Rattle.interned.proofs.Lists.{some_at}
 use Rattle.ends.proofs.Showing.{front_stays, front_within, next_there, none_yet, shows_more, widens_itself, widens_on}
 use Rattle.ends.proofs.Adding.{IsFront-itself, IsFront-trans}
+use Rattle.ends.proofs.Passing.{in_already, pass, stuck_there}
 use Rattle.ends.proofs.extend.grow_from.Goals as goal
 
-pub loop-at-init : goal.loop-at-init
-loop-at-init g c = record {
+pub places-init : goal.places-init
+places-init g c = record {
   widens = widens_itself c.args.table.now;
   front = IsFront-itself (rows_of c.args.table.now);
   here = refl;
@@ -24,42 +27,95 @@ loop-at-init g c = record {
 }
 
 pub grow_at-requires-clause-row : goal.grow_at-requires-clause-row
-grow_at-requires-clause-row g c = c.requires.row ∙ sym c.loop-at.invariant.here
+grow_at-requires-clause-row g c = c.requires.row ∙ sym c.places.invariant.here
 
-pub loop-at-preserved : goal.loop-at-preserved
-loop-at-preserved g c =
+pub places-preserved : goal.places-preserved
+places-preserved g c =
     let o = of_table g.row.M-State.Denot g.M.SeqObject.start_state g.M.SeqObject.apply_to in
+    let i = c.places.invariant in
+    let calls = c.args.calls.now in
     record {
-      widens = widens_on c.args.table.now c.loop-at.table c.grow_at.new.table c.loop-at.invariant.widens c.in_ok-grow_at.ensures.widens;
-      front = IsFront-trans (rows_of c.args.table.now) (rows_of c.loop-at.table) (rows_of c.grow_at.new.table) c.loop-at.invariant.front c.in_ok-grow_at.ensures.front;
-      here = front_stays (rows_of c.loop-at.table) (rows_of c.grow_at.new.table) c.args.from c.loop-at.invariant.within c.in_ok-grow_at.ensures.front ∙ c.loop-at.invariant.here;
-      within = front_within (rows_of c.loop-at.table) (rows_of c.grow_at.new.table) c.args.from c.loop-at.invariant.within c.in_ok-grow_at.ensures.front;
-      moves = λ known. c.in_ok-grow_at.ensures.moves (c.loop-at.invariant.moves known);
+      widens = widens_on c.args.table.now c.places.table c.grow_at.new.table i.widens c.in_ok-grow_at.ensures.widens;
+      front = IsFront-trans (rows_of c.args.table.now) (rows_of c.places.table) (rows_of c.grow_at.new.table) i.front c.in_ok-grow_at.ensures.front;
+      here = front_stays (rows_of c.places.table) (rows_of c.grow_at.new.table) c.args.from i.within c.in_ok-grow_at.ensures.front ∙ i.here;
+      within = front_within (rows_of c.places.table) (rows_of c.grow_at.new.table) c.args.from i.within c.in_ok-grow_at.ensures.front;
+      moves = λ known. c.in_ok-grow_at.ensures.moves (i.moves known);
       grown = λ known alike once e ends shows shown.
-          let call = some_at c.args.calls.now c.loop-at.at (omega arith) in
-          let s = c.loop-at.invariant.grown known alike once e ends shows shown in
-          next_there o c.args.calls.now e ends c.loop-at.at call.0 call.1 c.args.first c.loop-at.invariant.from c.loop-at.table c.grow_at.new.table s
-          (c.in_ok-grow_at.ensures.adds (c.loop-at.invariant.moves known) (subst (λ (v : Vec ℕ Global). AreAlike c.args.calls.now v.items) (sym c.loop-at.invariant.likes) alike) once call.0 e s.more call.1
-          (shows_more c.args.calls.now c.args.table.now c.loop-at.table c.args.row.now e c.loop-at.invariant.widens shows) s.shown);
-      likes = c.in_ok-grow_at.ensures.likes ∙ c.loop-at.invariant.likes;
-      from = (let a = c.loop-at.invariant.from in omega (arith, a));
+          let call = some_at calls c.places.at (omega arith) in
+          let now = subst (λ (v : Vec Like Global). AreAlike calls v.items) (sym i.likes) alike in
+          let s = i.grown known alike once e ends shows shown in
+          next_there o calls e ends c.places.at call.0 call.1 c.args.first i.from c.places.table c.grow_at.new.table s
+          (c.in_ok-grow_at.ensures.adds (i.moves known) (c.alike_at-like.ensures.some now) once call.0 e s.more call.1
+          (shows_more calls c.args.table.now c.places.table c.args.row.now e i.widens shows) s.shown);
+      likes = c.in_ok-grow_at.ensures.likes ∙ i.likes;
+      from = (let a = i.from in omega (arith, a));
       upto = omega arith;
-      cost = (let a = c.loop-at.invariant.cost in let b = c.in_ok-grow_at.ensures.cost in omega (arith, a, b));
+      cost = (let a = i.cost in let b = c.in_ok-grow_at.ensures.cost in omega (arith, a, b));
+    }
+
+pub places-preserved-then-not-has_zero : goal.places-preserved-then-not-has_zero
+places-preserved-then-not-has_zero g c =
+    let o = of_table g.row.M-State.Denot g.M.SeqObject.start_state g.M.SeqObject.apply_to in
+    let i = c.places.invariant in
+    let calls = c.args.calls.now in
+    let t = c.places.table in
+    record {
+      widens = i.widens;
+      front = i.front;
+      here = i.here;
+      within = i.within;
+      moves = i.moves;
+      grown = λ known alike once e ends shows shown.
+          pass o calls e ends c.args.first t 1 c.places.at i.from (omega arith)
+          (λ k call lt there. in_already o calls t c.args.row.now e (shows_more calls c.args.table.now t c.args.row.now e i.widens shows) c.places.at call
+          (subst (λ p. slice_get calls p ≡ Some call) (let same : c.places.at + k ≡ c.places.at = omega (arith, lt) in same) there)
+          (λ h. true≢false (sym (c.has_zero.ensures.1 h) ∙ c.if-not-has_zero.true)))
+          (i.grown known alike once e ends shows shown);
+      likes = i.likes;
+      from = (let a = i.from in omega (arith, a));
+      upto = omega arith;
+      cost = (let a = i.cost in omega (arith, a));
+    }
+
+pub places-preserved-then-stuck-gt0 : goal.places-preserved-then-stuck-gt0
+places-preserved-then-stuck-gt0 g c =
+    let o = of_table g.row.M-State.Denot g.M.SeqObject.start_state g.M.SeqObject.apply_to in
+    let i = c.places.invariant in
+    let calls = c.args.calls.now in
+    let t = c.places.table in
+    let m = c.places.moves in
+    let high = c.stuck-stuck.ensures.upto in
+    record {
+      widens = i.widens;
+      front = i.front;
+      here = i.here;
+      within = i.within;
+      moves = i.moves;
+      grown = λ known alike once e ends shows shown.
+          let now = subst (λ (v : Vec Like Global). AreAlike calls v.items) (sym i.likes) alike in
+          pass o calls e ends c.args.first t c.stuck-stuck.result c.places.at i.from high
+          (λ k call lt there. stuck_there g.row.M-State.Denot g.M.SeqObject.start_state g.M.SeqObject.apply_to calls t m.known.items m.targets.items (i.moves known) c.args.row.now e
+          (shows_more calls c.args.table.now t c.args.row.now e i.widens shows) c.number_of_state-number.result (c.places.at + k) call c.number_of_state-number.ensures there (c.stuck-stuck.ensures.stuck (c.alike_at-like.ensures.all now) k lt))
+          (i.grown known alike once e ends shows shown);
+      likes = i.likes;
+      from = (let a = i.from in omega (arith, a));
+      upto = omega (arith, high);
+      cost = (let a = i.cost in omega (arith, a));
     }
 
 pub returns-clause-adds : goal.returns-clause-adds
 returns-clause-adds g c known alike once e ends shows shown =
     let o = of_table g.row.M-State.Denot g.M.SeqObject.start_state g.M.SeqObject.apply_to in
-    subst (λ l. ShownWith c.loop-at.table c.args.calls.now ends (Next o (drop c.args.first l) e)) (take_all c.loop-at.at c.args.calls.now (omega arith)) (c.loop-at.invariant.grown known alike once e ends shows shown)
+    subst (λ l. ShownWith c.places.table c.args.calls.now ends (Next o (drop c.args.first l) e)) (take_all c.places.at c.args.calls.now (omega arith)) (c.places.invariant.grown known alike once e ends shows shown)
 
 pub returns-clause-moves : goal.returns-clause-moves
-returns-clause-moves g c known = c.loop-at.invariant.moves known
+returns-clause-moves g c known = c.places.invariant.moves known
 
 pub returns-clause-cost : goal.returns-clause-cost
-returns-clause-cost g c = let a = c.loop-at.invariant.cost in let b = c.loop-at.invariant.upto in omega (arith, a, b)
+returns-clause-cost g c = let a = c.places.invariant.cost in let b = c.places.invariant.upto in omega (arith, a, b)
 
 pub returns-in_err-grow_at-clause-cost : goal.returns-in_err-grow_at-clause-cost
-returns-in_err-grow_at-clause-cost g c = let a = c.loop-at.invariant.cost in let b = c.in_err-grow_at.ensures.cost in omega (arith, a, b)
+returns-in_err-grow_at-clause-cost g c = let a = c.places.invariant.cost in let b = c.in_err-grow_at.ensures.cost in omega (arith, a, b)
 
 pub returns-in_err-grow_at-clause-widens : goal.returns-in_err-grow_at-clause-widens
-returns-in_err-grow_at-clause-widens g c = widens_on c.args.table.now c.loop-at.table c.grow_at.new.table c.loop-at.invariant.widens c.in_err-grow_at.ensures.widens
+returns-in_err-grow_at-clause-widens g c = widens_on c.args.table.now c.places.table c.grow_at.new.table c.places.invariant.widens c.in_err-grow_at.ensures.widens

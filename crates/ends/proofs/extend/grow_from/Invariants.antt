@@ -1,4 +1,4 @@
-use Rattle.std.proofs.Common.{◌≡◌, ◌<◌, [], get_or, ◌≤◌, ◌+◌, List, length, take, drop}
+use Rattle.std.proofs.Common.{◌≡◌, ◌-◌, ◌<◌, [], get_or, ◌≤◌, ◌+◌, List, length, take, drop}
 use Rattle.models.specs.Objects.{of_table}
 use Rattle.history.specs.Events.{IsFront}
 use Rattle.linspec.specs.Ends.{End}
@@ -7,8 +7,8 @@ use Rattle.ends.specs.Moves.{AreAlike, AreMoves}
 use Rattle.ends.specs.Tables.{AreShown, HasEachOnce, Shows, ShownWith, Widens, rows_of}
 use Rattle.ends.proofs.extend.grow_from.Given as goal
 
-abbrev pub invariant-loop-at : goal.invariant-loop-at
-invariant-loop-at g l =
+abbrev pub invariant-places : goal.invariant-places
+invariant-places g l =
     record {
       widens : Widens l.initial.table l.table;
       front : IsFront (rows_of l.initial.table) (rows_of l.table);
@@ -22,3 +22,6 @@ invariant-loop-at g l =
       upto : l.at ≤ l.first + length l.calls;
       cost : l.applied + l.first ≤ l.initial.applied + l.at;
     }
+
+abbrev pub decreases-places : goal.decreases-places
+decreases-places g l = length l.calls - l.at

@@ -1,11 +1,12 @@
-use Rattle.std.proofs.Common.{◌≡◌, length}
-use Rattle.ends.specs.Moves.{AreAlike}
+use Rattle.std.proofs.Common.{◌≡◌, ◌-◌, length}
+use Rattle.ends.specs.Moves.{AreAll, AreAlike}
 use Rattle.ends.proofs.moves.note_likes.Given as goal
 
-abbrev pub invariant-loop-at : goal.invariant-loop-at
-invariant-loop-at g l =
+abbrev pub invariant-loop-behind : goal.invariant-loop-behind
+invariant-loop-behind g l =
     record {
-      long : length l.moves.likes.items ≡ l.at;
+      long : length l.moves.likes.items ≡ l.behind;
+      all : AreAll l.calls (length l.calls - l.behind) l.like;
       likes : AreAlike l.calls l.moves.likes.items;
       known : l.moves.known ≡ l.initial.moves.known;
       targets : l.moves.targets ≡ l.initial.moves.targets;

@@ -1,34 +1,14 @@
-use Rattle.std.proofs.Common.{◌≡◌, ◌+◌, [], IfSome, length, get_or, slice_get, sym, ap, ◌∙◌, subst, arith}
-use Rattle.std.proofs.lemmas.Bool.{true≢false}
-use Rattle.std.proofs.lemmas.Option.{get_or_from_slice_get, slice_get_within}
+use Rattle.std.proofs.Common.{◌≡◌, ◌+◌, IfSome, length, get_or, slice_get, ap, ◌∙◌, subst}
+use Rattle.std.proofs.lemmas.Option.{get_or_from_slice_get}
 use Rattle.std.proofs.lemmas.Result.{IfOk-weaker}
 use Rattle.models.specs.Objects.{of_table}
-use Rattle.linspec.proofs.Lists.{Contains-nil}
-use Rattle.ends.specs.declared.moves.Move.TheVariants.{Nowhere}
 use Rattle.ends.specs.Moves.{AreTo, IsKnown, known_at, targets_of}
 use Rattle.ends.specs.Tables.{AreLed, found_by}
-use Rattle.ends.proofs.Leading.{are_led, led_nowhere}
+use Rattle.ends.proofs.Leading.{are_led}
 use Rattle.ends.proofs.Moving.{alike_to, known_does}
-use Rattle.ends.proofs.Rows.{in_unless, not_in_by, zero_none}
+use Rattle.ends.proofs.Rows.{not_in_by, zero_none}
 use Rattle.ends.proofs.Showing.{shows_more}
 use Rattle.ends.proofs.table.led_to.Goals as goal
-
-pub returns-then-not-has_zero-clause-next : goal.returns-then-not-has_zero-clause-next
-returns-then-not-has_zero-clause-next g c known alike once call e here shows = record {
-  each = λ to h. absurd (Contains-nil to h);
-  all = λ f last. absurd (true≢false
-      (sym (in_unless c.args.table.now.founds e call c.args.row.now (c.args.at + 1) (let long = shows.long in let within = slice_get_within c.args.calls.now c.args.at call here in omega (arith, long, within))
-      (shows.slots c.args.at call here) (λ h. true≢false (sym (c.has_zero.ensures.1 h) ∙ c.if-not-has_zero.true))) ∙ last.not_in));
-}
-
-pub returns-then-leads_nowhere-clause-next : goal.returns-then-leads_nowhere-clause-next
-returns-then-leads_nowhere-clause-next g c known alike once call e here shows =
-    let t = c.args.table.now in
-    let targets = c.args.moves.now.targets.items in
-    let d = c.like-place.ensures.is c.args.calls.now alike call here in
-    led_nowhere g.row.M-State.Denot g.M.SeqObject.start_state g.M.SeqObject.apply_to e call t c.args.calls.now c.args.row.now c.args.at
-    (alike_to t g.M.SeqObject.apply_to call d.0 e.state [] d.2 d.3
-    (known_does g.M.SeqObject.apply_to c.args.calls.now t c.args.number c.like-place.result d.0 d.1 e.state (ap (slice_get t.states) c.requires.number ∙ shows.state) c.args.moves.now.known.items targets Nowhere known (sym (c.leads_nowhere.ensures c.if-leads_nowhere.true)) tt))
 
 pub returns-in-Some-clause-next : goal.returns-in-Some-clause-next
 returns-in-Some-clause-next g c known alike once call e here shows =
@@ -37,20 +17,20 @@ returns-in-Some-clause-next g c known alike once call e here shows =
     let targets = c.args.moves.now.targets.items in
     let out = not_in_by e call.id call.crashed
     (zero_none c.args.table.now.founds (get_or row (c.args.at + 1) 0) (found_by e call)
-    (get_or_from_slice_get row (c.args.at + 1) 0 0 (c.has_zero.ensures.0 c.if-not-has_zero.false)) (shows.slots c.args.at call here)) in
-    let told = subst (λ r. IfSome r (λ to. (to ≡ known_at c.args.moves.now.known.items (length c.args.calls.now) c.args.number c.like-place.result) × IsKnown to targets)) c.in-Some.is c.recalled.ensures in
-    let d = c.like-place.ensures.is c.args.calls.now alike call here in
+    (get_or_from_slice_get row (c.args.at + 1) 0 0 c.requires.zero_there) (shows.slots c.args.at call here)) in
+    let told = subst (λ r. IfSome r (λ to. (to ≡ known_at c.args.moves.now.known.items (length c.args.calls.now) c.args.number c.args.place) × IsKnown to targets)) c.in-Some.is c.recalled.ensures in
+    let d = alike call here in
     are_led g.row.M-State.Denot g.M.SeqObject.start_state g.M.SeqObject.apply_to e call out t c.args.calls.now row c.args.at (targets_of c.in-Some.to targets) once here shows
     (alike_to t g.M.SeqObject.apply_to call d.0 e.state (targets_of c.in-Some.to targets) d.2 d.3
-    (known_does g.M.SeqObject.apply_to c.args.calls.now t c.args.number c.like-place.result d.0 d.1 e.state (ap (slice_get t.states) c.requires.number ∙ shows.state) c.args.moves.now.known.items targets c.in-Some.to known told.0 told.1))
+    (known_does g.M.SeqObject.apply_to c.args.calls.now t c.args.number c.args.place d.0 d.1 e.state (ap (slice_get t.states) c.requires.number ∙ shows.state) c.args.moves.now.known.items targets c.in-Some.to known told.0 told.1))
 
 pub returns-in-None-clause-next : goal.returns-in-None-clause-next
 returns-in-None-clause-next g c known alike once call e here shows =
     let row = c.args.row.now in
     let out = not_in_by e call.id call.crashed
     (zero_none c.args.table.now.founds (get_or row (c.args.at + 1) 0) (found_by e call)
-    (get_or_from_slice_get row (c.args.at + 1) 0 0 (c.has_zero.ensures.0 c.if-not-has_zero.false)) (shows.slots c.args.at call here)) in
-    let d = c.like-place.ensures.is c.args.calls.now alike call here in
+    (get_or_from_slice_get row (c.args.at + 1) 0 0 c.requires.zero_there) (shows.slots c.args.at call here)) in
+    let d = alike call here in
     IfOk-weaker c.tried.result
     (λ to. AreTo c.tried.new.table d.0.crashed (g.M.SeqObject.apply_to d.0.op e.state) (targets_of to c.tried.new.moves.targets.items))
     (λ to. AreLed (of_table g.row.M-State.Denot g.M.SeqObject.start_state g.M.SeqObject.apply_to) c.tried.new.table c.args.calls.now row c.args.at e call (targets_of to c.tried.new.moves.targets.items))
