@@ -40,6 +40,7 @@ impl<S> Room<S> {
 }
 
 // Puts the row that stands here, with each of these numbers of a state and at the place, behind the others.
+#[inline(never)]
 fn put_each<S: Hash + Drop>(
     table: &mut Table<S>,
     from: usize,
@@ -68,6 +69,7 @@ fn put_each<S: Hash + Drop>(
 }
 
 // Puts the row that stands here, with the numbers of each target of the move, behind the others.
+#[inline(always)]
 fn put_led<S: Hash + Drop>(
     table: &mut Table<S>,
     from: usize,
