@@ -1,5 +1,5 @@
 -- words put with others, by the rows that they stand for
-use Rattle.std.proofs.Common.{◌≡◌, inl, inr, ⊎_elim, ℕ, ◌+◌, ◌*◌, ◌/◌, ◌%◌, ◌^◌, ◌<◌, ◌≤◌, Bool, true, false, List, [], ◌∷◌, ◌++◌, map, length, take, drop, slice_get, Some, None, option_map, zero, suc, get_or, Vec, Global, refl, sym, ap, ◌∙◌, subst, arith, add-one}
+use Rattle.std.proofs.Common.{◌≡◌, inl, inr, ⊎_elim, ℕ, ◌+◌, ◌*◌, ◌/◌, ◌%◌, ◌^◌, ◌<◌, ◌≤◌, Bool, true, false, List, [], ◌∷◌, ◌++◌, map, length, take, drop, slice_get, Some, None, option_map, Result, Ok, Err, OnOk, OnErr, zero, suc, get_or, Vec, Global, refl, sym, ap, ◌∙◌, subst, arith, add-one}
 use Rattle.std.specs.List.{AllZip, Contains, each_same}
 use Rattle.std.proofs.lemmas.List.{get_or-take, length-take, map_push, take-append-drop}
 use Rattle.std.proofs.lemmas.Grind.{get_or_default_zero}
@@ -45,6 +45,11 @@ module _ (bits long : ℕ) (row : List ℕ) (w : ℕ) (is_long : length row ≡ 
           exact = λ k h. ⊎_elim (are.exact k) (λ q. subst (λ x. value (2 ^ bits) (digits (2 ^ bits) long x) ≡ x) q exact_word) (Contains-push_cases ws w k h);
         }))
         put
+
+  -- where there was no memory for it all is as before
+  pub packed_after : {E : Type 0} (r : Result (Unit {0}) E) (ws now : List ℕ) → ArePacked bits long ws → OnOk r (IsPut w ws now) → OnErr r (now ≡ ws) → ArePacked bits long now
+  packed_after (Ok _) ws now are put kept = packed_still ws now are put
+  packed_after (Err _) ws now are put kept = subst (ArePacked bits long) (sym kept) are
 
 pub packed_none : (bits long : ℕ) (ws : List ℕ) → ws ≡ [] → bits ≤ 32 → bits * long ≤ 128 → ArePacked bits long ws
 packed_none bits long ws none few room = record {

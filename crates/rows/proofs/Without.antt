@@ -1,6 +1,6 @@
 -- a word without one of its numbers
-use Rattle.std.proofs.Common.{◌≡◌, ℕ, zero, suc, ◌+◌, ◌*◌, ◌^◌, ◌/◌, ◌%◌, ◌<◌, ◌≤◌, ◌-◌, List, [], ◌∷◌, length, sym, ap, ◌∙◌, arith, add-one}
-use Rattle.std.proofs.Math.Nat.{zero-add, div-le_self, div-mul-le_self, mod-eq-sub-div-mul, mod-eq_of_lt, mul-le-mul_right, mod-add-div, mul-div_cancel_left, mul_comm, pow-zero, pow-suc, mod-one, div-one, div-div-eq-div-mul}
+use Rattle.std.proofs.Common.{◌≡◌, ℕ, zero, suc, ◌+◌, ◌*◌, ◌^◌, ◌/◌, ◌%◌, ◌<◌, ◌-◌, List, [], ◌∷◌, length, sym, ap, ◌∙◌, arith, add-one}
+use Rattle.std.proofs.Math.Nat.{zero-add, mod-eq-sub-div-mul, mod-add-div, mul-div_cancel_left, mul_comm, pow-zero, pow-suc, mod-one, div-one, div-div-eq-div-mul}
 use Rattle.std.proofs.Math.Arith.{mod-mul}
 use Rattle.std.proofs.lemmas.Nat.{mul-lt, pow_pos}
 use Rattle.std.specs.List.{remove}
@@ -66,15 +66,7 @@ without_word base some n w p word lt exact is =
     is_word base some (remove (digits base n w) p) word (below_remove base some (digits base n w) p (below_digits base some n w)) (is ∙ sym (value_without base some n w p lt exact))
 
 -- as it is made by shifts
-by_shifts : (w p b : ℕ) → w < 2 ^ 128 → w - w / p * p % 2 ^ 128 + w / p / b * p % 2 ^ 128 ≡ w % p + w / p / b * p
-by_shifts w p b small =
-    let front = div-mul-le_self w p in
-    let back : w / p / b * p ≤ w / p * p = mul-le-mul_right p (div-le_self (w / p) b) in
-    let one : w / p * p % 2 ^ 128 ≡ w / p * p = mod-eq_of_lt (omega (arith, front, small)) in
-    let two : w / p / b * p % 2 ^ 128 ≡ w / p / b * p = mod-eq_of_lt (omega (arith, front, back, small)) in
-    let low = mod-eq-sub-div-mul w p in
-    omega (arith, one, two, low)
-
-pub shifted : (bits at w : ℕ) → w < 2 ^ 128 → w - w / 2 ^ (bits * at) * 2 ^ (bits * at) % 2 ^ 128 + w / 2 ^ (bits * at) / 2 ^ bits * 2 ^ (bits * at) % 2 ^ 128 ≡ left_of (2 ^ bits) (pow_pos bits) w at
-shifted bits at w small =
-    by_shifts w (2 ^ (bits * at)) (2 ^ bits) small ∙ ap (λ p. w % p + w / p / 2 ^ bits * p) (sym (pow_of bits at))
+pub shifted : (bits at w : ℕ) → w - w / 2 ^ (bits * at) * 2 ^ (bits * at) + w / 2 ^ (bits * at) / 2 ^ bits * 2 ^ (bits * at) ≡ left_of (2 ^ bits) (pow_pos bits) w at
+shifted bits at w =
+    ap (λ x. x + w / 2 ^ (bits * at) / 2 ^ bits * 2 ^ (bits * at)) (sym (mod-eq-sub-div-mul w (2 ^ (bits * at))))
+    ∙ ap (λ p. w % p + w / p / 2 ^ bits * p) (sym (pow_of bits at))

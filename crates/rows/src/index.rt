@@ -1,5 +1,5 @@
 //! An index of words: where each of them stands, by buckets.
-ghost use Rattle.std.specs.Prelude.{◌≡◌, ℕ, ◌+◌, ◌<◌, ◌^◌, [], length, get_or, IsTrue, IsFalse, OnOk, OnErr};
+ghost use Rattle.std.specs.Prelude.{◌≡◌, ℕ, ◌+◌, ◌<◌, ◌^◌, [], ◌∷◌, ◌++◌, length, get_or, vec_capacity, IsTrue, IsFalse, OnOk, OnErr};
 ghost use Rattle.std.specs.List.{Contains};
 ghost use Rattle.rows.specs.Index.{bucket, IsIndex};
 ghost use Rattle.rows.specs.RowSets.{IsPut};
@@ -111,6 +111,46 @@ fn has_word(words: &[u128], index: &Index, its: usize, word: u128) -> bool
     false
 }
 
+// Puts the word behind the others, which are all indexed: it is in this bucket, and is not there.
+fn put_behind(words: &mut Vec<u128>, index: &mut Index, its: usize, word: u128)
+    requires index { IsIndex (bucket (length index.old.last.items)) words.old.items index.old.last.items index.old.before.items }
+    requires all { length index.old.before.items ≡ length words.old.items }
+    requires within { its < length index.old.last.items }
+    requires its { its ≡ bucket (length index.old.last.items) word }
+    requires few { length words.old.items < 2147483584 }
+    requires room { length words.old.items < vec_capacity words.old }
+    requires places { length index.old.before.items < vec_capacity index.old.before }
+    ensures put { words.new.items ≡ words.old.items ++ word ∷ [] }
+    ensures index { IsIndex (bucket (length index.new.last.items)) words.new.items index.new.last.items index.new.before.items }
+{
+    index.before.push_reserved(index.last[its]);
+    words.push_reserved(word);
+    index.last[its] = words.len() as u32;
+}
+
+// The same, where there may be no room.
+#[inline(never)]
+fn put_with_room(
+    words: &mut Vec<u128>,
+    index: &mut Index,
+    its: usize,
+    word: u128,
+) -> Result<(), AllocError>
+    requires index { IsIndex (bucket (length index.old.last.items)) words.old.items index.old.last.items index.old.before.items }
+    requires all { length index.old.before.items ≡ length words.old.items }
+    requires within { its < length index.old.last.items }
+    requires its { its ≡ bucket (length index.old.last.items) word }
+    requires few { length words.old.items < 2147483584 }
+    ensures put { OnOk result (words.new.items ≡ words.old.items ++ word ∷ []) }
+    ensures err { OnErr result (words.new.items ≡ words.old.items) }
+    ensures index { IsIndex (bucket (length index.new.last.items)) words.new.items index.new.last.items index.new.before.items }
+{
+    words.reserve(1)?;
+    index.before.reserve(1)?;
+    put_behind(words, index, its, word);
+    Ok(())
+}
+
 /// Puts the word with the others, which are all indexed, if it is not there.
 #[inline(never)]
 pub fn put_indexed(words: &mut Vec<u128>, index: &mut Index, word: u128) -> Result<(), AllocError>
@@ -126,9 +166,9 @@ pub fn put_indexed(words: &mut Vec<u128>, index: &mut Index, word: u128) -> Resu
     if has_word(words, index, its, word) {
         return Ok(());
     }
-    words.reserve(1)?;
-    index.before.push(index.last[its])?;
-    words.push_reserved(word);
-    index.last[its] = words.len() as u32;
-    Ok(())
+    if words.len() < words.capacity() && index.before.len() < index.before.capacity() {
+        put_behind(words, index, its, word);
+        return Ok(());
+    }
+    put_with_room(words, index, its, word)
 }

@@ -334,8 +334,7 @@ impl RowSet {
                 unreachable!()
             };
             let next = changed(word, self.bits, self.long, to, at, slot);
-            self.words.put(next)?;
-            return Ok(());
+            return self.words.put(next);
         }
         self.put_next_by_list(from, to, at, slot)
     }
@@ -386,8 +385,7 @@ impl RowSet {
                 unreachable!()
             };
             let left = without(word, other.bits, other.long, place);
-            self.words.put(left)?;
-            return Ok(());
+            return self.words.put(left);
         }
         self.put_without_by_list(other, from, place)
     }

@@ -93,12 +93,23 @@ impl WordSet {
         ensures put { OnOk result (IsPut word self.old self.new) }
         ensures err { OnErr result (self.new ≡ self.old) }
     {
+        let len = self.words.len();
+        if self.index.before.len() == len && len < self.index.last.len() && len < MANY {
+            return put_indexed(&mut self.words, &mut self.index, word);
+        }
+        self.put_anew(word)
+    }
+
+    // The same, where not all are indexed, or there are too many or too few for it.
+    #[inline(never)]
+    fn put_anew(&mut self, word: u128) -> Result<(), AllocError>
+        ensures put { OnOk result (IsPut word self.old self.new) }
+        ensures err { OnErr result (self.new ≡ self.old) }
+    {
         if self.words.len() < FEW || self.words.len() >= MANY {
             return self.put_looked_through(word);
         }
-        if self.index.before.len() < self.words.len() || self.index.last.len() <= self.words.len() {
-            index_words(&self.words, &mut self.index)?;
-        }
+        index_words(&self.words, &mut self.index)?;
         put_indexed(&mut self.words, &mut self.index, word)
     }
 

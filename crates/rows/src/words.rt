@@ -109,7 +109,32 @@ pub fn unpack(word: u128, bits: u32, long: usize, row: &mut Vec<usize>) -> Resul
     Ok(())
 }
 
+// The word, which is of 64 bits, without so many bits behind these.
+#[inline(always)]
+fn without_in_half(word: u64, bits: u32, shift: u32) -> u64
+    requires bits { bits ≤ 32 }
+    requires shift { shift < 64 }
+    ensures { let rest = word / 2 ^ shift in
+        result ≡ word - rest * 2 ^ shift + rest / 2 ^ bits * 2 ^ shift }
+{
+    let rest = word >> shift;
+    word - (rest << shift) + (rest >> bits << shift)
+}
+
+// The word without so many bits behind these.
+#[inline(always)]
+fn without_in_whole(word: u128, bits: u32, shift: u32) -> u128
+    requires bits { bits ≤ 32 }
+    requires shift { shift < 128 }
+    ensures { let rest = word / 2 ^ shift in
+        result ≡ word - rest * 2 ^ shift + rest / 2 ^ bits * 2 ^ shift }
+{
+    let rest = word >> shift;
+    word - (rest << shift) + (rest >> bits << shift)
+}
+
 /// The word without the number at this place.
+#[inline(always)]
 pub fn without(word: u128, bits: u32, long: usize, at: usize) -> u128
     requires bits { bits ≤ 32 }
     requires some { 0 < bits }
@@ -119,8 +144,10 @@ pub fn without(word: u128, bits: u32, long: usize, at: usize) -> u128
     ensures { IsWordOf (2 ^ bits) (remove (digits (2 ^ bits) long word) at) result }
 {
     let shift = bits * at as u32;
-    let rest = word >> shift;
-    word - (rest << shift) + (rest >> bits << shift)
+    match u64::try_from(word) {
+        Ok(half) if shift < 64 => without_in_half(half, bits, shift) as u128,
+        _ => without_in_whole(word, bits, shift),
+    }
 }
 
 /// The word of the row, if none of its numbers has more bits.

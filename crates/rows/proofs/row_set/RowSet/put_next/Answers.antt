@@ -1,9 +1,10 @@
-use Rattle.std.proofs.Common.{ℕ, ◌^◌, List, [], map, length, get_or, set, sym, ap, ◌∙◌, subst, arith}
+use Rattle.std.proofs.Common.{◌≡◌, ◌^◌, map, length, get_or, set, sym, ap, ◌∙◌, subst, arith}
 use Rattle.std.proofs.lemmas.List.{length-set}
+use Rattle.std.proofs.lemmas.Result.{on_err_weaker, on_ok_weaker}
 use Rattle.rows.specs.RowSets.{IsPut}
 use Rattle.rows.specs.Words.{digits, rows_in}
 use Rattle.rows.proofs.Digits.{length-digits}
-use Rattle.rows.proofs.Packing.{packed_still, put_word, row_there, shows_words}
+use Rattle.rows.proofs.Packing.{packed_after, put_word, row_there, shows_words}
 use Rattle.rows.proofs.row_set.RowSet.put_next.Goals as goal
 
 pub changed-next-requires-clause-within : goal.changed-next-requires-clause-within
@@ -22,13 +23,13 @@ changed-next-requires-clause-zero_there c =
     let there = row_there c.args.self.now i.bits i.long c.args.from c.in-Some.word i.words rows (sym c.in-Some.ensures) in
     ap (λ l. get_or l c.args.at 0) (sym there) ∙ c.requires.zero_there
 
-pub invariant_of-self-then-slot-self-eq0 : goal.invariant_of-self-then-slot-self-eq0
-invariant_of-self-then-slot-self-eq0 c =
+pub invariant_of-self : goal.invariant_of-self
+invariant_of-self c =
     let i = c.self.inside in
     let row = digits (2 ^ i.bits) i.long c.in-Some.word in
-    packed_still i.bits i.long (set (set row 0 c.args.to) c.args.at c.args.slot) c.changed-next.result
+    packed_after i.bits i.long (set (set row 0 c.args.to) c.args.at c.args.slot) c.changed-next.result
     (length-set (set row 0 c.args.to) c.args.at c.args.slot ∙ length-set row 0 c.args.to ∙ length-digits (2 ^ i.bits) i.long c.in-Some.word)
-    c.changed-next.ensures i.words c.put.new.self c.self.invariant c.in_ok-put.ensures.put
+    c.changed-next.ensures c.put.result i.words c.put.new.self c.self.invariant c.put.ensures.put c.put.ensures.err
 
 pub returns-then-slot-self-eq0-clause-put : goal.returns-then-slot-self-eq0-clause-put
 returns-then-slot-self-eq0-clause-put c =
@@ -37,9 +38,19 @@ returns-then-slot-self-eq0-clause-put c =
     let rows = sym (shows_words i.wide i.bits i.long i.words i.lists.keys c.if-not-self.true) ∙ c.self.view_is in
     let there = row_there c.args.self.now i.bits i.long c.args.from c.in-Some.word i.words rows (sym c.in-Some.ensures) in
     let after = rows_in i.wide i.bits i.long c.put.new.self i.lists.keys in
+    on_ok_weaker c.put.result
+    (λ (put : IsPut c.changed-next.result i.words c.put.new.self).
     subst (λ r. IsPut (set (set r 0 c.args.to) c.args.at c.args.slot) c.args.self.now after) (sym there)
     (subst (λ l. IsPut (set (set row 0 c.args.to) c.args.at c.args.slot) l after) rows
     (subst (IsPut (set (set row 0 c.args.to) c.args.at c.args.slot) (map (digits (2 ^ i.bits) i.long) i.words)) (sym (shows_words i.wide i.bits i.long c.put.new.self i.lists.keys c.if-not-self.true))
     (put_word i.bits i.long (set (set row 0 c.args.to) c.args.at c.args.slot) c.changed-next.result
     (length-set (set row 0 c.args.to) c.args.at c.args.slot ∙ length-set row 0 c.args.to ∙ length-digits (2 ^ i.bits) i.long c.in-Some.word)
-    c.changed-next.ensures i.words c.put.new.self c.self.invariant c.in_ok-put.ensures.put)))
+    c.changed-next.ensures i.words c.put.new.self c.self.invariant put))))
+    c.put.ensures.put
+
+pub returns-then-slot-self-eq0-clause-err : goal.returns-then-slot-self-eq0-clause-err
+returns-then-slot-self-eq0-clause-err c =
+    let i = c.self.inside in
+    on_err_weaker c.put.result
+    (λ (kept : c.put.new.self ≡ i.words). ap (λ l. rows_in i.wide i.bits i.long l i.lists.keys) kept ∙ c.self.view_is)
+    c.put.ensures.err
