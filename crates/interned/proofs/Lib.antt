@@ -1,3 +1,3 @@
 pub mod Lists
 pub mod Founding
-mod Distinct
+pub mod Indexing

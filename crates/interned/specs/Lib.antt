@@ -1,3 +1,4 @@
 pub mod Numbers
 pub mod FoundKeys
 pub mod Founds
+pub mod Index

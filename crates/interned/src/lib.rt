@@ -4,6 +4,7 @@
 
 mod found_key;
 pub mod founds;
+mod index;
 pub mod states;
 
 pub use founds::Founds;

@@ -1,26 +1,31 @@
 //! States by number.
-ghost use Rattle.std.specs.Prelude.{◌≡◌, [], length, Some, slice_get, option_copied, IfOk};
+ghost use Rattle.std.specs.Prelude.{◌≡◌, ◌≢◌, ℕ, ◌<◌, [], ◌∷◌, ◌++◌, List, map, length, Some, slice_get, option_copied, vec_capacity, IfOk, OnOk, OnErr};
 ghost use Rattle.history.specs.Events.{IsFront};
+ghost use Rattle.interned.specs.Index.{AreStates, hash_by};
 ghost use Rattle.interned.specs.Numbers.{IsOnceIn};
 
-use indexmap::IndexSet;
+use crate::index::{Index, hash_of, index_all, place_of, put_behind};
 use models::SeqObject;
 use std::alloc::{AllocError, Global};
 use std::hash::Hash;
 use std::marker::Model;
 
-/// Different states, each with a number, which is its place.
+/// Different states, each with a number, which is its place. An index of their hashes finds them.
 #[derive(Drop)]
 pub struct States<S: Hash + Drop> {
-    items: IndexSet<S>,
+    items: Vec<S>,
+    index: Index,
 }
 
 impl<S: Hash + Drop> Model for States<S> {
     ghost use Rattle.std.specs.Prelude.{List};
+    ghost use Rattle.interned.specs.Index.{AreStates};
 
     ghost Value = { List S };
 
-    ghost view = { λ a. a.items.keys };
+    ghost view = { λ a. a.items.items };
+
+    ghost invariant = { λ a. AreStates S.hash_input a.items.items a.index.hashes.items a.index.last.items a.index.before.items };
 }
 
 impl<S: Hash + Drop> States<S> {
@@ -29,7 +34,12 @@ impl<S: Hash + Drop> States<S> {
         ensures { result ≡ [] }
     {
         States {
-            items: IndexSet::new(alloc),
+            items: Vec::new(alloc),
+            index: Index {
+                hashes: Vec::new(alloc),
+                last: Vec::new(alloc),
+                before: Vec::new(alloc),
+            },
         }
     }
 
@@ -45,8 +55,35 @@ impl<S: Hash + Drop> States<S> {
     pub fn get(&self, at: usize) -> Option<&S>
         ensures { option_copied result ≡ slice_get self.now at }
     {
-        self.items.get_index(at)
+        self.items.get(at)
     }
+}
+
+// The number of the state, which has this hash. All hashes are indexed.
+fn numbered<M: SeqObject>(
+    items: &mut Vec<M::State>,
+    index: &mut Index,
+    hash: u64,
+    state: M::State,
+) -> Result<usize, AllocError>
+    requires hash { hash ≡ hash_by M.State.hash_input state }
+    requires states { AreStates M.State.hash_input items.old.items index.old.hashes.items index.old.last.items index.old.before.items }
+    requires all { length index.old.before.items ≡ length index.old.hashes.items }
+    requires some { 0 < length index.old.last.items }
+    ensures there { IfOk result (λ at. slice_get items.new.items at ≡ Some state) }
+    ensures front { IsFront items.old.items items.new.items }
+    ensures states { AreStates M.State.hash_input items.new.items index.new.hashes.items index.new.last.items index.new.before.items }
+{
+    if let Some(at) = place_of::<M>(items, index, hash, &state) {
+        return Ok(at);
+    }
+    items.reserve(1)?;
+    index.hashes.reserve(1)?;
+    index.before.reserve(1)?;
+    let at = items.len();
+    items.push_reserved(state);
+    put_behind(index, hash);
+    Ok(at)
 }
 
 /// The number of the state, which is put with the others if it is new.
@@ -58,8 +95,13 @@ pub fn number_of<M: SeqObject>(
     ensures front { IsFront states.old states.new }
     ensures once { IsOnceIn states.new }
 {
-    let (at, _new) = states.items.insert_full(state)?;
-    Ok(at)
+    let hash = hash_of(&state);
+    if states.index.before.len() < states.index.hashes.len()
+        || states.index.last.len() <= states.index.hashes.len()
+    {
+        index_all(&mut states.index)?;
+    }
+    numbered::<M>(&mut states.items, &mut states.index, hash, state)
 }
 
 /// The same states, with the same numbers.
@@ -69,12 +111,17 @@ pub fn copied<M: SeqObject>(
 ) -> Result<States<M::State>, AllocError>
     ensures { IfOk result (λ copy. copy ≡ states.now) }
 {
-    let mut items = IndexSet::with_capacity(alloc, states.items.len())?;
-    for at in 0..states.items.len() {
-        let Some(state) = states.items.get_index(at) else {
-            unreachable!()
-        };
-        items.insert(M::copy(alloc, state)?)?;
+    let mut items = Vec::with_capacity(alloc, states.items.len())?;
+    for state in &states.items {
+        items.push(M::copy(alloc, state)?)?;
     }
-    Ok(States { items })
+    let hashes = Vec::from_slice(alloc, &states.index.hashes)?;
+    Ok(States {
+        items,
+        index: Index {
+            hashes,
+            last: Vec::new(alloc),
+            before: Vec::new(alloc),
+        },
+    })
 }

@@ -313,7 +313,7 @@ impl RowSet {
     }
 
     /// Puts the row at a place with this first number, and with this number where it has zero, if that is not there.
-    #[inline(always)]
+    #[inline(never)]
     pub fn put_next(
         &mut self,
         from: usize,
