@@ -65,7 +65,7 @@ fn make_buckets(many: usize, index: &mut Index) -> Result<(), AllocError>
     index.last.clear();
     index.last.resize(
         if wanted < room && room < MOST {
-            room
+            room.min(4 * wanted)
         } else {
             wanted
         },
