@@ -11,6 +11,7 @@ pub mod Matching
 pub mod PairMatching
 pub mod Pairing
 pub mod Repeats
+mod Rising
 pub mod Scalars
 pub mod Deciding
 pub mod Views

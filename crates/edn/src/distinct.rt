@@ -1,6 +1,6 @@
 //! Whether keys and members are all different by [`same`].
 
-ghost use Rattle.std.specs.Prelude.{◌≡◌, ◌↔◌, IsTrue, IfOk, MatchOption, map};
+ghost use Rattle.std.specs.Prelude.{◌≡◌, ◌↔◌, ℤ, ◌<ℤ◌, Some, IsTrue, IfOk, IfSome, MatchOption, map};
 ghost use Rattle.edn.specs.Value.{Value, IsNotAmong, AreDistinct};
 ghost use Rattle.edn.specs.Scalar.{scalar_value, IsCollection};
 ghost use Rattle.edn.specs.View.{value_of, list_of};
@@ -72,17 +72,49 @@ fn is_not_among<T: Keyed>(key: &Edn, items: &[T]) -> bool
     true
 }
 
+// The integer, if it is greater than the last one, or there is none.
+fn above(n: &i64, last: Option<i64>) -> Option<i64>
+    ensures { IfSome result (λ k. (k ≡ n.now) × ((m : ℤ) → last ≡ Some m → m <ℤ n.now)) }
+{
+    match last {
+        Some(m) if m >= *n => None,
+        _ => Some(*n),
+    }
+}
+
+// Whether the keys are integers, each greater than the one before it, as those of a set that is written in order. They are
+// all different then.
+fn rise<T: Keyed>(items: &[T]) -> bool
+    ensures { IsTrue result → AreDistinct (list_of (map T.key_value items.now)) }
+{
+    let mut last: Option<i64> = None;
+    for item in items {
+        let Edn::Int(n) = item.key() else {
+            return false;
+        };
+        last = above(n, last);
+        if last.is_none() {
+            return false;
+        }
+    }
+    true
+}
+
 // Among so many items each key is compared with those before it, which takes no memory.
 const FEW: usize = 8;
 
 /// Whether no two of the items have the same key. The time grows with the logarithm of their number for an atom or a
-/// string, and with their number for a collection. Of at most 8 items, each is compared with those before it.
+/// string, and with their number for a collection. Of at most 8 items, each is compared with those before it; integers
+/// that rise are looked at once, and take no memory.
 pub fn are_distinct<T: Keyed>(alloc: Global, items: &[T]) -> Result<bool, AllocError>
     ensures { IfOk result
         (λ yes. IsTrue yes ↔ AreDistinct (list_of (map T.key_value items.now))) }
 {
     if items.len() <= FEW {
         return Ok(all_differ(items));
+    }
+    if rise(items) {
+        return Ok(true);
     }
     let mut scalars = BTreeSet::new(alloc);
     for (i, item) in items.iter().enumerate() {
