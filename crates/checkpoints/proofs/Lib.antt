@@ -8,5 +8,4 @@ pub mod Noting
 pub mod Preparing
 pub mod Copies
 pub mod Cutting
-pub mod Lending
 pub mod Settled

@@ -1,6 +1,5 @@
 pub mod LiveKey
 pub mod KeyState
-pub mod Lent
 pub mod Next
 pub mod KeyLineView
 pub mod Saved

@@ -8,5 +8,3 @@ pub mod KeptMarks
 pub mod Finishing
 pub mod KindsOf
 pub mod Attempts
-pub mod KeyHistory
-pub mod JudgedHistory

@@ -8,5 +8,3 @@ pub mod Counting
 pub mod Steps
 pub mod Tables
 pub mod Sorting
-pub mod Sums
-pub mod Alike

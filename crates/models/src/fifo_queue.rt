@@ -7,7 +7,6 @@ use crate::finding::Found;
 use crate::items::Items;
 use crate::object::SeqObject;
 use crate::operation::{Name, Op, Part};
-use crate::outcomes::put_outcome;
 use std::alloc::{AllocError, Global};
 
 /// A queue, empty at first: an enqueue adds its value at the back, a dequeue takes the front off and finds it.
@@ -36,7 +35,7 @@ impl SeqObject for FifoQueue {
     }
 
     fn append_outcomes(
-        _alloc: Global,
+        alloc: Global,
         state: &Items,
         op: &Op,
         outcomes: &mut Vec<(Items, Found)>,
@@ -44,12 +43,14 @@ impl SeqObject for FifoQueue {
         match (op.name, &op.part) {
             (Name::Enqueue, Part::Int(value)) => {
                 let longer = state.with(*value)?;
-                put_outcome(outcomes, longer, Found::Unit)
+                outcomes.push((longer, Found::Unit))?;
+                Ok(())
             }
             (Name::Dequeue, Part::Nil) => match state.as_slice().split_first() {
-                Some((front, _others)) => {
-                    let others = state.without_front()?;
-                    put_outcome(outcomes, others, Found::Item(*front))
+                Some((front, others)) => {
+                    let others = Items::of_slice(alloc, others)?;
+                    outcomes.push((others, Found::Item(*front)))?;
+                    Ok(())
                 }
                 None => Ok(()),
             },

@@ -20,8 +20,7 @@ pub enum Found {
 }
 
 impl Found {
-    /// An equal value, which shares the members of a set. Takes constant time, and no memory; `AllocError` where as many
-    /// share them as can be counted.
+    /// An equal value, with memory of its own; `AllocError` where there is none. Takes the time of the members.
     pub fn copy(&self) -> Result<Found, AllocError>
         ensures { IfOk result (λ other. other ≡ self.now) }
     {
@@ -73,8 +72,7 @@ impl Answer {
         }
     }
 
-    /// An equal value, which shares the members of a set. Takes constant time, and no memory; `AllocError` where as many
-    /// share them as can be counted.
+    /// An equal value, with memory of its own; `AllocError` where there is none. Takes the time of the members.
     pub fn copy(&self) -> Result<Answer, AllocError>
         ensures { IfOk result (λ other. other ≡ self.now) }
     {

@@ -1,4 +1,5 @@
 pub mod Judged
+pub mod JudgedHistory
 pub mod Loading
 pub mod Monitors
 pub mod Rows
