@@ -1,11 +1,12 @@
 -- many writes of one process are a history
-use Rattle.std.proofs.Common.{◌≡◌, ℕ, zero, suc, ◌+◌, ◌*◌, ◌≤◌, Option, None, List, [], ◌∷◌, ◌++◌, refl, sym, ap, ◌∙◌, subst, append_assoc, arith}
+use Rattle.std.proofs.Common.{◌≡◌, ℕ, zero, suc, ◌+◌, ◌*◌, ◌≤◌, Option, None, List, [], ◌∷◌, ◌++◌, slice_get, refl, sym, ap, ◌∙◌, subst, append_assoc, arith}
 use Rattle.std.proofs.Math.Numerals.{add-one}
 use Rattle.history.specs.declared.event.EventKind.TheVariants.{Invoke, Ok}
 use Rattle.history.specs.declared.event.Event.{Event}
 use Rattle.history.specs.Events.{op_event}
 use Rattle.history.specs.ProcessRule.{busy_after, MayComeFrom, IsHistory}
-use Rattle.acceptance.specs.LongLine.{write_by, writes_from}
+use Rattle.checkpoints.specs.Lent.{AreLentBy}
+use Rattle.acceptance.specs.LongLine.{write_by, writes, writes_from}
 
 from_free : (n i k : ℕ) (busy : ℕ → Option ℕ) → n ≤ 2 * i → busy 0 ≡ None → MayComeFrom n busy (writes_from i k)
 from_free n i zero busy le free = tt
@@ -59,3 +60,29 @@ module _ (k : ℕ) where
       subst (λ l. IsHistory (l ++ (i, first) ∷ [])) (sym are)
       (subst (λ e. IsHistory (writes_from 0 k ++ (i, e) ∷ [])) (sym invokes)
       (subst (λ a. IsHistory (writes_from 0 k ++ (a, write_by Invoke) ∷ [])) (sym at) may_invoke))
+
+-- the events alone
+more_events : (k : ℕ) → writes (suc k) ≡ writes k ++ write_by Invoke ∷ write_by Ok ∷ []
+more_events zero = refl
+more_events (suc k) = ap (λ l. write_by Invoke ∷ write_by Ok ∷ l) (more_events k)
+
+pub one_more_made : (k : ℕ) (events : List Event) (first second : Event) → events ≡ writes k → first ≡ write_by Invoke → second ≡ write_by Ok → (events ++ first ∷ []) ++ second ∷ [] ≡ writes (k + 1)
+one_more_made k events first second are invokes returns =
+    append_assoc events (first ∷ []) (second ∷ [])
+    ∙ ap (λ l. l ++ first ∷ second ∷ []) are
+    ∙ ap (λ e. writes k ++ e ∷ second ∷ []) invokes
+    ∙ ap (λ e. writes k ++ write_by Invoke ∷ e ∷ []) returns
+    ∙ sym (more_events k)
+    ∙ sym (ap writes (add-one k))
+
+-- the line is lent its events by them
+lent_from : (all : List Event) (i k : ℕ) → ((j : ℕ) → slice_get all (2 * i + j) ≡ slice_get (writes k) j) → AreLentBy all (writes_from i k)
+lent_from all i zero same p d lt = absurd (omega arith)
+lent_from all i (suc k) same zero d lt = ap (slice_get all) (let here : 2 * i ≡ 2 * i + 0 = omega arith in here) ∙ same 0
+lent_from all i (suc k) same (suc zero) d lt = same 1
+lent_from all i (suc k) same (suc (suc p)) d lt =
+    lent_from all (i + 1) k (λ j. ap (slice_get all) (let next : 2 * (i + 1) + j ≡ 2 * i + suc (suc j) = omega arith in next) ∙ same (suc (suc j))) p d (omega arith)
+
+pub writes_lent : (k : ℕ) (lent : List Event) (events : List (ℕ × Event)) → lent ≡ writes k → events ≡ writes_from 0 k → AreLentBy lent events
+writes_lent k lent events all are =
+    subst (AreLentBy lent) (sym are) (lent_from lent 0 k (λ j. ap (slice_get lent) (let here : 2 * 0 + j ≡ j = omega arith in here) ∙ ap (λ l. slice_get l j) all))

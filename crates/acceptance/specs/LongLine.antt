@@ -22,3 +22,8 @@ abbrev pub writes_from : ℕ → ℕ → List (ℕ × Event)
 writes_from i zero = []
 writes_from i (suc k) =
     (2 * i, write_by Invoke) ∷ (2 * i + 1, write_by Ok) ∷ writes_from (i + 1) k
+
+-- the events alone
+abbrev pub writes : ℕ → List Event
+writes zero = []
+writes (suc k) = write_by Invoke ∷ write_by Ok ∷ writes k

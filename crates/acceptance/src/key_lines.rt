@@ -1,6 +1,6 @@
 //! Lines of a few events, against statuses that follow from the definitions by hand.
 ghost use Rattle.std.specs.Prelude.{◌≡◌, IfOk};
-ghost use Rattle.acceptance.specs.LongLine.{writes_from};
+ghost use Rattle.acceptance.specs.LongLine.{writes, writes_from};
 
 use crate::plain::event;
 use checkpoints::KeyLine;
@@ -15,12 +15,12 @@ use std::test::Fail;
 #[test]
 fn prepared_events(rt: HostRuntime) -> Result<(), Fail> {
     let mut line = KeyLine::new(rt.alloc(), ModelKind::Mutex, 4096)?;
-    line.push(0, event(0, EventKind::Invoke, Name::Release, Part::Nil))?;
-    let crashed = line.prepare_push(1, event(0, EventKind::Info, Name::Release, Part::Nil))?;
+    line.push(0, &event(0, EventKind::Invoke, Name::Release, Part::Nil))?;
+    let crashed = line.prepare_push(1, &event(0, EventKind::Info, Name::Release, Part::Nil))?;
     assert!(rt; matches!(crashed, KeyStatus::Alive));
-    let failed = line.prepare_push(1, event(0, EventKind::Fail, Name::Release, Part::Nil))?;
+    let failed = line.prepare_push(1, &event(0, EventKind::Fail, Name::Release, Part::Nil))?;
     assert!(rt; matches!(failed, KeyStatus::Alive));
-    let returned = line.prepare_push(1, event(0, EventKind::Ok, Name::Release, Part::Nil))?;
+    let returned = line.prepare_push(1, &event(0, EventKind::Ok, Name::Release, Part::Nil))?;
     assert!(rt; matches!(returned, KeyStatus::Dead(1)));
     assert!(rt; matches!(line.status(), KeyStatus::Alive));
     line.commit();
@@ -37,9 +37,9 @@ fn fault_changes_nothing(rt: HostRuntime) -> Result<(), Fail> {
         process: Process::Nemesis,
         body: Body::Fault(Fault::Heal),
     };
-    line.push(0, heal)?;
-    line.push(1, event(0, EventKind::Invoke, Name::Write, Part::Int(1)))?;
-    line.push(2, event(0, EventKind::Ok, Name::Write, Part::Int(1)))?;
+    line.push(0, &heal)?;
+    line.push(1, &event(0, EventKind::Invoke, Name::Write, Part::Int(1)))?;
+    line.push(2, &event(0, EventKind::Ok, Name::Write, Part::Int(1)))?;
     assert!(rt; matches!(line.status(), KeyStatus::Alive));
     assert_eq!(rt; line.len(), 3);
     Ok(())
@@ -53,21 +53,34 @@ fn written(alloc: Global) -> Result<KeyLine, AllocError>
     for round in 0..65 {
         line.push(
             2 * round,
-            event(0, EventKind::Invoke, Name::Write, Part::Int(1)),
+            &event(0, EventKind::Invoke, Name::Write, Part::Int(1)),
         )?;
         line.push(
             2 * round + 1,
-            event(0, EventKind::Ok, Name::Write, Part::Int(1)),
+            &event(0, EventKind::Ok, Name::Write, Part::Int(1)),
         )?;
     }
     Ok(line)
 }
 
+// The events of such a line alone, which are the history that it is lent.
+fn writes_made(alloc: Global) -> Result<Vec<Event>, AllocError>
+    ensures { IfOk result (λ made. made.items ≡ writes 65) }
+{
+    let mut events = Vec::new(alloc);
+    for _ in 0..65u32 {
+        events.push(event(0, EventKind::Invoke, Name::Write, Part::Int(1)))?;
+        events.push(event(0, EventKind::Ok, Name::Write, Part::Int(1)))?;
+    }
+    Ok(events)
+}
+
 // How many events a cut of such a line judges again, and how many it leaves.
 fn after_cut(alloc: Global, n: u32) -> Result<(u64, usize), AllocError> {
+    let lent = writes_made(alloc)?;
     let mut line = written(alloc)?;
     let before = line.replayed();
-    line.cut(n)?;
+    line.cut(n, &lent)?;
     Ok((line.replayed().wrapping_sub(before), line.len()))
 }
 
@@ -85,12 +98,13 @@ fn rewind_replays_few(rt: HostRuntime) -> Result<(), Fail> {
 // Each event that is pushed is one replay, another kind judges each once more, and a cut counts once it is committed.
 #[test]
 fn replays_are_counted(rt: HostRuntime) -> Result<(), Fail> {
+    let lent = writes_made(rt.alloc())?;
     let mut line = written(rt.alloc())?;
     assert!(rt; matches!(line.status(), KeyStatus::Alive));
     assert_eq!(rt; line.replayed(), 130);
-    line.rebuild(ModelKind::CasRegister, 4096)?;
+    line.rebuild(ModelKind::CasRegister, 4096, &lent)?;
     assert_eq!(rt; line.replayed(), 260);
-    line.prepare_cut(127)?;
+    line.prepare_cut(127, &lent)?;
     assert_eq!(rt; line.due(), 63);
     assert_eq!(rt; line.replayed(), 260);
     Ok(())
@@ -99,8 +113,8 @@ fn replays_are_counted(rt: HostRuntime) -> Result<(), Fail> {
 // Two events, of indices 3 and 5.
 fn three_and_five(alloc: Global) -> Result<KeyLine, AllocError> {
     let mut line = KeyLine::new(alloc, ModelKind::Register, 4096)?;
-    line.push(3, event(0, EventKind::Invoke, Name::Write, Part::Int(1)))?;
-    line.push(5, event(0, EventKind::Ok, Name::Write, Part::Int(1)))?;
+    line.push(3, &event(0, EventKind::Invoke, Name::Write, Part::Int(1)))?;
+    line.push(5, &event(0, EventKind::Ok, Name::Write, Part::Int(1)))?;
     Ok(line)
 }
 

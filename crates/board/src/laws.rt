@@ -5,7 +5,7 @@ ghost use Rattle.history.specs.Events.{marks};
 ghost use Rattle.linspec.specs.Orders.{IsLinearizable, product};
 ghost use Rattle.test_store.specs.declared.outcome.Mode.TheVariants.{Strict};
 ghost use Rattle.test_store.specs.Store.{IsCount};
-ghost use Rattle.monitor.specs.JudgedHistory.{kind_of, entries_in};
+ghost use Rattle.linspec.specs.JudgedHistory.{kind_of, entries_in};
 ghost use Rattle.machine.specs.Machine.{Machine, Setup, opening, AreOfTrial};
 ghost use Rattle.board.specs.CoreTape.{CoreTape, LeadsTo, opening_tape, calls_on};
 

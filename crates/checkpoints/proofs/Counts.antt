@@ -1,7 +1,8 @@
 -- counts of replays
 use Rattle.std.proofs.Common.{◌≡◌, ℕ, ◌+◌, ◌-◌, ◌%◌, ◌^◌, ◌<◌, ◌≤◌, false, length, arith}
 use Rattle.std.proofs.lemmas.Bool.{cond_both, cond-false}
-use Rattle.checkpoints.specs.KeyLineView.{KeyHistory, events_below, loses_at, replays_at, count_on}
+use Rattle.linspec.specs.KeyHistory.{KeyHistory, events_below, loses_at}
+use Rattle.checkpoints.specs.KeyLineView.{replays_at, count_on}
 
 pub count_on_none : (n : ℕ) → n ≤ 2 ^ 64 - 1 → count_on n 0 ≡ n
 count_on_none n le = omega arith

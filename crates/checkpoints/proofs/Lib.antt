@@ -8,4 +8,5 @@ pub mod Noting
 pub mod Preparing
 pub mod Copies
 pub mod Cutting
+pub mod Lending
 pub mod Settled

@@ -1,4 +1,4 @@
--- which invocations are noted, where an event is prepared or carried out, and which operations are open
+-- which invocations are noted, where an event is prepared, and which operations are open
 use Rattle.std.proofs.Common.{◌≡◌, ◌≢◌, ℕ, ⊎_elim, cond, nat_eq, Option, Some, None, refl, sym, ap, ◌∙◌, subst}
 use Rattle.std.proofs.lemmas.Bool.{cases_eq}
 use Rattle.models.specs.declared.operation.Op.{Op}
@@ -7,7 +7,7 @@ use Rattle.history.specs.declared.event.EventKind.TheVariants as kinds
 use Rattle.history.specs.Events.{act_by, last_by}
 use Rattle.history.specs.ProcessRule.{MayAct, busy_by}
 use Rattle.linspec.proofs.Histories.{cond_same, cond_other}
-use Rattle.checkpoints.specs.LiveKey.{id_by, open_by, closed_by}
+use Rattle.checkpoints.specs.LiveKey.{id_by, closed_by}
 
 -- an invocation is noted
 abbrev pub IsNoted : ℕ → EventKind → Option ℕ → Type 0
@@ -60,34 +60,19 @@ module _ (p key : ℕ) (op : Op) (busy : ℕ → Option ℕ) where
   none_closed kinds.Fail q is = left_none q is
   none_closed kinds.Info q is = left_none q is
 
-module _ (index p : ℕ) (kind : EventKind) (was now : ℕ → Option ℕ) where
-  -- an event that is carried out
-  module _ (turned : (q : ℕ) → now q ≡ cond (nat_eq q p) (open_by index kind) (was q)) where
-    pub turned_others : (q : ℕ) → q ≢ p → now q ≡ was q
-    turned_others q ne = turned q ∙ cond_other q p (open_by index kind) (was q) ne
+-- an event that is prepared
+module _ (index p : ℕ) (kind : EventKind) (was now : ℕ → Option ℕ) (noted : (q : ℕ) → now q ≡ cond (nat_eq q p) (id_by index kind (was q)) (was q)) where
+  pub noted_others : (q : ℕ) → q ≢ p → now q ≡ was q
+  noted_others q ne = noted q ∙ cond_other q p (id_by index kind (was q)) (was q) ne
 
-    pub turned_here : IsNoted index kind (now p)
-    turned_here = is_noted kind (turned p ∙ cond_same p p (open_by index kind) (was p) refl)
-      where
-        is_noted : (k : EventKind) → now p ≡ open_by index k → IsNoted index k (now p)
-        is_noted kinds.Invoke is = is
-        is_noted kinds.Ok is = tt
-        is_noted kinds.Fail is = tt
-        is_noted kinds.Info is = tt
+  pub noted_as : now p ≡ id_by index kind (was p)
+  noted_as = noted p ∙ cond_same p p (id_by index kind (was p)) (was p) refl
 
-  -- an event that is prepared
-  module _ (noted : (q : ℕ) → now q ≡ cond (nat_eq q p) (id_by index kind (was q)) (was q)) where
-    pub noted_others : (q : ℕ) → q ≢ p → now q ≡ was q
-    noted_others q ne = noted q ∙ cond_other q p (id_by index kind (was q)) (was q) ne
-
-    pub noted_as : now p ≡ id_by index kind (was p)
-    noted_as = noted p ∙ cond_same p p (id_by index kind (was p)) (was p) refl
-
-    pub noted_here : IsNoted index kind (now p)
-    noted_here = is_noted kind noted_as
-      where
-        is_noted : (k : EventKind) → now p ≡ id_by index k (was p) → IsNoted index k (now p)
-        is_noted kinds.Invoke is = is
-        is_noted kinds.Ok is = tt
-        is_noted kinds.Fail is = tt
-        is_noted kinds.Info is = tt
+  pub noted_here : IsNoted index kind (now p)
+  noted_here = is_noted kind noted_as
+    where
+      is_noted : (k : EventKind) → now p ≡ id_by index k (was p) → IsNoted index k (now p)
+      is_noted kinds.Invoke is = is
+      is_noted kinds.Ok is = tt
+      is_noted kinds.Fail is = tt
+      is_noted kinds.Info is = tt

@@ -25,10 +25,6 @@ may_come : (n : ℕ) (busy : ℕ → Option ℕ) (events : List (ℕ × Event)) 
 may_come n busy [] x h = h.1
 may_come n busy (y ∷ events) x h = may_come (y.0 + 1) (busy_after busy (op_event y.1)) events x h.2
 
-may_come_before : (n : ℕ) (busy : ℕ → Option ℕ) (events : List (ℕ × Event)) (x : ℕ × Event) → MayComeFrom n busy (events ++ x ∷ []) → MayComeFrom n busy events
-may_come_before n busy [] x h = tt
-may_come_before n busy (y ∷ events) x h = (h.0, h.1, may_come_before (y.0 + 1) (busy_after busy (op_event y.1)) events x h.2)
-
 module _ (events : List (ℕ × Event)) (x : ℕ × Event) where
   -- the entries of the events with one more
   pub entries_of-push : entries_of (events ++ x ∷ []) ≡ entries_of events ++ entries_by x.0 (invocation_of events) (op_event x.1)
@@ -42,6 +38,3 @@ module _ (events : List (ℕ × Event)) (x : ℕ × Event) where
 
   pub MayCome-push : IsHistory (events ++ x ∷ []) → MayCome (busy_of events) (op_event x.1)
   MayCome-push h = may_come 0 (λ _. None) events x h
-
-  pub IsHistory-before : IsHistory (events ++ x ∷ []) → IsHistory events
-  IsHistory-before h = may_come_before 0 (λ _. None) events x h

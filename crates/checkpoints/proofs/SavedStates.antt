@@ -1,57 +1,50 @@
--- a key's state is saved after each 64th event
-use Rattle.std.proofs.Common.{◌≡◌, ℕ, ◌+◌, ◌-◌, ◌*◌, ◌/◌, ◌%◌, ◌<◌, ◌≤◌, ⊎_elim, List, [], ◌∷◌, ◌++◌, length, take, drop, slice_index_or, refl, sym, ap, ◌∙◌, subst, arith, length-append}
+-- a key's state is saved after each 64th event that others follow
+use Rattle.std.proofs.Common.{◌≡◌, ℕ, ◌+◌, ◌-◌, ◌*◌, ◌/◌, ◌<◌, ◌≤◌, ⊎_elim, List, [], ◌∷◌, ◌++◌, length, take, drop, slice_index_or, sym, ap, ◌∙◌, subst, arith, length-append}
 use Rattle.std.proofs.lemmas.Bool.{cases_lt}
-use Rattle.std.proofs.lemmas.List.{take_all, take-take, take-append-le, length-take-le, get_or-take, get_or_append_left, take-append-drop}
+use Rattle.std.proofs.lemmas.List.{take_all, take-take, take-append-le, length-take, length-take-le, get_or-take, get_or_append_left, take-append-drop}
 use Rattle.std.proofs.Math.Seq.{get_or-append_seam}
 use Rattle.std.proofs.lemmas.Slice.{between_is}
 use Rattle.std.specs.List.{between}
 use Rattle.models.specs.declared.model_kind.ModelKind.{ModelKind}
 use Rattle.history.specs.declared.event.Event.{Event}
 use Rattle.checkpoints.specs.declared.key_state.KeyState.{KeyState}
-use Rattle.checkpoints.specs.declared.saving.Saves.{Saves}
-use Rattle.checkpoints.specs.declared.saving.Saves.TheVariants.{Kept, More, Anew}
 use Rattle.checkpoints.specs.KeyState.{IsKeyState}
 use Rattle.checkpoints.specs.Saved.{AreSaved}
-use Rattle.checkpoints.specs.Saves.{saved_by, IsSaveOf}
 
 module _ (kind : ModelKind) (budget : ℕ) where
   pub AreSaved-none : AreSaved kind budget [] []
-  AreSaved-none = record { many = refl; each = λ i d lt. absurd (omega arith) }
+  AreSaved-none = record { within = omega arith; all = omega arith; each = λ i d lt. absurd (omega arith) }
 
   module _ (events : List (ℕ × Event)) (saved : List KeyState) (are : AreSaved kind budget events saved) where
-    -- what was saved stands for the same events, where more follow
-    still : (x : ℕ × Event) (i : ℕ) (d : KeyState) → i < length saved → IsKeyState kind budget (take (64 * (i + 1)) (events ++ x ∷ [])) (slice_index_or saved i d)
-    still x i d lt =
-        let many : length saved ≡ length events / 64 = are.many in
-        subst (λ l. IsKeyState kind budget l (slice_index_or saved i d)) (sym (take-append-le (64 * (i + 1)) events (x ∷ []) (omega arith))) (are.each i d lt)
-
-    -- the event is no 64th one
-    pub AreSaved-same : (x : ℕ × Event) → ¬ (length events % 64 ≡ 63) → AreSaved kind budget (events ++ x ∷ []) saved
-    AreSaved-same x other =
-        let many : length saved ≡ length events / 64 = are.many in
+    -- they are enough with one more event, where the last 64th one is among them
+    pub AreSaved-with : (x : ℕ × Event) → length events / 64 ≤ length saved → AreSaved kind budget (events ++ x ∷ []) saved
+    AreSaved-with x enough =
+        let within : 64 * length saved ≤ length events = are.within in
         let more : length (events ++ x ∷ []) ≡ length events + 1 = length-append events (x ∷ []) in
-        record { many = omega (arith, other); each = still x }
+        record {
+          within = omega arith;
+          all = omega arith;
+          each = λ i d lt. subst (λ l. IsKeyState kind budget l (slice_index_or saved i d)) (sym (take-append-le (64 * (i + 1)) events (x ∷ []) (omega arith))) (are.each i d lt);
+        }
 
-    -- it is one, and the state with it is saved
-    pub AreSaved-more : (x : ℕ × Event) (state : KeyState) → length events % 64 ≡ 63 → IsKeyState kind budget (events ++ x ∷ []) state → AreSaved kind budget (events ++ x ∷ []) (saved ++ state ∷ [])
-    AreSaved-more x state is stands =
-        let many : length saved ≡ length events / 64 = are.many in
-        let more : length (events ++ x ∷ []) ≡ length events + 1 = length-append events (x ∷ []) in
-        let more_saved : length (saved ++ state ∷ []) ≡ length saved + 1 = length-append saved (state ∷ []) in
-        record { many = omega arith; each = at_each }
+    -- the state is saved that the key has after a 64th event
+    pub AreSaved-more : (state : KeyState) → length saved < length events / 64 → IsKeyState kind budget events state → AreSaved kind budget events (saved ++ state ∷ [])
+    AreSaved-more state due stands =
+        let all : length events ≤ 64 * length saved + 64 = are.all in
+        let more : length (saved ++ state ∷ []) ≡ length saved + 1 = length-append saved (state ∷ []) in
+        record { within = omega arith; all = omega arith; each = at_each }
       where
-        at_each : (i : ℕ) (d : KeyState) → i < length (saved ++ state ∷ []) → IsKeyState kind budget (take (64 * (i + 1)) (events ++ x ∷ [])) (slice_index_or (saved ++ state ∷ []) i d)
+        at_each : (i : ℕ) (d : KeyState) → i < length (saved ++ state ∷ []) → IsKeyState kind budget (take (64 * (i + 1)) events) (slice_index_or (saved ++ state ∷ []) i d)
         at_each i d lt =
-            let many : length saved ≡ length events / 64 = are.many in
-            let more : length (events ++ x ∷ []) ≡ length events + 1 = length-append events (x ∷ []) in
-            let more_saved : length (saved ++ state ∷ []) ≡ length saved + 1 = length-append saved (state ∷ []) in
+            let all : length events ≤ 64 * length saved + 64 = are.all in
+            let more : length (saved ++ state ∷ []) ≡ length saved + 1 = length-append saved (state ∷ []) in
             ⊎_elim
             (λ (before : i < length saved).
-            subst (IsKeyState kind budget (take (64 * (i + 1)) (events ++ x ∷ []))) (sym (get_or_append_left saved (state ∷ []) d i before)) (still x i d before))
+            subst (IsKeyState kind budget (take (64 * (i + 1)) events)) (sym (get_or_append_left saved (state ∷ []) d i before)) (are.each i d before))
             (λ (le : length saved ≤ i).
             (let last : length saved ≡ i = omega arith in
-            subst (IsKeyState kind budget (take (64 * (i + 1)) (events ++ x ∷ []))) (sym (ap (λ j. slice_index_or (saved ++ state ∷ []) j d) (sym last) ∙ get_or-append_seam saved state [] d))
-            (subst (λ l. IsKeyState kind budget l state) (sym (take_all (64 * (i + 1)) (events ++ x ∷ []) (omega arith))) stands)))
+            subst (IsKeyState kind budget (take (64 * (i + 1)) events)) (sym (ap (λ j. slice_index_or (saved ++ state ∷ []) j d) (sym last) ∙ get_or-append_seam saved state [] d))
+            (subst (λ l. IsKeyState kind budget l state) (sym (take_all (64 * (i + 1)) events (omega arith))) stands)))
             (cases_lt i (length saved))
 
     -- the state that was saved as this one
@@ -64,21 +57,16 @@ module _ (kind : ModelKind) (budget : ℕ) where
     -- the saved states of the first so many events
     pub AreSaved-take : (k : ℕ) → k ≤ length events → AreSaved kind budget (take k events) (take (k / 64) saved)
     AreSaved-take k le =
-        let many : length saved ≡ length events / 64 = are.many in
+        let within : 64 * length saved ≤ length events = are.within in
+        let all : length events ≤ 64 * length saved + 64 = are.all in
         let taken : length (take k events) ≡ k = length-take-le k events le in
-        let few : length (take (k / 64) saved) ≡ k / 64 = length-take-le (k / 64) saved (omega arith) in
+        let few = length-take (k / 64) saved in
         record {
-          many = omega arith;
-          each = λ i d lt. subst (IsKeyState kind budget (take (64 * (i + 1)) (take k events))) (sym (get_or-take (k / 64) saved i d (omega arith)))
-              (subst (λ l. IsKeyState kind budget l (slice_index_or saved i d)) (sym (take-take (64 * (i + 1)) k events (omega arith))) (are.each i d (omega arith)));
+          within = omega (arith, few);
+          all = omega (arith, few);
+          each = λ i d lt. subst (IsKeyState kind budget (take (64 * (i + 1)) (take k events))) (sym (get_or-take (k / 64) saved i d (omega (arith, few))))
+              (subst (λ l. IsKeyState kind budget l (slice_index_or saved i d)) (sym (take-take (64 * (i + 1)) k events (omega (arith, few)))) (are.each i d (omega (arith, few))));
         }
-
-    pub AreSaved-after : (x : ℕ × Event) (k : ℕ) → k ≡ length events → (saves : Saves) → IsSaveOf kind budget events x saves → AreSaved kind budget (events ++ x ∷ []) (saved_by k saves saved)
-    AreSaved-after x k all Kept other =
-        let many : length saved ≡ length events / 64 = are.many in
-        subst (AreSaved kind budget (events ++ x ∷ [])) (sym (take_all (k / 64) saved (omega arith))) (AreSaved-same x other)
-    AreSaved-after x k all (More state) is = AreSaved-more x state is.0 is.1
-    AreSaved-after x k all (Anew new) is = absurd is
 
 -- the first events of a part, and the rest of it
 pub parts : {X : Type 0} (xs : List X) (from to : ℕ) → from ≤ to → take from xs ++ between from to xs ≡ take to xs

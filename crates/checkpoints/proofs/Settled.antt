@@ -8,7 +8,7 @@ use Rattle.linspec.specs.declared.verdict.KeyStatus.{KeyStatus}
 use Rattle.linspec.specs.declared.verdict.KeyStatus.TheVariants.{Alive, Dead, Over}
 use Rattle.linspec.specs.Ends.{is_no_read}
 use Rattle.linspec.proofs.OneAnswer.{one_status}
-use Rattle.checkpoints.specs.KeyLineView.{KeyHistory, IsStatusOf, with_pushed}
+use Rattle.linspec.specs.KeyHistory.{KeyHistory, IsStatusOf, with_pushed}
 use Rattle.checkpoints.proofs.Judging.{dead_after, over_after}
 
 pub dead_settled : (h : KeyHistory) (index i : ℕ) (event : Event) → IsHistory (h.events ++ (index, event) ∷ []) → IsStatusOf h (Dead i) → IsStatusOf (with_pushed index event h) (Dead i)

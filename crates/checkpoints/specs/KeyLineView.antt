@@ -1,23 +1,6 @@
 -- Promise: the line of one key, as a caller sees it
-use Rattle.std.specs.Prelude.{ℕ, ◌+◌, ◌-◌, ◌%◌, ◌^◌, min, Bool, if◌then◌else◌, Option, Some, None, List, [], ◌∷◌, ◌++◌, length, nat_lt}
-use Rattle.std.specs.List.{filter}
-use Rattle.models.specs.declared.model_kind.ModelKind.{ModelKind}
-use Rattle.models.specs.Objects.{object_of}
-use Rattle.history.specs.declared.event.Event.{Event}
-use Rattle.history.specs.Events.{entries_of}
-use Rattle.linspec.specs.declared.verdict.KeyStatus.{KeyStatus}
-use Rattle.linspec.specs.Verdicts.{IsKeyStatus}
-
--- what is judged of one key: the kind of its object, the budget, and its events with their indices, in the order in which
--- they came
-pub record KeyHistory : Type 0 where
-  pub kind : ModelKind
-  pub budget : ℕ
-  pub events : List (ℕ × Event)
-
--- before any event
-abbrev pub without_events : ModelKind → ℕ → KeyHistory
-without_events kind budget = record { kind = kind; budget = budget; events = [] }
+use Rattle.std.specs.Prelude.{ℕ, ◌+◌, ◌-◌, ◌%◌, ◌^◌, min, if◌then◌else◌, Option, Some, None, length}
+use Rattle.linspec.specs.KeyHistory.{KeyHistory, events_below, loses_at}
 
 -- what a line has, and what commit will bring, where a change is prepared; how many replays the committed changes took, and how
 -- many the prepared one. A replay is one event that is given to what judges the key, for the first time or again
@@ -34,31 +17,6 @@ at_rest h replayed = record { now = h; next = None; replayed = replayed; due = 0
 abbrev pub with_next : KeyHistory → ℕ → KeyLineView → KeyLineView
 with_next next due line =
     record { now = line.now; next = Some next; replayed = line.replayed; due = due }
-
--- from scratch, how the key stands
-abbrev pub IsStatusOf : KeyHistory → KeyStatus → Type 0
-IsStatusOf h status = IsKeyStatus (object_of h.kind) h.budget (entries_of h.events) status
-
--- the changes: one more event; only the events of index below n; another kind and budget
-abbrev pub with_pushed : ℕ → Event → KeyHistory → KeyHistory
-with_pushed index event h = record h { events = h.events ++ (index, event) ∷ [] }
-
-abbrev pub events_below : ℕ → List (ℕ × Event) → List (ℕ × Event)
-events_below n events = filter (λ x. nat_lt x.0 n) events
-
-abbrev pub cut_at : ℕ → KeyHistory → KeyHistory
-cut_at n h = record h { events = events_below n h.events }
-
-abbrev pub judged_by : ModelKind → ℕ → KeyHistory → KeyHistory
-judged_by kind budget h = record { kind = kind; budget = budget; events = h.events }
-
--- a cut at n takes events of the key away: fewer than all are below n
-abbrev pub loses_at : ℕ → KeyHistory → Bool
-loses_at n h = nat_lt (length (events_below n h.events)) (length h.events)
-
--- the key has an event of index below n
-abbrev pub begins_below : ℕ → KeyHistory → Bool
-begins_below n h = nat_lt 0 (length (events_below n h.events))
 
 -- the replays of a cut at n: where it takes events away, those that stay behind the last 64th one
 abbrev pub replays_at : ℕ → KeyHistory → ℕ

@@ -1,5 +1,6 @@
 pub mod LiveKey
 pub mod KeyState
+pub mod Lent
 pub mod Next
 pub mod KeyLineView
 pub mod Saved

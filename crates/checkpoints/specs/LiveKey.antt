@@ -56,13 +56,6 @@ id_by index Ok was = was
 id_by index Fail was = was
 id_by index Info was = was
 
--- the operation that is open after an event
-abbrev pub open_by : ℕ → EventKind → Option ℕ
-open_by index Invoke = Some index
-open_by index Ok = None
-open_by index Fail = None
-open_by index Info = None
-
 -- the process that an event of it leaves with no open operation
 abbrev pub closed_by : ℕ → EventKind → Option ℕ
 closed_by process Invoke = None

@@ -1,13 +1,14 @@
 -- Invariant: the states that are saved of a key
-use Rattle.std.specs.Prelude.{◌≡◌, ℕ, ◌+◌, ◌*◌, ◌/◌, ◌<◌, List, length, take, slice_index_or}
+use Rattle.std.specs.Prelude.{ℕ, ◌+◌, ◌*◌, ◌<◌, ◌≤◌, List, length, take, slice_index_or}
 use Rattle.models.specs.declared.model_kind.ModelKind.{ModelKind}
 use Rattle.history.specs.declared.event.Event.{Event}
 use Rattle.checkpoints.specs.declared.key_state.KeyState.{KeyState}
 use Rattle.checkpoints.specs.KeyState.{IsKeyState}
 
--- there is one after each 64th event, and the key stood so then
+-- there is one after each 64th event that others follow, perhaps one after the last event too, and the key stood so then
 pub record AreSaved (kind : ModelKind) (budget : ℕ) (events : List (ℕ × Event))
     (saved : List KeyState) : Type 0 where
-  pub many : length saved ≡ length events / 64
+  pub within : 64 * length saved ≤ length events
+  pub all : length events ≤ 64 * length saved + 64
   pub each : (i : ℕ) (d : KeyState) → i < length saved
       → IsKeyState kind budget (take (64 * (i + 1)) events) (slice_index_or saved i d)

@@ -1,29 +1,35 @@
 //! The line of one key.
 ghost use Rattle.std.specs.Prelude.{◌≡◌, ◌≤◌, Some, None, [], ◌∷◌, ◌++◌, take, length, nat_lt};
 ghost use Rattle.std.specs.Prelude.{IsSome, IfSome, IfOk, OnOk, OnErr};
-ghost use Rattle.std.specs.Prelude.{vec_capacity};
+ghost use Rattle.std.specs.Prelude.{ℕ, List, vec_capacity};
+ghost use Rattle.history.specs.declared.event.Event.{Event};
 ghost use Rattle.history.specs.ProcessRule.{IsHistory};
-ghost use Rattle.checkpoints.specs.KeyLineView.{IsStatusOf, without_events, at_rest, with_next, with_pushed, cut_at, judged_by};
-ghost use Rattle.checkpoints.specs.KeyLineView.{events_below, loses_at, begins_below, replays_at, count_on};
+ghost use Rattle.linspec.specs.KeyHistory.{IsStatusOf, without_events, with_pushed, cut_at, judged_by};
+ghost use Rattle.checkpoints.specs.KeyLineView.{at_rest, with_next};
+ghost use Rattle.linspec.specs.KeyHistory.{events_below, loses_at, begins_below};
+ghost use Rattle.checkpoints.specs.KeyLineView.{replays_at, count_on};
+ghost use Rattle.checkpoints.specs.Lent.{AreLentBy, places_of};
 ghost use Rattle.checkpoints.specs.SoundLine.{kept_and_added, HasPlace};
 
 use crate::key_state::KeyState;
 use crate::next::Next;
-use crate::saving::{Saves, gone_back, judged_anew, keep_and_save, prepare_event};
+use crate::saving::{Saves, gone_back, judged_anew, keep_or_renew, prepare_event};
+use crate::told::Told;
 use history::Event;
 use linspec::KeyStatus;
 use models::ModelKind;
 use std::alloc::{AllocError, Global};
 use std::marker::Model;
 
-/// What may be committed: the first so many events stay, one may follow, and this becomes of the key, which is then judged by
-/// this kind and budget. It took so many replays.
+/// What may be committed: the first so many events stay, one may follow, and then the line was told these; this becomes of the
+/// key, which is then judged by this kind and budget. It took so many replays.
 #[derive(Drop)]
 struct Prepared {
     kind: ModelKind,
     budget: u32,
     kept: usize,
-    added: Option<(u32, Event)>,
+    added: Option<u32>,
+    told: Told,
     next: Next,
     saves: Saves,
     replays: u64,
@@ -34,20 +40,22 @@ struct Prepared {
 /// event that ends the shortest beginning that is not. Where an ok finds more ends than the budget just before it, the
 /// key is over at that ok, whatever else is known of it (this project's own).
 ///
-/// A line is that of one key because it is given that key's events alone; it looks at no key itself.
+/// A line is that of one key because it is given that key's events alone; it looks at no key itself. It has no event of its
+/// own, but where each one stands in the whole history, in 4 bytes. Whoever has it judge events again lends it that history.
 ///
-/// After each 64th event it saves a copy of the ends, with the status, to go back to where events are cut. A key that is
-/// dead or over has no ends, and then the status alone is saved. So beside the events a line takes the memory of its ends
-/// once for each 64 events: at 2^20 events 16,384 times, which is 1 GiB where a copy takes 64 KiB.
+/// Before the event that follows a 64th one it saves a copy of the ends, with the status, to go back to where events are cut. A
+/// key that is dead or over has no ends, and then the status alone is saved. So beside the places of its events a line takes the
+/// memory of its ends once for each 64 events: at 2^20 events 16,384 times, which is 1 GiB where a copy takes 64 KiB.
 ///
 /// Each change is prepared, which may fail and changes nothing but what is prepared, and then committed. What was prepared
-/// before is dropped. An event is prepared on the ends themselves, so no copy of them is made for it, but for each 64th.
+/// before is dropped. An event is prepared on the ends themselves, so no copy of them is made for it.
 #[derive(Drop)]
 pub struct KeyLine {
     alloc: Global,
     kind: ModelKind,
     budget: u32,
-    events: Vec<(u32, Event)>,
+    places: Vec<u32>,
+    told: Told,
     state: KeyState,
     saved: Vec<KeyState>,
     replayed: u64,
@@ -63,15 +71,15 @@ impl Model for KeyLine {
     ghost Value = { KeyLineView };
 
     ghost view = { λ a. record {
-      now = record { kind = a.kind; budget = a.budget; events = a.events.items };
-      next = option_map (brought a.events.items) a.prepared;
+      now = record { kind = a.kind; budget = a.budget; events = a.told.events };
+      next = option_map brought a.prepared;
       replayed = a.replayed;
       due = replays_of a.prepared;
     } };
 
     ghost invariant = { λ a.
-        IsSoundLine a.kind a.budget a.events.items a.state a.saved.items (vec_capacity a.events)
-        (vec_capacity a.saved) a.prepared };
+        IsSoundLine a.kind a.budget a.told.events a.places.items a.state a.saved.items
+        (vec_capacity a.places) a.prepared };
 }
 
 impl KeyLine {
@@ -89,7 +97,8 @@ impl KeyLine {
             alloc,
             kind,
             budget,
-            events: Vec::new(alloc),
+            places: Vec::new(alloc),
+            told: Told::new(),
             state,
             saved: Vec::new(alloc),
             replayed: 0,
@@ -99,31 +108,32 @@ impl KeyLine {
 
     /// Prepares to append this event, and gives the status that [`commit`](Self::commit) will bring. The index is the
     /// event's place in the whole history. It takes the time of what the event does to the ends of the events so far, which
-    /// [`AnyFrontier::prepare`](frontier::AnyFrontier::prepare) tells, and copies none of them. Only a 64th event is given to
-    /// a copy of the ends, and another copy is saved. It is one replay.
+    /// [`AnyFrontier::prepare`](frontier::AnyFrontier::prepare) tells, and copies none of them, but for the event that follows
+    /// a 64th one, before which a copy is saved. It is one replay.
     ///
     /// # Errors
     ///
     /// `AllocError` where memory was refused: then nothing is prepared, and the rest is as it was.
-    pub fn prepare_push(&mut self, index: u32, event: Event) -> Result<KeyStatus, AllocError>
-        requires { IsHistory (self.old.now.events ++ (index, event) ∷ []) }
-        ensures status { IfOk result (IsStatusOf (with_pushed index event self.old.now)) }
+    pub fn prepare_push(&mut self, index: u32, event: &Event) -> Result<KeyStatus, AllocError>
+        requires { IsHistory (self.old.now.events ++ (index, event.now) ∷ []) }
+        ensures status { IfOk result (IsStatusOf (with_pushed index event.now self.old.now)) }
         ensures prepared { OnOk result
-            (self.new ≡ with_next (with_pushed index event self.old.now) 1 self.old) }
+            (self.new ≡ with_next (with_pushed index event.now self.old.now) 1 self.old) }
         ensures err { OnErr result (self.new ≡ at_rest self.old.now self.old.replayed) }
     {
         drop_prepared(&mut self.prepared);
-        self.events.reserve(1)?;
-        let count = self.events.len();
-        let (next, saves) = prepare_event(&mut self.state, &mut self.saved, count, index, &event)?;
+        self.places.reserve(1)?;
+        let count = self.places.len();
+        let next = prepare_event(&mut self.state, &mut self.saved, count, index, event)?;
         let status = next.status(&self.state);
         let change = Prepared {
             kind: self.kind,
             budget: self.budget,
             kept: count,
-            added: Some((index, event)),
+            added: Some(index),
+            told: self.told.with(&index, event),
             next,
-            saves,
+            saves: Saves::Kept,
             replays: 1,
         };
         prepare(&mut self.prepared, change);
@@ -131,28 +141,30 @@ impl KeyLine {
     }
 
     /// Prepares to keep the events whose index is below `n` alone, and gives the status that [`commit`](Self::commit) will
-    /// bring. It takes the time of a copy of the ends that were saved after the last 64th event that stays, and of fewer
-    /// than 64 replays: of the events behind it, each given to that copy. Where it takes no event away, it makes none, and
-    /// copies no end.
+    /// bring. The whole history is lent. It takes the time of a copy of the ends that were saved after the last 64th event that
+    /// stays, and of fewer than 64 replays: of the events behind it, each given to that copy. Where it takes no event away, it
+    /// makes none, and copies no end.
     ///
     /// # Errors
     ///
     /// `AllocError` where memory was refused: then nothing is prepared, and the rest is as it was.
-    pub fn prepare_cut(&mut self, n: u32) -> Result<KeyStatus, AllocError>
+    pub fn prepare_cut(&mut self, n: u32, lent: &[Event]) -> Result<KeyStatus, AllocError>
+        requires { AreLentBy lent.now self.old.now.events }
         ensures status { IfOk result (IsStatusOf (cut_at n self.old.now)) }
         ensures prepared { OnOk result
             (self.new ≡ with_next (cut_at n self.old.now) (replays_at n self.old.now) self.old) }
         ensures err { OnErr result (self.new ≡ at_rest self.old.now self.old.replayed) }
     {
         drop_prepared(&mut self.prepared);
-        let kept = count_below(&self.events, n);
+        let kept = count_below(&self.places, n);
         let mut replays = 0;
-        let next = if kept < self.events.len() {
+        let next = if kept < self.places.len() {
             Next::Becomes(gone_back(
                 self.alloc,
                 self.kind,
                 self.budget,
-                &self.events,
+                &self.places,
+                lent,
                 &self.saved,
                 kept,
                 &mut replays,
@@ -166,6 +178,7 @@ impl KeyLine {
             budget: self.budget,
             kept,
             added: None,
+            told: self.told.first(&kept),
             next,
             saves: Saves::Kept,
             replays,
@@ -175,13 +188,20 @@ impl KeyLine {
     }
 
     /// Prepares to judge the same events by another kind of object and another budget, and gives the status that
-    /// [`commit`](Self::commit) will bring. It takes the time of all events, each given to a fresh frontier, which is one
-    /// replay each; a copy of the ends is saved after each 64th. What was saved before goes.
+    /// [`commit`](Self::commit) will bring. The whole history is lent. It takes the time of the line's events, each given to a
+    /// fresh frontier, which is one replay each; a copy of the ends is saved after each 64th that others follow. What was saved
+    /// before goes.
     ///
     /// # Errors
     ///
     /// `AllocError` where memory was refused: then nothing is prepared, and the rest is as it was.
-    pub fn prepare_rebuild(&mut self, kind: ModelKind, budget: u32) -> Result<KeyStatus, AllocError>
+    pub fn prepare_rebuild(
+        &mut self,
+        kind: ModelKind,
+        budget: u32,
+        lent: &[Event],
+    ) -> Result<KeyStatus, AllocError>
+        requires { AreLentBy lent.now self.old.now.events }
         ensures status { IfOk result (IsStatusOf (judged_by kind budget self.old.now)) }
         ensures prepared { OnOk result (self.new
             ≡ with_next (judged_by kind budget self.old.now) (length self.old.now.events)
@@ -189,14 +209,23 @@ impl KeyLine {
         ensures err { OnErr result (self.new ≡ at_rest self.old.now self.old.replayed) }
     {
         drop_prepared(&mut self.prepared);
+        let kept = self.places.len();
         let mut replays = 0;
-        let (state, saved) = judged_anew(self.alloc, kind, budget, &self.events, &mut replays)?;
+        let (state, saved) = judged_anew(
+            self.alloc,
+            kind,
+            budget,
+            &self.places,
+            lent,
+            &mut replays,
+        )?;
         let status = state.status();
         let change = Prepared {
             kind,
             budget,
-            kept: self.events.len(),
+            kept,
             added: None,
+            told: self.told.first(&kept),
             next: Next::Becomes(state),
             saves: Saves::Anew(saved),
             replays,
@@ -217,12 +246,14 @@ impl KeyLine {
                 budget,
                 kept,
                 added,
+                told,
                 next,
                 saves,
                 replays,
             } = change;
-            keep_and_add(&mut self.events, kept, added);
-            keep_and_save(&mut self.saved, kept, saves);
+            keep_and_add(&mut self.places, kept, added);
+            self.told = told;
+            keep_or_renew(&mut self.saved, kept, saves);
             self.state.commit(next);
             self.kind = kind;
             self.budget = budget;
@@ -242,10 +273,10 @@ impl KeyLine {
     /// # Errors
     ///
     /// `AllocError` where memory was refused: then nothing is prepared, and the rest is as it was.
-    pub fn push(&mut self, index: u32, event: Event) -> Result<(), AllocError>
-        requires { IsHistory (self.old.now.events ++ (index, event) ∷ []) }
+    pub fn push(&mut self, index: u32, event: &Event) -> Result<(), AllocError>
+        requires { IsHistory (self.old.now.events ++ (index, event.now) ∷ []) }
         ensures ok { OnOk result (self.new
-            ≡ at_rest (with_pushed index event self.old.now) (count_on self.old.replayed 1)) }
+            ≡ at_rest (with_pushed index event.now self.old.now) (count_on self.old.replayed 1)) }
         ensures err { OnErr result (self.new ≡ at_rest self.old.now self.old.replayed) }
     {
         self.prepare_push(index, event)?;
@@ -259,12 +290,13 @@ impl KeyLine {
     /// # Errors
     ///
     /// `AllocError` where memory was refused: then nothing is prepared, and the rest is as it was.
-    pub fn cut(&mut self, n: u32) -> Result<(), AllocError>
+    pub fn cut(&mut self, n: u32, lent: &[Event]) -> Result<(), AllocError>
+        requires { AreLentBy lent.now self.old.now.events }
         ensures ok { OnOk result (self.new ≡ at_rest (cut_at n self.old.now)
             (count_on self.old.replayed (replays_at n self.old.now))) }
         ensures err { OnErr result (self.new ≡ at_rest self.old.now self.old.replayed) }
     {
-        self.prepare_cut(n)?;
+        self.prepare_cut(n, lent)?;
         self.commit();
         Ok(())
     }
@@ -275,12 +307,18 @@ impl KeyLine {
     /// # Errors
     ///
     /// `AllocError` where memory was refused: then nothing is prepared, and the rest is as it was.
-    pub fn rebuild(&mut self, kind: ModelKind, budget: u32) -> Result<(), AllocError>
+    pub fn rebuild(
+        &mut self,
+        kind: ModelKind,
+        budget: u32,
+        lent: &[Event],
+    ) -> Result<(), AllocError>
+        requires { AreLentBy lent.now self.old.now.events }
         ensures ok { OnOk result (self.new ≡ at_rest (judged_by kind budget self.old.now)
             (count_on self.old.replayed (length self.old.now.events))) }
         ensures err { OnErr result (self.new ≡ at_rest self.old.now self.old.replayed) }
     {
-        self.prepare_rebuild(kind, budget)?;
+        self.prepare_rebuild(kind, budget, lent)?;
         self.commit();
         Ok(())
     }
@@ -315,7 +353,7 @@ impl KeyLine {
     pub fn len(&self) -> usize
         ensures { result ≡ length self.now.now.events }
     {
-        self.events.len()
+        self.places.len()
     }
 
     /// Whether a cut at `n` takes events of the key away: its last event has an index of `n` or more. Takes no memory, and
@@ -323,14 +361,14 @@ impl KeyLine {
     pub fn loses(&self, n: u32) -> bool
         ensures { result ≡ loses_at n self.now.now }
     {
-        has_from(&self.events, n)
+        has_from(&self.places, n)
     }
 
     /// Whether the key has an event of index below `n`: its first one has. Takes no memory, and constant time.
     pub fn begins_below(&self, n: u32) -> bool
         ensures { result ≡ begins_below n self.now.now }
     {
-        has_below(&self.events, n)
+        has_below(&self.places, n)
     }
 }
 
@@ -348,37 +386,39 @@ fn prepare(prepared: &mut Option<Prepared>, change: Prepared)
     *prepared = Some(change);
 }
 
-// Keeps the first so many events, and adds this one, if there is one. Takes no memory.
-fn keep_and_add(events: &mut Vec<(u32, Event)>, kept: usize, added: Option<(u32, Event)>)
-    requires { HasPlace (length events.old.items) (vec_capacity events.old) added }
-    ensures { events.new.items ≡ kept_and_added kept added events.old.items }
+// Keeps the first so many places, and adds this one, if there is one. Takes no memory.
+fn keep_and_add(places: &mut Vec<u32>, kept: usize, added: Option<u32>)
+    requires { HasPlace (length places.old.items) (vec_capacity places.old) added }
+    ensures { places.new.items ≡ kept_and_added kept added places.old.items }
 {
-    events.truncate(kept);
-    if let Some(event) = added {
-        events.push_reserved(event);
+    places.truncate(kept);
+    if let Some(index) = added {
+        places.push_reserved(index);
     }
 }
 
-// How many of the events, whose indices rise, have an index below n.
-fn count_below(events: &[(u32, Event)], n: u32) -> usize
-    ensures first { IsHistory events.now → take result events.now ≡ events_below n events.now }
-    ensures within { result ≤ length events.now }
+// How many events have an index below n. Their indices, which are given, rise.
+fn count_below(places: &[u32], n: u32) -> usize
+    ensures first { (events : List (ℕ × Event)) → IsHistory events → places.now ≡ places_of events
+        → take result events ≡ events_below n events }
+    ensures within { result ≤ length places.now }
 {
-    events.partition_point(|event| event.0 < n)
+    places.partition_point(|index| *index < n)
 }
 
-// Whether some of the events, whose indices rise, is not below n: the last one is not.
-fn has_from(events: &[(u32, Event)], n: u32) -> bool
-    ensures { IsHistory events.now
-        → result ≡ nat_lt (length (events_below n events.now)) (length events.now) }
+// Whether an event has an index of n or more: the last one has. Their indices, which are given, rise.
+fn has_from(places: &[u32], n: u32) -> bool
+    ensures { (events : List (ℕ × Event)) → IsHistory events → places.now ≡ places_of events
+        → result ≡ nat_lt (length (events_below n events)) (length events) }
 {
-    let count = events.len();
-    0 < count && n <= events[count - 1].0
+    let count = places.len();
+    0 < count && n <= places[count - 1]
 }
 
-// Whether some of the events, whose indices rise, is below n: the first one is.
-fn has_below(events: &[(u32, Event)], n: u32) -> bool
-    ensures { IsHistory events.now → result ≡ nat_lt 0 (length (events_below n events.now)) }
+// Whether an event has an index below n: the first one has. Their indices, which are given, rise.
+fn has_below(places: &[u32], n: u32) -> bool
+    ensures { (events : List (ℕ × Event)) → IsHistory events → places.now ≡ places_of events
+        → result ≡ nat_lt 0 (length (events_below n events)) }
 {
-    0 < events.len() && events[0].0 < n
+    0 < places.len() && places[0] < n
 }

@@ -5,6 +5,7 @@ ghost use Rattle.history.specs.declared.event.Event.{Event};
 ghost use Rattle.history.specs.ProcessRule.{IsHistory};
 ghost use Rattle.checkpoints.specs.KeyLineView.{count_on};
 ghost use Rattle.checkpoints.specs.KeyState.{IsKeyState, status_of};
+ghost use Rattle.checkpoints.specs.Lent.{AreAt};
 ghost use Rattle.checkpoints.specs.Next.{IsNext};
 
 use crate::live_key::LiveKey;
@@ -42,19 +43,6 @@ impl KeyState {
         }
     }
 
-    /// How the key stands with one more event.
-    pub(crate) fn after(self, index: u32, event: &Event) -> Result<Self, AllocError>
-        ensures { (kind : ModelKind) (budget : ℕ) (events : List (ℕ × Event))
-            → IsKeyState kind budget events self → IsHistory (events ++ (index, event.now) ∷ [])
-            → IfOk result (IsKeyState kind budget (events ++ (index, event.now) ∷ [])) }
-    {
-        match self {
-            KeyState::Alive(live) => live.after(index, event),
-            KeyState::Dead(index) => Ok(KeyState::Dead(index)),
-            KeyState::Over(index) => Ok(KeyState::Over(index)),
-        }
-    }
-
     /// Prepares one more event, and says what becomes of the key. It stands as it stood until [`commit`](Self::commit), also on
     /// `AllocError`, and what was prepared before is dropped. The ends are not copied.
     pub(crate) fn prepare(&mut self, index: u32, event: &Event) -> Result<Next, AllocError>
@@ -89,22 +77,37 @@ impl KeyState {
         }
     }
 
-    /// How the key stands with these events too. Each is counted.
+    /// One more event is prepared and carried out.
+    pub(crate) fn go_on(&mut self, index: u32, event: &Event) -> Result<(), AllocError>
+        ensures { (kind : ModelKind) (budget : ℕ) (events : List (ℕ × Event))
+            → IsKeyState kind budget events self.old
+            → IsHistory (events ++ (index, event.now) ∷ [])
+            → OnOk result (IsKeyState kind budget (events ++ (index, event.now) ∷ []) self.new) }
+    {
+        let next = self.prepare(index, event)?;
+        self.commit(next);
+        Ok(())
+    }
+
+    /// How the key stands with the events at these places too. Each is counted.
     pub(crate) fn after_all(
         self,
-        events: &[(u32, Event)],
+        places: &[u32],
+        lent: &[Event],
         replayed: &mut u64,
     ) -> Result<Self, AllocError>
-        ensures stands { (kind : ModelKind) (budget : ℕ) (before : List (ℕ × Event))
-            → IsKeyState kind budget before self → IsHistory (before ++ events.now)
-            → IfOk result (IsKeyState kind budget (before ++ events.now)) }
-        ensures counted { OnOk result (replayed.new ≡ count_on replayed.old (length events.now)) }
+        requires { (events : List (ℕ × Event)) × AreAt lent.now places.now events }
+        ensures stands { (kind : ModelKind) (budget : ℕ) (before events : List (ℕ × Event))
+            → IsKeyState kind budget before self → IsHistory (before ++ events)
+            → AreAt lent.now places.now events
+            → IfOk result (IsKeyState kind budget (before ++ events)) }
+        ensures counted { OnOk result (replayed.new ≡ count_on replayed.old (length places.now)) }
     {
         let mut state = self;
         let mut count = *replayed;
-        for (index, event) in events {
+        for index in places {
             count = count.saturating_add(1);
-            state = state.after(*index, event)?;
+            state.go_on(*index, &lent[*index as usize])?;
         }
         *replayed = count;
         Ok(state)

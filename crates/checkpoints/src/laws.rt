@@ -3,7 +3,8 @@ ghost use Rattle.std.specs.Prelude.{◌≡◌, ◌⊎◌, ℕ, ◌<◌, false, [
 ghost use Rattle.history.specs.declared.event.Event.{Event};
 ghost use Rattle.history.specs.ProcessRule.{IsHistory};
 ghost use Rattle.linspec.specs.declared.verdict.KeyStatus.{KeyStatus};
-ghost use Rattle.checkpoints.specs.KeyLineView.{KeyHistory, IsStatusOf, with_pushed, loses_at, replays_at};
+ghost use Rattle.linspec.specs.KeyHistory.{KeyHistory, IsStatusOf, with_pushed, loses_at};
+ghost use Rattle.checkpoints.specs.KeyLineView.{replays_at};
 
 /// A key that is dead stays dead, and one that is over stays over, at the same index, whatever events follow: with one
 /// more event a key has the status that it had, unless it was alive.

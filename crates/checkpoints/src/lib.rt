@@ -1,4 +1,4 @@
-//! The line of one key: its events, and what is known of the key while they come.
+//! The line of one key: where its events stand, and what is known of the key while they come.
 #![tactic(auto)]
 
 mod key_line;
@@ -7,5 +7,6 @@ pub mod laws;
 mod live_key;
 mod next;
 mod saving;
+mod told;
 
 pub use key_line::KeyLine;

@@ -5,7 +5,7 @@ ghost use Rattle.std.specs.BTreeMap.{get};
 ghost use Rattle.models.specs.declared.model_kind.ModelKind.{ModelKind};
 ghost use Rattle.history.specs.declared.event.Event.{Event};
 ghost use Rattle.history.specs.ProcessRule.{IsHistory};
-ghost use Rattle.checkpoints.specs.LiveKey.{IsLiveKey, WillBeLive, id_by, open_by, closed_by};
+ghost use Rattle.checkpoints.specs.LiveKey.{IsLiveKey, WillBeLive, id_by, closed_by};
 ghost use Rattle.checkpoints.specs.KeyState.{IsAlive, IsKeyState};
 ghost use Rattle.checkpoints.specs.Next.{IsNext};
 ghost use Rattle.checkpoints.specs.declared.key_state.KeyState.{KeyState};
@@ -55,32 +55,6 @@ impl LiveKey {
         })
     }
 
-    /// How a key that is alive stands with one more event.
-    pub(crate) fn after(mut self, index: u32, event: &Event) -> Result<KeyState, AllocError>
-        ensures { (kind : ModelKind) (budget : ℕ) (events : List (ℕ × Event))
-            → IsLiveKey kind budget events self → IsAlive kind budget events
-            → IsHistory (events ++ (index, event.now) ∷ [])
-            → IfOk result (IsKeyState kind budget (events ++ (index, event.now) ∷ [])) }
-    {
-        never_kills_law();
-        // An event that speaks of no operation changes nothing.
-        let Process::Client(process) = event.process else {
-            return Ok(KeyState::Alive(self));
-        };
-        let Body::Op(op) = &event.body else {
-            return Ok(KeyState::Alive(self));
-        };
-        // By the process rule every completion finds an open operation.
-        let Some(id) = turn(&mut self.invocations, process, index, event.kind)? else {
-            return Ok(KeyState::Alive(self));
-        };
-        match self.frontier.observe(id, event.kind, op)? {
-            Step::Alive => Ok(KeyState::Alive(self)),
-            Step::Dead => Ok(KeyState::Dead(index)),
-            Step::Over => Ok(KeyState::Over(index)),
-        }
-    }
-
     /// Prepares one more event, and says what becomes of the key. It stands as it stood until [`commit`](Self::commit), also on
     /// `AllocError`, and what was prepared before is dropped. The ends are not copied.
     pub(crate) fn prepare(&mut self, index: u32, event: &Event) -> Result<Next, AllocError>
@@ -126,28 +100,7 @@ impl LiveKey {
     }
 }
 
-// The operation that an event of the process is of, named by the index of its invocation: an invocation opens one, and a
-// completion closes the one that is open.
-fn turn(
-    invocations: &mut BTreeMap<u32, u32>,
-    process: u32,
-    index: u32,
-    kind: EventKind,
-) -> Result<Option<u32>, AllocError>
-    ensures id { IfOk result (λ id. id ≡ id_by index kind (get nat_cmp invocations.old process)) }
-    ensures invocations { OnOk result ((q : ℕ) → get nat_cmp invocations.new q
-        ≡ (if nat_eq q process then open_by index kind else get nat_cmp invocations.old q)) }
-{
-    match kind {
-        EventKind::Invoke => {
-            invocations.insert(process, index)?;
-            Ok(Some(index))
-        }
-        EventKind::Ok | EventKind::Fail | EventKind::Info => Ok(invocations.remove(&process)),
-    }
-}
-
-// The operation that a prepared event of the process is of. An invocation is noted at once, since its process has no open
+// The operation that a prepared event of the process is of, named by the index of its invocation. This is noted at once, since its process has no open
 // operation before it; what a completion closes stays noted until it is carried out.
 fn noted(
     invocations: &mut BTreeMap<u32, u32>,

@@ -1,14 +1,14 @@
 //! States of a key that are saved as its events come, to go back to.
 ghost use Rattle.std.specs.Prelude.{◌≡◌, ◌≤◌, ◌*◌, ◌/◌, ◌%◌, ℕ, List, [], ◌∷◌, ◌++◌, take, length, IfOk, OnOk};
-ghost use Rattle.std.specs.Vec.{vec_capacity};
 ghost use Rattle.models.specs.declared.model_kind.ModelKind.{ModelKind};
 ghost use Rattle.history.specs.declared.event.Event.{Event};
 ghost use Rattle.history.specs.ProcessRule.{IsHistory};
 ghost use Rattle.checkpoints.specs.KeyLineView.{count_on};
 ghost use Rattle.checkpoints.specs.KeyState.{IsKeyState};
+ghost use Rattle.checkpoints.specs.Lent.{AreAt};
 ghost use Rattle.checkpoints.specs.Next.{IsNext};
 ghost use Rattle.checkpoints.specs.Saved.{AreSaved};
-ghost use Rattle.checkpoints.specs.Saves.{IsSaveOf, HasRoom, saved_by};
+ghost use Rattle.checkpoints.specs.Saves.{saved_by};
 
 use crate::key_state::KeyState;
 use crate::next::Next;
@@ -24,99 +24,96 @@ const EVERY: usize = 64;
 pub(crate) enum Saves {
     /// Those of the events that stay are kept.
     Kept,
-    /// This one follows.
-    More(KeyState),
     /// These take their place.
     Anew(Vec<KeyState>),
 }
 
 /// Carries out what becomes of the saved states, where so many events are kept. Takes no memory.
-pub(crate) fn keep_and_save(saved: &mut Vec<KeyState>, kept: usize, saves: Saves)
-    requires { HasRoom (length saved.old.items) (vec_capacity saved.old) saves }
+pub(crate) fn keep_or_renew(saved: &mut Vec<KeyState>, kept: usize, saves: Saves)
     ensures { saved.new.items ≡ saved_by kept saves saved.old.items }
 {
     match saves {
         Saves::Kept => saved.truncate(kept / EVERY),
-        Saves::More(state) => saved.push_reserved(state),
         Saves::Anew(new) => *saved = new,
     }
 }
 
-/// Prepares one more event of a key that has so many, and says what becomes of the key and of what is saved of it. A 64th
-/// event is given to a copy of the key, of which a copy is to be saved, and there is room for it. Any other event is prepared
-/// on the key itself, and no copy is made.
+/// Prepares one more event of a key that has so many, and says what becomes of the key. Where a 64th event is the last one, a
+/// copy of how the key stands after it is saved before. The event is prepared on the key itself.
 pub(crate) fn prepare_event(
     state: &mut KeyState,
     saved: &mut Vec<KeyState>,
     events: usize,
     index: u32,
     event: &Event,
-) -> Result<(Next, Saves), AllocError>
+) -> Result<Next, AllocError>
     ensures now { (kind : ModelKind) (budget : ℕ) (before : List (ℕ × Event))
         → IsKeyState kind budget before state.old
         → IsHistory (before ++ (index, event.now) ∷ [])
         → IsKeyState kind budget before state.new }
-    ensures items { saved.new.items ≡ saved.old.items }
-    ensures room { IfOk result (λ changes.
-        HasRoom (length saved.new.items) (vec_capacity saved.new) changes.1) }
     ensures next { (kind : ModelKind) (budget : ℕ) (before : List (ℕ × Event))
         → IsKeyState kind budget before state.old
         → IsHistory (before ++ (index, event.now) ∷ [])
-        → IfOk result (λ changes.
-        IsNext kind budget (before ++ (index, event.now) ∷ []) state.new changes.0) }
-    ensures saves { (kind : ModelKind) (budget : ℕ) (before : List (ℕ × Event))
+        → IfOk result (IsNext kind budget (before ++ (index, event.now) ∷ []) state.new) }
+    ensures saved { (kind : ModelKind) (budget : ℕ) (before : List (ℕ × Event))
         → length before ≡ events → IsKeyState kind budget before state.old
-        → IsHistory (before ++ (index, event.now) ∷ [])
-        → IfOk result (λ changes. IsSaveOf kind budget before (index, event.now) changes.1) }
+        → AreSaved kind budget before saved.old.items
+        → AreSaved kind budget before saved.new.items }
+    ensures more { (kind : ModelKind) (budget : ℕ) (before : List (ℕ × Event))
+        → length before ≡ events → IsKeyState kind budget before state.old
+        → AreSaved kind budget before saved.old.items
+        → OnOk result (AreSaved kind budget (before ++ (index, event.now) ∷ []) saved.new.items) }
 {
-    if events % EVERY != EVERY - 1 {
-        let next = state.prepare(index, event)?;
-        return Ok((next, Saves::Kept));
-    }
-    saved.reserve(1)?;
-    let after = state.copy()?.after(index, event)?;
-    let copy = after.copy()?;
-    Ok((Next::Becomes(after), Saves::More(copy)))
+    save(saved, state, events)?;
+    state.prepare(index, event)
 }
 
-// Saves a copy of the state where it is that with a 64th event.
+// Saves a copy of the state after so many events where the last one is a 64th one, unless that was done. All that is to be saved
+// of them is then saved, whatever event follows.
 fn save(saved: &mut Vec<KeyState>, state: &KeyState, events: usize) -> Result<(), AllocError>
-    ensures { (kind : ModelKind) (budget : ℕ) (before : List (ℕ × Event)) (x : ℕ × Event)
-        → length before ≡ events → AreSaved kind budget before saved.old.items
-        → IsKeyState kind budget (before ++ x ∷ []) state.now
+    ensures saved { (kind : ModelKind) (budget : ℕ) (before : List (ℕ × Event))
+        → length before ≡ events → IsKeyState kind budget before state.now
+        → AreSaved kind budget before saved.old.items
+        → AreSaved kind budget before saved.new.items }
+    ensures more { (kind : ModelKind) (budget : ℕ) (before : List (ℕ × Event)) (x : ℕ × Event)
+        → length before ≡ events → IsKeyState kind budget before state.now
+        → AreSaved kind budget before saved.old.items
         → OnOk result (AreSaved kind budget (before ++ x ∷ []) saved.new.items) }
 {
-    if events % EVERY != EVERY - 1 {
-        return Ok(());
+    if saved.len() < events / EVERY {
+        let copy = state.copy()?;
+        saved.push(copy)?;
     }
-    let copy = state.copy()?;
-    saved.push(copy)?;
     Ok(())
 }
 
-/// How the key stands after all these events, judged from the first on, with what is to be saved of it. Each event is
+/// How the key stands after the events at these places, judged from the first on, with what is saved of it. Each event is
 /// counted.
 pub(crate) fn judged_anew(
     alloc: Global,
     kind: ModelKind,
     budget: u32,
-    events: &[(u32, Event)],
+    places: &[u32],
+    lent: &[Event],
     replayed: &mut u64,
 ) -> Result<(KeyState, Vec<KeyState>), AllocError>
-    ensures stands { IsHistory events.now
-        → IfOk result (λ judged. IsKeyState kind budget events.now judged.0) }
-    ensures saved { IsHistory events.now
-        → IfOk result (λ judged. AreSaved kind budget events.now judged.1.items) }
-    ensures counted { OnOk result (replayed.new ≡ count_on replayed.old (length events.now)) }
+    requires { (events : List (ℕ × Event)) × AreAt lent.now places.now events }
+    ensures stands { (events : List (ℕ × Event)) → IsHistory events
+        → AreAt lent.now places.now events
+        → IfOk result (λ judged. IsKeyState kind budget events judged.0) }
+    ensures saved { (events : List (ℕ × Event)) → IsHistory events
+        → AreAt lent.now places.now events
+        → IfOk result (λ judged. AreSaved kind budget events judged.1.items) }
+    ensures counted { OnOk result (replayed.new ≡ count_on replayed.old (length places.now)) }
 {
     let mut state = KeyState::start(alloc, kind, budget)?;
     let mut saved = Vec::new(alloc);
     let mut before: usize = 0;
     let mut count = *replayed;
-    for (index, event) in events {
+    for index in places {
         count = count.saturating_add(1);
-        state = state.after(*index, event)?;
         save(&mut saved, &state, before)?;
+        state.go_on(*index, &lent[*index as usize])?;
         before += 1;
     }
     *replayed = count;
@@ -141,24 +138,27 @@ fn state_at(
     saved[count - 1].copy()
 }
 
-/// How the key stands after the first `kept` of the events, from the last state on that was saved until then. Each event
-/// that is judged again is counted.
+/// How the key stands after the first `kept` of the events at these places, from the last state on that was saved until then.
+/// Each event that is judged again is counted.
 pub(crate) fn gone_back(
     alloc: Global,
     kind: ModelKind,
     budget: u32,
-    events: &[(u32, Event)],
+    places: &[u32],
+    lent: &[Event],
     saved: &[KeyState],
     kept: usize,
     replayed: &mut u64,
 ) -> Result<KeyState, AllocError>
-    requires within { kept ≤ length events.now }
-    requires many { length saved.now ≡ length events.now / 64 }
-    ensures stands { IsHistory events.now → AreSaved kind budget events.now saved.now
-        → IfOk result (IsKeyState kind budget (take kept events.now)) }
+    requires within { kept ≤ length places.now }
+    requires many { kept / 64 ≤ length saved.now }
+    requires are { (events : List (ℕ × Event)) × AreAt lent.now places.now events }
+    ensures stands { (events : List (ℕ × Event)) → IsHistory events
+        → AreAt lent.now places.now events → AreSaved kind budget events saved.now
+        → IfOk result (IsKeyState kind budget (take kept events)) }
     ensures counted { OnOk result (replayed.new ≡ count_on replayed.old (kept % 64)) }
 {
     let count = kept / EVERY;
     let state = state_at(alloc, kind, budget, saved, count)?;
-    state.after_all(&events[count * EVERY..kept], replayed)
+    state.after_all(&places[count * EVERY..kept], lent, replayed)
 }

@@ -17,7 +17,7 @@ use Rattle.models.specs.declared.model_kind.ModelKind.{ModelKind}
 use Rattle.history.specs.declared.event.Event.{Event}
 use Rattle.history.specs.WellFormed.{Refuses, MayRefuse}
 use Rattle.linspec.specs.declared.verdict.Verdict.{Verdict}
-use Rattle.monitor.specs.JudgedHistory.{IsVerdictOn, opening_of, rewound}
+use Rattle.linspec.specs.JudgedHistory.{IsVerdictOn, opening_of, rewound}
 use Rattle.monitor.specs.Loading.{with_all, with_events}
 use Rattle.monitor.specs.Monitors.{MonitorView, at_rest}
 use Rattle.monitor.proofs.Opening.{events_in_turn}

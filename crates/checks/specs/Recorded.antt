@@ -11,7 +11,7 @@ use Rattle.history.specs.declared.event.Event.{Event}
 use Rattle.history.specs.Spelling.{Spells}
 use Rattle.machine.specs.Machine.{Machine, Setup, MayStep, Takes, appended, opening}
 use Rattle.harness.specs.Setups.{IsSetup, MayNotOpen}
-use Rattle.monitor.specs.JudgedHistory.{IsVerdictOn}
+use Rattle.linspec.specs.JudgedHistory.{IsVerdictOn}
 use Rattle.machine.specs.declared.command.Command.TheVariants.{Append}
 use Rattle.machine.specs.declared.command.Reply.{Reply}
 use Rattle.line_loop.specs.RefusalLine.{line_of, refusal_line}

@@ -85,7 +85,8 @@ fn spelled_by(alloc: Global, element: Edn) -> Result<Event, Refusal>
 fn push_spelled(history: &mut History, spelled: Result<Event, Refusal>) -> Result<(), Refusal>
     ensures pushed { OnOk result ((v : Value) → IsSpelled v spelled
         → PushesElement history.old.concurrency history.old.events v history.new.events) }
-    ensures refused { IfErr result (λ why. why ≢ Refusal.NoMemory → (v : Value) → IsSpelled v spelled
+    ensures refused { IfErr result (λ why. why ≢ Refusal.NoMemory
+        → (v : Value) → IsSpelled v spelled
         → RefusesNext history.old.concurrency history.old.events v why) }
     ensures err { OnErr result (history.new.events ≡ history.old.events) }
     ensures concurrency { history.new.concurrency ≡ history.old.concurrency }

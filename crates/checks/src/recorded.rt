@@ -3,7 +3,7 @@ ghost use Rattle.std.specs.Prelude.{◌≡◌, ◌≤◌, ◌⊎◌, ℕ, IfOk, 
 ghost use Rattle.edn.specs.Refusals.{IsWhy};
 ghost use Rattle.linspec.specs.declared.verdict.Verdict.{Verdict};
 ghost use Rattle.machine.specs.Machine.{Machine};
-ghost use Rattle.monitor.specs.JudgedHistory.{IsVerdictOn, rewound};
+ghost use Rattle.linspec.specs.JudgedHistory.{IsVerdictOn, rewound};
 ghost use Rattle.monitor.specs.Loading.{with_all, MayNotLoad};
 ghost use Rattle.harness.specs.Setups.{setup_of, IsSetup, MayNotOpen};
 ghost use Rattle.checks.specs.declared.recorded.Findings.{Findings};

@@ -70,7 +70,8 @@ fn carry_out<M: SharedBoard, R: Wait>(
     seat: &mut M::Seat,
     drawn: Reply,
 ) -> Next
-    ensures { (thread : ℕ) → CameFrom thread (after_reply draws drawn) (M.view seat.old) (M.view seat.new) result }
+    ensures { (thread : ℕ) →
+        CameFrom thread (after_reply draws drawn) (M.view seat.old) (M.view seat.new) result }
 {
     match drawn {
         Reply::Drawn { ticket, index } => {
@@ -91,7 +92,8 @@ fn serve_and_finish<M: SharedBoard, R: Wait>(
     seat: &mut M::Seat,
     ticket: u32,
 ) -> Next
-    ensures { (thread : ℕ) → CameFrom thread (serves ticket) (M.view seat.old) (M.view seat.new) result }
+    ensures { (thread : ℕ) →
+        CameFrom thread (serves ticket) (M.view seat.old) (M.view seat.new) result }
 {
     match board.call(rt, seat, Command::Serve(ticket)) {
         Ok(_) => finish(rt, board, seat, ticket),
@@ -100,7 +102,8 @@ fn serve_and_finish<M: SharedBoard, R: Wait>(
 }
 
 fn finish<M: SharedBoard, R: Wait>(rt: &R, board: &M, seat: &mut M::Seat, ticket: u32) -> Next
-    ensures { (thread : ℕ) → CameFrom thread (finishes ticket) (M.view seat.old) (M.view seat.new) result }
+    ensures { (thread : ℕ) →
+        CameFrom thread (finishes ticket) (M.view seat.old) (M.view seat.new) result }
 {
     match board.call(rt, seat, Command::Finish(ticket)) {
         Ok(_) => Next::Draw,

@@ -5,7 +5,7 @@ ghost use Rattle.linspec.specs.Orders.{IsLinearizable, product};
 ghost use Rattle.linspec.specs.declared.verdict.Verdict.{Verdict};
 ghost use Rattle.test_store.specs.declared.outcome.Mode.TheVariants.{Strict};
 ghost use Rattle.test_store.specs.Store.{IsCount};
-ghost use Rattle.monitor.specs.JudgedHistory.{kind_of, entries_in, IsVerdictOn};
+ghost use Rattle.linspec.specs.JudgedHistory.{kind_of, entries_in, IsVerdictOn};
 ghost use Rattle.machine.specs.Machine.{Machine, Setup, opening, AreOfTrial};
 ghost use Rattle.board.specs.Tape.{IsTapeOf};
 ghost use Rattle.board.specs.Seat.{IsFresh};
@@ -46,8 +46,8 @@ pub fn no_false_alarm_in_a_run()
     ensures linearizable { (setup : Setup) (threads : ℕ) (m : Machine) → setup.mode ≡ Strict
         → IsCount setup.replicas → IsRun threads (opening setup) m
         → IsLinearizable (product (kind_of m.judged)) (marks (entries_in m.judged)) }
-    ensures verdict { (setup : Setup) (threads : ℕ) (m : Machine) (key index : ℕ) → setup.mode ≡ Strict
-        → IsCount setup.replicas → IsRun threads (opening setup) m
+    ensures verdict { (setup : Setup) (threads : ℕ) (m : Machine) (key index : ℕ)
+        → setup.mode ≡ Strict → IsCount setup.replicas → IsRun threads (opening setup) m
         → ¬ IsVerdictOn m.judged (Verdict.Illegal key index) }
 {
     no_false_alarm();

@@ -196,7 +196,8 @@ where
 {
     let play = |client: (usize, M::Seat)| -> Ended<M::Seat>
         requires { client.0 < 2 ^ 32 }
-        ensures played { result.why ≡ None → HasPlayed client.0 (M.view client.1) (M.view result.seat) }
+        ensures played { result.why ≡ None
+            → HasPlayed client.0 (M.view client.1) (M.view result.seat) }
         ensures refused { IfSome result.why IsOfRun }
     { play_with(rt, board, gate, progress, client) };
     let_nemesis_try(progress);

@@ -4,7 +4,7 @@ ghost use Rattle.history.specs.Events.{marks};
 ghost use Rattle.linspec.specs.Orders.{IsLinearizable, product};
 ghost use Rattle.linspec.specs.declared.verdict.Verdict.{Verdict};
 ghost use Rattle.test_store.specs.declared.outcome.Mode.TheVariants.{Strict};
-ghost use Rattle.monitor.specs.JudgedHistory.{kind_of, entries_in, IsVerdictOn};
+ghost use Rattle.linspec.specs.JudgedHistory.{kind_of, entries_in, IsVerdictOn};
 ghost use Rattle.machine.specs.Machine.{opening};
 ghost use Rattle.harness.specs.Setups.{setup_of, IsSetup};
 ghost use Rattle.board.specs.CoreTape.{MayNotBegin};
@@ -36,9 +36,11 @@ pub fn run_trial<W: Watch + Send + Drop, R: Threads + Wait + Sync>(
     watch: W,
 ) -> Result<Core, Refusal>
     ensures limits { OnOk result (IsSetup (setup_of config)) }
-    ensures run { IfOk result (λ core. IsRun config.concurrency (opening (setup_of config)) core.machine) }
+    ensures run { IfOk result (λ core.
+        IsRun config.concurrency (opening (setup_of config)) core.machine) }
     ensures linearizable { config.mode ≡ Strict → IfOk result (λ core.
-        IsLinearizable (product (kind_of core.machine.judged)) (marks (entries_in core.machine.judged))) }
+        IsLinearizable (product (kind_of core.machine.judged))
+        (marks (entries_in core.machine.judged))) }
     ensures never_illegal { config.mode ≡ Strict → IfOk result (λ core.
         (key index : ℕ) → ¬ IsVerdictOn core.machine.judged (Verdict.Illegal key index)) }
     ensures refused { IfErr result (λ why.

@@ -9,7 +9,7 @@ use Rattle.test_store.specs.Store.{Cluster, StoreView}
 use Rattle.test_store.specs.Store.{at_rest as store_at_rest}
 use Rattle.trials.specs.declared.ticket.Ticket.{Ticket}
 use Rattle.trials.specs.Trials.{served_as}
-use Rattle.monitor.specs.JudgedHistory.{JudgedHistory}
+use Rattle.linspec.specs.JudgedHistory.{JudgedHistory}
 use Rattle.monitor.specs.Monitors.{MonitorView}
 use Rattle.monitor.specs.Monitors.{at_rest as monitor_at_rest}
 use Rattle.machine.specs.Machine.{Machine, stale_from}

@@ -4,6 +4,7 @@ use Rattle.std.proofs.Crossing.{crosses}
 use Rattle.generators.proofs.form.Gen.TheLaws.TheKnot as gen
 use Rattle.generators.proofs.words.Words.TheSendSync as words
 use Rattle.generators.proofs.path.Path.TheSendSync as path
+use Rattle.models.proofs.members.Members.TheSendSync as members
 use Rattle.monitor.proofs.monitor.Monitor.TheSendSync as monitor
 use Rattle.nemesis.proofs.schedule.Schedule.TheSendSync as schedule
 use Rattle.test_store.proofs.store.Store.TheSendSync as store
@@ -14,10 +15,10 @@ use Rattle.harness.specs.contracts.core_object.Core as core
 use Rattle.harness.specs.contracts.inner.Inner as inner
 
 pub source_send : IsSend source.the_row
-source_send = search (sendable, crosses, gen.crosses, words.the_send, path.the_send) depth 60
+source_send = search (sendable, crosses, gen.crosses, members.the_send, words.the_send, path.the_send) depth 60
 
 pub source_sync : IsSync source.the_row
-source_sync = search (sendable, crosses, gen.crosses, words.the_sync, path.the_sync) depth 60
+source_sync = search (sendable, crosses, gen.crosses, members.the_sync, words.the_sync, path.the_sync) depth 60
 
 pub inner_send : IsSend inner.the_row
 inner_send = search (source_send, monitor.the_send, schedule.the_send, store.the_send, outcome.the_send, ticket.the_send, sendable, crosses) depth 60 fits 20000

@@ -17,7 +17,7 @@ use Rattle.test_store.specs.declared.outcome.Outcome.{Outcome}
 use Rattle.test_store.specs.Store.{Cluster, StoreView, MayServe, MayStrike, VersionsOf, row_of, after_fault}
 use Rattle.trials.specs.declared.ticket.Ticket.{Ticket}
 use Rattle.trials.specs.Trials.{invocation, strike, fresh_ticket, IsStillOpen}
-use Rattle.monitor.specs.JudgedHistory.{IsVerdictOn, with_event}
+use Rattle.linspec.specs.JudgedHistory.{IsVerdictOn, with_event}
 use Rattle.monitor.specs.Monitors.{MonitorView, Admits}
 use Rattle.monitor.specs.Monitors.{with_next as monitor_with_next}
 use Rattle.machine.specs.declared.command.Command.TheVariants.{Draw, Serve, Finish, Nemesis}

@@ -17,7 +17,7 @@ use Rattle.test_store.specs.Store.{IsCount, MayStrike}
 use Rattle.test_store.proofs.Versions.{serve_replicas}
 use Rattle.trials.specs.declared.ticket.Ticket.{Ticket}
 use Rattle.trials.specs.Trials.{completion}
-use Rattle.monitor.specs.JudgedHistory.{with_kind, with_budget}
+use Rattle.linspec.specs.JudgedHistory.{with_kind, with_budget}
 use Rattle.machine.specs.declared.command.Command.{Command}
 use Rattle.machine.specs.declared.command.Command.TheVariants.{Append, Rewind, SetModel, SetBudget, Verdict as Ask, Draw, Serve, Finish, Nemesis}
 use Rattle.machine.specs.declared.command.Reply.{Reply}

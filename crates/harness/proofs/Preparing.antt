@@ -12,7 +12,7 @@ use Rattle.linspec.specs.declared.verdict.Verdict.{Verdict}
 use Rattle.generators.specs.Sources.{SourceView}
 use Rattle.test_store.specs.Store.{StoreView}
 use Rattle.trials.specs.declared.ticket.Ticket.{Ticket}
-use Rattle.monitor.specs.JudgedHistory.{JudgedHistory, IsVerdictOn, IsBudget, with_event, rewound, with_kind, with_budget}
+use Rattle.linspec.specs.JudgedHistory.{JudgedHistory, IsVerdictOn, IsBudget, with_event, rewound, with_kind, with_budget}
 use Rattle.monitor.specs.Monitors.{MonitorView, Admits}
 use Rattle.monitor.specs.Monitors.{with_next as monitor_with_next}
 use Rattle.machine.specs.declared.command.Command.{Command}

@@ -8,7 +8,7 @@ use Rattle.linspec.specs.declared.verdict.Verdict.{Verdict}
 use Rattle.linspec.specs.Orders.{IsLinearizable, product}
 use Rattle.test_store.specs.declared.outcome.Mode.TheVariants.{Strict}
 use Rattle.test_store.specs.Store.{IsCount}
-use Rattle.monitor.specs.JudgedHistory.{kind_of, entries_in}
+use Rattle.linspec.specs.JudgedHistory.{kind_of, entries_in}
 use Rattle.machine.specs.declared.command.Command.{Command}
 use Rattle.machine.specs.declared.command.Reply.{Reply}
 use Rattle.machine.specs.Machine.{Machine, Setup, opening, MayStep, Runs, AreOfTrial}

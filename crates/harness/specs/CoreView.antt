@@ -4,7 +4,7 @@ use Rattle.edn.specs.declared.refusal.Refusal.{Refusal}
 use Rattle.edn.specs.declared.refusal.Refusal.TheVariants.{NoMemory}
 use Rattle.history.specs.WellFormed.{HasRoom}
 use Rattle.linspec.specs.declared.verdict.Verdict.{Verdict}
-use Rattle.monitor.specs.JudgedHistory.{IsVerdictOn, IsBudget}
+use Rattle.linspec.specs.JudgedHistory.{IsVerdictOn, IsBudget}
 use Rattle.trials.specs.Trials.{IsStillOpen}
 use Rattle.machine.specs.declared.command.Command.{Command}
 use Rattle.machine.specs.declared.command.Command.TheVariants.{Append, Rewind, SetModel, SetBudget, Verdict as Ask, Draw, Serve, Finish, Nemesis}

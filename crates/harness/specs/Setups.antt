@@ -5,7 +5,7 @@ use Rattle.edn.specs.declared.refusal.Refusal.TheVariants.{BadValue, BadBudget, 
 use Rattle.history.specs.WellFormed.{IsConcurrency}
 use Rattle.generators.specs.Generators.{generator_of, AllItems, Each}
 use Rattle.test_store.specs.Store.{IsCount}
-use Rattle.monitor.specs.JudgedHistory.{IsBudget}
+use Rattle.linspec.specs.JudgedHistory.{IsBudget}
 use Rattle.models.specs.declared.model_kind.ModelKind.{ModelKind}
 use Rattle.machine.specs.Machine.{Setup}
 use Rattle.test_store.specs.declared.outcome.Mode.TheVariants.{Strict}

@@ -11,7 +11,7 @@ use Rattle.test_store.specs.declared.outcome.Outcome.{Outcome}
 use Rattle.test_store.specs.Store.{Cluster, StoreView, IsCount, MayStrike, VersionsWithin}
 use Rattle.trials.specs.declared.ticket.Ticket.{Ticket}
 use Rattle.trials.specs.Trials.{served_as}
-use Rattle.monitor.specs.JudgedHistory.{JudgedHistory}
+use Rattle.linspec.specs.JudgedHistory.{JudgedHistory}
 use Rattle.monitor.specs.Monitors.{MonitorView}
 use Rattle.machine.specs.Machine.{Machine, stale_from, most_tickets}
 use Rattle.machine.specs.Tickets.{AreTickets, served_of}

@@ -28,7 +28,8 @@ pub(crate) fn draw_op(
     thread: u32,
 ) -> Result<Drew, AllocError>
     ensures answer { IfOk result (λ drew.
-        MayGiveOp source.old (idle_from history.now.concurrency history.now.events 0 history.now.concurrency)
+        MayGiveOp source.old
+        (idle_from history.now.concurrency history.now.events 0 history.now.concurrency)
         thread drew (upcoming source.new)) }
     ensures item { OnErr result (HasOpFor source.old
         (idle_from history.now.concurrency history.now.events 0 history.now.concurrency) thread) }
@@ -51,7 +52,8 @@ pub(crate) fn draw_fault(
     history: &History,
 ) -> Result<Option<Fault>, AllocError>
     ensures answer { IfOk result (λ drew.
-        MayGiveFault source.old (idle_from history.now.concurrency history.now.events 0 history.now.concurrency)
+        MayGiveFault source.old
+        (idle_from history.now.concurrency history.now.events 0 history.now.concurrency)
         drew (upcoming source.new)) }
     ensures item { OnErr result (HasFaultFor source.old
         (idle_from history.now.concurrency history.now.events 0 history.now.concurrency)) }

@@ -5,7 +5,7 @@ ghost use Rattle.history.specs.Events.{marks};
 ghost use Rattle.linspec.specs.Orders.{IsLinearizable, product};
 ghost use Rattle.test_store.specs.declared.outcome.Mode.TheVariants.{Strict};
 ghost use Rattle.test_store.specs.Store.{IsCount};
-ghost use Rattle.monitor.specs.JudgedHistory.{IsVerdictOn, kind_of, entries_in};
+ghost use Rattle.linspec.specs.JudgedHistory.{IsVerdictOn, kind_of, entries_in};
 ghost use Rattle.machine.specs.declared.command.Command.{Command};
 ghost use Rattle.machine.specs.declared.command.Reply.{Reply};
 ghost use Rattle.machine.specs.Machine.{Setup, opening, first_due, MayStep, Runs, AreOfTrial};
@@ -71,13 +71,16 @@ impl Model for Inner {
 
     ghost coded = { Prim.hlevel (codes, generator_code) };
 
-    ghost view = { λ a. let m = machine_of a.monitor a.source a.schedule a.store a.tickets.items in record {
-      machine = m;
-      next = next_of a.monitor a.source a.store m a.change;
-    } };
+    ghost view = { λ a.
+        let m = machine_of a.monitor a.source a.schedule a.store a.tickets.items in record {
+          machine = m;
+          next = next_of a.monitor a.source a.store m a.change;
+        } };
 
-    ghost invariant = { λ a. let m = machine_of a.monitor a.source a.schedule a.store a.tickets.items in
-        IsSoundCore m (next_of a.monitor a.source a.store m a.change) (vec_capacity a.tickets) a.change };
+    ghost invariant = { λ a.
+        let m = machine_of a.monitor a.source a.schedule a.store a.tickets.items in
+        IsSoundCore m (next_of a.monitor a.source a.store m a.change)
+        (vec_capacity a.tickets) a.change };
 }
 
 impl Inner {

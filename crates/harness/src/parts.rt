@@ -4,7 +4,7 @@ ghost use Rattle.processes.specs.MoveRule.{current_of};
 ghost use Rattle.history.specs.WellFormed.{moves_of};
 ghost use Rattle.test_store.specs.Store.{MayStrike, after_fault};
 ghost use Rattle.trials.specs.Trials.{invocation, strike, fresh_ticket};
-ghost use Rattle.monitor.specs.JudgedHistory.{IsVerdictOn, with_event};
+ghost use Rattle.linspec.specs.JudgedHistory.{IsVerdictOn, with_event};
 ghost use Rattle.monitor.specs.Monitors.{Admits, with_next};
 
 use history::{Body, Event, EventKind, Fault, Process};
@@ -43,13 +43,14 @@ pub(crate) fn invoke(
         Admits old (invocation (current_of old.concurrency (moves_of old.events) thread) op) }
     ensures tickets { tickets.new.items ≡ tickets.old.items }
     ensures room { OnOk result (vec_len tickets.new < vec_capacity tickets.new) }
-    ensures ticket { let old = monitor.old.now in IfOk result (λ r. r.0
-        ≡ fresh_ticket thread (current_of old.concurrency (moves_of old.events) thread) op old.events) }
+    ensures ticket { let old = monitor.old.now in IfOk result (λ r. r.0 ≡ fresh_ticket thread
+        (current_of old.concurrency (moves_of old.events) thread) op old.events) }
     ensures prepared { let old = monitor.old.now in OnOk result (monitor.new ≡ with_next
         (with_event (invocation (current_of old.concurrency (moves_of old.events) thread) op) old)
         monitor.old) }
     ensures verdict { let old = monitor.old.now in IfOk result (λ r. IsVerdictOn
-        (with_event (invocation (current_of old.concurrency (moves_of old.events) thread) op) old) r.1) }
+        (with_event (invocation (current_of old.concurrency (moves_of old.events) thread) op) old)
+        r.1) }
     ensures err { OnErr result (monitor.new.now ≡ monitor.old.now) }
 {
     let process = monitor.history().current(thread);

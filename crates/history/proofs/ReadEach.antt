@@ -1,10 +1,11 @@
 -- What the elements of a collection are, read one after another; and what is known of integers put in their places
-use Rattle.std.proofs.Common.{◌≡◌, ◌↔◌, ℕ, ◌+◌, ◌<◌, ◌≤◌, ℤ, Option, Some, None, is_some, List, [], ◌∷◌, ◌++◌, length, drop, get_or, option_map, refl, sym, ap, ◌∙◌, subst, append_assoc, drop-cons, add-one, ⊎_elim, ◌⊎◌, inl, inr, arith}
+use Rattle.std.proofs.Common.{◌≡◌, ◌↔◌, ℕ, ◌+◌, ◌<◌, ◌≤◌, ℤ, Option, Some, None, is_some, List, [], ◌∷◌, ◌++◌, length, drop, get_or, option_map, refl, sym, ap, ◌∙◌, subst, append_assoc, drop-cons, add-one, ⊎_elim, ◌⊎◌, inl, inr, arith, Result, Ok, Err, IfOk}
 use Rattle.std.specs.Prelude.{IsSomeAnd}
 use Rattle.std.proofs.lemmas.List.{append-nil, drop_all}
 use Rattle.std.specs.List.{Contains}
 use Rattle.std.proofs.lemmas.List.Elements.{Contains-append_left, Contains-append_right, Contains-append_cases, Contains-push, Contains-push_cases}
 use Rattle.models.specs.Members.{IsAscending}
+use Rattle.models.proofs.Sorting.{one_ascending}
 use Rattle.models.proofs.PutIn.{Contains-put_in, IsAscending-put_in}
 use Rattle.edn.specs.Value.{Value}
 use Rattle.edn.specs.View.{value_of, values_of}
@@ -95,3 +96,8 @@ to_ascending (z ∷ zs) x h =
 
 pub has_the_integers : (zs : List ℤ) (x : ℤ) → Contains (ascending zs) x ↔ Contains zs x
 has_the_integers zs x = (from_ascending zs x, to_ascending zs x)
+
+-- an ascending list with the members of the integers is the integers put in their places
+pub if_ascending : {E : Type 0} (zs : List ℤ) (r : Result (List ℤ) E) → IfOk r (λ set. (v : ℤ) → Contains set v ↔ Contains zs v) → IfOk r IsAscending → IfOk r (λ set. set ≡ ascending zs)
+if_ascending zs (Ok set) has is = one_ascending set (ascending zs) is (is_ascending zs) (λ v. ((λ h. (has_the_integers zs v).1 ((has v).0 h)), (λ h. (has v).1 ((has_the_integers zs v).0 h))))
+if_ascending zs (Err e) has is = tt

@@ -39,7 +39,8 @@ pub fn set_of(alloc: Global, element: &Edn) -> Result<Option<Members>, AllocErro
     let Some(integers) = integers_of(alloc, elements.as_slice())? else {
         return Ok(None);
     };
-    Ok(Some(members_of(integers)))
+    let members = members_of(integers)?;
+    Ok(Some(members))
 }
 
 // Whether each element is an integer.
@@ -70,8 +71,8 @@ fn integers_of(alloc: Global, elements: &[Edn]) -> Result<Option<Vec<i64>>, Allo
 }
 
 // The set of these integers.
-fn members_of(integers: Vec<i64>) -> Members
-    ensures { result ≡ ascending integers.items }
+fn members_of(integers: Vec<i64>) -> Result<Members, AllocError>
+    ensures { IfOk result (λ members. members ≡ ascending integers.items) }
 {
     Members::of_unordered(integers)
 }
@@ -97,7 +98,8 @@ pub fn are_groups(element: &Edn) -> bool
 fn mark_each(element: &Edn, seen: &mut [bool]) -> bool
     requires { length seen.old ≡ 7 }
     ensures { (before : List ℕ) → HasSeen seen.old before → MatchBool result
-        (IsSomeAnd (numbers_in (value_of element.now)) (λ numbers. HasSeen seen.new (before ++ numbers)))
+        (IsSomeAnd (numbers_in (value_of element.now))
+        (λ numbers. HasSeen seen.new (before ++ numbers)))
         ((numbers after : List ℕ) → numbers_in (value_of element.now) ≡ Some numbers
         → ¬ AreApart ((before ++ numbers) ++ after)) }
 {

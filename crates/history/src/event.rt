@@ -69,7 +69,7 @@ impl Fault {
 }
 
 impl Body {
-    /// An equal body, with memory of its own; `AllocError` where there is none.
+    /// An equal body; `AllocError` where there is no memory for it. The members of a set are shared.
     pub fn copy(&self) -> Result<Body, AllocError>
         ensures { IfOk result (λ other. other ≡ self.now) }
     {
@@ -81,7 +81,7 @@ impl Body {
 }
 
 impl Event {
-    /// An equal event, with memory of its own; `AllocError` where there is none.
+    /// An equal event; `AllocError` where there is no memory for it. The members of a set are shared.
     pub fn copy(&self) -> Result<Event, AllocError>
         ensures { IfOk result (λ other. other ≡ self.now) }
     {

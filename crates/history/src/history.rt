@@ -1,8 +1,9 @@
 //! Histories: events in order, each well-formed after those before it.
-ghost use Rattle.std.specs.Prelude.{◌≡◌, ℕ, ◌<◌, ◌≤◌, ◌++◌, ◌∷◌, ◌^◌, ◌↔◌, [], take, length, slice_get, IsTrue, IsSome, IfSome, option_map, OnOk, IfOk, IfErr, OnErr, IsErrOf};
+ghost use Rattle.std.specs.Prelude.{◌≡◌, ℕ, Some, ◌<◌, ◌≤◌, ◌++◌, ◌∷◌, ◌^◌, ◌↔◌, [], take, length, slice_get, IsTrue, IsSome, IfSome, option_map, OnOk, IfOk, IfErr, OnErr, IsErrOf};
 ghost use Rattle.std.specs.Option.{option_copied};
 ghost use Rattle.history.specs.WellFormed.{IsConcurrency, no_events, Admits, MayNotCut, idle, with_next, with_events, IsWellFormed, MayRefuse, IsHistoryOf, moves_of, open_of, open_index, FollowsRule, BreaksRule, Refuses};
 ghost use Rattle.edn.specs.View.{value_of};
+ghost use Rattle.history.specs.declared.event.Event.{Event};
 ghost use Rattle.history.specs.Events.{indexed_from, events_of_key};
 ghost use Rattle.history.specs.Spelling.{Spells};
 ghost use Rattle.history.specs.EventMap.{map_of, with_index};
@@ -103,6 +104,17 @@ impl History {
         self.events.reserve(1)?;
         self.prepared = Some(Prepared::Push(event));
         Ok(())
+    }
+
+    /// The event that is prepared to be appended, if one is. Takes no memory.
+    pub fn prepared_event(&self) -> Option<&Event>
+        ensures { (event : Event) → self.now.next ≡ Some (self.now.events ++ event ∷ [])
+            → option_copied result ≡ Some event }
+    {
+        match &self.prepared {
+            Some(Prepared::Push(event)) => Some(event),
+            Some(Prepared::Cut(..)) | None => None,
+        }
     }
 
     /// Prepares to keep the first `n` events alone, and the threads that they make. It takes the time of these events.

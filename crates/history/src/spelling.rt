@@ -101,8 +101,8 @@ fn operation_of(
 ) -> Result<Option<Op>, AllocError>
     ensures found { IfOk result (λ found. FindsAllowed found
         (SpellsOp (value_of name.now) (value_of value.now)) (λ op. IsPartOf kind op.name op.part)) }
-    ensures memory_last { IsErr result → (op : Op) × SpellsOp (value_of name.now) (value_of value.now) op
-        × IsPartOf kind op.name op.part }
+    ensures memory_last { IsErr result → (op : Op)
+        × SpellsOp (value_of name.now) (value_of value.now) op × IsPartOf kind op.name op.part }
 {
     let Some(name) = operation_name_of(name) else {
         return Ok(None);

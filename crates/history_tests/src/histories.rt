@@ -167,6 +167,21 @@ fn prepared_events(rt: HostRuntime) -> Result<(), Fail> {
     Ok(())
 }
 
+// The event that is prepared to be appended is shown until it is carried out. A cut is no event.
+#[test]
+fn shows_the_prepared_event(rt: HostRuntime) -> Result<(), Fail> {
+    let mut history = History::new(rt.alloc(), 1)?;
+    assert!(rt; history.prepared_event().is_none());
+    history.prepare_push(written(Invoke, 0, 3))?;
+    let event = history.prepared_event().ok_or("no event")?;
+    assert!(rt; event.kind == Invoke);
+    history.commit();
+    assert!(rt; history.prepared_event().is_none());
+    history.prepare_cut(0)?;
+    assert!(rt; history.prepared_event().is_none());
+    Ok(())
+}
+
 // A process has crashed, and the next one of its thread has invoked.
 const THREE: Seen = (Some(3), 2, Some(2));
 

@@ -53,9 +53,9 @@ fn members_are_ascending(rt: HostRuntime) -> Result<(), Fail> {
     assert_eq!(rt; members.as_slice(), [1, 3].as_slice());
     assert!(rt; members.with(3)?.same(&members), "3 is there");
     assert!(rt; members < members.with(9)?);
-    let spelled = Members::of_unordered(vec![in rt.alloc(); 3, -1, 3, 2, -1]?);
+    let spelled = Members::of_unordered(vec![in rt.alloc(); 3, -1, 3, 2, -1]?)?;
     assert_eq!(rt; spelled.as_slice(), [-1, 2, 3].as_slice());
-    let one = Members::of_ascending(vec![in rt.alloc(); 3]?);
+    let one = Members::of_ascending(vec![in rt.alloc(); 3]?)?;
     assert!(rt; Members::new(rt.alloc()).with(3)? == one);
     Ok(())
 }

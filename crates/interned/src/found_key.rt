@@ -27,7 +27,7 @@ impl FoundKey {
         }
     }
 
-    /// What was found, with memory of its own.
+    /// What was found. The members of a set are shared.
     pub fn found(&self) -> Result<Found, AllocError>
         ensures { IfOk result (λ found. found ≡ found_of self.now) }
     {

@@ -103,6 +103,17 @@ pub fn slot_at(founds: &mut Founds, found: Found) -> Result<usize, AllocError>
     if let Some(at) = place_in_first(&founds.items, &found) {
         return Ok(at + 1);
     }
+    slot_behind(founds, found)
+}
+
+// The same, of what does not stand among the first.
+#[inline(never)]
+fn slot_behind(founds: &mut Founds, found: Found) -> Result<usize, AllocError>
+    requires { (at : ℕ) → at < 8 → slice_get founds.old at ≢ Some found }
+    ensures slot { IfOk result (λ slot. IsSlot founds.new slot (Some found)) }
+    ensures front { IsFront founds.old founds.new }
+    ensures once { IsOnceIn founds.old → IsOnceIn founds.new }
+{
     if founds.items.len() < FIRST {
         founds.items.push(found)?;
         return Ok(founds.items.len());

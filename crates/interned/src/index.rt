@@ -1,9 +1,9 @@
 //! An index of hashes: where each of them stands, by buckets.
-ghost use Rattle.std.specs.Prelude.{◌≡◌, ◌≢◌, ℕ, ◌+◌, ◌*◌, ◌/◌, ◌^◌, ◌<◌, ◌≤◌, [], ◌∷◌, ◌++◌, List, map, length, get_or, Some, None, slice_get, vec_capacity, IfSome, IsFalse, IsTrue, OnOk};
+ghost use Rattle.std.specs.Prelude.{◌≡◌, ◌≢◌, ℕ, ◌+◌, ◌<◌, [], ◌∷◌, ◌++◌, map, length, get_or, Some, None, slice_get, vec_capacity, IfSome, IsFalse, IsTrue, OnOk};
 ghost use Rattle.interned.specs.Index.{IsIndex, bucket, hash_by};
 
 use models::SeqObject;
-use std::alloc::{AllocError, Global};
+use std::alloc::AllocError;
 use std::hash::{FoldHasher, Hash, Hasher};
 
 /// Hashes, and an index of the first of them, by buckets. A place is one more than where a hash stands, and zero where there is none.

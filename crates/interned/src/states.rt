@@ -1,5 +1,5 @@
 //! States by number.
-ghost use Rattle.std.specs.Prelude.{◌≡◌, ◌≢◌, ℕ, ◌<◌, [], ◌∷◌, ◌++◌, List, map, length, Some, slice_get, option_copied, vec_capacity, IfOk, OnOk, OnErr};
+ghost use Rattle.std.specs.Prelude.{◌≡◌, ◌<◌, [], length, Some, slice_get, option_copied, IfOk};
 ghost use Rattle.history.specs.Events.{IsFront};
 ghost use Rattle.interned.specs.Index.{AreStates, hash_by};
 ghost use Rattle.interned.specs.Numbers.{IsOnceIn};

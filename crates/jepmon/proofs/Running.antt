@@ -6,7 +6,7 @@ use Rattle.edn.specs.declared.refusal.Refusal.{Refusal}
 use Rattle.edn.specs.declared.refusal.Refusal.TheVariants.{NoMemory, NoSeat}
 use Rattle.linspec.specs.declared.verdict.Verdict.{Verdict}
 use Rattle.linspec.specs.declared.verdict.Verdict.TheVariants.{Legal, Illegal, Unknown}
-use Rattle.monitor.specs.JudgedHistory.{JudgedHistory, IsVerdictOn}
+use Rattle.linspec.specs.JudgedHistory.{JudgedHistory, IsVerdictOn}
 use Rattle.machine.specs.Machine.{Setup}
 use Rattle.harness.specs.declared.config.Config.{Config}
 use Rattle.harness.specs.Setups.{setup_of, MayNotOpen}

@@ -2,7 +2,7 @@
 use Rattle.std.specs.Prelude.{◌≡◌, ◌⊎◌, ℕ, List}
 use Rattle.edn.specs.declared.refusal.Refusal.{Refusal}
 use Rattle.linspec.specs.declared.verdict.Verdict.{Verdict}
-use Rattle.monitor.specs.JudgedHistory.{IsVerdictOn}
+use Rattle.linspec.specs.JudgedHistory.{IsVerdictOn}
 use Rattle.machine.specs.Machine.{Machine, Setup, opening}
 use Rattle.harness.specs.Setups.{MayNotOpen}
 use Rattle.line_loop.specs.RefusalLine.{refusal_line}

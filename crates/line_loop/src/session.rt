@@ -33,7 +33,11 @@ pub struct Session<M: LineMachine> {
 impl<M: LineMachine> Model for Session<M> {
     ghost Value = { Reading M };
 
-    ghost view = { λ session. record { machine = session.machine; held = session.held.items; replies = session.replies.items } };
+    ghost view = { λ session. record {
+      machine = session.machine;
+      held = session.held.items;
+      replies = session.replies.items;
+    } };
 }
 
 impl<M: LineMachine> Session<M> {

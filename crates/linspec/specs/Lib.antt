@@ -8,3 +8,5 @@ pub mod KeptMarks
 pub mod Finishing
 pub mod KindsOf
 pub mod Attempts
+pub mod KeyHistory
+pub mod JudgedHistory

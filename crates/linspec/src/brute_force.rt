@@ -118,7 +118,8 @@ fn with_outcome(
     state: &AnyState,
 ) -> Result<Attempt, AllocError>
     ensures taken { IfOk result (λ after. after.taken ≡ order.now.taken ++ id ∷ []) }
-    ensures states { IfOk result (λ after. after.states ≡ with_state order.now.states key state.now) }
+    ensures states { IfOk result (λ after.
+        after.states ≡ with_state order.now.states key state.now) }
 {
     let states = states_with(alloc, &order.states, key, state)?;
     let mut taken = order.taken.clone()?;

@@ -19,7 +19,7 @@ use Rattle.machine.specs.declared.command.Command.{Command}
 use Rattle.machine.specs.declared.command.Command.TheVariants.{Append, Rewind, SetModel, SetBudget, Verdict as Ask, Draw, Serve, Finish, Nemesis}
 use Rattle.machine.specs.declared.command.Reply.{Reply}
 use Rattle.machine.specs.declared.command.Reply.TheVariants.{Verdict as Says, Drawn as HasDrawn, Pending as IsPending, Done as IsDone, Served, Fault as Struck}
-use Rattle.monitor.specs.JudgedHistory.{with_kind, with_budget}
+use Rattle.linspec.specs.JudgedHistory.{with_kind, with_budget}
 use Rattle.machine.specs.Machine.{Machine, most_tickets, stale_from, current_process, appended, cut_to, invoked_by, with_served, struck_by, Gives, Replies, MayStep}
 use Rattle.machine.specs.Tickets.{served_of}
 use Rattle.machine.proofs.Moves.{trial_of, IsMove, is_move, MovedOn, moved_on, given, next_fault}

@@ -33,7 +33,7 @@ use Rattle.machine.specs.declared.command.Command.{Command}
 use Rattle.machine.specs.declared.command.Command.TheVariants.{Append, Rewind, SetModel, SetBudget, Verdict as Ask, Draw, Serve, Finish, Nemesis}
 use Rattle.machine.specs.declared.command.Reply.{Reply}
 use Rattle.machine.specs.declared.command.Reply.TheVariants.{Verdict as Says, Drawn as HasDrawn, Pending as IsPending, Done as IsDone, Served, Fault as Struck}
-use Rattle.monitor.specs.JudgedHistory.{JudgedHistory, kind_of, budget_of, entries_in, IsVerdictOn, with_budget}
+use Rattle.linspec.specs.JudgedHistory.{JudgedHistory, kind_of, budget_of, entries_in, IsVerdictOn, with_budget}
 use Rattle.machine.specs.Machine.{Machine, Setup, opening, Gives, NextFault, current_process, appended, invoked_by, with_served, struck_by, Takes, Replies, MayStep, Runs, served_by, served_ticket, serves_in, IsOfTrial, AreOfTrial}
 
 -- the machine as far as a trial goes

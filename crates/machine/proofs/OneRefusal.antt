@@ -11,7 +11,7 @@ use Rattle.machine.specs.declared.command.Command.{Command}
 use Rattle.machine.specs.declared.command.Command.TheVariants.{Append, Rewind, SetModel, SetBudget, Verdict as Ask, Draw, Serve, Finish, Nemesis}
 use Rattle.machine.specs.declared.command.Reply.{Reply}
 use Rattle.machine.specs.declared.command.Reply.TheVariants.{Verdict as Says, Drawn as HasDrawn, Pending as IsPending, Done as IsDone, Served, Fault as Struck}
-use Rattle.monitor.specs.JudgedHistory.{IsBudget}
+use Rattle.linspec.specs.JudgedHistory.{IsBudget}
 use Rattle.machine.specs.Machine.{Machine, most_tickets, HasTicket, HasNoTicket, HasFault, IsThread, open_at, ThreadMayDraw, Replies, Refuses}
 use Rattle.machine.proofs.Firsts.{FirstFails, FailsFirst, same_why, not_refused}
 use Rattle.machine.proofs.OneGift.{no_fault}

@@ -17,7 +17,7 @@ use Rattle.machine.specs.declared.command.Command.{Command}
 use Rattle.machine.specs.declared.command.Command.TheVariants.{Append, Rewind, SetModel, SetBudget, Verdict as Ask, Draw, Serve, Finish, Nemesis}
 use Rattle.machine.specs.declared.command.Reply.{Reply}
 use Rattle.machine.specs.declared.command.Reply.TheVariants.{Verdict as Says, Drawn as HasDrawn, Pending as IsPending, Done as IsDone, Served, Fault as Struck}
-use Rattle.monitor.specs.JudgedHistory.{JudgedHistory, kind_of, budget_of, entries_in, IsVerdictOn}
+use Rattle.linspec.specs.JudgedHistory.{JudgedHistory, kind_of, budget_of, entries_in, IsVerdictOn}
 use Rattle.machine.specs.Machine.{Machine, current_process, appended, invoked_by, with_served, struck_by, Replies}
 use Rattle.machine.proofs.OneGift.{one_gift, one_fault}
 use Rattle.machine.proofs.OneRefusal.{same_ticket}

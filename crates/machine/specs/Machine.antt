@@ -30,7 +30,7 @@ use Rattle.machine.specs.declared.command.Command.{Command}
 use Rattle.machine.specs.declared.command.Command.TheVariants.{Append, Rewind, SetModel, SetBudget, Verdict as Ask, Draw, Serve, Finish, Nemesis}
 use Rattle.machine.specs.declared.command.Reply.{Reply}
 use Rattle.machine.specs.declared.command.Reply.TheVariants.{Verdict as Says, Drawn as HasDrawn, Pending as IsPending, Done as IsDone, Served, Fault as Struck}
-use Rattle.monitor.specs.JudgedHistory.{JudgedHistory, IsVerdictOn, IsBudget, opening_of, with_event, rewound, with_kind, with_budget}
+use Rattle.linspec.specs.JudgedHistory.{JudgedHistory, IsVerdictOn, IsBudget, opening_of, with_event, rewound, with_kind, with_budget}
 
 pub record Machine : Type 0 where
   pub judged : JudgedHistory

@@ -14,7 +14,7 @@ ghost use Rattle.trials.specs.declared.ticket.Ticket.{Ticket};
 ghost use Rattle.trials.specs.Trials.{completion, IsStillOpen, AreOfTickets};
 ghost use Rattle.machine.specs.declared.command.Command.{Command};
 ghost use Rattle.machine.specs.declared.command.Reply.{Reply};
-ghost use Rattle.monitor.specs.JudgedHistory.{kind_of, entries_in, IsVerdictOn};
+ghost use Rattle.linspec.specs.JudgedHistory.{kind_of, entries_in, IsVerdictOn};
 ghost use Rattle.machine.specs.Machine.{Machine, Setup, opening, most_tickets, MayStep, Runs, serves_in, AreOfTrial};
 ghost use Rattle.machine.specs.Tickets.{served_of, StandsFor, IsAnswered, AreTickets};
 

@@ -8,3 +8,5 @@ pub mod Counting
 pub mod Steps
 pub mod Tables
 pub mod Sorting
+pub mod Sums
+pub mod Alike

@@ -1,14 +1,17 @@
 -- Invariant: states that compare equal are the same, and lists of integers compare lawfully
-use Rattle.std.specs.Prelude.{◌≡◌, ℤ, Bool, Option, Some, None, true, List}
-use Rattle.std.specs.Bool.{beq}
+use Rattle.std.specs.Prelude.{◌≡◌, ℕ, ◌+◌, pos, get_or, ℤ, Bool, Option, Some, None, true, List, ◌++◌, length}
+use Rattle.std.specs.Bool.{beq, one_answer}
 use Rattle.std.specs.Option.{option_eq}
 use Rattle.std.specs.Hash as fed
-use Rattle.std.specs.Ordering.{int_eq, int_cmp, eq_by_cmp}
-use Rattle.std.specs.Cmp.{IsPartialEquivalence, IsEquivalence, IsPartialOrder, IsTotalOrder, partial_equiv_from_equiv, partial_order_from_agreeing_total, booleans_Decides}
+use Rattle.std.specs.Ordering.{int_eq, int_cmp, nat_cmp, eq_by_cmp, is_eq, on, ordering_then, then_cmp}
+use Rattle.std.specs.declared.cmp.Ordering.{Ordering}
+use Rattle.std.specs.declared.cmp.Ordering.TheVariants.{Less, Equal, Greater}
+use Rattle.std.specs.Cmp.{IsPartialEquivalence, IsEquivalence, IsPartialOrder, IsTotalOrder, partial_equiv_from_equiv, partial_order_from_agreeing_total, booleans_Decides, on_total, tied_itself}
 use Rattle.std.specs.Cmp.Lexicographic.{pointwise, pointwise_decides, slice_cmp, lists_equiv, lists_total, lists_ties}
-use Rattle.std.proofs.Common.{refl, ap}
+use Rattle.std.proofs.Common.{refl, ap, subst, ◌∙◌}
 use Rattle.std.proofs.lemmas.Bool.Decides.{Decides-int_eq}
-use Rattle.std.proofs.lemmas.Cmp.{int_cmp_total, int_eq_equiv}
+use Rattle.std.proofs.lemmas.Cmp.{int_cmp_total, nat_cmp_total, int_eq_equiv, then_total}
+use Rattle.models.specs.Sums.{sum_of}
 
 pub option_eq-exact : (a b : Option ℤ) → option_eq int_eq a b ≡ true → a ≡ b
 option_eq-exact None None e = refl
@@ -29,18 +32,44 @@ ints_equal = lists_equiv int_eq_equiv
 pub ints_alike : IsPartialEquivalence (pointwise int_eq)
 ints_alike = partial_equiv_from_equiv ints_equal
 
-pub ints_ranked : IsTotalOrder (slice_cmp int_cmp)
-ints_ranked = lists_total int_cmp_total
+-- by how many they are, then by their sums, and lists of one length and sum by their integers in turn
+abbrev pub ints_cmp : List ℤ → List ℤ → Ordering
+ints_cmp = then_cmp (on length nat_cmp) (then_cmp (on sum_of nat_cmp) (slice_cmp int_cmp))
 
-pub ints_agree : (a b : List ℤ) → Some (slice_cmp int_cmp a b) ≡ Some (slice_cmp int_cmp a b)
+pub ints_ranked : IsTotalOrder ints_cmp
+ints_ranked = then_total (on_total length nat_cmp_total) (then_total (on_total sum_of nat_cmp_total) (lists_total int_cmp_total))
+
+pub ints_agree : (a b : List ℤ) → Some (ints_cmp a b) ≡ Some (ints_cmp a b)
 ints_agree a b = refl
 
-pub ints_tie : (a b : List ℤ) → pointwise int_eq a b ≡ eq_by_cmp (slice_cmp int_cmp) a b
-ints_tie = lists_ties int_cmp (λ x y. refl)
+same_behind : (o p : Ordering) → is_eq (ordering_then o p) ≡ true → is_eq p ≡ true
+same_behind Less p e = absurd (cc e)
+same_behind Equal p e = e
+same_behind Greater p e = absurd (cc e)
 
-pub ints_ordered : IsPartialOrder (pointwise int_eq) (λ a b. Some (slice_cmp int_cmp a b))
-ints_ordered = partial_order_from_agreeing_total (slice_cmp int_cmp) ints_ranked ints_agree ints_tie
+pub ints_tie : (a b : List ℤ) → pointwise int_eq a b ≡ eq_by_cmp ints_cmp a b
+ints_tie a b =
+    one_answer (pointwise int_eq a b) (eq_by_cmp ints_cmp a b) (pointwise_decides Decides-int_eq a b) (
+      (λ e. ints_eq-exact a b (lists_ties int_cmp (λ x y. refl) a b ∙ same_behind (nat_cmp (sum_of a) (sum_of b)) (slice_cmp int_cmp a b) (same_behind (nat_cmp (length a) (length b)) _ e))),
+      (λ e. subst (λ l. eq_by_cmp ints_cmp a l ≡ true) e (ap is_eq (tied_itself ints_ranked a))),
+    )
+
+pub ints_ordered : IsPartialOrder (pointwise int_eq) (λ a b. Some (ints_cmp a b))
+ints_ordered = partial_order_from_agreeing_total ints_cmp ints_ranked ints_agree ints_tie
 
 -- equal lists of integers are hashed alike
 pub ints_fed : (a b : List ℤ) → pointwise int_eq a b ≡ true → fed.slice fed.i64 a ≡ fed.slice fed.i64 b
 ints_fed = (fed.same_Alike (fed.slice fed.i64) (pointwise_decides Decides-int_eq)).fed
+
+-- a set is hashed by the number of its members and their sum
+abbrev pub members_fed : List ℤ → fed.HashWrites
+members_fed xs = fed.usize (length xs) ++ fed.u64 (sum_of xs)
+
+pub members_fed-alike : (a b : List ℤ) → pointwise int_eq a b ≡ true → members_fed a ≡ members_fed b
+members_fed-alike a b e = ap members_fed (ints_eq-exact a b e)
+
+-- the eight integers from this place on are the same
+abbrev pub AreSameAt : List ℤ → List ℤ → ℕ → Type 0
+AreSameAt xs ys at =
+    ((get_or xs at (pos 0) ≡ get_or ys at (pos 0)) × (get_or xs (at + 1) (pos 0) ≡ get_or ys (at + 1) (pos 0)) × (get_or xs (at + 2) (pos 0) ≡ get_or ys (at + 2) (pos 0)) × (get_or xs (at + 3) (pos 0) ≡ get_or ys (at + 3) (pos 0))
+    × (get_or xs (at + 4) (pos 0) ≡ get_or ys (at + 4) (pos 0)) × (get_or xs (at + 5) (pos 0) ≡ get_or ys (at + 5) (pos 0)) × (get_or xs (at + 6) (pos 0) ≡ get_or ys (at + 6) (pos 0)) × (get_or xs (at + 7) (pos 0) ≡ get_or ys (at + 7) (pos 0)))

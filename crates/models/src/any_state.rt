@@ -93,7 +93,8 @@ impl AnyState {
         each_kind!(state_kind; self)
     }
 
-    /// An equal state, with memory of its own; `AllocError` where there is none. Takes the time of the items or members.
+    /// An equal state; `AllocError` where there is no memory for it. Takes the time of the items of a queue; the members
+    /// of a set are shared.
     pub fn copy(&self, alloc: Global) -> Result<AnyState, AllocError>
         ensures { IfOk result (λ other. other ≡ self.now) }
     {

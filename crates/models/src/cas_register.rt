@@ -6,6 +6,7 @@ ghost use Rattle.models.specs.Reads.{cas_register_reads};
 use crate::finding::Found;
 use crate::object::SeqObject;
 use crate::operation::{Name, Op, Part};
+use crate::outcomes::put_outcome;
 use crate::register::Register;
 use std::alloc::{AllocError, Global};
 
@@ -44,7 +45,7 @@ impl SeqObject for CasRegister {
         match (op.name, &op.part, *state) {
             (Name::Cas, Part::Pair(from, to), Some(value)) => {
                 if value == *from {
-                    outcomes.push((Some(*to), Found::Unit))?;
+                    return put_outcome(outcomes, Some(*to), Found::Unit);
                 }
                 Ok(())
             }

@@ -7,6 +7,7 @@ use crate::finding::Found;
 use crate::items::Items;
 use crate::object::SeqObject;
 use crate::operation::{Name, Op, Part};
+use crate::outcomes::put_outcome;
 use std::alloc::{AllocError, Global};
 
 /// A queue, empty at first: an enqueue adds its value at the back, a dequeue takes the front off and finds it.
@@ -35,7 +36,7 @@ impl SeqObject for FifoQueue {
     }
 
     fn append_outcomes(
-        alloc: Global,
+        _alloc: Global,
         state: &Items,
         op: &Op,
         outcomes: &mut Vec<(Items, Found)>,
@@ -43,14 +44,12 @@ impl SeqObject for FifoQueue {
         match (op.name, &op.part) {
             (Name::Enqueue, Part::Int(value)) => {
                 let longer = state.with(*value)?;
-                outcomes.push((longer, Found::Unit))?;
-                Ok(())
+                put_outcome(outcomes, longer, Found::Unit)
             }
             (Name::Dequeue, Part::Nil) => match state.as_slice().split_first() {
-                Some((front, others)) => {
-                    let others = Items::of_slice(alloc, others)?;
-                    outcomes.push((others, Found::Item(*front)))?;
-                    Ok(())
+                Some((front, _others)) => {
+                    let others = state.without_front()?;
+                    put_outcome(outcomes, others, Found::Item(*front))
                 }
                 None => Ok(()),
             },

@@ -20,7 +20,8 @@ pub enum Found {
 }
 
 impl Found {
-    /// An equal value, with memory of its own; `AllocError` where there is none. Takes the time of the members.
+    /// An equal value, which shares the members of a set. Takes constant time, and no memory; `AllocError` where as many
+    /// share them as can be counted.
     pub fn copy(&self) -> Result<Found, AllocError>
         ensures { IfOk result (λ other. other ≡ self.now) }
     {
@@ -72,7 +73,8 @@ impl Answer {
         }
     }
 
-    /// An equal value, with memory of its own; `AllocError` where there is none. Takes the time of the members.
+    /// An equal value, which shares the members of a set. Takes constant time, and no memory; `AllocError` where as many
+    /// share them as can be counted.
     pub fn copy(&self) -> Result<Answer, AllocError>
         ensures { IfOk result (λ other. other ≡ self.now) }
     {

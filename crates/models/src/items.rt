@@ -1,6 +1,7 @@
 //! The items of a queue.
 ghost use Rattle.std.specs.Hash as fed;
-ghost use Rattle.std.specs.Prelude.{◌≡◌, IfOk, [], ◌∷◌, ◌++◌, List, ℤ, Some};
+ghost use Rattle.std.specs.Prelude.{◌≡◌, ◌+◌, ◌<◌, ◌≤◌, IfOk, [], ◌∷◌, ◌++◌, List, ℤ, Some, drop, length, take};
+ghost use Rattle.models.specs.Lying.{lying};
 ghost use Rattle.std.specs.Ordering.{int_cmp, int_eq};
 ghost use Rattle.std.specs.Cmp.Lexicographic.{pointwise, slice_cmp};
 ghost use Rattle.models.specs.Comparisons.{ints_alike, ints_equal, ints_fed};
@@ -9,17 +10,88 @@ use crate::copies::copy_with_room;
 use std::alloc::{AllocError, Global};
 use std::hash::{Hash, Hasher};
 use std::marker::Model;
+use std::sync::Arc;
 
-/// Integers, the front first.
+// So many have room in one piece of memory of a small size, beside the number of those who share it.
+const FEW: usize = 14;
+
+// Where integers lie, in memory that may be shared: a few, with room for others behind them, or more.
+#[derive(Drop)]
+enum Shared {
+    Nowhere,
+    Few(Arc<[i64; 14]>),
+    Many(Arc<Vec<i64>>),
+}
+
+/// Integers, the front first. They lie in memory that may be shared with others, of which these are a part.
 #[derive(Drop)]
 pub struct Items {
-    items: Vec<i64>,
+    alloc: Global,
+    shared: Shared,
+    from: usize,
+    to: usize,
 }
 
 impl Model for Items {
+    ghost use Rattle.std.specs.Prelude.{List, ℤ, ◌-◌, ◌≤◌, drop, take, length};
+    ghost use Rattle.models.specs.Lying.{lying};
+
     ghost Value = { List ℤ };
 
-    ghost view = { λ a. a.items.items };
+    ghost view = { λ a. take (a.to - a.from) (drop a.from (lying a.shared)) };
+
+    ghost invariant = { λ a. (a.from ≤ a.to) × (a.to ≤ length (lying a.shared)) };
+}
+
+// All that lie there.
+fn all_of(shared: &Shared) -> &[i64]
+    ensures { result.now ≡ lying shared.now }
+{
+    match shared {
+        Shared::Nowhere => &[],
+        Shared::Few(few) => &few[..],
+        Shared::Many(many) => many.as_slice(),
+    }
+}
+
+// The same memory, shared once more.
+fn shared_again(shared: &Shared) -> Result<Shared, AllocError>
+    ensures { IfOk result (λ again. lying again ≡ lying shared.now) }
+{
+    match shared {
+        Shared::Nowhere => Ok(Shared::Nowhere),
+        Shared::Few(few) => Ok(Shared::Few(Arc::try_clone(few)?)),
+        Shared::Many(many) => Ok(Shared::Many(Arc::try_clone(many)?)),
+    }
+}
+
+// The few values with one more behind them, and zeros behind that.
+fn few_with(values: &[i64], value: i64) -> [i64; 14]
+    requires { length values.now < 14 }
+    ensures with { take (length values.now + 1) result ≡ values.now ++ value ∷ [] }
+    ensures long { length result ≡ 14 }
+{
+    let mut few = [0; 14];
+    for at in 0..values.len() {
+        few[at] = values[at];
+    }
+    few[values.len()] = value;
+    few
+}
+
+// The values with one more behind them, in new memory.
+fn laid_with(alloc: Global, values: &[i64], value: i64) -> Result<Shared, AllocError>
+    ensures with { IfOk result (λ shared. take (length values.now + 1) (lying shared) ≡ values.now ++ value ∷ []) }
+    ensures within { IfOk result (λ shared. length values.now + 1 ≤ length (lying shared)) }
+{
+    if values.len() < FEW {
+        let few = Arc::new(alloc, few_with(values, value))?;
+        return Ok(Shared::Few(few));
+    }
+    let mut many = copy_with_room(alloc, values)?;
+    many.push(value)?;
+    let many = Arc::new(alloc, many)?;
+    Ok(Shared::Many(many))
 }
 
 impl Items {
@@ -28,7 +100,10 @@ impl Items {
         ensures { result ≡ [] }
     {
         Items {
-            items: Vec::new(alloc),
+            alloc,
+            shared: Shared::Nowhere,
+            from: 0,
+            to: 0,
         }
     }
 
@@ -36,22 +111,33 @@ impl Items {
     pub fn of_slice(alloc: Global, values: &[i64]) -> Result<Items, AllocError>
         ensures { IfOk result (λ items. items ≡ values.now) }
     {
-        let items = Vec::from_slice(alloc, values)?;
-        Ok(Items { items })
+        let many = Vec::from_slice(alloc, values)?;
+        let shared = Arc::new(alloc, many)?;
+        Ok(Items {
+            alloc,
+            shared: Shared::Many(shared),
+            from: 0,
+            to: values.len(),
+        })
     }
 
     /// The items, the front first.
     pub fn as_slice(&self) -> &[i64]
         ensures { result.now ≡ self.now }
     {
-        &self.items
+        &all_of(&self.shared)[self.from..self.to]
     }
 
-    /// The same items, with memory of their own; `AllocError` where there is none.
+    /// The same items, in the same memory; `AllocError` where that is shared as often as it can be.
     pub fn copy(&self) -> Result<Items, AllocError>
         ensures { IfOk result (λ other. other ≡ self.now) }
     {
-        Items::of_slice(*self.items.allocator(), self.as_slice())
+        Ok(Items {
+            alloc: self.alloc,
+            shared: shared_again(&self.shared)?,
+            from: self.from,
+            to: self.to,
+        })
     }
 
     /// These items with one more behind them, with memory of their own; `AllocError` where there is none. Takes the
@@ -59,9 +145,29 @@ impl Items {
     pub fn with(&self, value: i64) -> Result<Items, AllocError>
         ensures { IfOk result (λ more. more ≡ self.now ++ value ∷ []) }
     {
-        let mut items = copy_with_room(*self.items.allocator(), self.as_slice())?;
-        items.push(value)?;
-        Ok(Items { items })
+        let values = self.as_slice();
+        let to = values.len() + 1;
+        Ok(Items {
+            alloc: self.alloc,
+            shared: laid_with(self.alloc, values, value)?,
+            from: 0,
+            to,
+        })
+    }
+
+    /// These items without the front one, in the same memory; `AllocError` where that is shared as often as it can be.
+    pub(crate) fn without_front(&self) -> Result<Items, AllocError>
+        requires { 0 < length self.now }
+        ensures { IfOk result (λ rest. rest ≡ drop 1 self.now) }
+    {
+        let (from, to) = (self.from, self.to);
+        let shared = shared_again(&self.shared)?;
+        Ok(Items {
+            alloc: self.alloc,
+            shared,
+            from: from + 1,
+            to,
+        })
     }
 }
 

@@ -14,6 +14,7 @@ pub mod multiset;
 pub mod mutex;
 pub mod object;
 pub mod operation;
+mod outcomes;
 pub mod register;
 pub mod set;
 pub mod unordered_queue;

@@ -1,30 +1,75 @@
 //! Sets of integers.
-ghost use Rattle.std.specs.Hash as fed;
 ghost use Rattle.std.specs.Prelude.{◌≡◌, ◌↔◌, IsTrue, IfOk, [], List, ℤ, Some};
 ghost use Rattle.std.specs.List.{Contains};
-ghost use Rattle.std.specs.Ordering.{int_cmp, int_eq};
-ghost use Rattle.std.specs.Cmp.Lexicographic.{pointwise, slice_cmp};
+ghost use Rattle.std.specs.Ordering.{int_eq};
+ghost use Rattle.std.specs.Cmp.Lexicographic.{pointwise};
 ghost use Rattle.models.specs.Members.{IsAscending, put_in};
-ghost use Rattle.models.specs.Comparisons.{ints_alike, ints_equal, ints_ordered, ints_ranked, ints_agree, ints_tie, ints_fed};
+ghost use Rattle.models.specs.Comparisons.{ints_alike, ints_equal, ints_cmp, ints_ordered, ints_ranked, ints_agree, ints_tie, members_fed, members_fed-alike};
+ghost use Rattle.models.specs.Sums.{IsListed, members_in, mixed, sum_of};
 
-use crate::copies::copy_with_room;
+use crate::copies::{are_same, copy_with_room};
 use std::alloc::{AllocError, Global};
 use std::cmp::Ordering;
 use std::hash::{Hash, Hasher};
 use std::marker::Model;
+use std::sync::Arc;
 
-/// A set of integers, ascending.
+/// A set of integers, ascending. A copy shares the members, which are never changed where they lie.
 #[derive(Drop)]
 pub struct Members {
-    items: Vec<i64>,
+    alloc: Global,
+    listed: Option<Arc<Listed>>,
 }
 
 impl Model for Members {
     ghost Value = { List ℤ };
 
+    ghost view = { λ a. members_in a.listed };
+}
+
+// Integers, ascending, with their sum, by which most other sets are told apart.
+#[derive(Drop)]
+struct Listed {
+    items: Vec<i64>,
+    sum: u64,
+}
+
+impl Model for Listed {
+    ghost Value = { List ℤ };
+
     ghost view = { λ a. a.items.items };
 
-    ghost invariant = { λ a. IsAscending a.items.items };
+    ghost invariant = { λ a. IsListed a.items.items a.sum };
+}
+
+impl Listed {
+    // These integers, which ascend.
+    fn of(items: Vec<i64>) -> Listed
+        requires { IsAscending items.items }
+        ensures { result ≡ items.items }
+    {
+        let sum = sum_of(items.as_slice());
+        Listed { items, sum }
+    }
+}
+
+// What a member adds to the sum of its set: a number that is spread over 64 bits, so that few sets have the same sum.
+fn mixed(value: i64) -> u64
+    ensures { result ≡ mixed value }
+{
+    let spread = value.cast_unsigned().wrapping_mul(0x9e37_79b9_7f4a_7c15);
+    (spread ^ (spread >> 32)).wrapping_mul(0xd6e8_feb8_6659_fd93)
+}
+
+// The sum of what the values add, up to a multiple of 2^64.
+fn sum_of(values: &[i64]) -> u64
+    ensures { result ≡ sum_of values.now }
+{
+    let mut sum: u64 = 0;
+    for value in values {
+        sum = sum.wrapping_add(mixed(*value));
+    }
+    sum
 }
 
 impl Members {
@@ -33,28 +78,41 @@ impl Members {
         ensures { result ≡ [] }
     {
         Members {
-            items: Vec::new(alloc),
+            alloc,
+            listed: None,
         }
     }
 
-    /// The set of these values, which the caller has put in ascending order, none twice. Takes no memory.
-    pub fn of_ascending(values: Vec<i64>) -> Members
-        requires { IsAscending values.items }
-        ensures { result ≡ values.items }
+    // The set of what is listed; `AllocError` where there is no memory to share it.
+    fn sharing(alloc: Global, listed: Listed) -> Result<Members, AllocError>
+        ensures { IfOk result (λ set. set ≡ listed) }
     {
-        Members { items: values }
+        let listed = Arc::new(alloc, listed)?;
+        Ok(Members {
+            alloc,
+            listed: Some(listed),
+        })
     }
 
-    /// The set of these values, in whatever order and however often they stand there. Takes no memory, and the time of a
-    /// sort: it grows with n log n.
-    pub fn of_unordered(values: Vec<i64>) -> Members
-        ensures members { (v : ℤ) → Contains result v ↔ Contains values.items v }
-        ensures ascending { IsAscending result }
+    /// The set of these values, which the caller has put in ascending order, none twice; `AllocError` where there is no
+    /// memory to share them. Takes the time of the values.
+    pub fn of_ascending(values: Vec<i64>) -> Result<Members, AllocError>
+        requires { IsAscending values.items }
+        ensures { IfOk result (λ set. set ≡ values.items) }
+    {
+        Members::sharing(*values.allocator(), Listed::of(values))
+    }
+
+    /// The set of these values, in whatever order and however often they stand there; `AllocError` where there is no memory
+    /// to share them. Takes the time of a sort: it grows with n log n.
+    pub fn of_unordered(values: Vec<i64>) -> Result<Members, AllocError>
+        ensures members { IfOk result (λ set. (v : ℤ) → Contains set v ↔ Contains values.items v) }
+        ensures ascending { IfOk result IsAscending }
     {
         let mut items = values;
         items.sort_unstable();
         items.dedup();
-        Members { items }
+        Members::of_ascending(items)
     }
 
     /// The members, ascending.
@@ -62,26 +120,44 @@ impl Members {
         ensures value { result.now ≡ self.now }
         ensures ascending { IsAscending self.now }
     {
-        &self.items
+        match &self.listed {
+            Some(listed) => listed.items.as_slice(),
+            None => &[],
+        }
     }
 
-    /// An equal set, with memory of its own; `AllocError` where there is none.
+    // The sum of what the members add.
+    fn sum(&self) -> u64
+        ensures { result ≡ sum_of self.now }
+    {
+        match &self.listed {
+            Some(listed) => listed.sum,
+            None => 0,
+        }
+    }
+
+    /// The same set, which shares its members with this one. Takes constant time, and no memory; `AllocError` where as many
+    /// share them as can be counted.
     pub fn copy(&self) -> Result<Members, AllocError>
         ensures { IfOk result (λ other. other ≡ self.now) }
     {
-        let items = Vec::from_slice(*self.items.allocator(), self.items.as_slice())?;
-        Ok(Members { items })
+        match &self.listed {
+            Some(listed) => Ok(Members {
+                alloc: self.alloc,
+                listed: Some(listed.clone()?),
+            }),
+            None => Ok(Members::new(self.alloc)),
+        }
     }
 
-    /// Whether both have the same members. Takes no memory.
+    /// Whether both have the same members. Takes no memory, and constant time where their numbers or their sums differ.
     pub fn same(&self, other: &Members) -> bool
         ensures { IsTrue result ↔ (self.now ≡ other.now) }
     {
-        self.items.as_slice() == other.items.as_slice()
+        self == other
     }
 
-    /// The set with the value put in, with memory of its own; `AllocError` where there is none. Takes the time of the
-    /// members.
+    /// The set with the value put in; `AllocError` where there is no memory for it. Takes the time of the members.
     pub fn with(&self, value: i64) -> Result<Members, AllocError>
         ensures { IfOk result (λ more. more ≡ put_in value self.now) }
     {
@@ -89,9 +165,10 @@ impl Members {
         match members.binary_search(&value) {
             Ok(_) => self.copy(),
             Err(at) => {
-                let mut items = copy_with_room(*self.items.allocator(), members)?;
+                let mut items = copy_with_room(self.alloc, members)?;
                 items.insert(at, value)?;
-                Ok(Members { items })
+                let sum = self.sum().wrapping_add(mixed(value));
+                Members::sharing(self.alloc, Listed { items, sum })
             }
         }
     }
@@ -103,7 +180,7 @@ impl PartialEq for Members {
     ghost laws = { ints_alike };
 
     fn eq(&self, other: &Members) -> bool {
-        self.as_slice() == other.as_slice()
+        self.sum() == other.sum() && are_same(self.as_slice(), other.as_slice())
     }
 }
 
@@ -112,17 +189,18 @@ impl Eq for Members {
 }
 
 impl Hash for Members {
-    ghost hash_input = { fed.slice fed.i64 };
+    ghost hash_input = { members_fed };
 
-    ghost respects_eq = { ints_fed };
+    ghost respects_eq = { members_fed-alike };
 
     fn hash<H: Hasher>(&self, state: &mut H) {
-        self.as_slice().hash(state);
+        self.as_slice().len().hash(state);
+        self.sum().hash(state);
     }
 }
 
 impl PartialOrd for Members {
-    ghost partial_cmp = { λ a b. Some (slice_cmp int_cmp a b) };
+    ghost partial_cmp = { λ a b. Some (ints_cmp a b) };
 
     ghost laws = { ints_ordered };
 
@@ -132,7 +210,7 @@ impl PartialOrd for Members {
 }
 
 impl Ord for Members {
-    ghost cmp = { slice_cmp int_cmp };
+    ghost cmp = { ints_cmp };
 
     ghost total = { ints_ranked };
 
@@ -141,6 +219,14 @@ impl Ord for Members {
     ghost matches_eq = { ints_tie };
 
     fn cmp(&self, other: &Members) -> Ordering {
-        self.as_slice().cmp(other.as_slice())
+        let (left, right) = (self.as_slice(), other.as_slice());
+        match left.len().cmp(&right.len()) {
+            Ordering::Equal => {}
+            apart => return apart,
+        }
+        match self.sum().cmp(&other.sum()) {
+            Ordering::Equal => left.cmp(right),
+            apart => apart,
+        }
     }
 }

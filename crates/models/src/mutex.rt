@@ -6,6 +6,7 @@ ghost use Rattle.models.specs.Reads.{mutex_reads};
 use crate::finding::Found;
 use crate::object::SeqObject;
 use crate::operation::{Name, Op, Part};
+use crate::outcomes::put_outcome;
 use std::alloc::{AllocError, Global};
 
 /// A mutex, free at first: an acquire takes place where it is free, a release where it is held. Its state is whether it
@@ -41,11 +42,10 @@ impl SeqObject for Mutex {
         outcomes: &mut Vec<(bool, Found)>,
     ) -> Result<(), AllocError> {
         match (op.name, &op.part, *state) {
-            (Name::Acquire, Part::Nil, false) => outcomes.push((true, Found::Unit))?,
-            (Name::Release, Part::Nil, true) => outcomes.push((false, Found::Unit))?,
-            _ => {}
+            (Name::Acquire, Part::Nil, false) => put_outcome(outcomes, true, Found::Unit),
+            (Name::Release, Part::Nil, true) => put_outcome(outcomes, false, Found::Unit),
+            _ => Ok(()),
         }
-        Ok(())
     }
 
     ghost exact = { bool_eq-exact };

@@ -90,7 +90,8 @@ pub enum Part {
 }
 
 impl Part {
-    /// An equal part, with memory of its own; `AllocError` where there is none. Takes the time of the members.
+    /// An equal part, which shares the members of a set. Takes constant time, and no memory; `AllocError` where as many
+    /// share them as can be counted.
     pub fn copy(&self) -> Result<Part, AllocError>
         ensures { IfOk result (λ other. other ≡ self.now) }
     {
@@ -125,7 +126,7 @@ pub struct Op {
 }
 
 impl Op {
-    /// An equal operation, with memory of its own; `AllocError` where there is none. Takes the time of the members.
+    /// An equal operation, by a copy of its part.
     pub fn copy(&self) -> Result<Op, AllocError>
         ensures { IfOk result (λ other. other ≡ self.now) }
     {

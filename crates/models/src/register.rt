@@ -6,6 +6,7 @@ ghost use Rattle.models.specs.Reads.{register_reads};
 use crate::finding::Found;
 use crate::object::SeqObject;
 use crate::operation::{Name, Op, Part};
+use crate::outcomes::put_outcome;
 use std::alloc::{AllocError, Global};
 
 /// A register, nil at first: a write leaves its value, a read finds the state.
@@ -40,11 +41,10 @@ impl SeqObject for Register {
         outcomes: &mut Vec<(Option<i64>, Found)>,
     ) -> Result<(), AllocError> {
         match (op.name, &op.part) {
-            (Name::Write, Part::Int(v)) => outcomes.push((Some(*v), Found::Unit))?,
-            (Name::Read, Part::Nil) => outcomes.push((*state, Found::Reg(*state)))?,
-            _ => {}
+            (Name::Write, Part::Int(v)) => put_outcome(outcomes, Some(*v), Found::Unit),
+            (Name::Read, Part::Nil) => put_outcome(outcomes, *state, Found::Reg(*state)),
+            _ => Ok(()),
         }
-        Ok(())
     }
 
     ghost exact = { option_eq-exact };

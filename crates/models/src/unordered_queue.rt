@@ -10,6 +10,7 @@ use crate::finding::Found;
 use crate::multiset::Multiset;
 use crate::object::SeqObject;
 use crate::operation::{Name, Op, Part};
+use crate::outcomes::put_outcome;
 use std::alloc::{AllocError, Global};
 
 /// A queue without an order, empty at first: an enqueue puts one of its value in, a dequeue takes out one of any value that
@@ -67,7 +68,7 @@ fn append_at(
     let values = state.as_slice();
     if is_new(values, at) {
         let rest = state.without(at)?;
-        outcomes.push((rest, Found::Item(values[at])))?;
+        put_outcome(outcomes, rest, Found::Item(values[at]))?;
     }
     Ok(())
 }
@@ -76,7 +77,8 @@ fn append_at(
 fn append_each(state: &Multiset, outcomes: &mut Vec<(Multiset, Found)>) -> Result<(), AllocError>
     ensures appended { OnOk result
         (outcomes.new.items ≡ outcomes.old.items ++ taken_from state.now (values_of state.now)) }
-    ensures front { (more : List (List ℤ × Found)) × (outcomes.new.items ≡ outcomes.old.items ++ more) }
+    ensures front { (more : List (List ℤ × Found))
+        × (outcomes.new.items ≡ outcomes.old.items ++ more) }
 {
     for at in 0..state.as_slice().len() {
         append_at(state, at, outcomes)?;
@@ -137,8 +139,7 @@ impl SeqObject for UnorderedQueue {
         match (op.name, &op.part) {
             (Name::Enqueue, Part::Int(value)) => {
                 let more = state.with(*value)?;
-                outcomes.push((more, Found::Unit))?;
-                Ok(())
+                put_outcome(outcomes, more, Found::Unit)
             }
             (Name::Dequeue, Part::Nil) => append_dequeues(state, outcomes),
             _ => Ok(()),

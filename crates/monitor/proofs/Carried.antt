@@ -9,8 +9,9 @@ use Rattle.models.specs.declared.model_kind.ModelKind.{ModelKind}
 use Rattle.history.specs.declared.event.Event.{Event}
 use Rattle.history.specs.WellFormed.{HistoryView, with_events}
 use Rattle.linspec.specs.declared.verdict.Verdict.{Verdict}
-use Rattle.checkpoints.specs.KeyLineView.{KeyHistory, KeyLineView, at_rest, count_on}
-use Rattle.monitor.specs.JudgedHistory.{JudgedHistory}
+use Rattle.linspec.specs.KeyHistory.{KeyHistory}
+use Rattle.checkpoints.specs.KeyLineView.{KeyLineView, at_rest, count_on}
+use Rattle.linspec.specs.JudgedHistory.{JudgedHistory}
 use Rattle.monitor.specs.Settings.{SettingsView}
 use Rattle.monitor.specs.Rows.{LinesView, nows}
 use Rattle.monitor.specs.Judged.{IsJudged, AreRowsWith}

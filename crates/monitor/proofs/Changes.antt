@@ -13,8 +13,9 @@ use Rattle.linspec.specs.declared.verdict.KeyStatus.TheVariants.{Alive}
 use Rattle.linspec.specs.declared.verdict.Verdict.{Verdict}
 use Rattle.linspec.specs.declared.verdict.Verdict.TheVariants.{Legal}
 use Rattle.linspec.specs.Verdicts.{IsJoin}
-use Rattle.checkpoints.specs.KeyLineView.{KeyHistory, KeyLineView, IsStatusOf, with_pushed, without_events, judged_by, begins_below}
-use Rattle.monitor.specs.JudgedHistory.{JudgedHistory, kind_of, budget_of, opening_of, with_event, rewound, with_kind, with_budget, keys_in_order, history_of_key}
+use Rattle.linspec.specs.KeyHistory.{KeyHistory, IsStatusOf, with_pushed, without_events, judged_by, begins_below}
+use Rattle.checkpoints.specs.KeyLineView.{KeyLineView}
+use Rattle.linspec.specs.JudgedHistory.{JudgedHistory, kind_of, budget_of, opening_of, with_event, rewound, with_kind, with_budget, keys_in_order, history_of_key}
 use Rattle.monitor.specs.Rows.{nows, cut_rows, JoinsRows}
 use Rattle.monitor.specs.Judged.{rows_of, IsJudged, AreRowsJudgedBy}
 use Rattle.monitor.proofs.EachOnce.{each_once-apart}

@@ -3,7 +3,8 @@ use Rattle.std.proofs.Common.{◌≡◌, ℕ, zero, suc, ◌+◌, ◌<◌, ◌�
 use Rattle.std.proofs.lemmas.List.{take_all, drop_all, append-nil}
 use Rattle.std.proofs.lemmas.Option.{none-some, same_Some}
 use Rattle.indexmap.specs.Layout.{set_value_at}
-use Rattle.checkpoints.specs.KeyLineView.{KeyHistory, KeyLineView}
+use Rattle.linspec.specs.KeyHistory.{KeyHistory}
+use Rattle.checkpoints.specs.KeyLineView.{KeyLineView}
 use Rattle.monitor.specs.Rows.{nows, each_line, without_next}
 use Rattle.monitor.proofs.Places.{row_within}
 

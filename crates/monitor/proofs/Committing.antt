@@ -5,7 +5,8 @@ use Rattle.std.proofs.lemmas.List.{take-map}
 use Rattle.std.proofs.lemmas.List.Elements.{filter_passes}
 use Rattle.std.proofs.lemmas.Option.{none-some, slice_get_within, get_or_from_slice_get}
 use Rattle.indexmap.specs.Layout.{set_value_at}
-use Rattle.checkpoints.specs.KeyLineView.{KeyHistory, KeyLineView, at_rest, cut_at, begins_below, count_on}
+use Rattle.linspec.specs.KeyHistory.{KeyHistory, cut_at, begins_below}
+use Rattle.checkpoints.specs.KeyLineView.{KeyLineView, at_rest, count_on}
 use Rattle.monitor.specs.Rows.{nows, cut_rows, each_line, cut_done, IsCutAt, AreCutAt}
 use Rattle.monitor.proofs.Changing.{first_changed, changed_at, changed-all}
 use Rattle.monitor.proofs.Places.{row_within}

@@ -7,7 +7,8 @@ use Rattle.indexmap.specs.Layout.{set_value_at}
 use Rattle.linspec.specs.declared.verdict.KeyStatus.{KeyStatus}
 use Rattle.linspec.specs.declared.verdict.Verdict.{Verdict}
 use Rattle.linspec.specs.Verdicts.{IsJoin}
-use Rattle.checkpoints.specs.KeyLineView.{KeyHistory, KeyLineView, with_next, cut_at, begins_below, replays_at}
+use Rattle.linspec.specs.KeyHistory.{KeyHistory, cut_at, begins_below}
+use Rattle.checkpoints.specs.KeyLineView.{KeyLineView, with_next, replays_at}
 use Rattle.monitor.specs.Rows.{nows, cut_rows, each_line, with_cut, JoinsRows, IsCutAt, AreCutAt, StandsAfter}
 use Rattle.monitor.proofs.Places.{one_more_kept, one_more_dropped, row_within, same_written}
 use Rattle.monitor.proofs.Changing.{first_changed, first_have, changed_at, changed-more}

@@ -7,7 +7,7 @@ use Rattle.std.proofs.lemmas.List.Elements.{filter-append}
 use Rattle.linspec.specs.Orders.{Pairwise}
 use Rattle.linspec.proofs.Lists.{Contains-nil, Contains-head, Contains-tail, Contains-cons_cases}
 use Rattle.linspec.proofs.Filters.{filter-yes, filter-no, filter-all, from_filter, to_filter, Pairwise-filter}
-use Rattle.monitor.specs.JudgedHistory.{each_once}
+use Rattle.linspec.specs.JudgedHistory.{each_once}
 
 -- what passes both tests
 pub filter-filter : {X : Type 0} (p q r : X → Bool) → ((x : X) → r x ≡ cond (p x) (q x) false) → (xs : List X) → filter p (filter q xs) ≡ filter r xs

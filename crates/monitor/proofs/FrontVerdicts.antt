@@ -26,8 +26,8 @@ use Rattle.linspec.proofs.Fronts.{IsLinearizable-end_by, IsLinearizable-front}
 use Rattle.locality.proofs.BadKeys.{IsJoin-none}
 use Rattle.locality.proofs.MoreStatuses.{IsJoin-alive, IsJoin-dead_later, IsJoin-dead_earlier, IsJoin-dead_unknown, IsJoin-dead_legal, IsJoin-over_illegal, IsJoin-over_later, IsJoin-over_earlier, IsJoin-over_legal}
 use Rattle.locality.proofs.SetAside.{AreWellFormed-front, AreWellFormed-filter}
-use Rattle.checkpoints.specs.KeyLineView.{IsStatusOf}
-use Rattle.monitor.specs.JudgedHistory.{JudgedHistory, IsVerdictOn, rewound, kind_of, budget_of, entries_in, keys_in_order, history_of_key}
+use Rattle.linspec.specs.KeyHistory.{IsStatusOf}
+use Rattle.linspec.specs.JudgedHistory.{JudgedHistory, IsVerdictOn, rewound, kind_of, budget_of, entries_in, keys_in_order, history_of_key}
 use Rattle.monitor.specs.Rows.{AreStatusesOf}
 use Rattle.monitor.specs.Judged.{rows_of}
 use Rattle.monitor.proofs.Statuses.{keys_apart}

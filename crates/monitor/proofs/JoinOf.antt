@@ -13,8 +13,8 @@ use Rattle.linspec.specs.declared.verdict.Verdict.TheVariants.{Legal, Illegal, U
 use Rattle.linspec.specs.Verdicts.{IsJoin, IsRising, IsVerdict}
 use Rattle.locality.proofs.BadKeys.{IsJoin-none}
 use Rattle.locality.proofs.MoreStatuses.{IsJoin-alive, IsJoin-dead_later, IsJoin-dead_earlier, IsJoin-dead_unknown, IsJoin-dead_legal, IsJoin-over_illegal, IsJoin-over_later, IsJoin-over_earlier, IsJoin-over_legal}
-use Rattle.checkpoints.specs.KeyLineView.{KeyHistory, IsStatusOf}
-use Rattle.monitor.specs.JudgedHistory.{JudgedHistory, IsVerdictOn, kind_of, budget_of, entries_in, keys_in_order, history_of_key}
+use Rattle.linspec.specs.KeyHistory.{KeyHistory, IsStatusOf}
+use Rattle.linspec.specs.JudgedHistory.{JudgedHistory, IsVerdictOn, kind_of, budget_of, entries_in, keys_in_order, history_of_key}
 use Rattle.monitor.specs.Rows.{AreStatusesOf, JoinsRows}
 use Rattle.monitor.specs.Judged.{IsJudged, rows_of}
 

@@ -8,7 +8,8 @@ use Rattle.indexmap.specs.Layout.{set_value_at, length-set_value_at}
 use Rattle.linspec.specs.declared.verdict.KeyStatus.{KeyStatus}
 use Rattle.linspec.specs.declared.verdict.Verdict.{Verdict}
 use Rattle.linspec.specs.Verdicts.{IsJoin}
-use Rattle.checkpoints.specs.KeyLineView.{KeyHistory, KeyLineView, IsStatusOf}
+use Rattle.linspec.specs.KeyHistory.{KeyHistory, IsStatusOf}
+use Rattle.checkpoints.specs.KeyLineView.{KeyLineView}
 use Rattle.monitor.specs.Rows.{nows, AreStatusesOf, JoinsRows}
 use Rattle.monitor.proofs.Places.{read_written, others_stay, one_more_taken}
 

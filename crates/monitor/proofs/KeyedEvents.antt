@@ -8,8 +8,8 @@ use Rattle.history.specs.declared.event.Event.{Event}
 use Rattle.history.specs.Events.{OpEvent, op_event, key_of, Entry, entry_by, entries_by, last_after, entries_from, indexed_from, is_of_key, is_event_of, events_of_key}
 use Rattle.linspec.proofs.Lists.{Contains-nil, Contains-head, Contains-tail, Contains-cons_cases}
 use Rattle.linspec.proofs.Filters.{filter-yes, filter-no, filter-none}
-use Rattle.checkpoints.specs.KeyLineView.{events_below}
-use Rattle.monitor.specs.JudgedHistory.{each_once, keys_in_order}
+use Rattle.linspec.specs.KeyHistory.{events_below}
+use Rattle.linspec.specs.JudgedHistory.{each_once, keys_in_order}
 use Rattle.monitor.proofs.EachOnce.{filter-swap, each_once-push_known, each_once-push_new, from_each_once, to_each_once}
 
 -- one event: whether it is of a key

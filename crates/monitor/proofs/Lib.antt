@@ -9,6 +9,7 @@ pub mod JoinOf
 pub mod Joins
 pub mod KeyPlaces
 pub mod KeyedEvents
+pub mod Lent
 pub mod LoadedLines
 pub mod Opening
 pub mod PiecesOf

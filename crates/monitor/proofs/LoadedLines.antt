@@ -11,9 +11,10 @@ use Rattle.history.specs.WellFormed.{IsHistoryOf}
 use Rattle.linspec.specs.declared.verdict.Verdict.{Verdict}
 use Rattle.linspec.specs.Orders.{Pairwise}
 use Rattle.linspec.proofs.Lists.{Contains-nil, Contains-head, Contains-tail, Contains-cons_cases}
-use Rattle.checkpoints.specs.KeyLineView.{KeyHistory, KeyLineView}
+use Rattle.linspec.specs.KeyHistory.{KeyHistory}
+use Rattle.checkpoints.specs.KeyLineView.{KeyLineView}
 use Rattle.parallel_recheck.specs.Pieces.{PieceView, piece_of, line_of}
-use Rattle.monitor.specs.JudgedHistory.{keys_in_order, history_of_key}
+use Rattle.linspec.specs.JudgedHistory.{keys_in_order, history_of_key}
 use Rattle.monitor.specs.Rows.{nows, JoinsRows}
 use Rattle.monitor.specs.Judged.{IsJudged, rows_of}
 use Rattle.monitor.specs.Loading.{with_all, alone, pieces_of, row_of}

@@ -7,7 +7,7 @@ use Rattle.linspec.specs.declared.verdict.Verdict.{Verdict}
 use Rattle.linspec.specs.declared.verdict.Verdict.TheVariants.{Legal}
 use Rattle.linspec.specs.Verdicts.{IsJoin}
 use Rattle.checkpoints.specs.KeyLineView.{KeyLineView}
-use Rattle.monitor.specs.JudgedHistory.{JudgedHistory, opening_of, with_event}
+use Rattle.linspec.specs.JudgedHistory.{JudgedHistory, opening_of, with_event}
 use Rattle.monitor.specs.Settings.{SettingsView}
 use Rattle.monitor.specs.Rows.{LinesView, nows}
 use Rattle.monitor.specs.Judged.{IsJudged}

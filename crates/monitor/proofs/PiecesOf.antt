@@ -10,9 +10,9 @@ use Rattle.history.specs.declared.event.Event.{Event}
 use Rattle.history.specs.Events.{key_of, indexed_from, events_of_key}
 use Rattle.history.specs.ProcessRule.{IsHistory}
 use Rattle.history.specs.WellFormed.{IsHistoryOf}
-use Rattle.checkpoints.specs.KeyLineView.{KeyHistory, with_pushed, without_events}
+use Rattle.linspec.specs.KeyHistory.{KeyHistory, with_pushed, without_events}
 use Rattle.parallel_recheck.specs.Pieces.{PieceView, piece_of}
-use Rattle.monitor.specs.JudgedHistory.{history_of_key, keys_in_order}
+use Rattle.linspec.specs.JudgedHistory.{history_of_key, keys_in_order}
 use Rattle.monitor.specs.Judged.{rows_of}
 use Rattle.monitor.specs.Loading.{alone, rows_of_pieces}
 use Rattle.monitor.proofs.KeyPlaces.{keys_of-rows_by, row_at, position_none}

@@ -15,9 +15,10 @@ use Rattle.history.specs.WellFormed.{HistoryView, IsWellFormed, IsHistoryOf, wit
 use Rattle.linspec.specs.declared.verdict.KeyStatus.{KeyStatus}
 use Rattle.linspec.specs.declared.verdict.KeyStatus.TheVariants.{Alive}
 use Rattle.linspec.specs.declared.verdict.Verdict.{Verdict}
-use Rattle.checkpoints.specs.KeyLineView.{KeyHistory, KeyLineView, IsStatusOf, at_rest, with_pushed, without_events, judged_by, begins_below}
+use Rattle.linspec.specs.KeyHistory.{KeyHistory, IsStatusOf, with_pushed, without_events, judged_by, begins_below}
+use Rattle.checkpoints.specs.KeyLineView.{KeyLineView, at_rest}
 use Rattle.checkpoints.specs.KeyLineView.{with_next as line_with_next}
-use Rattle.monitor.specs.JudgedHistory.{JudgedHistory, kind_of, budget_of, with_event, with_kind, with_budget, keys_in_order, history_of_key}
+use Rattle.linspec.specs.JudgedHistory.{JudgedHistory, kind_of, budget_of, with_event, with_kind, with_budget, keys_in_order, history_of_key}
 use Rattle.monitor.specs.Settings.{SettingsView, setting_of}
 use Rattle.monitor.specs.Rows.{LinesView, nows, cut_rows, JoinsRows, AreCutAt}
 use Rattle.monitor.specs.Judged.{IsJudged, AreRowsJudgedBy, IsRebuilt}
@@ -42,6 +43,10 @@ SettledLaw = (h : KeyHistory) (index : ℕ) (event : Event) (s t : KeyStatus) �
 -- what a clause says of the element at a place
 pub if_at : {X : Type 0} (o : Option X) (x : X) (P : X → Type 0) → o ≡ Some x → IfSome o P → P x
 if_at o x P at p = subst (λ q. IfSome q P) at p
+
+-- the event that is prepared to come next
+pub next_is : (history history' : HistoryView) (e : Event) → history' ≡ with_next (history.events ++ e ∷ []) history → history'.next ≡ Some (history'.events ++ e ∷ [])
+next_is history history' e is = ap (λ (h : HistoryView). h.next) is ∙ sym (ap (λ (h : HistoryView). Some (h.events ++ e ∷ [])) is)
 
 -- a history grows by an event
 grows : {X : Type 0} (xs : List X) (x : X) → length xs ≤ length (xs ++ x ∷ [])

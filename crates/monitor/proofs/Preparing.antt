@@ -4,9 +4,12 @@ use Rattle.std.specs.Map.{values_of}
 use Rattle.std.proofs.lemmas.Option.{none-some, same_Some}
 use Rattle.std.proofs.lemmas.Result.{IfOk-weaker, on_ok_weaker}
 use Rattle.indexmap.specs.Layout.{set_value_at}
+use Rattle.history.specs.declared.event.Event.{Event}
 use Rattle.linspec.specs.declared.verdict.KeyStatus.{KeyStatus}
-use Rattle.checkpoints.specs.KeyLineView.{KeyHistory, KeyLineView, IsStatusOf, at_rest, with_next}
-use Rattle.monitor.specs.Rows.{nows, without_next}
+use Rattle.linspec.specs.KeyHistory.{KeyHistory, IsStatusOf}
+use Rattle.checkpoints.specs.KeyLineView.{KeyLineView, at_rest, with_next}
+use Rattle.checkpoints.specs.Lent.{AreLentBy}
+use Rattle.monitor.specs.Rows.{nows, without_next, AreRowsLentBy}
 use Rattle.monitor.proofs.Places.{read_written, same_written, map_written}
 use Rattle.monitor.proofs.Joins.{now_read}
 
@@ -29,6 +32,10 @@ now_kept (Err y) line after next due ok err = ap (λ (l : KeyLineView). l.now) e
 module _ (es rows : List (ℕ × KeyLineView)) (seen : es ≡ rows) (place : ℕ) (line after : KeyLineView) (at : Some line ≡ slice_get (values_of es) place) where
   row_at : (key : ℕ) × (slice_get rows place ≡ Some (key, line))
   row_at = subst (λ (l : List (ℕ × KeyLineView)). (key : ℕ) × (slice_get l place ≡ Some (key, line))) seen (has_key es place line at)
+
+  -- the line is lent its events where all are
+  pub line_lent : (lent : List Event) → AreRowsLentBy lent (nows rows) → AreLentBy lent line.now.events
+  line_lent lent are = subst (λ (o : Option (ℕ × KeyHistory)). IfSome o (λ row. AreLentBy lent row.1.events)) (now_read rows place row_at.0 line row_at.1) (are place)
 
   module _ {E : Type 0} (r : Result KeyStatus E) (change : KeyHistory → KeyHistory) (due : KeyHistory → ℕ) where
     pub prepared_status : IfOk r (IsStatusOf (change line.now)) → IfOk r (λ status. IfSome (slice_get rows place) (λ row. IsStatusOf (change row.1.now) status))

@@ -7,9 +7,10 @@ use Rattle.history.specs.declared.event.Event.{Event}
 use Rattle.history.specs.Events.{indexed_from, events_of_key}
 use Rattle.history.specs.WellFormed.{HistoryView}
 use Rattle.linspec.specs.declared.verdict.Verdict.{Verdict}
-use Rattle.checkpoints.specs.KeyLineView.{KeyHistory, KeyLineView, events_below, begins_below, loses_at, replays_at}
+use Rattle.linspec.specs.KeyHistory.{KeyHistory, events_below, begins_below, loses_at}
+use Rattle.checkpoints.specs.KeyLineView.{KeyLineView, replays_at}
 use Rattle.checkpoints.proofs.Counts.{few_replays, no_replay}
-use Rattle.monitor.specs.JudgedHistory.{JudgedHistory, kind_of, budget_of, keys_in_order, history_of_key}
+use Rattle.linspec.specs.JudgedHistory.{JudgedHistory, kind_of, budget_of, keys_in_order, history_of_key}
 use Rattle.monitor.specs.Monitors.{MonitorView, loses_by, replays_by}
 use Rattle.monitor.specs.Settings.{SettingsView}
 use Rattle.monitor.specs.SoundMonitor.{judged_by_parts, with_events_of, brought_by, brought, HasLength, IsSoundMonitor}

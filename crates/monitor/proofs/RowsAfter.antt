@@ -12,8 +12,8 @@ use Rattle.history.specs.declared.event.Event.{Event}
 use Rattle.history.specs.Events.{key_of, indexed_from, is_event_of, events_of_key}
 use Rattle.linspec.proofs.Lists.{Contains-head}
 use Rattle.linspec.proofs.Filters.{filter-all, filter-none, from_filter, from_map}
-use Rattle.checkpoints.specs.KeyLineView.{KeyHistory, without_events, with_pushed, cut_at, judged_by, begins_below}
-use Rattle.monitor.specs.JudgedHistory.{JudgedHistory, each_once, keys_in_order, history_of_key, kind_of, budget_of, with_event, rewound, with_kind, with_budget}
+use Rattle.linspec.specs.KeyHistory.{KeyHistory, without_events, with_pushed, cut_at, judged_by, begins_below}
+use Rattle.linspec.specs.JudgedHistory.{JudgedHistory, each_once, keys_in_order, history_of_key, kind_of, budget_of, with_event, rewound, with_kind, with_budget}
 use Rattle.monitor.specs.Rows.{cut_rows}
 use Rattle.monitor.specs.Judged.{rows_of}
 use Rattle.monitor.proofs.EachOnce.{is_new, is_new-lacks, each_once-append, from_each_once, each_once-apart}

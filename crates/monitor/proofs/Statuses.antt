@@ -11,7 +11,7 @@ use Rattle.linspec.specs.Verdicts.{IsJoin}
 use Rattle.linspec.proofs.Lists.{Contains-nil, Contains-head, Contains-tail, Contains-cons_cases}
 use Rattle.linspec.proofs.Filters.{to_map}
 use Rattle.locality.specs.BadKeys.{HaveSameBadKeys}
-use Rattle.checkpoints.specs.KeyLineView.{KeyHistory, IsStatusOf}
+use Rattle.linspec.specs.KeyHistory.{KeyHistory, IsStatusOf}
 use Rattle.monitor.specs.Rows.{AreStatusesOf, JoinsRows}
 
 -- statuses of two lists of rows, one after the other

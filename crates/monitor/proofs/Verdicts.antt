@@ -16,8 +16,8 @@ use Rattle.linspec.specs.Verdicts.{IsKeyStatus, IsVerdict, IsRising, AreStatuses
 use Rattle.linspec.proofs.Lists.{Contains-nil, Contains-head, snoc_cut}
 use Rattle.std.proofs.lemmas.List.Elements.{Contains-append_right}
 use Rattle.linspec.proofs.Filters.{to_map, from_map}
-use Rattle.checkpoints.specs.KeyLineView.{KeyHistory, IsStatusOf}
-use Rattle.monitor.specs.JudgedHistory.{JudgedHistory, kind_of, budget_of, entries_in, keys_in_order, history_of_key}
+use Rattle.linspec.specs.KeyHistory.{KeyHistory, IsStatusOf}
+use Rattle.linspec.specs.JudgedHistory.{JudgedHistory, kind_of, budget_of, entries_in, keys_in_order, history_of_key}
 use Rattle.monitor.specs.Rows.{AreStatusesOf, JoinsRows}
 use Rattle.monitor.specs.Judged.{rows_of, IsJudged}
 use Rattle.monitor.proofs.EachOnce.{to_each_once, each_once-apart}

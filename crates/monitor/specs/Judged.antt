@@ -4,8 +4,9 @@ use Rattle.indexmap.specs.Layout.{set_value_at}
 use Rattle.models.specs.declared.model_kind.ModelKind.{ModelKind}
 use Rattle.history.specs.WellFormed.{IsHistoryOf}
 use Rattle.linspec.specs.declared.verdict.Verdict.{Verdict}
-use Rattle.checkpoints.specs.KeyLineView.{KeyHistory, KeyLineView, judged_by}
-use Rattle.monitor.specs.JudgedHistory.{JudgedHistory, IsVerdictOn, keys_in_order, history_of_key}
+use Rattle.linspec.specs.KeyHistory.{KeyHistory, judged_by}
+use Rattle.checkpoints.specs.KeyLineView.{KeyLineView}
+use Rattle.linspec.specs.JudgedHistory.{JudgedHistory, IsVerdictOn, keys_in_order, history_of_key}
 use Rattle.monitor.specs.Rows.{LinesView, nows, JoinsRows}
 
 -- a row for each key with events, in their order

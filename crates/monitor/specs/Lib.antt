@@ -1,5 +1,4 @@
 pub mod Judged
-pub mod JudgedHistory
 pub mod Loading
 pub mod Monitors
 pub mod Rows

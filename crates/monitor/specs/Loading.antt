@@ -4,9 +4,9 @@ use Rattle.models.specs.declared.model_kind.ModelKind.{ModelKind}
 use Rattle.edn.specs.declared.refusal.Refusal.{Refusal}
 use Rattle.edn.specs.declared.refusal.Refusal.TheVariants.{BadBudget, NoMemory}
 use Rattle.history.specs.declared.event.Event.{Event}
-use Rattle.checkpoints.specs.KeyLineView.{KeyHistory}
+use Rattle.linspec.specs.KeyHistory.{KeyHistory}
 use Rattle.parallel_recheck.specs.Pieces.{PieceView, piece_of}
-use Rattle.monitor.specs.JudgedHistory.{JudgedHistory, opening_of, with_event, IsBudget}
+use Rattle.linspec.specs.JudgedHistory.{JudgedHistory, opening_of, with_event, IsBudget}
 use Rattle.monitor.specs.Judged.{rows_of}
 
 -- what is judged once these events came, one after the other

@@ -4,8 +4,9 @@ use Rattle.edn.specs.declared.refusal.Refusal.{Refusal}
 use Rattle.edn.specs.declared.refusal.Refusal.TheVariants.{BadBudget, BadConcurrency, NoSuchIndex, NoMemory}
 use Rattle.history.specs.declared.event.Event.{Event}
 use Rattle.history.specs.WellFormed.{IsConcurrency, IsWellFormed, MayRefuse}
-use Rattle.checkpoints.specs.KeyLineView.{loses_at, replays_at}
-use Rattle.monitor.specs.JudgedHistory.{JudgedHistory, history_of_key, IsBudget}
+use Rattle.linspec.specs.KeyHistory.{loses_at}
+use Rattle.checkpoints.specs.KeyLineView.{replays_at}
+use Rattle.linspec.specs.JudgedHistory.{JudgedHistory, history_of_key, IsBudget}
 
 -- what it judges, and what commit will bring, where a change is prepared
 pub record MonitorView : Type 0 where

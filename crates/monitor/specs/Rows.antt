@@ -1,9 +1,12 @@
 -- Invariant: the lines of the keys
 use Rattle.std.specs.Prelude.{◌≡◌, ℕ, true, false, if◌then◌else◌, Option, Some, None, IfSome, List, [], ◌∷◌, map, slice_get}
+use Rattle.history.specs.declared.event.Event.{Event}
 use Rattle.linspec.specs.declared.verdict.KeyStatus.{KeyStatus}
 use Rattle.linspec.specs.declared.verdict.Verdict.{Verdict}
 use Rattle.linspec.specs.Verdicts.{IsJoin}
-use Rattle.checkpoints.specs.KeyLineView.{KeyHistory, KeyLineView, IsStatusOf, at_rest, with_next, cut_at, begins_below, replays_at, count_on}
+use Rattle.linspec.specs.KeyHistory.{KeyHistory, IsStatusOf, cut_at, begins_below}
+use Rattle.checkpoints.specs.KeyLineView.{KeyLineView, at_rest, with_next, replays_at, count_on}
+use Rattle.checkpoints.specs.Lent.{AreLentBy}
 
 -- a row for each key: the key and its line; and the room for more
 pub record LinesView : Type 0 where
@@ -27,6 +30,10 @@ AreStatusesOf _ _ = ⊥
 -- the verdict joins how the keys stand
 abbrev pub JoinsRows : List (ℕ × KeyHistory) → Verdict → Type 0
 JoinsRows rows v = (statuses : List (ℕ × KeyStatus)) × AreStatusesOf rows statuses × IsJoin statuses v
+
+-- what is lent has the events of each row
+abbrev pub AreRowsLentBy : List Event → List (ℕ × KeyHistory) → Type 0
+AreRowsLentBy lent rows = (place : ℕ) → IfSome (slice_get rows place) (λ row. AreLentBy lent row.1.events)
 
 -- each line is changed so
 abbrev pub each_line : (KeyLineView → KeyLineView) → List (ℕ × KeyLineView) → List (ℕ × KeyLineView)

@@ -6,8 +6,8 @@ use Rattle.models.specs.declared.model_kind.ModelKind.{ModelKind}
 use Rattle.history.specs.declared.event.Event.{Event}
 use Rattle.history.specs.WellFormed.{HistoryView}
 use Rattle.linspec.specs.declared.verdict.Verdict.{Verdict}
-use Rattle.checkpoints.specs.KeyLineView.{KeyHistory, begins_below}
-use Rattle.monitor.specs.JudgedHistory.{JudgedHistory, with_kind, with_budget}
+use Rattle.linspec.specs.KeyHistory.{KeyHistory, begins_below}
+use Rattle.linspec.specs.JudgedHistory.{JudgedHistory, with_kind, with_budget}
 use Rattle.monitor.specs.Settings.{SettingsView}
 use Rattle.monitor.specs.Rows.{LinesView, nows, cut_rows, AreCutAt}
 use Rattle.monitor.specs.Judged.{IsJudged, AreRowsWith}

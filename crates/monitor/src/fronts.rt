@@ -4,8 +4,8 @@ ghost use Rattle.std.specs.List.{All};
 ghost use Rattle.history.specs.WellFormed.{IsHistoryOf};
 ghost use Rattle.linspec.specs.declared.verdict.KeyStatus.{KeyStatus};
 ghost use Rattle.linspec.specs.declared.verdict.Verdict.{Verdict};
-ghost use Rattle.checkpoints.specs.KeyLineView.{KeyHistory, IsStatusOf};
-ghost use Rattle.monitor.specs.JudgedHistory.{JudgedHistory, IsVerdictOn, rewound, keys_in_order, history_of_key};
+ghost use Rattle.linspec.specs.KeyHistory.{KeyHistory, IsStatusOf};
+ghost use Rattle.linspec.specs.JudgedHistory.{JudgedHistory, IsVerdictOn, rewound, keys_in_order, history_of_key};
 ghost use Rattle.monitor.specs.Judged.{IsJudged};
 
 use history::{key_events_law, process_rule_law};

@@ -5,8 +5,8 @@ ghost use Rattle.history.specs.WellFormed.{IsHistoryOf};
 ghost use Rattle.linspec.specs.declared.verdict.KeyStatus.{KeyStatus};
 ghost use Rattle.linspec.specs.declared.verdict.Verdict.{Verdict};
 ghost use Rattle.linspec.specs.Verdicts.{IsJoin};
-ghost use Rattle.checkpoints.specs.KeyLineView.{IsStatusOf};
-ghost use Rattle.monitor.specs.JudgedHistory.{JudgedHistory, IsVerdictOn, keys_in_order, history_of_key};
+ghost use Rattle.linspec.specs.KeyHistory.{IsStatusOf};
+ghost use Rattle.linspec.specs.JudgedHistory.{JudgedHistory, IsVerdictOn, keys_in_order, history_of_key};
 
 use crate::laws::judging_law;
 use linspec::laws::{one_answer_law, places_rise};

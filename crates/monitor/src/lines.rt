@@ -5,8 +5,9 @@ ghost use Rattle.std.specs.Map.{keys_of};
 ghost use Rattle.indexmap.specs.Layout.{set_value_at};
 ghost use Rattle.models.specs.declared.model_kind.ModelKind.{ModelKind};
 ghost use Rattle.history.specs.ProcessRule.{IsHistory};
-ghost use Rattle.checkpoints.specs.KeyLineView.{KeyHistory, IsStatusOf, at_rest, with_next, with_pushed, judged_by, cut_at, begins_below, replays_at, count_on};
-ghost use Rattle.monitor.specs.Rows.{nows, cut_rows, each_line, with_cut, cut_done, without_next, JoinsRows, AreCutAt, StandsAfter};
+ghost use Rattle.linspec.specs.KeyHistory.{KeyHistory, IsStatusOf, with_pushed, judged_by, cut_at, begins_below};
+ghost use Rattle.checkpoints.specs.KeyLineView.{at_rest, with_next, replays_at, count_on};
+ghost use Rattle.monitor.specs.Rows.{nows, cut_rows, each_line, with_cut, cut_done, without_next, JoinsRows, AreRowsLentBy, AreCutAt, StandsAfter};
 
 use checkpoints::KeyLine;
 use history::Event;
@@ -76,15 +77,15 @@ impl Lines {
         &mut self,
         place: usize,
         index: u32,
-        event: Event,
+        event: &Event,
     ) -> Result<KeyStatus, AllocError>
         requires { IsSomeAnd (slice_get self.old.rows place)
-            (λ row. IsHistory (row.1.now.events ++ (index, event) ∷ [])) }
+            (λ row. IsHistory (row.1.now.events ++ (index, event.now) ∷ [])) }
         ensures status { IfOk result (λ status. IfSome (slice_get self.old.rows place)
-            (λ row. IsStatusOf (with_pushed index event row.1.now) status)) }
+            (λ row. IsStatusOf (with_pushed index event.now row.1.now) status)) }
         ensures next { OnOk result (IfSome (slice_get self.old.rows place) (λ row.
             slice_get self.new.rows place
-            ≡ Some (row.0, with_next (with_pushed index event row.1.now) 1 row.1))) }
+            ≡ Some (row.0, with_next (with_pushed index event.now row.1.now) 1 row.1))) }
         ensures kept { nows self.new.rows ≡ nows self.old.rows }
         ensures room { self.old.room ≤ self.new.room }
     {
@@ -94,14 +95,17 @@ impl Lines {
         }
     }
 
-    /// Prepares that the key at a place is judged by this kind and budget, and gives the status that this brings.
+    /// Prepares that the key at a place is judged by this kind and budget, and gives the status that this brings. All events are
+    /// lent.
     pub fn prepare_rebuild(
         &mut self,
         place: usize,
         kind: ModelKind,
         budget: u32,
+        lent: &[Event],
     ) -> Result<KeyStatus, AllocError>
-        requires { place < length self.old.rows }
+        requires within { place < length self.old.rows }
+        requires lent { AreRowsLentBy lent.now (nows self.old.rows) }
         ensures status { IfOk result (λ status. IfSome (slice_get self.old.rows place)
             (λ row. IsStatusOf (judged_by kind budget row.1.now) status)) }
         ensures next { OnOk result (IfSome (slice_get self.old.rows place) (λ row.
@@ -114,15 +118,16 @@ impl Lines {
         ensures room { self.old.room ≤ self.new.room }
     {
         match self.map.get_index_mut(place) {
-            Some(line) => line.prepare_rebuild(kind, budget),
+            Some(line) => line.prepare_rebuild(kind, budget, lent),
             None => unreachable!(),
         }
     }
 
-    /// Prepares a cut at `n` of each line that has an event before `n`. Gives the number of these, and the verdict that joins
-    /// how they then stand. It takes the time of all lines, and of a cut of those that lose events. Where memory was refused,
-    /// no line has anything prepared.
-    pub fn prepare_cut(&mut self, n: u32) -> Result<(usize, Verdict), AllocError>
+    /// Prepares a cut at `n` of each line that has an event before `n`. All events are lent. Gives the number of these lines, and
+    /// the verdict that joins how they then stand. It takes the time of all lines, and of a cut of those that lose events. Where
+    /// memory was refused, no line has anything prepared.
+    pub fn prepare_cut(&mut self, n: u32, lent: &[Event]) -> Result<(usize, Verdict), AllocError>
+        requires { AreRowsLentBy lent.now (nows self.old.rows) }
         ensures kept_lines { IfOk result (λ cut.
             cut.0 ≡ length (filter (λ row. begins_below n row.1) (nows self.old.rows))) }
         ensures verdict { IfOk result (λ cut.
@@ -133,7 +138,7 @@ impl Lines {
         ensures kept { nows self.new.rows ≡ nows self.old.rows }
         ensures room { self.old.room ≤ self.new.room }
     {
-        match self.prepare_each_cut(n) {
+        match self.prepare_each_cut(n, lent) {
             Ok(cut) => Ok(cut),
             Err(no_memory) => {
                 self.drop_prepared();
@@ -224,7 +229,8 @@ impl Lines {
     }
 
     // Prepares a cut at `n` of each line that has an event before `n`.
-    fn prepare_each_cut(&mut self, n: u32) -> Result<(usize, Verdict), AllocError>
+    fn prepare_each_cut(&mut self, n: u32, lent: &[Event]) -> Result<(usize, Verdict), AllocError>
+        requires { AreRowsLentBy lent.now (nows self.old.rows) }
         ensures kept_lines { IfOk result (λ cut.
             cut.0 ≡ length (filter (λ row. begins_below n row.1) (nows self.old.rows))) }
         ensures verdict { IfOk result (λ cut.
@@ -238,7 +244,7 @@ impl Lines {
         let mut kept = 0;
         let mut verdict = Verdict::Legal;
         for place in 0..self.map.len() {
-            if let Some((key, status)) = self.prepare_cut_at(place, n)? {
+            if let Some((key, status)) = self.prepare_cut_at(place, n, lent)? {
                 verdict = join_with(verdict, key, status);
                 kept += 1;
             }
@@ -251,8 +257,10 @@ impl Lines {
         &mut self,
         place: usize,
         n: u32,
+        lent: &[Event],
     ) -> Result<Option<(Key, KeyStatus)>, AllocError>
-        requires { place < length self.old.rows }
+        requires within { place < length self.old.rows }
+        requires lent { AreRowsLentBy lent.now (nows self.old.rows) }
         ensures stands { IfOk result (λ stands. IfSome (slice_get self.old.rows place)
             (λ row. StandsAfter n (row.0, row.1.now) stands)) }
         ensures next { OnOk result (IfSome (slice_get self.old.rows place) (λ row.
@@ -264,13 +272,19 @@ impl Lines {
         if !line.begins_below(n) {
             return Ok(None);
         }
-        let status = self.prepare_line_cut(place, n)?;
+        let status = self.prepare_line_cut(place, n, lent)?;
         Ok(Some((key, status)))
     }
 
     // Prepares a cut at `n` of the line at a place, and gives the status that this brings.
-    fn prepare_line_cut(&mut self, place: usize, n: u32) -> Result<KeyStatus, AllocError>
-        requires { place < length self.old.rows }
+    fn prepare_line_cut(
+        &mut self,
+        place: usize,
+        n: u32,
+        lent: &[Event],
+    ) -> Result<KeyStatus, AllocError>
+        requires within { place < length self.old.rows }
+        requires lent { AreRowsLentBy lent.now (nows self.old.rows) }
         ensures status { IfOk result (λ status. IfSome (slice_get self.old.rows place)
             (λ row. IsStatusOf (cut_at n row.1.now) status)) }
         ensures next { OnOk result (IfSome (slice_get self.old.rows place) (λ row.
@@ -280,7 +294,7 @@ impl Lines {
         ensures room { self.old.room ≤ self.new.room }
     {
         match self.map.get_index_mut(place) {
-            Some(line) => line.prepare_cut(n),
+            Some(line) => line.prepare_cut(n, lent),
             None => unreachable!(),
         }
     }

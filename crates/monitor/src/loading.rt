@@ -3,7 +3,7 @@ ghost use Rattle.std.specs.Prelude.{◌≡◌, ◌≢◌, ◌<◌, ◌≤◌, No
 ghost use Rattle.std.specs.Map.{keys_of};
 ghost use Rattle.linspec.specs.Orders.{Pairwise};
 ghost use Rattle.parallel_recheck.specs.Pieces.{line_of};
-ghost use Rattle.monitor.specs.JudgedHistory.{IsBudget, opening_of};
+ghost use Rattle.linspec.specs.JudgedHistory.{IsBudget, opening_of};
 ghost use Rattle.monitor.specs.Monitors.{at_rest};
 ghost use Rattle.monitor.specs.Rows.{nows, JoinsRows};
 ghost use Rattle.monitor.specs.Judged.{IsJudged};
@@ -29,8 +29,7 @@ impl Monitor {
     ///
     /// The keys are judged by as many workers as are asked for, 1 to 64, of which the calling thread is one (see
     /// [`recheck`](parallel_recheck::recheck)); none is given an event before all events are grouped by their keys. The gate
-    /// is called as each key begins and as it ends, by its place in the order of first events. The lines have a copy of each
-    /// event, beside the history's own.
+    /// is called as each key begins and as it ends, by its place in the order of first events. No event is copied.
     ///
     /// # Errors
     /// [`Refusal::BadBudget`] where the budget is not 1 to 65,536, else [`Refusal::NoMemory`] where a growth was refused, in

@@ -3,8 +3,8 @@ ghost use Rattle.std.specs.Prelude.{◌≡◌, ℕ, ◌<◌, ◌≤◌, false, S
 ghost use Rattle.history.specs.Events.{key_of};
 ghost use Rattle.history.specs.WellFormed.{IsConcurrency};
 ghost use Rattle.linspec.specs.declared.verdict.Verdict.{Verdict};
-ghost use Rattle.checkpoints.specs.KeyLineView.{IsStatusOf};
-ghost use Rattle.monitor.specs.JudgedHistory.{IsVerdictOn, with_event, rewound, with_kind, with_budget, IsBudget, opening_of, keys_in_order, history_of_key, kind_of, budget_of};
+ghost use Rattle.linspec.specs.KeyHistory.{IsStatusOf};
+ghost use Rattle.linspec.specs.JudgedHistory.{IsVerdictOn, with_event, rewound, with_kind, with_budget, IsBudget, opening_of, keys_in_order, history_of_key, kind_of, budget_of};
 ghost use Rattle.monitor.specs.Monitors.{at_rest, with_next, Admits, MayDecline, MayNotBegin, MayNotRewind, MayNotSetBudget, replays_by, loses_by};
 ghost use Rattle.monitor.specs.Rows.{nows};
 ghost use Rattle.monitor.specs.Judged.{rows_of, IsJudged};
@@ -13,7 +13,7 @@ ghost use Rattle.monitor.specs.Loading.{with_all};
 use crate::fronts::judged_fronts_law;
 use crate::laws::{judging_law, next_event_law};
 use crate::lines::Lines;
-use crate::parts::{commit_line, first_line, prepare_in_history, prepare_rebuild};
+use crate::parts::{commit_line, first_line, next_event, prepare_rebuild};
 use crate::settings::Settings;
 use checkpoints::KeyLine;
 use checkpoints::laws::settled_law;
@@ -192,7 +192,7 @@ impl Monitor {
         clear(&mut self.prepared);
         judging_law();
         self.history.prepare_cut(n)?;
-        let (kept, verdict) = self.lines.prepare_cut(n)?;
+        let (kept, verdict) = self.lines.prepare_cut(n, self.history.events())?;
         put(
             &mut self.prepared,
             Prepared {
@@ -220,7 +220,8 @@ impl Monitor {
         self.kinds.reserve()?;
         let place = self.lines.find(key);
         let budget = self.budgets.of(key);
-        let verdict = prepare_rebuild(&mut self.lines, self.verdict, place, kind, budget)?;
+        let lent = self.history.events();
+        let verdict = prepare_rebuild(&mut self.lines, self.verdict, place, kind, budget, lent)?;
         put(
             &mut self.prepared,
             Prepared {
@@ -252,7 +253,8 @@ impl Monitor {
         self.budgets.reserve()?;
         let place = self.lines.find(key);
         let kind = self.kinds.of(key);
-        let verdict = prepare_rebuild(&mut self.lines, self.verdict, place, kind, n)?;
+        let lent = self.history.events();
+        let verdict = prepare_rebuild(&mut self.lines, self.verdict, place, kind, n, lent)?;
         put(
             &mut self.prepared,
             Prepared {
@@ -486,7 +488,9 @@ impl Monitor {
         next_event_law();
         settled_law();
         bad_keys_law();
-        let (index, event) = prepare_in_history(&mut self.history, event)?;
+        let index = self.history.len();
+        self.history.prepare_push(event)?;
+        let event = next_event(&self.history);
         let status = self.lines.prepare_push(place, index, event)?;
         let verdict = join_with(self.verdict, key, status);
         put(
@@ -516,8 +520,10 @@ impl Monitor {
         next_event_law();
         let kind = self.kinds.of(key);
         let budget = self.budgets.of(key);
-        let (index, event) = prepare_in_history(&mut self.history, event)?;
+        let index = self.history.len();
+        self.history.prepare_push(event)?;
         self.lines.reserve()?;
+        let event = next_event(&self.history);
         let line = first_line(self.alloc, kind, budget, index, event)?;
         let verdict = join_with(self.verdict, key, line.status());
         put(

@@ -3,7 +3,7 @@ ghost use Rattle.std.specs.Prelude.{◌≡◌, ℕ, ◌+◌, ◌<◌, ◌^◌, [
 ghost use Rattle.std.specs.Map.{keys_of};
 ghost use Rattle.indexmap.specs.Layout.{set_value_at};
 ghost use Rattle.history.specs.ProcessRule.{IsHistory};
-ghost use Rattle.checkpoints.specs.KeyLineView.{with_pushed, without_events};
+ghost use Rattle.linspec.specs.KeyHistory.{with_pushed, without_events};
 ghost use Rattle.parallel_recheck.specs.Pieces.{piece_of};
 ghost use Rattle.history.specs.WellFormed.{IsHistoryOf};
 ghost use Rattle.monitor.specs.Loading.{pieces_of, rows_of_pieces};
@@ -53,7 +53,8 @@ impl<'a> Pieces<'a> {
         requires few { length events.now < 2 ^ 32 }
         requires within { index < length events.now }
         requires history { (c : ℕ) × IsHistoryOf c events.now }
-        requires grouped { self.old.map.entries ≡ rows_of_pieces kind budget (take index events.now) }
+        requires grouped { self.old.map.entries
+            ≡ rows_of_pieces kind budget (take index events.now) }
         ensures { OnOk result
             (self.new.map.entries ≡ rows_of_pieces kind budget (take (index + 1) events.now)) }
     {
@@ -102,8 +103,8 @@ impl<'a> Pieces<'a> {
     ) -> Result<(), AllocError>
         requires first { IsHistory ((index, event.now) ∷ []) }
         requires new { position (nat_eq key) (keys_of self.old.map.entries) ≡ None }
-        ensures { OnOk result (self.new.map.entries ≡ self.old.map.entries
-            ++ (key, piece_of key (with_pushed index event.now (without_events kind budget))) ∷ []) }
+        ensures { OnOk result (self.new.map.entries ≡ self.old.map.entries ++
+            (key, piece_of key (with_pushed index event.now (without_events kind budget))) ∷ []) }
     {
         let mut piece = KeyEvents::new(alloc, key, kind, budget);
         piece.push(index, event)?;

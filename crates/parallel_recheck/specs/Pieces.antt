@@ -2,7 +2,8 @@
 use Rattle.std.specs.Prelude.{ℕ, List, map, length}
 use Rattle.std.specs.Borrow.{Bor}
 use Rattle.history.specs.declared.event.Event.{Event}
-use Rattle.checkpoints.specs.KeyLineView.{KeyHistory, KeyLineView, at_rest, count_on}
+use Rattle.linspec.specs.KeyHistory.{KeyHistory}
+use Rattle.checkpoints.specs.KeyLineView.{KeyLineView, at_rest, count_on}
 
 -- events that are lent, as they are
 abbrev pub lent : List (ℕ × Bor Event) → List (ℕ × Event)

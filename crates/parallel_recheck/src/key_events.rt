@@ -1,7 +1,7 @@
 //! The events of one key.
 ghost use Rattle.std.specs.Prelude.{◌≡◌, ◌∷◌, ◌++◌, [], IfOk, OnOk, OnErr};
 ghost use Rattle.history.specs.ProcessRule.{IsHistory};
-ghost use Rattle.checkpoints.specs.KeyLineView.{with_pushed, without_events};
+ghost use Rattle.linspec.specs.KeyHistory.{with_pushed, without_events};
 ghost use Rattle.parallel_recheck.specs.Pieces.{piece_of, line_of};
 
 use checkpoints::KeyLine;
@@ -68,7 +68,7 @@ impl<'a> KeyEvents<'a> {
         self.key
     }
 
-    /// The line of the key, which has a copy of each event. It takes the time of a push for each.
+    /// The line of the key, which is lent each event in turn and keeps none. It takes the time of a push for each.
     ///
     /// # Errors
     /// `AllocError` where a growth was refused.
@@ -77,8 +77,7 @@ impl<'a> KeyEvents<'a> {
     {
         let mut line = KeyLine::new(alloc, self.kind, self.budget)?;
         for (index, event) in &self.events {
-            let copy = event.copy()?;
-            line.push(*index, copy)?;
+            line.push(*index, event)?;
         }
         Ok(line)
     }

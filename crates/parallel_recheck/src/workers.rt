@@ -107,7 +107,8 @@ fn judge_own<G: Gate>(
 ) -> Result<(), AllocError>
     requires workers { 0 < workers }
     requires within { place < length pieces.now }
-    requires before { IsShare (map line_of pieces.now) (IsOwn worker workers) place placed.old.items }
+    requires before { IsShare (map line_of pieces.now) (IsOwn worker workers) place
+        placed.old.items }
     ensures { OnOk result (IsShare (map line_of pieces.now) (IsOwn worker workers) (place + 1)
         placed.new.items) }
 {

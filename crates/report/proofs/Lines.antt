@@ -6,8 +6,8 @@ use Rattle.std.proofs.lemmas.List.{take_all, take_more, map-append}
 use Rattle.std.proofs.lemmas.List.Elements.{All-append}
 use Rattle.std.proofs.lemmas.Option.{slice_get_within, get_or_from_slice_get}
 use Rattle.linspec.specs.declared.verdict.KeyStatus.{KeyStatus}
-use Rattle.checkpoints.specs.KeyLineView.{IsStatusOf}
-use Rattle.monitor.specs.JudgedHistory.{JudgedHistory, history_of_key, kind_of, budget_of}
+use Rattle.linspec.specs.KeyHistory.{IsStatusOf}
+use Rattle.linspec.specs.JudgedHistory.{JudgedHistory, history_of_key, kind_of, budget_of}
 use Rattle.report.specs.KeyLine.{key_line}
 use Rattle.report.specs.Report.{line_in, lines_in, Stand, IsRows}
 

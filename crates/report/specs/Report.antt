@@ -4,8 +4,8 @@ use Rattle.std.specs.List.{All}
 use Rattle.linspec.specs.declared.verdict.KeyStatus.{KeyStatus}
 use Rattle.linspec.specs.declared.verdict.Verdict.{Verdict}
 use Rattle.linspec.specs.Verdicts.{IsJoin}
-use Rattle.checkpoints.specs.KeyLineView.{IsStatusOf}
-use Rattle.monitor.specs.JudgedHistory.{JudgedHistory, IsVerdictOn, keys_in_order, history_of_key, kind_of, budget_of}
+use Rattle.linspec.specs.KeyHistory.{IsStatusOf}
+use Rattle.linspec.specs.JudgedHistory.{JudgedHistory, IsVerdictOn, keys_in_order, history_of_key, kind_of, budget_of}
 use Rattle.report.specs.KeyLine.{key_line}
 use Rattle.report.specs.VerdictLine.{verdict_line}
 

@@ -2,7 +2,7 @@
 ghost use Rattle.std.specs.Prelude.{◌≡◌, ◌++◌, ℕ, List, IfOk, OnOk, OnErr, map};
 ghost use Rattle.linspec.specs.declared.verdict.KeyStatus.{KeyStatus};
 ghost use Rattle.linspec.specs.Verdicts.{IsJoin};
-ghost use Rattle.monitor.specs.JudgedHistory.{IsVerdictOn, keys_in_order};
+ghost use Rattle.linspec.specs.JudgedHistory.{IsVerdictOn, keys_in_order};
 ghost use Rattle.report.specs.Report.{IsReport, IsRows, Stand};
 
 use crate::key_line::key_text;
@@ -32,7 +32,8 @@ pub fn report(alloc: Global, monitor: &Monitor, bytes: &mut Vec<u8>) -> Result<(
 
 // The lines of the keys.
 fn key_lines(alloc: Global, monitor: &Monitor) -> Result<Vec<u8>, AllocError>
-    ensures { IfOk result (λ text. IsRows monitor.now.now (keys_in_order monitor.now.now.events) text.items) }
+    ensures { IfOk result (λ text.
+        IsRows monitor.now.now (keys_in_order monitor.now.now.events) text.items) }
 {
     let mut text = Vec::new(alloc);
     for place in 0..monitor.key_count() {

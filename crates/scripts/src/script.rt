@@ -2,7 +2,7 @@
 ghost use Rattle.std.specs.Prelude.{◌≡◌, ◌≢◌, ◌⊎◌, ℕ, List, [], IfOk, OnOk, IfErr, IsErrAnd, Ok, Err, Some, false, true};
 ghost use Rattle.machine.specs.Machine.{Machine, opening};
 ghost use Rattle.harness.specs.Setups.{setup_of, IsSetup, MayNotOpen};
-ghost use Rattle.monitor.specs.JudgedHistory.{IsVerdictOn};
+ghost use Rattle.linspec.specs.JudgedHistory.{IsVerdictOn};
 ghost use Rattle.line_loop.specs.RefusalLine.{refusal_line};
 ghost use Rattle.line_loop.specs.Stopping.{MayStop, Finishes, Stops, KeepsUp};
 ghost use Rattle.scripts.specs.Command.{Asks};
@@ -159,17 +159,20 @@ pub fn run_script<X: Wait, R: Read + Failed, W: Write + Failed, L: Onlooker>(
     requires writes { W.has_failed writer.old ≡ false }
     // A configuration out of its limits is refused before anything is read or written.
     ensures limits { IsSetup (setup_of config)
-        ⊎ IsErrAnd result (IsUnopened (setup_of config) reader.old reader.new writer.old writer.new) }
+        ⊎ IsErrAnd result
+        (IsUnopened (setup_of config) reader.old reader.new writer.old writer.new) }
     // All that the reader had is consumed, the writer grew by a reply text of it, and the verdict is that of the end.
     ensures done { IfOk result (λ verdict. (end : Machine) × IsVerdictOn end.judged verdict
-        × Finishes MayReply (opening (setup_of config)) end (R.remaining reader.old) (R.remaining reader.new)
+        × Finishes MayReply (opening (setup_of config)) end
+        (R.remaining reader.old) (R.remaining reader.new)
         (W.contents writer.old) (W.contents writer.new)) }
     ensures unfailed { OnOk result ((R.has_failed reader.new ≡ false)
         × (W.has_failed writer.new ≡ false)) }
     // Nothing was read or written; or the writer grew by a beginning of a reply text of the lines read to their end.
     ensures stopped { IfErr result (λ e.
         IsUnopened (setup_of config) reader.old reader.new writer.old writer.new e
-        ⊎ Stops MayReply (opening (setup_of config)) (R.remaining reader.old) (R.remaining reader.new)
+        ⊎ Stops MayReply (opening (setup_of config))
+        (R.remaining reader.old) (R.remaining reader.new)
         (W.contents writer.old) (W.contents writer.new) e) }
     // Where the reader failed, all lines that were read to their line feed had their replies.
     ensures live { result ≡ Err Refusal.ReadFailed → KeepsUp MayReply (opening (setup_of config))

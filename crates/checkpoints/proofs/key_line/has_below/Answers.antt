@@ -1,6 +1,8 @@
-use Rattle.std.proofs.Common.{arith}
-use Rattle.checkpoints.proofs.Cutting.{begins_first}
+use Rattle.std.proofs.Common.{◌≡◌, nat_lt, length, slice_index_or, ap, ◌∙◌, arith}
+use Rattle.checkpoints.proofs.Cutting.{begins_first, length-places}
 use Rattle.checkpoints.proofs.key_line.has_below.Goals as goal
 
-pub returns-then-events-gt0 : goal.returns-then-events-gt0
-returns-then-events-gt0 c history = begins_first c.args.events.now history c.args.n _ (omega arith)
+pub returns-then-places-gt0 : goal.returns-then-places-gt0
+returns-then-places-gt0 c events history are =
+    let many : length c.args.places.now ≡ length events = ap length are ∙ length-places events in
+    ap (λ l. nat_lt (slice_index_or l 0 0) c.args.n) are ∙ begins_first events history c.args.n 0 (omega (arith, c.if-places-gt0.true))

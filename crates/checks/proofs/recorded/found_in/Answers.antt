@@ -2,7 +2,7 @@ use Rattle.std.proofs.Common.{OnOk, None, Some, ap, sym, ◌∙◌, subst, rules
 use Rattle.std.specs.Prelude.{ℕ}
 use Rattle.linspec.specs.declared.verdict.Verdict.{Verdict}
 use Rattle.history.specs.WellFormed.{HistoryView}
-use Rattle.monitor.specs.JudgedHistory.{IsVerdictOn, rewound}
+use Rattle.linspec.specs.JudgedHistory.{IsVerdictOn, rewound}
 use Rattle.monitor.specs.Loading.{with_all}
 use Rattle.harness.specs.Setups.{setup_of}
 use Rattle.checks.specs.Reading.{IsRead}

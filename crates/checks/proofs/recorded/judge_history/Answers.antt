@@ -1,6 +1,6 @@
 use Rattle.std.proofs.Common.{sym, ◌∙◌, subst}
 use Rattle.linspec.specs.declared.verdict.Verdict.{Verdict}
-use Rattle.monitor.specs.JudgedHistory.{IsVerdictOn, rewound}
+use Rattle.linspec.specs.JudgedHistory.{IsVerdictOn, rewound}
 use Rattle.line_loop.proofs.Results.{on_ok}
 use Rattle.checks.proofs.Recording.{loaded_now}
 use Rattle.checks.proofs.recorded.judge_history.Goals as goal

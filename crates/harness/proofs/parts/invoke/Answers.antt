@@ -4,7 +4,7 @@ use Rattle.models.specs.declared.operation.Op.{Op}
 use Rattle.history.specs.declared.event.Event.{Event}
 use Rattle.history.specs.WellFormed.{moves_of}
 use Rattle.trials.specs.Trials.{invocation}
-use Rattle.monitor.specs.JudgedHistory.{IsVerdictOn, with_event}
+use Rattle.linspec.specs.JudgedHistory.{IsVerdictOn, with_event}
 use Rattle.monitor.specs.Monitors.{Admits}
 use Rattle.harness.proofs.Showing.{current_by}
 use Rattle.harness.proofs.parts.invoke.Goals as goal

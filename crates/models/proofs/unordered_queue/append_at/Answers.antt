@@ -18,13 +18,13 @@ one_more s values at v rest others before after same fits is new read without wa
     ∙ ap (λ w. others ++ (taken_from s (values_of (take at s)) ++ (remove s at, Item w) ∷ [])) (read ∙ ap (λ l. get_or l at (pos 0)) same)
     ∙ ap (λ l. others ++ l) (sym (taken_new s at (pos 0) fits is (subst (λ l. (p : ℕ) (d : ℤ) → p + 1 ≡ at → get_or l p d ≢ get_or l at d) same new)))
 
-pub returns-in_ok-push-clause-appended : goal.returns-in_ok-push-clause-appended
-returns-in_ok-push-clause-appended c = λ others before.
+pub returns-in_ok-put_outcome-clause-appended : goal.returns-in_ok-put_outcome-clause-appended
+returns-in_ok-put_outcome-clause-appended c = λ others before.
     let v = get_or c.as_slice-values.result.now c.args.at (pos 0) in
     let passed : ℤ = to_z w64 (of_z w64 v) in
     let same : passed ≡ v = search rules in
-    one_more c.args.state.now c.as_slice-values.result.now c.args.at passed c.in_ok-rest.rest others c.args.outcomes.now.items c.push.new.self.items
-    c.as_slice-values.ensures.value c.requires c.as_slice-values.ensures.never_falls (c.is_new.ensures.new c.if-is_new.true) same c.in_ok-rest.ensures before c.in_ok-push.ensures.items
+    one_more c.args.state.now c.as_slice-values.result.now c.args.at passed c.in_ok-rest.rest others c.args.outcomes.now.items c.put_outcome.new.outcomes.items
+    c.as_slice-values.ensures.value c.requires c.as_slice-values.ensures.never_falls (c.is_new.ensures.new c.if-is_new.true) same c.in_ok-rest.ensures before c.in_ok-put_outcome.ensures.put
 
 pub returns-else-is_new-clause-appended : goal.returns-else-is_new-clause-appended
 returns-else-is_new-clause-appended c = λ others before.

@@ -1,10 +1,10 @@
-use Rattle.std.proofs.Common.{◌≡◌, ℕ, ◌∷◌, ◌++◌, [], ◌+◌, ◌<◌, List, length, map, take, position, nat_eq, None, Some, slice_get, get_or, sym, ap, ◌∙◌, subst, arith, rules, length-append}
+use Rattle.std.proofs.Common.{◌≡◌, ℕ, ◌∷◌, ◌++◌, [], ◌<◌, List, length, map, take, position, nat_eq, None, Some, slice_get, get_or, sym, ap, ◌∙◌, subst, arith, rules, length-append}
 use Rattle.std.specs.Map.{keys_of}
 use Rattle.std.proofs.lemmas.List.{length-map}
 use Rattle.std.proofs.lemmas.Option.{get_or_from_slice_get}
 use Rattle.std.proofs.lemmas.Iterator.Adapters.{YieldsList-from_vec}
 use Rattle.std.proofs.lemmas.Iterator.Consumers.{YieldsList-turn}
-use Rattle.checkpoints.specs.KeyLineView.{KeyHistory}
+use Rattle.linspec.specs.KeyHistory.{KeyHistory}
 use Rattle.parallel_recheck.specs.Pieces.{line_of}
 use Rattle.monitor.specs.Rows.{nows, JoinsRows}
 use Rattle.monitor.specs.Loading.{row_of}

@@ -1,5 +1,5 @@
 use Rattle.std.proofs.Common.{◌≡◌, ◌+◌, ◌++◌, sym, subst, ap, ◌∙◌, take, refl, string_bytes}
-use Rattle.monitor.specs.JudgedHistory.{keys_in_order}
+use Rattle.linspec.specs.JudgedHistory.{keys_in_order}
 use Rattle.report.specs.KeyLine.{key_line}
 use Rattle.report.specs.Report.{IsRows, line_in}
 use Rattle.report.proofs.Lines.{one_more}

@@ -1,6 +1,6 @@
 -- The text is the lines of the keys so far.
 use Rattle.std.proofs.Common.{take}
-use Rattle.monitor.specs.JudgedHistory.{keys_in_order}
+use Rattle.linspec.specs.JudgedHistory.{keys_in_order}
 use Rattle.report.specs.Report.{IsRows}
 use Rattle.report.proofs.whole.key_lines.Given as goal
 

@@ -1,33 +1,50 @@
-use Rattle.std.proofs.Common.{take, refl, arith}
+use Rattle.std.proofs.Common.{◌≡◌, ◌≤◌, ◌∙◌, length, take, refl, sym, subst, arith}
+use Rattle.linspec.specs.KeyHistory.{events_below}
 use Rattle.checkpoints.specs.Next.{IsNext}
-use Rattle.checkpoints.proofs.Soundness.{cut_brought, all_stand, gone_stands, first_seen, within_seen, cut_seen, next_right, IsSoundLine-prepared}
+use Rattle.checkpoints.specs.Saved.{AreSaved}
+use Rattle.checkpoints.specs.Saves.{saved_by}
+use Rattle.checkpoints.specs.SoundLine.{IsBrought}
+use Rattle.checkpoints.specs.declared.saving.Saves.TheVariants.{Kept}
+use Rattle.checkpoints.proofs.Soundness.{cut_brought, all_stand, lent_seen, cut_seen, next_right, IsSoundLine-prepared}
 use Rattle.checkpoints.proofs.key_line.KeyLine.prepare_cut.Goals as goal
 use Rattle.checkpoints.proofs.key_line.KeyLine.prepare_cut.Goals.{then-kept-len+in_ok-gone_back, else-kept-len}
 
-stands : (c : goal.After-prepare) → IsNext c.self.inside.kind c.self.inside.budget (take c.count_below-kept.result c.self.inside.events.items) c.self.inside.state c.if-kept-len.next
+within : (c : goal.After-prepare) → c.count_below-kept.result ≤ length c.self.inside.places.items
+within c = subst (λ l. c.count_below-kept.result ≤ length l) c.deref.ensures.value c.count_below-kept.ensures.within
+
+first : (c : goal.After-prepare) → take c.count_below-kept.result c.self.inside.told.events ≡ events_below c.args.n c.self.inside.told.events
+first c = c.count_below-kept.ensures.first c.self.inside.told.events c.self.invariant.now.history (c.deref.ensures.value ∙ c.self.invariant.now.places_are)
+
+stands : (c : goal.After-prepare) → IsNext c.self.inside.kind c.self.inside.budget (take c.count_below-kept.result c.self.inside.told.events) c.self.inside.state c.if-kept-len.next
 stands c =
-    let events = c.self.inside.events.items in
+    let events = c.self.inside.told.events in
+    let now = c.self.invariant.now in
+    let kind = c.self.inside.kind in
+    let budget = c.self.inside.budget in
     elim c.if-kept-len.branch [
       | then-kept-len+in_ok-gone_back w ↦ rw w.next-is
-          (gone_stands c.self.inside.kind c.self.inside.budget c.count_below-kept.result events _ w.deref-then-kept-len.ensures.value c.self.inside.saved.items _ w.deref-then-kept-len-2.ensures.value c.self.invariant.now.history c.self.invariant.now.saved_are
-          _ w.in_ok-gone_back.ensures.stands)
+          (w.in_ok-gone_back.ensures.stands events now.history
+          (record { places_are = w.deref-then-kept-len.ensures.value ∙ now.places_are; are_lent = lent_seen _ _ _ _ _ _ c.self.view_is c.args.lent.now c.requires })
+          (subst (AreSaved kind budget events) (sym w.deref-then-kept-len-2.ensures.value) now.saved_are))
       | else-kept-len w ↦ rw w.next-is
-          (all_stand c.self.inside.kind c.self.inside.budget events c.self.inside.state c.self.inside.saved.items c.self.invariant.now c.count_below-kept.result (omega arith))
+          (all_stand kind budget events c.self.inside.places.items c.self.inside.state c.self.inside.saved.items now c.count_below-kept.result (omega arith))
     ]
 
 pub invariant_of-self-2 : goal.invariant_of-self-2
 invariant_of-self-2 c =
-    let events = c.self.inside.events.items in
-    let within = within_seen c.count_below-kept.result events _ c.deref.ensures.value c.count_below-kept.ensures.within in
-    IsSoundLine-prepared _ _ _ _ _ _ _ _ c.self.invariant _ c.self.invariant.now.stands _ refl _ refl _ _ _ _ c.prepare.ensures (record {
-      brings = cut_brought c.self.inside.kind c.self.inside.budget events c.self.inside.state c.self.inside.saved.items c.self.invariant.now c.count_below-kept.result within c.if-kept-len.next (stands c);
+    let now = c.self.invariant.now in
+    let places = c.self.inside.places.items in
+    let saved = c.self.inside.saved.items in
+    let kind = c.self.inside.kind in
+    let budget = c.self.inside.budget in
+    let kept = c.count_below-kept.result in
+    IsSoundLine-prepared _ _ _ _ _ _ _ _ c.self.invariant _ now.stands _ refl _ now.saved_are _ _ _ c.prepare.ensures (record {
+      brings = subst (λ l. IsBrought kind budget l (take kept places) c.self.inside.state c.if-kept-len.next (saved_by kept Kept saved)) (sym c.first.ensures)
+          (cut_brought kind budget c.self.inside.told.events places c.self.inside.state saved now kept (within c) c.if-kept-len.next (stands c));
       place = tt;
-      saves_place = tt;
     })
 
 pub returns-clause-status : goal.returns-clause-status
 returns-clause-status c =
-    let events = c.self.inside.events.items in
-    let first = first_seen c.args.n c.count_below-kept.result events _ c.deref.ensures.value c.self.invariant.now.history c.count_below-kept.ensures.first in
-    cut_seen _ _ _ _ _ _ c.self.view_is c.args.n c.count_below-kept.result first _
-    (next_right c.self.inside.kind c.self.inside.budget (take c.count_below-kept.result events) c.self.inside.state c.if-kept-len.next (stands c) _ c.status-status.ensures)
+    cut_seen _ _ _ _ _ _ c.self.view_is c.args.n c.count_below-kept.result (first c) _
+    (next_right c.self.inside.kind c.self.inside.budget (take c.count_below-kept.result c.self.inside.told.events) c.self.inside.state c.if-kept-len.next (stands c) _ c.status-status.ensures)

@@ -1,36 +1,47 @@
-use Rattle.std.proofs.Common.{◌≡◌, [], ◌∷◌, ◌++◌, length, sym, subst, arith}
-use Rattle.std.specs.Vec.{vec_capacity}
-use Rattle.checkpoints.specs.Saves.{HasRoom}
-use Rattle.checkpoints.proofs.Soundness.{history_seen, next_seen, pushed, next_right, IsSoundLine-dropped, IsSoundLine-prepared}
+use Rattle.std.proofs.Common.{◌≡◌, ℕ, [], ◌∷◌, ◌++◌, length, Some, sym, ◌∙◌, subst, arith}
+use Rattle.history.specs.declared.event.Event.{Event}
+use Rattle.checkpoints.specs.SoundLine.{kept_and_added, IsBrought}
+use Rattle.checkpoints.specs.Saves.{saved_by}
+use Rattle.checkpoints.specs.declared.saving.Saves.TheVariants.{Kept}
+use Rattle.checkpoints.proofs.Soundness.{history_seen, next_seen, pushed, many_places, next_right, IsSoundLine-dropped, IsSoundLine-prepared}
 use Rattle.checkpoints.proofs.key_line.KeyLine.prepare_push.Goals as goal
 
 pub invariant_of-self-in_err-next : goal.invariant_of-self-in_err-next
 invariant_of-self-in_err-next c =
-    let h = history_seen _ _ _ _ _ _ c.self.view_is (c.args.index, c.args.event) c.requires in
+    let events = c.self.inside.told.events in
+    let now = c.self.invariant.now in
+    let h = history_seen _ _ _ _ _ _ c.self.view_is (c.args.index, c.args.event.now) c.requires in
+    let all : c.len-count.result ≡ length c.self.inside.places.items = omega (arith, c.reserve.new.self.ok.0, c.self.inside.places.ok.0) in
+    let many = many_places c.self.inside.kind c.self.inside.budget events c.self.inside.places.items c.self.inside.state c.self.inside.saved.items now in
     IsSoundLine-dropped _ _ _ _ _ _ _ _ c.self.invariant c.prepare_event.new.state
-    (c.prepare_event.ensures.now c.self.inside.kind c.self.inside.budget c.self.inside.events.items c.self.invariant.now.stands h)
-    _ c.reserve.ensures.items _ c.prepare_event.ensures.items _ _ _ c.drop_prepared.ensures
+    (c.prepare_event.ensures.now c.self.inside.kind c.self.inside.budget events now.stands h)
+    _ c.reserve.ensures.items _ (c.prepare_event.ensures.saved c.self.inside.kind c.self.inside.budget events (sym many ∙ sym all) now.stands now.saved_are) _ _ c.drop_prepared.ensures
 
 pub invariant_of-self-2 : goal.invariant_of-self-2
 invariant_of-self-2 c =
-    let events = c.self.inside.events.items in
-    let h = history_seen _ _ _ _ _ _ c.self.view_is (c.args.index, c.args.event) c.requires in
-    let before = c.self.invariant.now.stands in
-    let all : c.len-count.result ≡ length events = omega (arith, c.reserve.new.self.ok.0, c.self.inside.events.ok.0) in
-    let next = c.in_ok-next.ensures.next c.self.inside.kind c.self.inside.budget events before h in
-    let saves = c.in_ok-next.ensures.saves c.self.inside.kind c.self.inside.budget events (sym all) before h in
+    let events = c.self.inside.told.events in
+    let places = c.self.inside.places.items in
+    let kind = c.self.inside.kind in
+    let budget = c.self.inside.budget in
+    let now = c.self.invariant.now in
+    let x : ℕ × Event = (c.args.index, c.args.event.now) in
+    let h = history_seen _ _ _ _ _ _ c.self.view_is x c.requires in
+    let all : c.len-count.result ≡ length places = omega (arith, c.reserve.new.self.ok.0, c.self.inside.places.ok.0) in
+    let many = many_places kind budget events places c.self.inside.state c.self.inside.saved.items now in
+    let saved = c.prepare_event.ensures.saved kind budget events (sym many ∙ sym all) now.stands now.saved_are in
     IsSoundLine-prepared _ _ _ _ _ _ _ _ c.self.invariant c.prepare_event.new.state
-    (c.prepare_event.ensures.now c.self.inside.kind c.self.inside.budget events before h)
-    _ c.reserve.ensures.items _ c.prepare_event.ensures.items _ _ _ _ c.prepare.ensures (record {
-      brings = pushed c.self.inside.kind c.self.inside.budget events _ _ c.self.invariant.now c.len-count.result all (c.args.index, c.args.event) c.prepare_event.new.state c.in_ok-next.next c.in_ok-next.saves h next saves;
+    (c.prepare_event.ensures.now kind budget events now.stands h)
+    _ c.reserve.ensures.items _ saved _ _ _ c.prepare.ensures (record {
+      brings = subst (λ l. IsBrought kind budget l (kept_and_added c.len-count.result (Some c.args.index) places) c.prepare_event.new.state c.in_ok-next.next (saved_by c.len-count.result Kept c.prepare_event.new.saved.items)) (sym c.with.ensures)
+          (pushed kind budget events places c.self.inside.state c.self.inside.saved.items now c.len-count.result (omega (arith, all)) x c.prepare_event.new.state c.in_ok-next.next c.prepare_event.new.saved.items h
+          (c.in_ok-next.ensures.next kind budget events now.stands h) saved (c.in_ok-next.ensures.more kind budget events (sym many ∙ sym all) now.stands now.saved_are));
       place = omega (arith, c.reserve.new.self.ok.0, c.in_ok-reserve.ensures.ok);
-      saves_place = subst (λ l. HasRoom (length l) (vec_capacity c.prepare_event.new.saved) c.in_ok-next.saves) c.prepare_event.ensures.items c.in_ok-next.ensures.room;
     })
 
 pub returns-clause-status : goal.returns-clause-status
 returns-clause-status c =
-    let events = c.self.inside.events.items in
-    let h = history_seen _ _ _ _ _ _ c.self.view_is (c.args.index, c.args.event) c.requires in
+    let events = c.self.inside.told.events in
+    let h = history_seen _ _ _ _ _ _ c.self.view_is (c.args.index, c.args.event.now) c.requires in
     let next = c.in_ok-next.ensures.next c.self.inside.kind c.self.inside.budget events c.self.invariant.now.stands h in
-    next_seen _ _ _ _ _ _ c.self.view_is c.args.index c.args.event _
-    (next_right c.self.inside.kind c.self.inside.budget (events ++ (c.args.index, c.args.event) ∷ []) c.prepare_event.new.state c.in_ok-next.next next _ c.status-status.ensures)
+    next_seen _ _ _ _ _ _ c.self.view_is c.args.index c.args.event.now _
+    (next_right c.self.inside.kind c.self.inside.budget (events ++ (c.args.index, c.args.event.now) ∷ []) c.prepare_event.new.state c.in_ok-next.next next _ c.status-status.ensures)

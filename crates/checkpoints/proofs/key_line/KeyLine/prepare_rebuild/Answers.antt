@@ -1,7 +1,33 @@
-use Rattle.checkpoints.proofs.Soundness.{read_stands, rebuilt_seen, status_right}
+use Rattle.std.proofs.Common.{◌≡◌, ◌∙◌, length, refl, sym, subst, take, arith}
+use Rattle.checkpoints.specs.KeyState.{IsKeyState}
+use Rattle.checkpoints.specs.Lent.{AreAt}
+use Rattle.checkpoints.specs.Saved.{AreSaved}
+use Rattle.checkpoints.specs.SoundLine.{IsBrought}
+use Rattle.checkpoints.proofs.Soundness.{lent_seen, rebuilt_brought, rebuilt_seen, status_right, IsSoundLine-prepared}
+use Rattle.checkpoints.specs.declared.next.Next.TheVariants.{Becomes}
 use Rattle.checkpoints.proofs.key_line.KeyLine.prepare_rebuild.Goals as goal
+
+at : (c : goal.After-prepare) → AreAt c.args.lent.now c.deref.result.now c.self.inside.told.events
+at c = record {
+  places_are = c.deref.ensures.value ∙ c.self.invariant.now.places_are;
+  are_lent = lent_seen _ _ _ _ _ _ c.self.view_is c.args.lent.now c.requires;
+}
+
+stands : (c : goal.After-prepare) → IsKeyState c.args.kind c.args.budget c.self.inside.told.events c.in_ok-state.state
+stands c = c.in_ok-state.ensures.stands c.self.inside.told.events c.self.invariant.now.history (at c)
+
+pub invariant_of-self-2 : goal.invariant_of-self-2
+invariant_of-self-2 c =
+    let now = c.self.invariant.now in
+    let places = c.self.inside.places.items in
+    let all : c.len-kept.result ≡ length places = omega (arith, c.self.inside.places.ok.0) in
+    let are : AreSaved c.args.kind c.args.budget c.self.inside.told.events c.in_ok-state.saved.items = c.in_ok-state.ensures.saved c.self.inside.told.events now.history (at c) in
+    IsSoundLine-prepared _ _ _ _ _ _ _ _ c.self.invariant _ now.stands _ refl _ now.saved_are _ _ _ c.prepare.ensures (record {
+      brings = subst (λ l. IsBrought c.args.kind c.args.budget l (take c.len-kept.result places) c.self.inside.state (Becomes c.in_ok-state.state) c.in_ok-state.saved.items) (sym c.first.ensures)
+          (rebuilt_brought c.self.inside.kind c.self.inside.budget c.self.inside.told.events places c.self.inside.state c.self.inside.saved.items now c.len-kept.result all c.args.kind c.args.budget c.in_ok-state.state c.in_ok-state.saved.items (stands c) are);
+      place = tt;
+    })
 
 pub returns-clause-status : goal.returns-clause-status
 returns-clause-status c =
-    let stands = read_stands _ _ c.self.inside.events.items _ c.deref.ensures.value c.self.invariant.now.history _ c.in_ok-state.ensures.stands in
-    rebuilt_seen _ _ _ _ _ _ c.self.view_is c.args.kind c.args.budget _ (status_right c.args.kind c.args.budget c.self.inside.events.items _ stands _ c.status-status.ensures)
+    rebuilt_seen _ _ _ _ _ _ c.self.view_is c.args.kind c.args.budget _ (status_right c.args.kind c.args.budget c.self.inside.told.events _ (stands c) _ c.status-status.ensures)

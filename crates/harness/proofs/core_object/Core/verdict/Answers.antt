@@ -1,5 +1,5 @@
 use Rattle.std.proofs.Common.{subst, ◌∙◌}
-use Rattle.monitor.specs.JudgedHistory.{IsVerdictOn}
+use Rattle.linspec.specs.JudgedHistory.{IsVerdictOn}
 use Rattle.harness.specs.CoreView.{CoreView}
 use Rattle.harness.proofs.core_object.Core.verdict.Goals as goal
 

@@ -1,11 +1,18 @@
+use Rattle.std.proofs.Common.{◌↔◌, ℤ}
+use Rattle.std.specs.List.{Contains}
+use Rattle.models.specs.Members.{IsAscending}
 use Rattle.models.proofs.Sorting.{IsAscending-sorted, Contains-sorted}
+use Rattle.models.proofs.Sums.{if_ok}
 use Rattle.models.proofs.members.Members.of_unordered.Goals as goal
 
-pub invariant_of-result : goal.invariant_of-result
-invariant_of-result c = IsAscending-sorted _ _ c.sort_unstable.ensures.sorted c.dedup.ensures.filtered
+pub of_ascending-requires : goal.of_ascending-requires
+of_ascending-requires c = IsAscending-sorted _ _ c.sort_unstable.ensures.sorted c.dedup.ensures.filtered
 
 pub returns-clause-members : goal.returns-clause-members
-returns-clause-members c = Contains-sorted _ _ _ c.sort_unstable.ensures.permutation c.dedup.ensures.filtered
+returns-clause-members c =
+    if_ok c.of_ascending.result (λ set. (v : ℤ) → Contains set v ↔ Contains c.args.values.items v) _ c.of_ascending.ensures
+    (Contains-sorted _ _ _ c.sort_unstable.ensures.permutation c.dedup.ensures.filtered)
 
 pub returns-clause-ascending : goal.returns-clause-ascending
-returns-clause-ascending c = IsAscending-sorted _ _ c.sort_unstable.ensures.sorted c.dedup.ensures.filtered
+returns-clause-ascending c =
+    if_ok c.of_ascending.result IsAscending _ c.of_ascending.ensures (IsAscending-sorted _ _ c.sort_unstable.ensures.sorted c.dedup.ensures.filtered)

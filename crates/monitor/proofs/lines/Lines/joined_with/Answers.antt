@@ -1,5 +1,5 @@
 use Rattle.std.proofs.Common.{◌≡◌, ◌≢◌, [], sym, ap, subst, arith}
-use Rattle.checkpoints.specs.KeyLineView.{IsStatusOf}
+use Rattle.linspec.specs.KeyHistory.{IsStatusOf}
 use Rattle.monitor.specs.Rows.{LinesView}
 use Rattle.monitor.proofs.Joins.{JoinsRows-more_with, JoinsRows-all_with}
 use Rattle.monitor.proofs.lines.Lines.joined_with.Goals as goal

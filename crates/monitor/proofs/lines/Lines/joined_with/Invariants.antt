@@ -1,6 +1,6 @@
 use Rattle.std.proofs.Common.{take}
 use Rattle.indexmap.specs.Layout.{set_value_at}
-use Rattle.checkpoints.specs.KeyLineView.{KeyHistory, IsStatusOf}
+use Rattle.linspec.specs.KeyHistory.{KeyHistory, IsStatusOf}
 use Rattle.monitor.specs.Rows.{nows, JoinsRows}
 use Rattle.monitor.proofs.lines.Lines.joined_with.Given as goal
 

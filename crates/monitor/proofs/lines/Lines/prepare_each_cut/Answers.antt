@@ -1,13 +1,17 @@
-use Rattle.std.proofs.Common.{◌≡◌, ◌<◌, ◌≤◌, ℕ, Option, IfSome, length, slice_get, ap, subst, ◌∙◌, arith}
+use Rattle.std.proofs.Common.{◌<◌, ◌≤◌, ℕ, Option, IfSome, length, slice_get, sym, ap, subst, ◌∙◌, arith}
 use Rattle.linspec.specs.declared.verdict.KeyStatus.{KeyStatus}
-use Rattle.monitor.specs.Rows.{LinesView, StandsAfter, with_cut}
+use Rattle.monitor.specs.Rows.{LinesView, StandsAfter, with_cut, AreRowsLentBy}
 use Rattle.monitor.proofs.Changing.{changed-all}
 use Rattle.monitor.proofs.Cutting.{AreCutSoFar-skip, AreCutSoFar-more, all_joined, same_nows, same_length}
 use Rattle.monitor.proofs.lines.Lines.prepare_each_cut.Goals as goal
 use Rattle.monitor.proofs.lines.Lines.prepare_each_cut.Goals.{in-Some, in_default}
 
-pub prepare_cut_at-requires : goal.prepare_cut_at-requires
-prepare_cut_at-requires c =
+pub prepare_cut_at-requires-clause-lent : goal.prepare_cut_at-requires-clause-lent
+prepare_cut_at-requires-clause-lent c =
+    subst (AreRowsLentBy c.args.lent.now) (sym (same_nows c.args.n c.args.self.now.rows c.loop-place.self.rows c.loop-place.place c.loop-place.invariant.so_far.changed)) c.requires
+
+pub prepare_cut_at-requires-clause-within : goal.prepare_cut_at-requires-clause-within
+prepare_cut_at-requires-clause-within c =
     let old = c.args.self.now.rows in
     let rows = c.loop-place.self.rows in
     let seen = ap (λ (v : LinesView). length v.rows) c.self.view_is in

@@ -1,8 +1,14 @@
 use Rattle.std.proofs.Common.{ap}
-use Rattle.checkpoints.specs.KeyLineView.{cut_at, replays_at}
+use Rattle.linspec.specs.KeyHistory.{cut_at}
+use Rattle.checkpoints.specs.KeyLineView.{replays_at}
 use Rattle.monitor.specs.Rows.{LinesView}
-use Rattle.monitor.proofs.Preparing.{prepared_status, prepared_rows, prepared_kept}
+use Rattle.monitor.proofs.Preparing.{line_lent, prepared_status, prepared_rows, prepared_kept}
 use Rattle.monitor.proofs.lines.Lines.prepare_line_cut.Goals as goal
+
+pub prepare_cut-requires : goal.prepare_cut-requires
+prepare_cut-requires c =
+    let seen = ap (λ (v : LinesView). v.rows) c.self.view_is in
+    line_lent c.self.inside.map.entries c.args.self.now.rows seen c.args.place c.in-Some.line.now c.in-Some.line.now c.in-Some.ensures.value c.args.lent.now c.requires.lent
 
 pub returns-clause-status : goal.returns-clause-status
 returns-clause-status c =

@@ -1,8 +1,13 @@
 use Rattle.std.proofs.Common.{length, ap}
-use Rattle.checkpoints.specs.KeyLineView.{KeyHistory, judged_by}
+use Rattle.linspec.specs.KeyHistory.{KeyHistory, judged_by}
 use Rattle.monitor.specs.Rows.{LinesView}
-use Rattle.monitor.proofs.Preparing.{prepared_status, prepared_next, prepared_kept}
+use Rattle.monitor.proofs.Preparing.{line_lent, prepared_status, prepared_next, prepared_kept}
 use Rattle.monitor.proofs.lines.Lines.prepare_rebuild.Goals as goal
+
+pub prepare_rebuild-requires : goal.prepare_rebuild-requires
+prepare_rebuild-requires c =
+    let seen = ap (λ (v : LinesView). v.rows) c.self.view_is in
+    line_lent c.self.inside.map.entries c.args.self.now.rows seen c.args.place c.in-Some.line.now c.in-Some.line.now c.in-Some.ensures.value c.args.lent.now c.requires.lent
 
 pub returns-clause-status : goal.returns-clause-status
 returns-clause-status c =

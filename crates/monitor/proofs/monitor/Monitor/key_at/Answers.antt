@@ -1,6 +1,6 @@
 use Rattle.std.proofs.Common.{◌≡◌, Some, length, slice_get, ap, ◌∙◌, subst}
-use Rattle.checkpoints.specs.KeyLineView.{KeyHistory, IsStatusOf}
-use Rattle.monitor.specs.JudgedHistory.{keys_in_order, history_of_key}
+use Rattle.linspec.specs.KeyHistory.{KeyHistory, IsStatusOf}
+use Rattle.linspec.specs.JudgedHistory.{keys_in_order, history_of_key}
 use Rattle.monitor.specs.Monitors.{MonitorView}
 use Rattle.monitor.specs.SoundMonitor.{judged_by_parts}
 use Rattle.monitor.proofs.Changes.{place_seen}

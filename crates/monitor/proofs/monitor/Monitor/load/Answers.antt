@@ -1,5 +1,5 @@
 use Rattle.std.proofs.Common.{sym, ap, ◌∙◌}
-use Rattle.monitor.specs.JudgedHistory.{opening_of}
+use Rattle.linspec.specs.JudgedHistory.{opening_of}
 use Rattle.monitor.specs.Monitors.{at_rest}
 use Rattle.monitor.proofs.Opening.{events_in_turn}
 use Rattle.monitor.proofs.monitor.Monitor.load.Goals as goal

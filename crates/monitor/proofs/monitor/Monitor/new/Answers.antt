@@ -1,7 +1,3 @@
-use Rattle.std.proofs.Common.{ap, ◌∙◌}
-use Rattle.history.specs.WellFormed.{HistoryView}
-use Rattle.monitor.specs.Monitors.{at_rest}
-use Rattle.monitor.specs.Loading.{with_all}
 use Rattle.monitor.proofs.Opening.{judged_at_first}
 use Rattle.monitor.proofs.monitor.Monitor.new.Goals as goal
 

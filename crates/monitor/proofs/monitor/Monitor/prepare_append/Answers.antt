@@ -1,6 +1,6 @@
 use Rattle.std.proofs.Common.{◌≡◌, Some, None, nat_eq, sym, ap, ◌∙◌, subst}
 use Rattle.std.specs.List.{position}
-use Rattle.monitor.specs.JudgedHistory.{keys_in_order}
+use Rattle.linspec.specs.JudgedHistory.{keys_in_order}
 use Rattle.monitor.specs.Monitors.{MonitorView}
 use Rattle.monitor.specs.SoundMonitor.{judged_by_parts}
 use Rattle.monitor.proofs.Changes.{keys_of_lines}

@@ -1,10 +1,17 @@
 use Rattle.std.proofs.Common.{subst}
-use Rattle.monitor.specs.JudgedHistory.{IsVerdictOn, with_budget}
+use Rattle.linspec.specs.JudgedHistory.{IsVerdictOn, with_budget}
 use Rattle.monitor.specs.Monitors.{MonitorView}
+use Rattle.monitor.specs.Rows.{nows}
 use Rattle.monitor.specs.SoundMonitor.{judged_by_parts}
 use Rattle.monitor.proofs.Carried.{renamed}
+use Rattle.monitor.proofs.Lent.{judged_lent}
 use Rattle.monitor.proofs.Prepared.{budget_ready, limit_judged}
 use Rattle.monitor.proofs.monitor.Monitor.prepare_budget.Goals as goal
+
+pub prepare_rebuild-requires-clause-lent : goal.prepare_rebuild-requires-clause-lent
+prepare_rebuild-requires-clause-lent c =
+    judged_lent (judged_by_parts c.self.inside.history c.self.inside.kinds c.self.inside.budgets) (nows c.self.inside.lines.rows) c.self.inside.verdict c.self.invariant.now c.events-lent.result.now
+    c.events-lent.ensures
 
 pub invariant_of-self-2 : goal.invariant_of-self-2
 invariant_of-self-2 c =

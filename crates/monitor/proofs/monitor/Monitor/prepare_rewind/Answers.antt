@@ -1,13 +1,20 @@
-use Rattle.std.proofs.Common.{subst}
-use Rattle.monitor.specs.JudgedHistory.{IsVerdictOn, rewound}
+use Rattle.std.proofs.Common.{ap, ◌∙◌, subst}
+use Rattle.history.specs.WellFormed.{HistoryView}
+use Rattle.linspec.specs.JudgedHistory.{IsVerdictOn, rewound}
 use Rattle.monitor.specs.Monitors.{MonitorView}
 use Rattle.monitor.specs.SoundMonitor.{judged_by_parts}
 use Rattle.monitor.specs.Rows.{nows}
 use Rattle.monitor.proofs.Changes.{cut_judged}
 use Rattle.monitor.proofs.Carried.{renamed}
 use Rattle.monitor.proofs.Cutting.{are_cut}
+use Rattle.monitor.proofs.Lent.{judged_lent}
 use Rattle.monitor.proofs.Prepared.{rewind_ready}
 use Rattle.monitor.proofs.monitor.Monitor.prepare_rewind.Goals as goal
+
+pub prepare_cut-requires-2 : goal.prepare_cut-requires-2
+prepare_cut-requires-2 c =
+    judged_lent (judged_by_parts c.self.inside.history c.self.inside.kinds c.self.inside.budgets) (nows c.self.inside.lines.rows) c.self.inside.verdict c.self.invariant.now c.events.result.now
+    (c.events.ensures ∙ ap (λ (x : HistoryView). x.events) c.in_ok-prepare_cut.ensures.prepared)
 
 pub invariant_of-self-2 : goal.invariant_of-self-2
 invariant_of-self-2 c =

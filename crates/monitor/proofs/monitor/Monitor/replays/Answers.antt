@@ -1,5 +1,5 @@
 use Rattle.std.proofs.Common.{◌≡◌, Some, None, nat_eq, position, refl, sym, ap, ◌∙◌, arith}
-use Rattle.monitor.specs.JudgedHistory.{JudgedHistory, keys_in_order}
+use Rattle.linspec.specs.JudgedHistory.{JudgedHistory, keys_in_order}
 use Rattle.monitor.specs.Monitors.{replays_by}
 use Rattle.monitor.specs.SoundMonitor.{judged_by_parts, brought}
 use Rattle.monitor.proofs.Changes.{keys_of_lines}

@@ -1,6 +1,6 @@
-use Rattle.std.proofs.Common.{ℕ, subst}
+use Rattle.std.proofs.Common.{subst}
 use Rattle.linspec.specs.declared.verdict.Verdict.{Verdict}
-use Rattle.monitor.specs.JudgedHistory.{IsVerdictOn, rewound}
+use Rattle.linspec.specs.JudgedHistory.{IsVerdictOn, rewound}
 use Rattle.monitor.specs.Monitors.{MonitorView}
 use Rattle.monitor.proofs.monitor.Monitor.some_verdicts.Goals as goal
 

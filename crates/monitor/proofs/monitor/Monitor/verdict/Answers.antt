@@ -1,5 +1,5 @@
 use Rattle.std.proofs.Common.{subst}
-use Rattle.monitor.specs.JudgedHistory.{IsVerdictOn}
+use Rattle.linspec.specs.JudgedHistory.{IsVerdictOn}
 use Rattle.monitor.specs.Monitors.{MonitorView}
 use Rattle.monitor.proofs.monitor.Monitor.verdict.Goals as goal
 

@@ -1,4 +1,4 @@
-use Rattle.std.proofs.Common.{◌≡◌, sym}
+use Rattle.std.proofs.Common.{sym}
 use Rattle.std.proofs.lemmas.Result.{on_ok_weaker}
 use Rattle.monitor.proofs.PiecesOf.{unchanged, extended, begun, extends, begins}
 use Rattle.monitor.proofs.pieces.Pieces.add.Goals as goal

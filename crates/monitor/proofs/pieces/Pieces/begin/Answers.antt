@@ -1,6 +1,6 @@
-use Rattle.std.proofs.Common.{◌≡◌, nat_eq, ◌∷◌, ◌++◌, [], ap, ◌∙◌}
+use Rattle.std.proofs.Common.{nat_eq, ◌∷◌, ◌++◌, [], ap, ◌∙◌}
 use Rattle.indexmap.proofs.CallerLemmas.{insert_entry-new}
-use Rattle.checkpoints.specs.KeyLineView.{with_pushed}
+use Rattle.linspec.specs.KeyHistory.{with_pushed}
 use Rattle.parallel_recheck.specs.Pieces.{PieceView, piece_of}
 use Rattle.monitor.proofs.Places.{absent_key}
 use Rattle.monitor.proofs.pieces.Pieces.begin.Goals as goal

@@ -2,7 +2,8 @@ use Rattle.std.proofs.Common.{◌≡◌, ℕ, ◌∷◌, ◌++◌, [], ◌+◌, 
 use Rattle.std.proofs.lemmas.List.{take_all}
 use Rattle.history.specs.declared.event.Event.{Event}
 use Rattle.history.specs.ProcessRule.{IsHistory}
-use Rattle.checkpoints.specs.KeyLineView.{KeyLineView, with_pushed, without_events, at_rest, count_on}
+use Rattle.linspec.specs.KeyHistory.{with_pushed, without_events}
+use Rattle.checkpoints.specs.KeyLineView.{KeyLineView, at_rest, count_on}
 use Rattle.checkpoints.proofs.Counts.{count_on_none, count_on_more}
 use Rattle.checkpoints.proofs.Cutting.{IsHistory-take}
 use Rattle.parallel_recheck.specs.Pieces.{PieceView, lent}
@@ -24,8 +25,7 @@ push-requires c =
     let one = lent_more c.deref-index-items.result.now events i x same c.loop-index-test.true c.loop-index-item.is in
     let history : IsHistory events = subst (λ (p : PieceView). IsHistory p.judged.events) c.self.view_is c.self.invariant in
     let first = subst IsHistory one (IsHistory-take (i + 1) events history) in
-    subst (λ (l : List (ℕ × Event)). IsHistory (l ++ (x.0, c.in_ok-copy.copy) ∷ [])) (sym (ap (λ (v : KeyLineView). v.now.events) c.loop-index.invariant.stands))
-    (subst (λ (e : Event). IsHistory (take i events ++ (x.0, e) ∷ [])) (sym c.in_ok-copy.ensures) first)
+    subst (λ (l : List (ℕ × Event)). IsHistory (l ++ (x.0, x.1.now) ∷ [])) (sym (ap (λ (v : KeyLineView). v.now.events) c.loop-index.invariant.stands)) first
 
 pub loop-index-preserved : goal.loop-index-preserved
 loop-index-preserved c =
@@ -36,8 +36,7 @@ loop-index-preserved c =
     let one = lent_more c.deref-index-items.result.now p.events i x same c.loop-index-test.true c.loop-index-item.is in
     record {
       stands = c.in_ok-push.ensures.ok
-          ∙ ap (λ (v : KeyLineView). at_rest (with_pushed x.0 c.in_ok-copy.copy v.now) (count_on v.replayed 1)) c.loop-index.invariant.stands
-          ∙ ap (λ (e : Event). at_rest (record { kind = p.kind; budget = p.budget; events = take i p.events ++ (x.0, e) ∷ [] }) (count_on (count_on 0 i) 1)) c.in_ok-copy.ensures
+          ∙ ap (λ (v : KeyLineView). at_rest (with_pushed x.0 x.1.now v.now) (count_on v.replayed 1)) c.loop-index.invariant.stands
           ∙ ap (λ (l : List (ℕ × Event)). at_rest (record { kind = p.kind; budget = p.budget; events = l }) (count_on (count_on 0 i) 1)) (sym one)
           ∙ ap (λ n. at_rest (record { kind = p.kind; budget = p.budget; events = take (i + 1) p.events }) n) (count_on_more 0 i);
     }

@@ -1,6 +1,6 @@
 use Rattle.std.proofs.Common.{subst}
 use Rattle.machine.specs.Machine.{Machine}
-use Rattle.monitor.specs.JudgedHistory.{IsVerdictOn}
+use Rattle.linspec.specs.JudgedHistory.{IsVerdictOn}
 use Rattle.scripts.proofs.script.ScriptMachineLineMachine.verdict.Goals as goal
 
 pub returns : goal.returns

@@ -8,7 +8,7 @@ use Rattle.history.specs.declared.event.Event.{Event}
 use Rattle.history.specs.Events.{Entry, key_of, entries_of, indexed_from, events_of_key}
 use Rattle.linspec.specs.declared.verdict.Verdict.{Verdict}
 use Rattle.linspec.specs.Verdicts.{IsVerdict}
-use Rattle.checkpoints.specs.KeyLineView.{KeyHistory}
+use Rattle.linspec.specs.KeyHistory.{KeyHistory}
 
 -- events in order, of so many threads; the kind and the budget of a key for which none was set, and those that were set
 pub record JudgedHistory : Type 0 where

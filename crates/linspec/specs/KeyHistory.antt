@@ -1,0 +1,45 @@
+-- Promise: what is judged of one key (this project's own)
+use Rattle.std.specs.Prelude.{ℕ, Bool, List, [], ◌∷◌, ◌++◌, length, nat_lt}
+use Rattle.std.specs.List.{filter}
+use Rattle.models.specs.declared.model_kind.ModelKind.{ModelKind}
+use Rattle.models.specs.Objects.{object_of}
+use Rattle.history.specs.declared.event.Event.{Event}
+use Rattle.history.specs.Events.{entries_of}
+use Rattle.linspec.specs.declared.verdict.KeyStatus.{KeyStatus}
+use Rattle.linspec.specs.Verdicts.{IsKeyStatus}
+
+-- what is judged of one key: the kind of its object, the budget, and its events with their indices, in the order in which
+-- they came
+pub record KeyHistory : Type 0 where
+  pub kind : ModelKind
+  pub budget : ℕ
+  pub events : List (ℕ × Event)
+
+-- before any event
+abbrev pub without_events : ModelKind → ℕ → KeyHistory
+without_events kind budget = record { kind = kind; budget = budget; events = [] }
+
+-- from scratch, how the key stands
+abbrev pub IsStatusOf : KeyHistory → KeyStatus → Type 0
+IsStatusOf h status = IsKeyStatus (object_of h.kind) h.budget (entries_of h.events) status
+
+-- the changes: one more event; only the events of index below n; another kind and budget
+abbrev pub with_pushed : ℕ → Event → KeyHistory → KeyHistory
+with_pushed index event h = record h { events = h.events ++ (index, event) ∷ [] }
+
+abbrev pub events_below : ℕ → List (ℕ × Event) → List (ℕ × Event)
+events_below n events = filter (λ x. nat_lt x.0 n) events
+
+abbrev pub cut_at : ℕ → KeyHistory → KeyHistory
+cut_at n h = record h { events = events_below n h.events }
+
+abbrev pub judged_by : ModelKind → ℕ → KeyHistory → KeyHistory
+judged_by kind budget h = record { kind = kind; budget = budget; events = h.events }
+
+-- a cut at n takes events of the key away: fewer than all are below n
+abbrev pub loses_at : ℕ → KeyHistory → Bool
+loses_at n h = nat_lt (length (events_below n h.events)) (length h.events)
+
+-- the key has an event of index below n
+abbrev pub begins_below : ℕ → KeyHistory → Bool
+begins_below n h = nat_lt 0 (length (events_below n h.events))

@@ -1,0 +1,38 @@
+-- the sum of a set, as members come
+use Rattle.std.proofs.Common.{◌≡◌, ℕ, ◌+◌, ◌≤◌, ◌%◌, ◌^◌, ℤ, List, [], ◌∷◌, ◌++◌, length, refl, sym, ap, ◌∙◌, subst, arith, Result, Ok, Err, IfOk}
+use Rattle.std.specs.Prelude.{zero, suc}
+use Rattle.std.proofs.Math.Nat.{mod-add-mod}
+use Rattle.std.specs.List.{insert}
+use Rattle.models.specs.Sums.{mixed, sum_of}
+
+pub sum_of-none : sum_of [] ≡ 0
+unfolding sum_of
+sum_of-none = refl
+
+pub sum_of-first : (x : ℤ) (xs : List ℤ) → sum_of (x ∷ xs) ≡ (sum_of xs + mixed x) % 2 ^ 64
+unfolding sum_of
+sum_of-first x xs = refl
+
+-- numbers are added in any order
+later : (s a b : ℕ) → ((s + a) % 2 ^ 64 + b) % 2 ^ 64 ≡ ((s + b) % 2 ^ 64 + a) % 2 ^ 64
+later s a b =
+    mod-add-mod (s + a) (2 ^ 64) b ∙ ap (λ (n : ℕ). n % 2 ^ 64) (let e : (s + a) + b ≡ (s + b) + a = omega arith in e) ∙ sym (mod-add-mod (s + b) (2 ^ 64) a)
+
+-- one more member, wherever it is put
+pub sum_of-insert : (xs : List ℤ) (at : ℕ) (v : ℤ) → at ≤ length xs → sum_of (insert xs at v) ≡ (sum_of xs + mixed v) % 2 ^ 64
+sum_of-insert xs zero v fits = sum_of-first v xs
+sum_of-insert [] (suc at) v fits = absurd (omega arith)
+sum_of-insert (x ∷ xs) (suc at) v fits =
+    sum_of-first x (insert xs at v) ∙ ap (λ n. (n + mixed x) % 2 ^ 64) (sum_of-insert xs at v (omega arith)) ∙ later (sum_of xs) (mixed v) (mixed x)
+    ∙ ap (λ n. (n + mixed v) % 2 ^ 64) (sym (sum_of-first x xs))
+
+pub sum_of-push : (xs : List ℤ) (v : ℤ) → sum_of (xs ++ v ∷ []) ≡ (sum_of xs + mixed v) % 2 ^ 64
+sum_of-push [] v = sum_of-first v []
+sum_of-push (x ∷ xs) v =
+    sum_of-first x (xs ++ v ∷ []) ∙ ap (λ n. (n + mixed x) % 2 ^ 64) (sum_of-push xs v) ∙ later (sum_of xs) (mixed v) (mixed x)
+    ∙ ap (λ n. (n + mixed v) % 2 ^ 64) (sym (sum_of-first x xs))
+
+-- what is told of an answer holds of what equals it
+pub if_ok : {E : Type 0} (r : Result (List ℤ) E) (P : List ℤ → Type 0) (xs : List ℤ) → IfOk r (λ set. set ≡ xs) → P xs → IfOk r P
+if_ok (Ok set) P xs is p = subst P (sym is) p
+if_ok (Err e) P xs is p = tt

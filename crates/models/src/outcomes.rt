@@ -1,0 +1,37 @@
+//! Lists of outcomes.
+ghost use Rattle.std.specs.Prelude.{◌≡◌, [], ◌∷◌, ◌++◌, OnOk, OnErr};
+
+use crate::finding::Found;
+use std::alloc::AllocError;
+
+/// Puts the outcome behind the others; `AllocError` where there is no memory for it, and then they are as before.
+#[inline(always)]
+pub(crate) fn put_outcome<S: Drop>(
+    outcomes: &mut Vec<(S, Found)>,
+    state: S,
+    found: Found,
+) -> Result<(), AllocError>
+    ensures put { OnOk result (outcomes.new.items ≡ outcomes.old.items ++ (state, found) ∷ []) }
+    ensures kept { OnErr result (outcomes.new.items ≡ outcomes.old.items) }
+{
+    if outcomes.len() < outcomes.capacity() {
+        outcomes.push_reserved((state, found));
+        return Ok(());
+    }
+    put_with_room(outcomes, state, found)
+}
+
+// The same, where there may be no room.
+#[inline(never)]
+fn put_with_room<S: Drop>(
+    outcomes: &mut Vec<(S, Found)>,
+    state: S,
+    found: Found,
+) -> Result<(), AllocError>
+    ensures put { OnOk result (outcomes.new.items ≡ outcomes.old.items ++ (state, found) ∷ []) }
+    ensures kept { OnErr result (outcomes.new.items ≡ outcomes.old.items) }
+{
+    outcomes.reserve(1)?;
+    outcomes.push_reserved((state, found));
+    Ok(())
+}
