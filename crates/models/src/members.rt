@@ -54,7 +54,7 @@ impl Listed {
 }
 
 // What a member adds to the sum of its set: a number that is spread over 64 bits, so that few sets have the same sum.
-fn mixed(value: i64) -> u64
+pub(crate) fn mixed(value: i64) -> u64
     ensures { result ≡ mixed value }
 {
     let spread = value.cast_unsigned().wrapping_mul(0x9e37_79b9_7f4a_7c15);

@@ -1,0 +1,30 @@
+use Rattle.std.proofs.Common.{rules, ◌≡◌, ◌↔◌, ◌≤◌, ◌<◌, ◌<ℤ◌, ◌≤ℤ◌, ◌+ℤ◌, ◌-ℤ◌, pos, true, false, IsTrue, IfOk, OnOk, [], ◌∷◌, ◌++◌, List, ℤ, drop, get_or, length, take, ℕ, ◌+◌, ◌-◌, ◌*◌, ◌/◌, ◌%◌, Bool, nat_eq, nat_lt, slice_set, bit_and, bit_or, Fits, w8, w32, w64, Bor, MutBor, ◌*ℤ◌, FitsSigned, to_z, of_z}
+use Rattle.std.specs.Hash as fed
+use Rattle.std.specs.List.{Contains}
+use Rattle.std.specs.Ordering.{int_eq}
+use Rattle.std.specs.Cmp.Lexicographic.{pointwise}
+use Rattle.models.specs.declared.spans.Span.{Span}
+use Rattle.models.specs.Members.{put_in}
+use Rattle.models.specs.Comparisons.{ints_alike, ints_equal, sum_fed, sum_fed-alike}
+use Rattle.models.specs.Spans.{AreSpans, EndBefore, StandApart, StartBehind, from_to, integers_in}
+use Rattle.models.proofs.spans.start_of.Goals as goal
+
+-- src/spans.rt:77:12
+pub overflow_add-last : goal.overflow_add-last
+overflow_add-last c = ?
+
+-- src/spans.rt:78:13
+pub returns-then-last-value-clause-reaches : goal.returns-then-last-value-clause-reaches
+returns-then-last-value-clause-reaches c = ?
+
+-- src/spans.rt:78:13
+pub returns-then-last-value-clause-apart : goal.returns-then-last-value-clause-apart
+returns-then-last-value-clause-apart c = ?
+
+-- src/spans.rt:78:13
+pub returns-then-last-value-clause-integers : goal.returns-then-last-value-clause-integers
+returns-then-last-value-clause-integers c = ?
+
+-- src/spans.rt:65:1
+pub returns-else-last-value-clause-apart : goal.returns-else-last-value-clause-apart
+returns-else-last-value-clause-apart c = ?
