@@ -81,7 +81,7 @@ pub not_empty : (spans : List Span) → StandApart spans → (span : Span) → C
 not_empty [] is span h = absurd (no_member span h)
 not_empty (s ∷ spans) is span h = ⊎_elim (λ e. subst (λ (t : Span). t.from ≤ℤ t.to) e is.0) (not_empty spans is.2 span) (member_cases s spans span h)
 
-in_one : (spans : List Span) → StandApart spans → (y : ℤ) → Contains (integers_in spans) y → (span : Span) × Contains spans span × (span.from ≤ℤ y) × (y ≤ℤ span.to)
+pub in_one : (spans : List Span) → StandApart spans → (y : ℤ) → Contains (integers_in spans) y → (span : Span) × Contains spans span × (span.from ≤ℤ y) × (y ≤ℤ span.to)
 in_one [] is y h = absurd (no_member y h)
 in_one (s ∷ spans) is y h =
     ⊎_elim

@@ -10,4 +10,5 @@ pub mod Tables
 pub mod Sorting
 pub mod Sums
 pub mod InSpans
+pub mod Joining
 pub mod Alike

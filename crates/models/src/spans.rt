@@ -96,7 +96,7 @@ fn end_of(spans: &[Span], at: usize, value: i64) -> (usize, i64)
 {
     if at < spans.len() {
         let next = spans[at];
-        if value + 1 == next.from {
+        if next.from - 1 == value {
             return (at + 1, next.to);
         }
     }
