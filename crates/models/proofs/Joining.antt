@@ -69,6 +69,10 @@ from_to_cut a v b h k =
     let all : many a b ≡ n + m = many_of a b (n + m) (omega (arith, ints, n_is, m_is)) in
     ap (in_turn a) all ∙ in_turn-append a n m ∙ ap (λ z. in_turn a n ++ in_turn z m) n_is
 
+pub pushed : (old items new : List ℤ) (a v : ℤ) → a ≤ℤ v → items ≡ old ++ from_to a (v -ℤ pos 1) → new ≡ items ++ v ∷ [] → new ≡ old ++ from_to a v
+pushed old items new a v h so_far is =
+    is ∙ ap (λ l. l ++ v ∷ []) so_far ∙ append_assoc old (from_to a (v -ℤ pos 1)) (v ∷ []) ∙ ap (λ l. old ++ l) (from_to_more a v h)
+
 regroup : (f l r k : List ℤ) (v : ℤ) → f ++ (((l ++ v ∷ []) ++ r) ++ k) ≡ (f ++ l) ++ v ∷ (r ++ k)
 regroup f l r k v = simp append_assoc
 
