@@ -147,7 +147,7 @@ apart_joined (x ∷ xs) ys is js across = (
 )
 
 -- spans that are apart are known by their integers
-same_span : (s t : Span) → s.from ≡ t.from → s.to ≡ t.to → s ≡ t
+pub same_span : (s t : Span) → s.from ≡ t.from → s.to ≡ t.to → s ≡ t
 same_span s t e f =
     let one : ℤ → Span = (λ z. record { from = z; to = s.to }) in
     let two : ℤ → Span = (λ z. record { from = t.from; to = z }) in

@@ -1,5 +1,5 @@
 -- a value put in among spans
-use Rattle.std.proofs.Common.{◌≡◌, ◌≢◌, ◌+◌, ◌-◌, ◌<ℤ◌, ◌≤ℤ◌, ◌⊎◌, inl, inr, ⊎_elim, true, false, sym, ap, ◌∙◌, subst, arith}
+use Rattle.std.proofs.Common.{◌≡◌, ◌≢◌, ◌+◌, ◌-◌, ◌%◌, ◌^◌, ◌<ℤ◌, ◌≤ℤ◌, ◌⊎◌, inl, inr, ⊎_elim, true, false, sym, ap, ◌∙◌, subst, arith}
 use Rattle.std.specs.Prelude.{ℕ, zero, suc, ◌≤◌, ◌<◌, ℤ, pos, ◌+ℤ◌, ◌-ℤ◌, int_lt, List, [], ◌∷◌, ◌++◌, length, get_or, take, drop, refl}
 use Rattle.std.specs.List.{Contains}
 use Rattle.std.specs.List.Sorted.{IsPartitionedBy}
@@ -11,6 +11,8 @@ use Rattle.std.proofs.lemmas.List.Elements.{Contains-get_or, Contains-append_lef
 use Rattle.models.specs.declared.spans.Span.{Span}
 use Rattle.models.specs.Members.{IsAscending, put_in}
 use Rattle.models.specs.Spans.{in_turn, many, from_to, integers_in, EndBefore, StartBehind, StandApart}
+use Rattle.models.specs.Sums.{mixed, sum_of}
+use Rattle.models.proofs.Sums.{sum_of-between}
 use Rattle.models.proofs.PutIn.{no_member, first_member, later_member, member_cases, is_below, is_lower, put_in-member}
 use Rattle.models.proofs.InSpans.{many_is, many_of, in_turn-append, not_empty, in_one, has_one, integers_ascend, apart_front, apart_back, apart_across, apart_joined, put_in-between}
 
@@ -138,13 +140,11 @@ both_sides : (xs : List Span) (at : ℕ) → integers_in xs ≡ integers_in (tak
 both_sides xs at = ap integers_in (sym (take-append-drop at xs)) ∙ flat_map-append (λ (span : Span). from_to span.from span.to) (take at xs) (drop at xs)
 
 -- the integers after the value was put in
-pub put_in_spans : (xs : List Span) (at : ℕ) (front back : List Span) (span : Span) (v : ℤ) → StandApart xs
-    → ((s : Span) → Contains (take at xs) s → s.to <ℤ v) → ((s : Span) → Contains (drop at xs) s → v <ℤ s.from)
-    → span.from ≤ℤ v → v ≤ℤ span.to
+pub between : (xs : List Span) (at : ℕ) (front back : List Span) (span : Span) (v : ℤ) → span.from ≤ℤ v → v ≤ℤ span.to
     → integers_in (take at xs) ≡ integers_in front ++ from_to span.from (v -ℤ pos 1)
     → integers_in (drop at xs) ≡ from_to (v +ℤ pos 1) span.to ++ integers_in back
-    → integers_in (front ++ span ∷ back) ≡ put_in v (integers_in xs)
-put_in_spans xs at front back span v is before behind low high starts ends =
+    → integers_in (front ++ span ∷ back) ≡ integers_in (take at xs) ++ v ∷ integers_in (drop at xs)
+between xs at front back span v low high starts ends =
     let f = integers_in front in
     let l = from_to span.from (v -ℤ pos 1) in
     let r = from_to (v +ℤ pos 1) span.to in
@@ -153,10 +153,17 @@ put_in_spans xs at front back span v is before behind low high starts ends =
     flat_map-append (λ (s : Span). from_to s.from s.to) front (span ∷ back)
     ∙ ap (λ m. f ++ (m ++ k)) middle ∙ regroup f l r k v
     ∙ ap (λ m. m ++ v ∷ (r ++ k)) (sym starts) ∙ ap (λ m. integers_in (take at xs) ++ v ∷ m) (sym ends)
-    ∙ sym (put_in-between v (integers_in (take at xs)) (integers_in (drop at xs))
+
+pub put_in_sides : (xs : List Span) (at : ℕ) (v : ℤ) → StandApart xs → ((s : Span) → Contains (take at xs) s → s.to <ℤ v)
+    → ((s : Span) → Contains (drop at xs) s → v <ℤ s.from) → integers_in (take at xs) ++ v ∷ integers_in (drop at xs) ≡ put_in v (integers_in xs)
+put_in_sides xs at v is before behind =
+    sym (put_in-between v (integers_in (take at xs)) (integers_in (drop at xs))
     (λ y h. let o = in_one (take at xs) (apart_before xs at is) y h in let below = before o.0 o.1 in let up_to : y ≤ℤ o.0.to = o.3 in omega (arith, ints, below, up_to))
     (λ y h. let o = in_one (drop at xs) (apart_behind xs at is) y h in let above = behind o.0 o.1 in let from : o.0.from ≤ℤ y = o.2 in omega (arith, ints, above, from)))
     ∙ ap (put_in v) (sym (both_sides xs at))
+
+pub sum_with : (xs : List Span) (at : ℕ) (v : ℤ) → sum_of (integers_in (take at xs) ++ v ∷ integers_in (drop at xs)) ≡ (sum_of (integers_in xs) + mixed v) % 2 ^ 64
+sum_with xs at v = sum_of-between (integers_in (take at xs)) (integers_in (drop at xs)) v ∙ ap (λ l. (sum_of l + mixed v) % 2 ^ 64) (sym (both_sides xs at))
 
 -- and the spans are apart still
 pub apart_with : (xs : List Span) (before behind : ℕ) (span : Span) → StandApart xs → before ≤ behind → span.from ≤ℤ span.to
@@ -178,3 +185,10 @@ put_in_there xs at v is behind starts =
     let s = get_or xs at d in
     let first : Contains (drop at xs) s = subst (λ l. Contains l s) (sym (drop_more xs at d lt)) (first_member s (drop (at + 1) xs)) in
     put_in-member v (integers_in xs) (integers_ascend xs is) (has_one xs s (Contains-get_or xs at d lt) v (starts d).1 (behind s first))
+
+-- the integers of the spans as they are gone through
+pub integers_more : (xs : List Span) (at : ℕ) (d : Span) → at < length xs → integers_in (take (at + 1) xs) ≡ integers_in (take at xs) ++ from_to (get_or xs at d).from (get_or xs at d).to
+integers_more xs at d lt =
+    let s = get_or xs at d in
+    ap integers_in (take_more xs at d lt) ∙ flat_map-append (λ (span : Span). from_to span.from span.to) (take at xs) (s ∷ [])
+    ∙ ap (λ l. integers_in (take at xs) ++ l) (append-nil (from_to s.from s.to))
