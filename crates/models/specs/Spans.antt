@@ -1,5 +1,6 @@
 -- Invariant: a set of integers as spans of consecutive ones
-use Rattle.std.specs.Prelude.{◌≡◌, ℕ, zero, suc, ℤ, pos, ◌+ℤ◌, ◌-ℤ◌, ◌<ℤ◌, ◌≤ℤ◌, unsigned_abs, List, [], ◌∷◌}
+use Rattle.std.specs.Prelude.{◌≡◌, ℕ, zero, suc, ℤ, pos, negsuc, ◌+ℤ◌, ◌-ℤ◌, ◌<ℤ◌, ◌≤ℤ◌, unsigned_abs, List, [], ◌∷◌, refl}
+use Rattle.std.proofs.Common.{lit<}
 use Rattle.std.specs.List.{Contains, flat_map}
 use Rattle.models.specs.declared.spans.Span.{Span}
 use Rattle.models.specs.Sums.{sum_of}
@@ -34,6 +35,18 @@ abbrev pub StandApart : List Span → Type 0
 StandApart [] = Unit {0}
 StandApart (span ∷ spans) = (span.from ≤ℤ span.to) × StartBehind spans span.to × StandApart spans
 
+-- the spans of a set, with the sum of its members
 pub record AreSpans (spans : List Span) (sum : ℕ) : Type 0 where
   pub apart : StandApart spans
   pub sums : sum ≡ sum_of (integers_in spans)
+
+-- worked: from -2 to 1 there are four integers; the set of 3, 4, 5 and 9 has two spans; and two spans with nothing missing
+-- between, as 3 and 4 to 5 are, do not stand apart
+worked_turn : from_to (negsuc 1) (pos 1) ≡ negsuc 1 ∷ negsuc 0 ∷ pos 0 ∷ pos 1 ∷ []
+worked_turn = refl
+
+worked_spans : integers_in (record { from = pos 3; to = pos 5 } ∷ record { from = pos 9; to = pos 9 } ∷ []) ≡ pos 3 ∷ pos 4 ∷ pos 5 ∷ pos 9 ∷ []
+worked_spans = refl
+
+worked_joined : StandApart (record { from = pos 3; to = pos 3 } ∷ record { from = pos 4; to = pos 5 } ∷ []) → ⊥
+worked_joined is = (is.1 (record { from = pos 4; to = pos 5 }) (0, lit< tt, refl)).lt

@@ -103,6 +103,14 @@ impl Members {
         Members::sharing(*values.allocator(), Listed::of(values))
     }
 
+    /// The same, where the caller knows the sum of the values, so that they are not gone through for it.
+    pub(crate) fn of_listed(values: Vec<i64>, sum: u64) -> Result<Members, AllocError>
+        requires { IsListed values.items sum }
+        ensures { IfOk result (λ set. set ≡ values.items) }
+    {
+        Members::sharing(*values.allocator(), Listed { items: values, sum })
+    }
+
     /// The set of these values, in whatever order and however often they stand there; `AllocError` where there is no memory
     /// to share them. Takes the time of a sort: it grows with n log n.
     pub fn of_unordered(values: Vec<i64>) -> Result<Members, AllocError>

@@ -207,7 +207,7 @@ impl Spans {
         for span in spans {
             append_integers(&mut items, span.from, span.to)?;
         }
-        Members::of_ascending(items)
+        Members::of_listed(items, self.sum)
     }
 }
 

@@ -5,6 +5,7 @@ use Rattle.std.proofs.lemmas.List.{take_all}
 use Rattle.std.proofs.lemmas.List.Elements.{Contains-get_or}
 use Rattle.models.specs.declared.spans.Span.{Span}
 use Rattle.models.specs.Members.{IsAscending}
+use Rattle.models.specs.Sums.{sum_of}
 use Rattle.models.specs.Spans.{StandApart, from_to, integers_in}
 use Rattle.models.proofs.InSpans.{not_empty, integers_ascend}
 use Rattle.models.proofs.Joining.{integers_more}
@@ -32,8 +33,13 @@ loop-span-preserved c =
     ∙ ap (λ z. front ++ from_to s.from z) (to_z-of_z w64 s.to to_fits)
     ∙ sym (integers_more xs c.loop-span.span-index _ c.loop-span-test.true)
 
-pub of_ascending-requires : goal.of_ascending-requires
-of_ascending-requires c =
+pub of_listed-requires : goal.of_listed-requires
+of_listed-requires c =
     let xs = c.as_slice-spans.result.now in
-    let is : StandApart xs = subst StandApart (sym c.as_slice-spans.ensures.value) c.self.invariant.apart in
-    subst IsAscending (sym (c.loop-span.invariant ∙ ap integers_in (take_all c.loop-span.span-index xs c.loop-span-test.false))) (integers_ascend xs is)
+    let value = c.as_slice-spans.ensures.value in
+    let is : StandApart xs = subst StandApart (sym value) c.self.invariant.apart in
+    let all : c.loop-span.items.items ≡ integers_in xs = c.loop-span.invariant ∙ ap integers_in (take_all c.loop-span.span-index xs c.loop-span-test.false) in
+    record {
+      ascending = subst IsAscending (sym all) (integers_ascend xs is);
+      sums = c.self.invariant.sums ∙ ap sum_of (sym (all ∙ ap integers_in value));
+    }
