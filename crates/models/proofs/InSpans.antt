@@ -1,12 +1,12 @@
 -- integers in turn, and spans of them
-use Rattle.std.proofs.Common.{◌≡◌, ◌↔◌, ◌+◌, ◌-◌, ◌<ℤ◌, ◌≤ℤ◌, ◌⊎◌, inl, inr, ⊎_elim, zero-add, sym, ap, ◌∙◌, subst, arith}
-use Rattle.std.specs.Prelude.{ℕ, zero, suc, ◌≤◌, ◌<◌, ℤ, pos, negsuc, ◌+ℤ◌, ◌-ℤ◌, unsigned_abs, int_lt, List, [], ◌∷◌, ◌++◌, length, get_or, take, drop, refl}
+use Rattle.std.proofs.Common.{◌≡◌, ◌+◌, ◌-◌, ◌<ℤ◌, ◌≤ℤ◌, ◌⊎◌, inl, inr, ⊎_elim, zero-add, sym, ap, ◌∙◌, subst, arith}
+use Rattle.std.specs.Prelude.{ℕ, zero, suc, ℤ, pos, negsuc, ◌+ℤ◌, ◌-ℤ◌, unsigned_abs, List, [], ◌∷◌, ◌++◌, refl}
 use Rattle.std.specs.List.{Contains}
 use Rattle.std.proofs.lemmas.Int.{ints, by_lt_z}
-use Rattle.std.proofs.lemmas.List.Elements.{Contains-get_or, Contains-append_left, Contains-append_right, Contains-append_cases}
+use Rattle.std.proofs.lemmas.List.Elements.{Contains-append_left, Contains-append_right, Contains-append_cases}
 use Rattle.models.specs.declared.spans.Span.{Span}
 use Rattle.models.specs.Members.{IsAscending, put_in}
-use Rattle.models.specs.Spans.{in_turn, many, from_to, integers_in, EndBefore, StartBehind, StandApart}
+use Rattle.models.specs.Spans.{in_turn, many, from_to, integers_in, StartBehind, StandApart}
 use Rattle.models.proofs.PutIn.{no_member, first_member, later_member, member_cases, is_lower, not_lower, put_in-first, put_in-later}
 
 -- how many there are
@@ -56,9 +56,9 @@ in_turn_ascends : (x : ℤ) (n : ℕ) (rest : List ℤ) → IsAscending rest →
 in_turn_ascends x zero rest is far = is
 in_turn_ascends x (suc n) rest is far = (
   (λ y h. ⊎_elim
-  (λ k. let low : (x +ℤ pos 1) ≤ℤ y = (in_turn_within (x +ℤ pos 1) n y k).0 in omega (arith, ints))
-  (λ k. let low : (x +ℤ pos (suc n)) ≤ℤ y = far y k in omega (arith, ints))
-  (Contains-append_cases (in_turn (x +ℤ pos 1) n) rest y h)),
+      (λ k. let low : (x +ℤ pos 1) ≤ℤ y = (in_turn_within (x +ℤ pos 1) n y k).0 in omega (arith, ints))
+      (λ k. let low : (x +ℤ pos (suc n)) ≤ℤ y = far y k in omega (arith, ints))
+      (Contains-append_cases (in_turn (x +ℤ pos 1) n) rest y h)),
   in_turn_ascends (x +ℤ pos 1) n rest is (λ y k. let low : (x +ℤ pos (suc n)) ≤ℤ y = far y k in omega (arith, ints)),
 )
 
@@ -175,7 +175,7 @@ one_list (x ∷ xs) (y ∷ ys) is js e =
     let n_is : many x.from x.to ≡ suc n.0 = n.1 in
     let m_is : many y.from y.to ≡ suc m.0 = m.1 in
     let whole : in_turn x.from (suc n.0) ++ integers_in xs ≡ in_turn y.from (suc m.0) ++ integers_in ys =
-      ap (λ k. in_turn x.from k ++ integers_in xs) (sym n.1) ∙ e ∙ ap (λ k. in_turn y.from k ++ integers_in ys) m.1 in
+    ap (λ k. in_turn x.from k ++ integers_in xs) (sym n.1) ∙ e ∙ ap (λ k. in_turn y.from k ++ integers_in ys) m.1 in
     let first : x.from ≡ y.from = cc whole in
     let rest = in_turn_cancel x.from (suc n.0) (suc m.0) (integers_in xs) (integers_in ys)
     (λ z h. let l = behind_all xs x.to is.2 is.1 z h in omega (arith, ints))

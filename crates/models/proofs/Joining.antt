@@ -1,19 +1,19 @@
 -- a value put in among spans
-use Rattle.std.proofs.Common.{◌≡◌, ◌≢◌, ◌+◌, ◌-◌, ◌%◌, ◌^◌, ◌<ℤ◌, ◌≤ℤ◌, ◌⊎◌, inl, inr, ⊎_elim, true, false, sym, ap, ◌∙◌, subst, arith}
-use Rattle.std.specs.Prelude.{ℕ, zero, suc, ◌≤◌, ◌<◌, ℤ, pos, ◌+ℤ◌, ◌-ℤ◌, int_lt, List, [], ◌∷◌, ◌++◌, length, get_or, take, drop, refl}
+use Rattle.std.proofs.Common.{◌≡◌, ◌≢◌, ◌+◌, ◌-◌, ◌%◌, ◌^◌, ◌<ℤ◌, ◌≤ℤ◌, ⊎_elim, true, false, sym, ap, ◌∙◌, subst, arith}
+use Rattle.std.specs.Prelude.{ℕ, zero, suc, ◌≤◌, ◌<◌, ℤ, pos, ◌+ℤ◌, ◌-ℤ◌, int_lt, List, [], ◌∷◌, ◌++◌, length, get_or, take, drop}
 use Rattle.std.specs.List.{Contains}
 use Rattle.std.specs.List.Sorted.{IsPartitionedBy}
 use Rattle.std.proofs.lemmas.Bool.{cases_lt, false≢true}
 use Rattle.std.proofs.lemmas.Int.{ints, by_lt_z}
 use Rattle.std.proofs.lemmas.List.{append-nil, append_assoc, take-append-drop, get_or-take, get_or-drop, length-take, length-drop, take_more, drop_more, drop_all}
 use Rattle.std.proofs.lemmas.List.Concat.{flat_map-append}
-use Rattle.std.proofs.lemmas.List.Elements.{Contains-get_or, Contains-append_left, Contains-append_right, Contains-append_cases}
+use Rattle.std.proofs.lemmas.List.Elements.{Contains-get_or, Contains-append_right, Contains-append_cases}
 use Rattle.models.specs.declared.spans.Span.{Span}
-use Rattle.models.specs.Members.{IsAscending, put_in}
+use Rattle.models.specs.Members.{put_in}
 use Rattle.models.specs.Spans.{in_turn, many, from_to, integers_in, EndBefore, StartBehind, StandApart}
 use Rattle.models.specs.Sums.{mixed, sum_of}
 use Rattle.models.proofs.Sums.{sum_of-between}
-use Rattle.models.proofs.PutIn.{no_member, first_member, later_member, member_cases, is_below, is_lower, put_in-member}
+use Rattle.models.proofs.PutIn.{no_member, first_member, member_cases, is_below, is_lower, put_in-member}
 use Rattle.models.proofs.InSpans.{many_is, many_of, in_turn-append, not_empty, in_one, has_one, integers_ascend, apart_front, apart_back, apart_across, apart_joined, put_in-between}
 
 -- where a search ends

@@ -139,7 +139,9 @@ fn are_same(xs: &[Span], ys: &[Span]) -> bool
 fn room_for(spans: &[Span]) -> usize {
     let mut room: usize = 0;
     for span in spans {
-        room = room.saturating_add(span.to.abs_diff(span.from) as usize).saturating_add(1);
+        room = room
+            .saturating_add(span.to.abs_diff(span.from) as usize)
+            .saturating_add(1);
     }
     room
 }

@@ -1,5 +1,5 @@
 -- each integer is pushed in turn, up to the last
-use Rattle.std.proofs.Common.{◌≡◌, ◌≢◌, ◌<◌, ◌^◌, ◌<ℤ◌, ◌≤ℤ◌, ◌+ℤ◌, ◌-ℤ◌, ◌++◌, ◌∷◌, [], ℤ, pos, FitsSigned, to_z, of_z, w64, rules, sym, ap, ◌∙◌, subst, arith}
+use Rattle.std.proofs.Common.{◌≡◌, ◌≢◌, ◌<◌, ◌^◌, ◌<ℤ◌, ◌≤ℤ◌, ◌+ℤ◌, ◌-ℤ◌, ◌++◌, ℤ, pos, FitsSigned, to_z, of_z, w64, rules, sym, ap, ◌∙◌, subst, arith}
 use Rattle.std.proofs.lemmas.Int.{ints, by_lt_z, to_z-of_z, of_z-to_z}
 use Rattle.models.specs.Spans.{from_to}
 use Rattle.models.proofs.Joining.{pushed}

@@ -1,5 +1,4 @@
 use Rattle.std.proofs.Common.{◌≡◌, take}
-use Rattle.models.proofs.InSpans.{one_list}
 use Rattle.models.proofs.spans.are_same.Given as goal
 
 abbrev pub invariant-loop-at : goal.invariant-loop-at

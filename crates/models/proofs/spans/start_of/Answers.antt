@@ -1,5 +1,5 @@
 -- the last span before the place is joined where it ends beside the value
-use Rattle.std.proofs.Common.{◌≡◌, ◌≢◌, ◌-◌, ◌<ℤ◌, ◌≤ℤ◌, ◌+ℤ◌, ◌-ℤ◌, ◌++◌, ◌∷◌, [], ℤ, pos, get_or, take, FitsSigned, to_z, of_z, w64, rules, sym, ap, ◌∙◌, subst, arith}
+use Rattle.std.proofs.Common.{◌≡◌, ◌≢◌, ◌-◌, ◌<ℤ◌, ◌≤ℤ◌, ◌+ℤ◌, ◌-ℤ◌, ◌++◌, ◌∷◌, [], pos, get_or, take, FitsSigned, of_z, w64, rules, sym, ap, ◌∙◌, subst, arith}
 use Rattle.std.specs.List.{Contains}
 use Rattle.std.proofs.lemmas.Int.{ints, to_z-of_z}
 use Rattle.models.specs.declared.spans.Span.{Span}

@@ -1,7 +1,6 @@
-use Rattle.std.proofs.Common.{sym, ap, ◌∙◌, subst, [], List}
+use Rattle.std.proofs.Common.{sym, subst, [], List}
 use Rattle.models.specs.declared.spans.Span.{Span}
-use Rattle.models.specs.Spans.{AreSpans, StandApart, integers_in}
-use Rattle.models.specs.Sums.{sum_of}
+use Rattle.models.specs.Spans.{AreSpans}
 use Rattle.models.proofs.Sums.{sum_of-none}
 use Rattle.models.proofs.spans.Spans.new.Goals as goal
 

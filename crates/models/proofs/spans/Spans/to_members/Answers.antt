@@ -1,5 +1,5 @@
 -- the integers of each span are put behind those of the spans before it, so all are there at the end, and ascend
-use Rattle.std.proofs.Common.{◌≡◌, ◌≤ℤ◌, ◌+◌, ◌++◌, ℤ, pos, get_or, take, FitsSigned, to_z, of_z, w64, rules, sym, ap, ◌∙◌, subst, arith}
+use Rattle.std.proofs.Common.{◌≡◌, ◌≤ℤ◌, ◌++◌, pos, get_or, take, FitsSigned, to_z, of_z, w64, rules, sym, ap, ◌∙◌, subst, arith}
 use Rattle.std.proofs.lemmas.Int.{ints, to_z-of_z}
 use Rattle.std.proofs.lemmas.List.{take_all}
 use Rattle.std.proofs.lemmas.List.Elements.{Contains-get_or}

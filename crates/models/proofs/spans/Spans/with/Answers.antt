@@ -1,10 +1,10 @@
 -- a value that a span has is there already; any other is joined with what is beside it
-use Rattle.std.proofs.Common.{◌≡◌, ◌+◌, ◌++◌, ◌∷◌, [], ◌%◌, ◌^◌, ℕ, sym, ◌∙◌, subst, ap, to_z, of_z, w64, IfOk, List, take, drop, FitsSigned, rules, arith}
+use Rattle.std.proofs.Common.{◌≡◌, ◌+◌, ◌++◌, ◌∷◌, ◌%◌, ◌^◌, ℕ, sym, ◌∙◌, subst, ap, to_z, of_z, w64, IfOk, take, drop, FitsSigned, rules, arith}
 use Rattle.std.proofs.lemmas.Int.{ints, to_z-of_z}
 use Rattle.models.specs.declared.spans.Span.{Span}
 use Rattle.models.specs.Members.{put_in}
-use Rattle.models.specs.Sums.{mixed, sum_of}
-use Rattle.models.specs.Spans.{AreSpans, StandApart, integers_in}
+use Rattle.models.specs.Sums.{sum_of}
+use Rattle.models.specs.Spans.{StandApart, integers_in}
 use Rattle.std.proofs.lemmas.List.{take_rest}
 use Rattle.models.proofs.InSpans.{same_span}
 use Rattle.models.proofs.Joining.{apart_before, apart_behind, all_start_behind, apart_with, between, put_in_sides, put_in_there, sum_with}

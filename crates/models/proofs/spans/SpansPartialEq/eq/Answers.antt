@@ -1,6 +1,6 @@
 -- where the sums are the same the spans are compared, and a set has but one list of them; sets whose sums differ have other
 -- members
-use Rattle.std.proofs.Common.{◌≡◌, ◌∙◌, sym, ap, subst, ⊎_elim}
+use Rattle.std.proofs.Common.{◌∙◌, sym, ap, ⊎_elim}
 use Rattle.std.specs.Ordering.{int_eq}
 use Rattle.std.specs.Cmp.Lexicographic.{pointwise, pointwise_decides}
 use Rattle.std.proofs.lemmas.Bool.{cases_Bool, ne_eqb}
@@ -18,9 +18,10 @@ returns-then-self-other c =
     let same = c.are_same.ensures in
     let of_self = c.as_slice.ensures.value in
     let of_other = c.as_slice-then-self-other.ensures.value in
-    same_from_decides c.are_same.result (pointwise int_eq xs ys)
-    ((λ is. sym c.self.view_is ∙ ap integers_in (sym of_self ∙ same.0 is ∙ of_other) ∙ c.other.view_is),
-    (λ e. same.1 (of_self ∙ one_list c.self.inside.spans.items c.other.inside.spans.items c.self.invariant.apart c.other.invariant.apart (c.self.view_is ∙ e ∙ sym c.other.view_is) ∙ sym of_other)))
+    same_from_decides c.are_same.result (pointwise int_eq xs ys) (
+      (λ is. sym c.self.view_is ∙ ap integers_in (sym of_self ∙ same.0 is ∙ of_other) ∙ c.other.view_is),
+      (λ e. same.1 (of_self ∙ one_list c.self.inside.spans.items c.other.inside.spans.items c.self.invariant.apart c.other.invariant.apart (c.self.view_is ∙ e ∙ sym c.other.view_is) ∙ sym of_other)),
+    )
     (pointwise_decides Decides-int_eq xs ys)
 
 pub returns-else-self-other : goal.returns-else-self-other
