@@ -9,4 +9,6 @@ pub mod Steps
 pub mod Tables
 pub mod Sorting
 pub mod Sums
+pub mod InSpans
+pub mod Joining
 pub mod Alike

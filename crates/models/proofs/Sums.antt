@@ -32,6 +32,12 @@ sum_of-push (x ∷ xs) v =
     sum_of-first x (xs ++ v ∷ []) ∙ ap (λ n. (n + mixed x) % 2 ^ 64) (sum_of-push xs v) ∙ later (sum_of xs) (mixed v) (mixed x)
     ∙ ap (λ n. (n + mixed v) % 2 ^ 64) (sym (sum_of-first x xs))
 
+pub sum_of-between : (xs ys : List ℤ) (v : ℤ) → sum_of (xs ++ v ∷ ys) ≡ (sum_of (xs ++ ys) + mixed v) % 2 ^ 64
+sum_of-between [] ys v = sum_of-first v ys
+sum_of-between (x ∷ xs) ys v =
+    sum_of-first x (xs ++ v ∷ ys) ∙ ap (λ n. (n + mixed x) % 2 ^ 64) (sum_of-between xs ys v) ∙ later (sum_of (xs ++ ys)) (mixed v) (mixed x)
+    ∙ ap (λ n. (n + mixed v) % 2 ^ 64) (sym (sum_of-first x (xs ++ ys)))
+
 -- what is told of an answer holds of what equals it
 pub if_ok : {E : Type 0} (r : Result (List ℤ) E) (P : List ℤ → Type 0) (xs : List ℤ) → IfOk r (λ set. set ≡ xs) → P xs → IfOk r P
 if_ok (Ok set) P xs is p = subst P (sym is) p

@@ -68,6 +68,13 @@ members_fed xs = fed.usize (length xs) ++ fed.u64 (sum_of xs)
 pub members_fed-alike : (a b : List ℤ) → pointwise int_eq a b ≡ true → members_fed a ≡ members_fed b
 members_fed-alike a b e = ap members_fed (ints_eq-exact a b e)
 
+-- a set by its spans is hashed by the sum of its members alone
+abbrev pub sum_fed : List ℤ → fed.HashWrites
+sum_fed xs = fed.u64 (sum_of xs)
+
+pub sum_fed-alike : (a b : List ℤ) → pointwise int_eq a b ≡ true → sum_fed a ≡ sum_fed b
+sum_fed-alike a b e = ap sum_fed (ints_eq-exact a b e)
+
 -- the eight integers from this place on are the same
 abbrev pub AreSameAt : List ℤ → List ℤ → ℕ → Type 0
 AreSameAt xs ys at =

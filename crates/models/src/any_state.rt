@@ -9,7 +9,6 @@ use crate::each_kind;
 use crate::fifo_queue::FifoQueue;
 use crate::finding::Found;
 use crate::items::Items;
-use crate::members::Members;
 use crate::model_kind::ModelKind;
 use crate::multiset::Multiset;
 use crate::mutex::Mutex;
@@ -17,6 +16,7 @@ use crate::object::SeqObject;
 use crate::operation::Op;
 use crate::register::Register;
 use crate::set::Set;
+use crate::spans::Spans;
 use crate::unordered_queue::UnorderedQueue;
 use std::alloc::{AllocError, Global};
 
@@ -27,7 +27,7 @@ pub enum AnyState {
     CasRegister(Option<i64>),
     Mutex(bool),
     FifoQueue(Items),
-    Set(Members),
+    Set(Spans),
     UnorderedQueue(Multiset),
 }
 
@@ -93,8 +93,8 @@ impl AnyState {
         each_kind!(state_kind; self)
     }
 
-    /// An equal state; `AllocError` where there is no memory for it. Takes the time of the items of a queue; the members
-    /// of a set are shared.
+    /// An equal state; `AllocError` where there is no memory for it. Takes the time of the values of a queue without an
+    /// order, or of the spans of a set; the items of a queue are shared.
     pub fn copy(&self, alloc: Global) -> Result<AnyState, AllocError>
         ensures { IfOk result (λ other. other ≡ self.now) }
     {

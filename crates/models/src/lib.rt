@@ -17,6 +17,7 @@ pub mod operation;
 mod outcomes;
 pub mod register;
 pub mod set;
+pub mod spans;
 pub mod unordered_queue;
 
 pub use any_state::AnyState;
@@ -32,4 +33,5 @@ pub use object::SeqObject;
 pub use operation::{Key, Name, Op, Part};
 pub use register::Register;
 pub use set::Set;
+pub use spans::Spans;
 pub use unordered_queue::UnorderedQueue;

@@ -54,7 +54,7 @@ impl Listed {
 }
 
 // What a member adds to the sum of its set: a number that is spread over 64 bits, so that few sets have the same sum.
-fn mixed(value: i64) -> u64
+pub(crate) fn mixed(value: i64) -> u64
     ensures { result ≡ mixed value }
 {
     let spread = value.cast_unsigned().wrapping_mul(0x9e37_79b9_7f4a_7c15);
@@ -101,6 +101,14 @@ impl Members {
         ensures { IfOk result (λ set. set ≡ values.items) }
     {
         Members::sharing(*values.allocator(), Listed::of(values))
+    }
+
+    /// The same, where the caller knows the sum of the values, so that they are not gone through for it.
+    pub(crate) fn of_listed(values: Vec<i64>, sum: u64) -> Result<Members, AllocError>
+        requires { IsListed values.items sum }
+        ensures { IfOk result (λ set. set ≡ values.items) }
+    {
+        Members::sharing(*values.allocator(), Listed { items: values, sum })
     }
 
     /// The set of these values, in whatever order and however often they stand there; `AllocError` where there is no memory

@@ -4,16 +4,16 @@ ghost use Rattle.models.specs.Comparisons.{ints_eq-exact};
 ghost use Rattle.models.specs.Reads.{set_reads};
 
 use crate::finding::Found;
-use crate::members::Members;
 use crate::object::SeqObject;
 use crate::operation::{Name, Op, Part};
+use crate::spans::Spans;
 use std::alloc::{AllocError, Global};
 
 /// A set of integers, empty at first: an add puts its value in, a read finds all members.
 pub struct Set;
 
 impl SeqObject for Set {
-    type State = Members;
+    type State = Spans;
 
     ghost use Rattle.models.specs.Objects.{set_apply};
 
@@ -21,24 +21,24 @@ impl SeqObject for Set {
 
     ghost apply_to = { λ op s. set_apply op.name op.part s };
 
-    fn start(alloc: Global) -> Members {
-        Members::new(alloc)
+    fn start(alloc: Global) -> Spans {
+        Spans::new(alloc)
     }
 
-    fn copy(_alloc: Global, state: &Members) -> Result<Members, AllocError> {
+    fn copy(_alloc: Global, state: &Spans) -> Result<Spans, AllocError> {
         state.copy()
     }
 
     #[tactic(auto, using(crate::proofs::Apart::set_alone))]
-    fn has_more_outcomes(_state: &Members, _op: &Op, _most: usize) -> bool {
+    fn has_more_outcomes(_state: &Spans, _op: &Op, _most: usize) -> bool {
         false
     }
 
     fn append_outcomes(
         _alloc: Global,
-        state: &Members,
+        state: &Spans,
         op: &Op,
-        outcomes: &mut Vec<(Members, Found)>,
+        outcomes: &mut Vec<(Spans, Found)>,
     ) -> Result<(), AllocError> {
         match (op.name, &op.part) {
             (Name::Add, Part::Int(value)) => {
@@ -47,9 +47,9 @@ impl SeqObject for Set {
                 Ok(())
             }
             (Name::Read, Part::Nil) => {
-                let members = state.copy()?;
-                let found = state.copy()?;
-                outcomes.push((members, Found::Elements(found)))?;
+                let found = state.to_members()?;
+                let same = state.copy()?;
+                outcomes.push((same, Found::Elements(found)))?;
                 Ok(())
             }
             _ => Ok(()),

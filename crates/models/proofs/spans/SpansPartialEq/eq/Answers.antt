@@ -1,0 +1,34 @@
+-- where the sums are the same the spans are compared, and a set has but one list of them; sets whose sums differ have other
+-- members
+use Rattle.std.proofs.Common.{◌∙◌, sym, ap, ⊎_elim}
+use Rattle.std.specs.Ordering.{int_eq}
+use Rattle.std.specs.Cmp.Lexicographic.{pointwise, pointwise_decides}
+use Rattle.std.proofs.lemmas.Bool.{cases_Bool, ne_eqb}
+use Rattle.std.proofs.lemmas.Bool.Decides.{Decides-int_eq, same_from_decides}
+use Rattle.models.specs.Comparisons.{ints_eq-exact}
+use Rattle.models.specs.Sums.{sum_of}
+use Rattle.models.specs.Spans.{integers_in}
+use Rattle.models.proofs.InSpans.{one_list}
+use Rattle.models.proofs.spans.SpansPartialEq.eq.Goals as goal
+
+pub returns-then-self-other : goal.returns-then-self-other
+returns-then-self-other c =
+    let xs = c.args.self.now in
+    let ys = c.args.other.now in
+    let same = c.are_same.ensures in
+    let of_self = c.as_slice.ensures.value in
+    let of_other = c.as_slice-then-self-other.ensures.value in
+    same_from_decides c.are_same.result (pointwise int_eq xs ys) (
+      (λ is. sym c.self.view_is ∙ ap integers_in (sym of_self ∙ same.0 is ∙ of_other) ∙ c.other.view_is),
+      (λ e. same.1 (of_self ∙ one_list c.self.inside.spans.items c.other.inside.spans.items c.self.invariant.apart c.other.invariant.apart (c.self.view_is ∙ e ∙ sym c.other.view_is) ∙ sym of_other)),
+    )
+    (pointwise_decides Decides-int_eq xs ys)
+
+pub returns-else-self-other : goal.returns-else-self-other
+returns-else-self-other c =
+    let xs = c.args.self.now in
+    let ys = c.args.other.now in
+    ⊎_elim
+    (λ e. absurd (c.if-self-other.false (c.self.invariant.sums ∙ ap sum_of (c.self.view_is ∙ ints_eq-exact xs ys e ∙ sym c.other.view_is) ∙ sym c.other.invariant.sums)))
+    (λ e. ne_eqb c.self.inside.sum c.other.inside.sum c.if-self-other.false ∙ sym e)
+    (cases_Bool (pointwise int_eq xs ys))
