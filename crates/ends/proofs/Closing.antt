@@ -9,12 +9,12 @@ use Rattle.models.specs.declared.finding.Found.{Found}
 use Rattle.models.specs.Objects.{Object}
 use Rattle.history.specs.Events.{IsFront}
 use Rattle.linspec.specs.Ends.{End}
-use Rattle.linspec.proofs.Filters.{filter-no, filter-yes, from_filter, to_filter}
+use Rattle.linspec.proofs.Filters.{filter-no, filter-yes, from_filter}
 use Rattle.linspec.proofs.Lists.{Contains-cons_cases, Contains-head, Contains-nil, Contains-tail}
 use Rattle.linspec.proofs.FinLaws.{get-remove_other}
 use Rattle.ends.specs.declared.pending_op.PendingOp.{PendingOp}
 use Rattle.ends.specs.declared.table.Table.{Table}
-use Rattle.ends.specs.EndSteps.{Adds, Along, AreClosed, IsReached, Next, Settles, TakesLast, is_in, is_other, settled, with_call}
+use Rattle.ends.specs.EndSteps.{Adds, Along, AreClosed, Fails, IsReached, Next, Settles, TakesLast, is_in, is_other, settled, with_call}
 use Rattle.ends.specs.Tables.{HasEachOnce, IsThat, ShownWith, found_in_end}
 use Rattle.ends.proofs.JustInTime.{commute}
 use Rattle.ends.proofs.Reaching.{reached_itself, reached_next}
@@ -160,29 +160,29 @@ module _ (id : ℕ) where
       (λ gone. Contains-tail x (take (suc n) calls) c (subst (λ l. Contains (take (suc n) l) c) (without_it x calls once gone) h))
       (cases_Bool (is_other id x))
 
-  among_front : (n : ℕ) (xs : List PendingOp) (c : PendingOp) → Contains (take n xs) c → Contains xs c
+  pub among_front : (n : ℕ) (xs : List PendingOp) (c : PendingOp) → Contains (take n xs) c → Contains xs c
   among_front n xs c h = subst (λ l. Contains l c) (take-append-drop n xs) (Contains-append_left (take n xs) (drop n xs) c h)
 
-  pub closed_after_fail : (o : Object) (calls : List PendingOp) → HasEachOnce calls → (tried now : ℕ) → now ≡ tried - 1 → (ends : List (End o.State)) → AreClosed o (take tried calls) ends
-      → AreClosed o (take now (filter (is_other id) calls)) (filter (λ e. not (is_in e id false)) ends)
-  closed_after_fail o calls once zero now is ends closed d f h next =
+  pub closed_after_fail : (o : Object) (calls : List PendingOp) → HasEachOnce calls → (tried now : ℕ) → now ≡ tried - 1 → (ends left : List (End o.State)) → Adds (Along (Fails id) ends) [] left → AreClosed o (take tried calls) ends
+      → AreClosed o (take now (filter (is_other id) calls)) left
+  closed_after_fail o calls once zero now is ends left fails closed d f h next =
       let same : now ≡ 0 = omega (arith, is) in
       absurd (Contains-nil next.0 (subst (λ n. Contains (take n (filter (is_other id) calls)) next.0) same next.1))
-  closed_after_fail o calls once (suc n) now is ends closed d f h next =
+  closed_after_fail o calls once (suc n) now is ends left fails closed d f h next =
+      ⊎_elim
+      (λ k. absurd (Contains-nil d k))
+      (λ s.
       let c = next.0 in
       let t = next.2 in
       let same : now ≡ n = omega (arith, is) in
       let in_front : Contains (take n (filter (is_other id) calls)) c = subst (λ m. Contains (take m (filter (is_other id) calls)) c) same next.1 in
       let ne = other_id id c (from_filter (is_other id) calls c (among_front n (filter (is_other id) calls) c in_front)).1 in
-      let among = from_filter (λ (e : End o.State). not (is_in e id false)) ends d h in
-      let there = closed d f among.0 (c, first_still calls once n c in_front, t) in
+      let there = closed d f (subst (Contains ends) s.2.1 s.1) (c, first_still calls once n c in_front, t) in
+      let was_out : is_in d id false ≡ false = subst (λ (x : End o.State). is_in x id false ≡ false) s.2.1 s.2.0 in
       let told : found_in_end f id false ≡ found_in_end d id false = ap (λ (x : End o.State). found_in_end x id false) t.made ∙ told_without d c.id id c.crashed false t.found f.state (λ q. ne (sym q)) in
-      let out : is_in f id false ≡ false = not_in_by f id false (told ∙ not_told d id false (not_true (is_in d id false) among.1)) in
-      to_filter (λ (e : End o.State). not (is_in e id false)) ends f there (ap not out)
-    where
-      not_true : (b : Bool) → not b ≡ true → b ≡ false
-      not_true false e = refl
-      not_true true e = sym e
+      let out : is_in f id false ≡ false = not_in_by f id false (told ∙ not_told d id false was_out) in
+      (fails.each f).1 (inr (f, there, (out, refl))))
+      ((fails.each d).0 h)
 
 -- an invocation
 pub tried_still : (n : ℕ) (calls : List PendingOp) (c : PendingOp) → n ≤ length calls → take n (calls ++ c ∷ []) ≡ take n calls

@@ -1,11 +1,11 @@
--- ends after an ok, by rows
+-- ends after an ok and a fail, by rows
 use Rattle.std.proofs.Common.{◌≡◌, ◌≢◌, ℕ, zero, suc, ◌+◌, ◌<◌, ◌≤◌, ⊎_elim, Bool, true, false, not, Some, None, List, [], ◌∷◌, length, slice_get, get_or, set, take, refl, sym, ap, ◌∙◌, subst, arith}
 use Rattle.std.specs.FinMap as finmap
 use Rattle.std.proofs.lemmas.Bool.{cases_eq, cases_lt, eq-eqb, ne_eqb, true≢false}
 use Rattle.std.specs.List.{Contains, filter, remove}
 use Rattle.std.proofs.lemmas.List.{get_or-set_same, get_or-set_other, length-set}
 use Rattle.std.proofs.lemmas.List.Edits.{get_or-remove_above, get_or-remove_below, length-remove}
-use Rattle.std.proofs.lemmas.Option.{slice_get_read, slice_get_within, get_or_from_slice_get}
+use Rattle.std.proofs.lemmas.Option.{slice_get_read, slice_get_within, slice_get-get_or, get_or_from_slice_get}
 use Rattle.models.specs.declared.finding.Answer.{Answer}
 use Rattle.models.specs.declared.finding.Found.{Found}
 use Rattle.linspec.specs.Ends.{End}
@@ -14,12 +14,14 @@ use Rattle.linspec.proofs.Lists.{Contains-head, Contains-tail}
 use Rattle.linspec.proofs.FinLaws.{get-remove_same, get-remove_other}
 use Rattle.ends.specs.declared.pending_op.PendingOp.{PendingOp}
 use Rattle.ends.specs.declared.table.Table.{Table}
-use Rattle.ends.specs.EndSteps.{Adds, Along, FitsAt, Settles, is_other, settled}
+use Rattle.ends.specs.EndSteps.{Adds, Along, Fails, FitsAt, IsOut, Settles, is_other, settled}
 use Rattle.ends.specs.KeptEnds.{IsIncluded}
 use Rattle.ends.specs.Tables.{AreShown, HasEachOnce, IsOpenAt, Says, ShownWith, found_by, found_in_end}
 use Rattle.interned.specs.Numbers.{IsSlot}
 use Rattle.ends.proofs.Adding.{Adds-none, Adds-skip}
-use Rattle.ends.proofs.Rows.{other_ids, told_pending}
+use Rattle.ends.proofs.Rows.{not_in_by, not_told, other_ids, told_pending, zero_none}
+use Rattle.ends.proofs.Changes.{same_parts}
+use Rattle.std.specs.Cmp.{nat_cmp_total}
 use Rattle.interned.proofs.Lists.{clash, has_place, one_of, place_of}
 use Rattle.ends.proofs.Showing.{end_here}
 
@@ -168,3 +170,38 @@ module _ {S : Type 0} (states : List S) (founds : List Found) (calls : List Pend
     where
       is_other_id : (d : PendingOp) → is_other id d ≡ true → d.id ≢ id
       is_other_id d e q = true≢false (sym e ∙ ap not (eq-eqb d.id id q))
+
+-- an end that the open call is not in
+module _ {S : Type 0} (founds : List Found) (calls : List PendingOp) (at id : ℕ) (h : IsOpenAt calls at id) (states : List S) (e : End S) (row : List ℕ) (a : Says states founds calls row e) where
+  pub out_by_zero : slice_get row (at + 1) ≡ Some 0 → IsOut e id
+  out_by_zero zero' =
+      not_in_by e id false
+      (sym (told_open calls at id e h)
+      ∙ zero_none founds (get_or row (at + 1) 0) (found_by e h.call) (get_or_from_slice_get row (at + 1) 0 0 zero') (a.slots at h.call h.there))
+
+  pub zero_by_out : IsOut e id → slice_get row (at + 1) ≡ Some 0
+  zero_by_out out =
+      let lt = slice_get_within calls at h.call h.there in
+      let long = a.long in
+      let none : found_by e h.call ≡ None = told_open calls at id e h ∙ not_told e id false out in
+      slice_get-get_or row (at + 1) 0 (omega (arith, lt, long)) ∙ ap Some (subst (IsSlot founds (get_or row (at + 1) 0)) none (a.slots at h.call h.there))
+
+pub settled_out : {S : Type 0} (e : End S) (id : ℕ) → IsOut e id → settled e id ≡ e
+settled_out e id out =
+    same_parts (settled e id) e refl
+    (finmap.same_map nat_cmp_total finmap.nat_cmp-IsAntisymmetric _ _ (λ q.
+    ⊎_elim
+    (λ same. subst (λ i. finmap.get (finmap.remove e.pending id) i ≡ finmap.get e.pending i) (sym same) (get-remove_same e.pending id ∙ sym (not_told e id false out)))
+    (λ ne. get-remove_other e.pending id q ne)
+    (cases_eq q id)))
+    refl
+
+-- one end more, which it is in
+pub fails_less : {S : Type 0} (calls : List PendingOp) (t : Table S) (ends : List (End S)) (id i : ℕ) (e : End S) → slice_get ends i ≡ Some e → ¬ IsOut e id
+    → ShownWith t calls [] (Along (Fails id) (take i ends)) → ShownWith t calls [] (Along (Fails id) (take (i + 1) ends))
+fails_less calls t ends id i e here none s = record {
+  more = s.more;
+  shown = s.shown;
+  front = s.front;
+  adds = Adds-skip (Fails id) ends [] s.more i e (slice_get_within ends i e here) (sym (get_or_from_slice_get ends i e e here)) s.adds (λ f r. none r.0);
+}

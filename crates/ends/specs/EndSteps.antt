@@ -33,9 +33,16 @@ abbrev pub after_crash : {S : Type 0} → Bool → End S → ℕ → End S
 after_crash true e id = crashed_if (finmap.get e.pending id) e id
 after_crash false e id = settled e id
 
--- f is what the end becomes where the operation returns with this answer, and where it crashes
+-- the open operation is not in the end
+abbrev pub IsOut : {S : Type 0} → End S → ℕ → Type 0
+IsOut e id = finmap.contains_key e.pending id ≡ false
+
+-- f is what the end becomes where the operation returns with this answer, where it fails, and where it crashes
 abbrev pub Settles : {S : Type 0} → ℕ → Answer → End S → End S → Type 0
 Settles id answer e f = FitsAt e id answer × (settled e id ≡ f)
+
+abbrev pub Fails : {S : Type 0} → ℕ → End S → End S → Type 0
+Fails id e f = IsOut e id × (e ≡ f)
 
 abbrev pub Crashes : {S : Type 0} → Bool → ℕ → End S → End S → Type 0
 Crashes counts id e f = after_crash counts e id ≡ f

@@ -4,7 +4,7 @@ ghost use Rattle.std.specs.Prelude.{IfOk, OnOk, IfSome};
 ghost use Rattle.linspec.specs.Ends.{End};
 ghost use Rattle.ends.specs.KeptEnds.{end_kept};
 ghost use Rattle.std.specs.List.{filter};
-ghost use Rattle.ends.specs.EndSteps.{FitsAt, Settles, Along, after_crash, is_other};
+ghost use Rattle.ends.specs.EndSteps.{FitsAt, Settles, Fails, Along, after_crash, is_other};
 ghost use Rattle.ends.specs.Tables.{AreShown, HasEachOnce, IsOpenAt, Shows, ShownWith, rows_of, with_rows};
 
 use crate::kept_end::{KeptEnd, copy_of};
@@ -97,6 +97,52 @@ pub fn settled<S: Hash + Drop>(
 {
     match place_of_open(calls, id) {
         Some(call) => settled_rows(table, calls, call, answer, rows),
+        None => {
+            rows.restart(calls.len());
+            Ok(())
+        }
+    }
+}
+
+// Puts the rows of those ends that the open operation at this place is not in, each without its number, in place of the rows
+// that were there.
+fn failed_rows<S: Hash + Drop>(
+    table: &Table<S>,
+    calls: &[PendingOp],
+    call: usize,
+    rows: &mut RowSet,
+) -> Result<(), AllocError>
+    requires { call < length calls.now }
+    ensures { HasEachOnce calls.now → (id : ℕ) → IsOpenAt calls.now call id
+        → (ends : List (End S)) → AreShown table.now calls.now ends → OnOk result
+        (ShownWith (with_rows table.now rows.new) (filter (is_other id) calls.now) []
+        (Along (Fails id) ends)) }
+{
+    rows.restart_like(&table.rows, calls.len());
+    for at in 0..table.rows.len() {
+        if table.rows.has_zero(at, call + 1) {
+            rows.put_without(&table.rows, at, call + 1)?;
+        }
+    }
+    Ok(())
+}
+
+/// Puts the rows after the operation, which is open, has failed, of those ends that it is not in, each without its number, in
+/// place of the rows that were there. None where it is not open. `AllocError` where there is no memory for them. Looks at one
+/// number of each row.
+pub fn failed<S: Hash + Drop>(
+    table: &Table<S>,
+    calls: &[PendingOp],
+    id: u32,
+    rows: &mut RowSet,
+) -> Result<(), AllocError>
+    ensures { HasEachOnce calls.now → (at : ℕ) → IsOpenAt calls.now at id
+        → (ends : List (End S)) → AreShown table.now calls.now ends → OnOk result
+        (ShownWith (with_rows table.now rows.new) (filter (is_other id) calls.now) []
+        (Along (Fails id) ends)) }
+{
+    match place_of_open(calls, id) {
+        Some(call) => failed_rows(table, calls, call, rows),
         None => {
             rows.restart(calls.len());
             Ok(())

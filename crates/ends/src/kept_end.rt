@@ -64,8 +64,8 @@ pub fn copy_of<M: SeqObject>(
 }
 
 impl<S> KeptEnd<S> {
-    /// Whether the open operation is in it.
-    pub fn includes(&self, id: u32) -> bool
+    // Whether the open operation is in it.
+    fn includes(&self, id: u32) -> bool
         ensures { result ≡ is_in (end_kept self.now) id false }
     {
         found_in(&self.pending, id).is_some()

@@ -9,7 +9,7 @@ mod moves;
 mod pending_op;
 mod table;
 
-pub use after::crashed_ends;
+pub use after::{crashed_ends, failed};
 pub use copies::copied;
 pub use extend::{Room, advance};
 pub use kept_end::KeptEnd;

@@ -1,5 +1,5 @@
 -- all ends after an ok, by those before it, and the ends before any event
-use Rattle.std.proofs.Common.{◌≡◌, ℕ, inr, ⊎_elim, Bool, true, false, not, Option, Some, None, is_some, List, [], ◌∷◌, ◌++◌, map, refl, sym, ap, ◌∙◌, subst}
+use Rattle.std.proofs.Common.{◌≡◌, ℕ, inr, ⊎_elim, false, Option, Some, None, is_some, List, [], ◌∷◌, ◌++◌, map, refl, sym, ap, ◌∙◌, subst}
 use Rattle.std.specs.List.{Contains}
 use Rattle.std.specs.Ordering.{nat_cmp}
 use Rattle.std.specs.FinMap as finmap
@@ -25,10 +25,6 @@ use Rattle.frontier.proofs.TheEnds.{AreTheEnds}
 pub none_from : {X : Type 0} (r : Option X) → is_some r ≡ false → r ≡ None
 none_from None e = refl
 none_from (Some x) e = absurd (true≢false e)
-
-pub not_true : (b : Bool) → not b ≡ true → b ≡ false
-not_true false e = refl
-not_true true e = sym e
 
 -- an ok
 module _ (o : Object) (ends : List (End o.State)) (marks : List Mark) (are : AreTheEnds o ends marks) (id : ℕ) (is_open : IsOpen marks id) where

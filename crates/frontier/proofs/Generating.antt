@@ -1,6 +1,6 @@
 -- ends from which pending operations lead to all ends of the history, after each event
-use Rattle.std.proofs.Common.{◌≡◌, ◌≢◌, ◌↔◌, ◌+◌, ◌<◌, inr, ⊎_elim, Bool, true, false, not, IsTrue, ℕ, List, [], ◌∷◌, ◌++◌, length, map, take, drop, is_some, refl, sym, ap, ◌∙◌, subst, arith}
-use Rattle.std.specs.List.{filter, Contains}
+use Rattle.std.proofs.Common.{◌≡◌, ◌≢◌, ◌↔◌, ◌+◌, ◌<◌, inr, ⊎_elim, Bool, true, false, IsTrue, ℕ, List, [], ◌∷◌, ◌++◌, length, map, take, drop, is_some, refl, sym, ap, ◌∙◌, subst, arith}
+use Rattle.std.specs.List.{Contains}
 use Rattle.std.specs.FinMap as finmap
 use Rattle.std.proofs.lemmas.Bool.{true≢false}
 use Rattle.models.specs.declared.operation.Op.{Op}
@@ -14,17 +14,17 @@ use Rattle.linspec.specs.Ends.{End, CountsIn, is_no_read, IsEnd, HasMoreThan}
 use Rattle.linspec.proofs.Lists.{Contains-nil, Contains-head, Pairwise-left}
 use Rattle.std.proofs.lemmas.List.{length-take-le, take-append-drop}
 use Rattle.std.proofs.lemmas.List.Elements.{Contains-append_left}
-use Rattle.linspec.proofs.Filters.{from_filter, from_map, to_filter, to_map}
+use Rattle.linspec.proofs.Filters.{from_map, to_map}
 use Rattle.linspec.proofs.Completions.{fail_after, fail_before, info_after_by, info_before_by}
 use Rattle.linspec.proofs.Reach.{Reaches, invoke_after, invoke_before}
 use Rattle.linspec.proofs.Fronts.{IsLinearizable-end}
 use Rattle.ends.specs.declared.pending_op.PendingOp.{PendingOp}
 use Rattle.ends.specs.KeptEnds.{ArePending}
-use Rattle.ends.specs.EndSteps.{Crashes, after_crash, is_in, Along, Adds, IsReached, ReachesMoreThan}
+use Rattle.ends.specs.EndSteps.{Crashes, Fails, after_crash, is_in, Along, Adds, IsReached, ReachesMoreThan}
 use Rattle.frontier.proofs.TheEnds.{AreTheEnds}
 use Rattle.ends.proofs.Reaching.{end_further, calls_of, reaches_of, reached_itself}
 use Rattle.ends.proofs.JustInTime.{Reaches-append, Reaches-new, Reaches-failed, Reaches-crashed, Reaches-aside, aside, none_before}
-use Rattle.frontier.proofs.AfterEvents.{none_from, not_true}
+use Rattle.frontier.proofs.AfterEvents.{none_from}
 
 -- each of them is an end, and each end is reached from one of them
 pub record Generates (o : Object) (ends : List (End o.State)) (marks : List Mark) : Type 0 where
@@ -85,16 +85,20 @@ generates_after_invoke o reads ends marks id op new gen = record {
 
 -- a fail leaves those without the operation, and an info changes those with it
 module _ (o : Object) (ends : List (End o.State)) (marks : List Mark) (id : ℕ) (is_open : IsOpen marks id) (gen : Generates o ends marks) where
-  pub generates_after_fail : Generates o (filter (λ e. not (is_in e id false)) ends) (marks ++ Failed id ∷ [])
-  generates_after_fail = record {
+  pub generates_after_fail : (after : List (End o.State)) → Adds (Along (Fails id) ends) [] after → Generates o after (marks ++ Failed id ∷ [])
+  generates_after_fail after fails = record {
     sound = λ f h.
-        let i = from_filter (λ e. not (is_in e id false)) ends f h in
-        fail_after o marks id is_open f (gen.sound f i.0) (none_from (finmap.get f.pending id) (not_true (is_in f id false) i.1));
+        ⊎_elim
+        (λ k. absurd (Contains-nil f k))
+        (λ s.
+        let out : is_in f id false ≡ false = subst (λ (x : End o.State). is_in x id false ≡ false) s.2.1 s.2.0 in
+        fail_after o marks id is_open f (gen.sound f (subst (Contains ends) s.2.1 s.1)) (none_from (finmap.get f.pending id) out))
+        ((fails.each f).0 h);
     enough = λ f end.
         let b = fail_before o marks id is_open f end in
         let c = gen.enough f b.0 in (
           c.0,
-          to_filter (λ e. not (is_in e id false)) ends c.0 c.1 (ap (λ r. not (is_some r)) (none_before o marks id is_open c.0 f c.2.0 c.2.1 b.1)),
+          (fails.each c.0).1 (inr (c.0, c.1, (ap is_some (none_before o marks id is_open c.0 f c.2.0 c.2.1 b.1), refl))),
           (c.2.0, Reaches-failed o marks id is_open c.2.0 c.0 f c.2.1 b.1),
         );
   }

@@ -1,5 +1,5 @@
 -- the operations that ends include are among the calls, after each event
-use Rattle.std.proofs.Common.{◌≡◌, ◌≢◌, ◌↔◌, IsTrue, ℕ, zero, suc, ⊎_elim, Bool, true, false, not, Option, Some, None, is_some, List, [], ◌∷◌, ◌++◌, map, refl, sym, ap, ◌∙◌, subst}
+use Rattle.std.proofs.Common.{◌≡◌, ◌≢◌, ◌↔◌, IsTrue, ℕ, zero, suc, ⊎_elim, Bool, true, false, not, Option, Some, None, List, [], ◌∷◌, ◌++◌, map, refl, sym, ap, ◌∙◌, subst}
 use Rattle.std.specs.List.{filter, Contains}
 use Rattle.std.specs.Ordering.{nat_cmp}
 use Rattle.std.specs.FinMap as finmap
@@ -14,12 +14,12 @@ use Rattle.history.specs.Events.Mark.{Crashed}
 use Rattle.linspec.specs.Operations.{IsOpen}
 use Rattle.linspec.specs.Ends.{End}
 use Rattle.linspec.proofs.FinLaws.{get-remove_same, get-remove_other, contains-insert_other}
-use Rattle.linspec.proofs.Filters.{from_filter, to_filter, to_map}
+use Rattle.linspec.proofs.Filters.{to_filter, to_map}
 use Rattle.linspec.proofs.Lists.{Contains-nil, Contains-cons_cases}
 use Rattle.ends.specs.declared.pending_op.PendingOp.{PendingOp}
 use Rattle.ends.specs.declared.kept_end.KeptEnd.{KeptEnd}
 use Rattle.ends.specs.KeptEnds.{ArePending, AreIncluded, IsIncluded, crashed_in, end_kept, pending_in}
-use Rattle.ends.specs.EndSteps.{TakesLast, Next, ReachesIn, IsReached, Settles, settled, Crashes, crashed_if, is_in, is_other, crash_call, calls_after_crash, Along, Adds}
+use Rattle.ends.specs.EndSteps.{TakesLast, Next, ReachesIn, IsReached, Settles, settled, Crashes, crashed_if, is_other, crash_call, calls_after_crash, Along, Adds}
 use Rattle.ends.proofs.CallsInTurn.{crash_call-same, crash_call-other}
 use Rattle.ends.proofs.Changes.{same_parts}
 use Rattle.ends.proofs.Rows.{included_with}
@@ -91,15 +91,6 @@ module _ {S : Type 0} (calls : List PendingOp) where
           let c = a.crashed q k' in
           (c.0, stays calls id c.0 q c.1 c.2 (not_crashed e a q k'), c.2, c.3);
     }
-
-    pub included_after_fail : (ends : List (End S)) → AreIncluded calls ends → AreIncluded (filter (is_other id) calls) (filter (λ e. not (is_in e id false)) ends)
-    included_after_fail ends a f h =
-        let i = from_filter (λ e. not (is_in e id false)) ends f h in
-        included_without f f (a f i.0) refl (λ q x k. (none_here id f.pending q x (none_by (finmap.get f.pending id) i.1) k, k))
-      where
-        none_by : (r : Option Found) → not (is_some r) ≡ true → r ≡ None
-        none_by None e = refl
-        none_by (Some x) e = absurd (true≢false (sym e))
 
     pub included_after_ok : (answer : Answer) (all after : List (End S)) → AreIncluded calls all → Adds (Along (Settles id answer) all) [] after → AreIncluded (filter (is_other id) calls) after
     included_after_ok answer all after a adds f h =

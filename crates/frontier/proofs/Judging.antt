@@ -1,10 +1,10 @@
--- an ok: all ends, what is left of them, and what the frontier stands for then
-use Rattle.std.proofs.Common.{◌≡◌, ◌≢◌, ℕ, List, [], ◌∷◌, ◌++◌, map, length, take, sym, ◌∙◌, subst, arith}
+-- an ok and a fail: what is left of all ends or of the kept ones, and what the frontier stands for then
+use Rattle.std.proofs.Common.{◌≡◌, ◌≢◌, ℕ, ◌-◌, ◌≤◌, List, [], ◌∷◌, ◌++◌, map, length, take, sym, subst, arith}
 use Rattle.std.specs.List.{filter}
 use Rattle.models.specs.declared.finding.Answer.{Answer}
 use Rattle.models.specs.Objects.{Object}
 use Rattle.history.specs.Events.{Mark}
-use Rattle.history.specs.Events.Mark.{Returned}
+use Rattle.history.specs.Events.Mark.{Returned, Failed}
 use Rattle.linspec.specs.Operations.{IsOpen}
 use Rattle.linspec.specs.Orders.{Pairwise}
 use Rattle.linspec.specs.Ends.{End, HasMoreThan}
@@ -14,16 +14,16 @@ use Rattle.frontier.specs.declared.frontier.Frontier.{Frontier}
 use Rattle.ends.specs.declared.table.Table.{Table}
 use Rattle.ends.specs.declared.kept_end.KeptEnd.{KeptEnd}
 use Rattle.ends.specs.KeptEnds.{AreIncluded, ArePending, end_kept}
-use Rattle.ends.specs.EndSteps.{AreClosed, ReachesMoreThan, is_other}
+use Rattle.ends.specs.EndSteps.{Along, AreClosed, Fails, ReachesMoreThan, is_other}
 use Rattle.frontier.specs.Meaning.{Lists}
-use Rattle.ends.specs.Tables.{AreShown, HasEachOnce, IsAdvanced}
-use Rattle.std.proofs.lemmas.List.{take_all}
+use Rattle.ends.specs.Tables.{AreShown, HasEachOnce, IsAdvanced, IsOpenAt, ShownWith}
 use Rattle.frontier.proofs.AfterEvents.{ends_after_ok}
-use Rattle.ends.proofs.Closing.{closed_after_ok}
-use Rattle.frontier.proofs.Generating.{Generates, all_found, generates_all, more_found}
+use Rattle.ends.proofs.Closing.{among_front, closed_after_fail, closed_after_ok, closed_fewer, one_fewer}
+use Rattle.ends.proofs.Showing.{included_shown}
+use Rattle.frontier.proofs.Generating.{Generates, all_found, generates_after_fail, generates_all, more_found}
 use Rattle.frontier.proofs.Including.{included_after_ok, included_all}
-use Rattle.frontier.proofs.Pending.{AreOnce, calls_after_ok, once_without}
-use Rattle.frontier.proofs.Standing.{stands_by}
+use Rattle.frontier.proofs.Pending.{AreOnce, calls_after_fail, calls_after_ok, once_without, open_at}
+use Rattle.frontier.proofs.Standing.{generates_of, stands_by}
 use Rattle.frontier.proofs.TheEnds.{AreTheEnds}
 
 module _ {M : Type 0} (o : Object) (f : Frontier M o.State) (marks : List Mark) (stands : Lists o f marks) (budget : ℕ) where
@@ -48,7 +48,7 @@ module _ {M : Type 0} (o : Object) (f : Frontier M o.State) (marks : List Mark) 
     pub generates_left : Generates o found.left.more (marks ++ Returned id answer ∷ [])
     generates_left = generates_all o found.left.more (marks ++ Returned id answer ∷ []) after
 
-    pub stands_after : (g : Frontier M o.State) → g.table ≡ t → g.calls.items ≡ filter (is_other id) f.calls.items → g.tried ≡ length g.calls.items → Lists o g (marks ++ Returned id answer ∷ [])
+    pub stands_after : (g : Frontier M o.State) → g.table ≡ t → g.calls.items ≡ filter (is_other id) f.calls.items → g.tried ≡ length f.calls.items - 1 → Lists o g (marks ++ Returned id answer ∷ [])
     stands_after g table calls_are tried =
         stands_by o g (marks ++ Returned id answer ∷ []) found.left.more
         (subst (λ l. AreShown g.table l found.left.more) (sym calls_are) (subst (λ u. AreShown u (filter (is_other id) f.calls.items) found.left.more) (sym table) found.left.shown))
@@ -58,9 +58,30 @@ module _ {M : Type 0} (o : Object) (f : Frontier M o.State) (marks : List Mark) 
         (subst (λ l. AreIncluded l found.left.more) (sym calls_are)
         (included_after_ok f.calls.items marks stands.well_kept.pending id is_open answer found.all found.left.more
         (included_all o f.calls.items stands.kept found.all stands.well_kept.included found.adds) found.left.adds))
-        (omega (arith, tried))
-        (subst (λ l. AreClosed o l found.left.more) (sym (take_all g.tried g.calls.items (omega (arith, tried)) ∙ calls_are))
-        (closed_after_ok o f.calls.items stands.kept found.all found.left.more id answer found.adds found.left.adds))
+        (subst (λ l. g.tried ≤ length l) (sym calls_are) (let long = one_fewer id f.calls.items stands.well_kept.calls_once in omega (arith, long, tried)))
+        (subst (λ l. AreClosed o (take g.tried l) found.left.more) (sym calls_are)
+        (closed_fewer o (filter (is_other id) f.calls.items) (take g.tried (filter (is_other id) f.calls.items)) found.left.more (among_front id g.tried (filter (is_other id) f.calls.items))
+        (closed_after_ok o f.calls.items stands.kept found.all found.left.more id answer found.adds found.left.adds)))
+
+-- a fail leaves these
+module _ {M : Type 0} (o : Object) (f : Frontier M o.State) (marks : List Mark) (stands : Lists o f marks) (t : Table o.State) (id : ℕ) (is_open : IsOpen marks id)
+    (failed : ShownWith t (filter (is_other id) f.calls.items) [] (Along (Fails id) stands.kept)) where
+  pub generates_failed : Generates o failed.more (marks ++ Failed id ∷ [])
+  generates_failed = generates_after_fail o stands.kept marks id is_open (generates_of o f marks stands) failed.more failed.adds
+
+  pub stands_failed : (g : Frontier M o.State) → g.table ≡ t → g.calls.items ≡ filter (is_other id) f.calls.items → g.tried ≡ f.tried - 1 → Lists o g (marks ++ Failed id ∷ [])
+  stands_failed g table calls_are tried =
+      let left = filter (is_other id) f.calls.items in
+      let once = stands.well_kept.calls_once in
+      stands_by o g (marks ++ Failed id ∷ []) failed.more
+      (subst (λ l. AreShown g.table l failed.more) (sym calls_are) (subst (λ u. AreShown u left failed.more) (sym table) failed.shown))
+      generates_failed (failed.adds.once tt)
+      (subst (λ l. ArePending l (marks ++ Failed id ∷ [])) (sym calls_are) (calls_after_fail f.calls.items marks stands.well_kept.pending id))
+      (subst AreOnce (sym calls_are) (once_without f.calls.items id once))
+      (subst (λ l. AreIncluded l failed.more) (sym calls_are) (included_shown left t failed.more failed.shown))
+      (subst (λ l. g.tried ≤ length l) (sym calls_are) (let long = one_fewer id f.calls.items once in let le = stands.tried in omega (arith, long, le, tried)))
+      (subst (λ l. AreClosed o (take g.tried l) failed.more) (sym calls_are)
+      (closed_after_fail id o f.calls.items once f.tried g.tried tried stands.kept failed.more failed.adds stands.closed))
 
 -- in the words of the code, which reads the calls as a slice
 module _ {M : Type 0} (o : Object) (f : Frontier M o.State) (marks : List Mark) (stands : Lists o f marks) (calls : List PendingOp) (same : calls ≡ f.calls.items) where
@@ -78,6 +99,14 @@ module _ {M : Type 0} (o : Object) (f : Frontier M o.State) (marks : List Mark) 
 
   pub too_many_by : (budget : ℕ) → (HasEachOnce calls → (ends : List (End o.State)) → Pairwise (λ d e. d ≢ e) ends → AreShown f.table calls ends → AreClosed o (take f.tried calls) ends → ReachesMoreThan o calls ends budget) → HasMoreThan o marks budget
   too_many_by budget h = too_many o f marks stands budget (subst (λ l. ReachesMoreThan o l stands.kept budget) same (h calls_once stands.kept stands.well_kept.once its_rows its_tried))
+
+  pub failed_by : (t : Table o.State) (id : ℕ) → IsOpen marks id
+      → (HasEachOnce calls → (at : ℕ) → IsOpenAt calls at id → (ends : List (End o.State)) → AreShown f.table calls ends → ShownWith t (filter (is_other id) calls) [] (Along (Fails id) ends))
+      → ShownWith t (filter (is_other id) f.calls.items) [] (Along (Fails id) stands.kept)
+  failed_by t id is_open h =
+      let p = open_at f.calls.items marks stands.well_kept.pending stands.well_kept.calls_once id is_open in
+      subst (λ l. ShownWith t (filter (is_other id) l) [] (Along (Fails id) stands.kept)) same
+      (h calls_once p.0 (subst (λ l. IsOpenAt l p.0 id) (sym same) p.1) stands.kept its_rows)
 
   pub kept_ends : (items : List (KeptEnd o.State)) → (HasEachOnce calls → (ends : List (End o.State)) → AreShown f.table calls ends → map end_kept items ≡ ends) → map end_kept items ≡ stands.kept
   kept_ends items h = h calls_once stands.kept its_rows

@@ -1,13 +1,8 @@
 -- frontiers, by the ends that they keep, and the answers by how many are left
-use Rattle.std.proofs.Common.{◌≡◌, ◌≢◌, ◌↔◌, ℕ, ◌+◌, ◌-◌, ◌≤◌, take, ⊎_elim, Bool, false, not, Option, Some, None, option_map, List, [], ◌∷◌, ◌++◌, map, length, slice_get, get_or, refl, sym, ap, ◌∙◌, subst, arith, length-append}
-use Rattle.std.specs.List.{filter}
-use Rattle.std.proofs.lemmas.Bool.{cases_Bool}
+use Rattle.std.proofs.Common.{◌≡◌, ◌≢◌, ◌↔◌, ℕ, ◌+◌, ◌≤◌, take, ⊎_elim, false, Option, Some, None, option_map, List, [], ◌∷◌, ◌++◌, map, length, slice_get, get_or, refl, sym, ap, ◌∙◌, subst, arith, length-append}
 use Rattle.models.specs.Objects.{Object}
 use Rattle.history.specs.Events.{Mark}
-use Rattle.history.specs.Events.Mark.{Failed}
-use Rattle.linspec.specs.Operations.{IsOpen}
 use Rattle.linspec.specs.Orders.{Pairwise}
-use Rattle.linspec.proofs.Filters.{filter-yes, filter-no}
 use Rattle.ends.specs.declared.pending_op.PendingOp.{PendingOp}
 use Rattle.ends.specs.declared.kept_end.KeptEnd.{KeptEnd}
 use Rattle.frontier.specs.declared.frontier.Frontier.{Frontier}
@@ -28,11 +23,11 @@ use Rattle.models.specs.declared.finding.Found.{Found}
 use Rattle.linspec.specs.MarkRule.{IsNew}
 use Rattle.linspec.specs.Ends.{End, IsEnd}
 use Rattle.ends.proofs.Starting.{back, to}
-use Rattle.ends.proofs.Closing.{closed_after_fail, closed_again, one_fewer}
+use Rattle.ends.proofs.Closing.{closed_again}
 use Rattle.frontier.specs.Meaning.{Lists, Blows, IsStep}
-use Rattle.ends.specs.EndSteps.{Adds, Along, AreClosed, IsReached, is_in, is_other}
-use Rattle.frontier.proofs.Including.{included_after_fail, included_more}
-use Rattle.frontier.proofs.Generating.{Generates, generates_by, reached_by, generates_after_fail, none_left, some_left}
+use Rattle.ends.specs.EndSteps.{Adds, Along, AreClosed, IsReached}
+use Rattle.frontier.proofs.Including.{included_more}
+use Rattle.frontier.proofs.Generating.{Generates, generates_by, reached_by, none_left, some_left}
 
 module _ {M : Type 0} (o : Object) (f : Frontier M o.State) (marks : List Mark) where
   pub generates_of : (stands : Lists o f marks) → Generates o stands.kept marks
@@ -80,27 +75,6 @@ module _ {M : Type 0} (o : Object) where
       (subst (λ l. ArePending l marks) (sym is) pending) (subst (Pairwise (λ (c d : PendingOp). c.id ≢ d.id)) (sym is) once)
       (subst (λ l. AreIncluded l s.more) (sym is) (included_again o ends s.more s.adds calls included))
       (subst (λ l. g.tried ≤ length l) (sym is) tried) (subst (λ l. AreClosed o (take g.tried l) s.more) (sym is) (closed_again o (take g.tried calls) ends s.more s.adds closed))
-
--- in the words of the code: the ends as they are kept, and their number
-map-filter : {X Y : Type 0} (f : X → Y) (p : Y → Bool) (xs : List X) → map f (filter (λ x. p (f x)) xs) ≡ filter p (map f xs)
-map-filter f p [] = refl
-map-filter f p (x ∷ xs) =
-    ⊎_elim
-    (λ t. ap (map f) (filter-yes (λ x. p (f x)) x xs t) ∙ ap (λ l. f x ∷ l) (map-filter f p xs) ∙ sym (filter-yes p (f x) (map f xs) t))
-    (λ t. ap (map f) (filter-no (λ x. p (f x)) x xs t) ∙ map-filter f p xs ∙ sym (filter-no p (f x) (map f xs) t))
-    (cases_Bool (p (f x)))
-
-pub kept_after_fail : (o : Object) (items left : List (KeptEnd o.State)) (marks : List Mark) (id : ℕ) → IsOpen marks id → Generates o (map end_kept items) marks
-    → left ≡ filter (λ k. not (is_in (end_kept k) id false)) items → Generates o (map end_kept left) (marks ++ Failed id ∷ [])
-kept_after_fail o items left marks id is_open gen is =
-    subst (λ l. Generates o l (marks ++ Failed id ∷ [])) (sym (ap (map end_kept) is ∙ map-filter end_kept (λ e. not (is_in e id false)) items))
-    (generates_after_fail o (map end_kept items) marks id is_open gen)
-
-pub kept_included_after_fail : {S : Type 0} (calls : List PendingOp) (marks : List Mark) → ArePending calls marks → (items left : List (KeptEnd S)) (id : ℕ) → IsOpen marks id → AreIncluded calls (map end_kept items)
-    → left ≡ filter (λ k. not (is_in (end_kept k) id false)) items → AreIncluded (filter (is_other id) calls) (map end_kept left)
-kept_included_after_fail calls marks are items left id is_open included is =
-    subst (AreIncluded (filter (is_other id) calls)) (sym (ap (map end_kept) is ∙ map-filter end_kept (λ e. not (is_in e id false)) items))
-    (included_after_fail calls marks are id is_open (map end_kept items) included)
 
 -- an invocation: each row gets a zero
 module _ {S : Type 0} (t : Table S) (calls : List PendingOp) (marks : List Mark) (are : ArePending calls marks) (id : ℕ) (op : Op) (new : IsNew marks id) (ends : List (End S)) (shown : AreShown t calls ends) where
@@ -155,23 +129,6 @@ pub shown_of : {S : Type 0} (t : Table S) (calls now : List PendingOp) (ends kep
 shown_of t calls now ends kept a b h =
     subst (λ k. AreIncluded now (map end_kept k) → ShownWith t now [] (Along IsThat (map end_kept k))) b
     (subst (λ l. AreIncluded l (map end_kept ends) → ShownWith t l [] (Along IsThat (map end_kept ends))) a h)
-
--- a fail
-module _ {M : Type 0} (o : Object) (f : Frontier M o.State) (marks : List Mark) (stands : Lists o f marks) (id : ℕ) (is_open : IsOpen marks id) (items left : List (KeptEnd o.State)) (are : map end_kept items ≡ stands.kept)
-    (is : left ≡ filter (λ k. not (is_in (end_kept k) id false)) items) where
-  pub failed_generates : Generates o (map end_kept left) (marks ++ Failed id ∷ [])
-  failed_generates = kept_after_fail o items left marks id is_open (subst (λ l. Generates o l marks) (sym are) (generates_of o f marks stands)) is
-
-  pub failed_included : AreIncluded (filter (is_other id) f.calls.items) (map end_kept left)
-  failed_included = kept_included_after_fail f.calls.items marks stands.well_kept.pending items left id is_open (subst (AreIncluded f.calls.items) (sym are) stands.well_kept.included) is
-
-  pub failed_closed : (tried : ℕ) → tried ≡ f.tried - 1 → AreClosed o (take tried (filter (is_other id) f.calls.items)) (map end_kept left)
-  failed_closed tried less =
-      subst (AreClosed o (take tried (filter (is_other id) f.calls.items))) (sym (ap (map end_kept) is ∙ map-filter end_kept (λ e. not (is_in e id false)) items ∙ ap (filter (λ (e : End o.State). not (is_in e id false))) are))
-      (closed_after_fail id o f.calls.items stands.well_kept.calls_once f.tried tried less stands.kept stands.closed)
-
-  pub failed_tried : (tried : ℕ) → tried ≡ f.tried - 1 → tried ≤ length (filter (is_other id) f.calls.items)
-  failed_tried tried less = let long = one_fewer id f.calls.items stands.well_kept.calls_once in let le = stands.tried in omega (arith, long, le, less)
 
 -- the answer by the number of ends that are left
 module _ (o : Object) (ends : List (End o.State)) (n : ℕ) (long : n ≡ length ends) (marks : List Mark) (mark : Mark) (gen : Generates o ends (marks ++ mark ∷ [])) where

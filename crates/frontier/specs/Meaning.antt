@@ -15,7 +15,7 @@ use Rattle.ends.specs.declared.pending_op.PendingOp.{PendingOp}
 use Rattle.ends.specs.declared.table.Table.{Table}
 use Rattle.frontier.specs.declared.change.Fresh.{Fresh}
 use Rattle.frontier.specs.declared.change.Change.{Change}
-use Rattle.frontier.specs.declared.change.Change.TheVariants.{Nothing, Anew, Invoked as ToInvoked, Returned as ToReturned}
+use Rattle.frontier.specs.declared.change.Change.TheVariants.{Nothing, Anew, Done, Invoked as ToInvoked}
 use Rattle.frontier.specs.declared.frontier.Frontier.{Frontier}
 use Rattle.frontier.specs.declared.frontier.Step.{Step}
 use Rattle.frontier.specs.declared.frontier.Step.TheVariants.{Alive, Dead, Over}
@@ -68,9 +68,8 @@ IsOf g table calls tried fresh =
 abbrev pub Makes : {M S : Type 0} → Change S → Frontier M S → Frontier M S → Type 0
 Makes Nothing f g = IsOf g f.table f.calls.items f.tried f.fresh
 Makes (ToInvoked fresh) f g = IsOf g f.table f.calls.items f.tried (Some fresh)
-Makes (ToReturned id) f g =
-    let left = filter (is_other id) f.calls.items in
-    IsOf g (with_rows f.table f.room.rows) left (length left) f.fresh
+Makes (Done id tried) f g =
+    IsOf g (with_rows f.table f.room.rows) (filter (is_other id) f.calls.items) tried f.fresh
 Makes (Anew calls table tried) f g = IsOf g table.value calls.items tried f.fresh
 
 -- with what is prepared the frontier will stand for the history

@@ -152,10 +152,10 @@ impl<M: SeqObject> Frontier<M> {
         match replace(&mut self.next, Change::Nothing) {
             Change::Nothing => {}
             Change::Invoked(fresh) => self.fresh = Some(fresh),
-            Change::Returned(id) => {
+            Change::Done(id, tried) => {
                 swap(&mut self.table.rows, &mut self.room.rows);
                 ends::drop_call(&mut self.calls, id);
-                self.tried = self.calls.len();
+                self.tried = tried;
             }
             Change::Anew(calls, table, tried) => {
                 self.calls = calls;
@@ -315,7 +315,8 @@ impl<M: SeqObject> Frontier<M> {
         if !all {
             return Ok(Step::Over);
         }
-        self.next = Change::Returned(id);
+        let tried = self.calls.len().saturating_sub(1);
+        self.next = Change::Done(id, tried);
         Ok(step_of(self.room.rows.len()))
     }
 
@@ -327,8 +328,9 @@ impl<M: SeqObject> Frontier<M> {
         self.applied
     }
 
-    /// An open operation did not take place. Never Over. On `AllocError` the frontier is unchanged. Makes its rows anew,
-    /// of the ends that do not include the operation.
+    /// An open operation did not take place. Never Over. On `AllocError` the frontier is unchanged. Leaves the ends that do
+    /// not include the operation: looks at one number of each row, and puts each row that is left, without that number, into
+    /// a hash set.
     pub fn fail(&mut self, id: u32) -> Result<Step, AllocError>
         ensures step { let object = of_table M.State M.start_state M.apply_to in
             let old = StandsFor object self.old in
@@ -344,7 +346,7 @@ impl<M: SeqObject> Frontier<M> {
         Ok(step)
     }
 
-    // The first half of `fail`: makes the rows that take the others' place at `commit`.
+    // The first half of `fail`: the rows that are left are put into the room, and take the others' place at `commit`.
     fn prepare_fail(&mut self, id: u32) -> Result<Step, AllocError>
         ensures step { let object = of_table M.State M.start_state M.apply_to in
             let old = StandsFor object self.old in
@@ -358,15 +360,9 @@ impl<M: SeqObject> Frontier<M> {
         ensures cost { applied_of self.new ≡ applied_of self.old }
     {
         self.list_fresh()?;
-        let mut ends = ends::ends_of::<M>(self.alloc, &self.table, &self.calls)?;
-        ends.retain(|kept| !kept.includes(id));
-        let mut calls = ends::copy_calls(self.alloc, &self.calls)?;
-        ends::drop_call(&mut calls, id);
-        let table = ends::of_ends::<M>(self.alloc, &ends, &calls)?;
-        let left = table.rows.len();
-        let boxed = Box::new(self.alloc, table)?;
-        self.next = Change::Anew(calls, boxed, self.tried.saturating_sub(1));
-        Ok(step_of(left))
+        ends::failed(&self.table, &self.calls, id, &mut self.room.rows)?;
+        self.next = Change::Done(id, self.tried.saturating_sub(1));
+        Ok(step_of(self.room.rows.len()))
     }
 
     /// An open operation has crashed: it may take place at any later moment, or never. A read is set aside, since it decides

@@ -143,6 +143,16 @@ fn number_in_list(lists: &IndexSet<Vec<usize>>, at: usize, place: usize) -> usiz
     }
 }
 
+// How many numbers the list that stands here has, and zero where there is none.
+fn long_in_lists(lists: &IndexSet<Vec<usize>>, at: usize) -> usize
+    ensures { result ≡ length (get_or (map items_of lists.now.keys) at []) }
+{
+    match lists.get_index(at) {
+        Some(list) => list.len(),
+        None => 0,
+    }
+}
+
 // The number at this place of the row of the word that stands here, and zero where there is none.
 fn number_in_word(words: &WordSet, bits: u32, long: usize, at: usize, place: usize) -> usize
     requires { ArePacked bits long words.now }
@@ -246,6 +256,25 @@ impl RowSet {
         } else {
             number_in_word(&self.words, self.bits, self.long, at, place)
         }
+    }
+
+    // How many numbers the row that stands here has.
+    fn long_at(&self, at: usize) -> usize
+        requires { at < length self.now }
+        ensures { result ≡ length (get_or self.now at []) }
+    {
+        if self.wide {
+            return long_in_lists(&self.lists, at);
+        }
+        self.long
+    }
+
+    /// Whether the row that stands here has a zero at this place, and not only no number.
+    pub fn has_zero(&self, at: usize, place: usize) -> bool
+        requires { at < length self.now }
+        ensures { IsTrue result ↔ (slice_get (get_or self.now at []) place ≡ Some 0) }
+    {
+        place < self.long_at(at) && self.number(at, place) == 0
     }
 
     /// Puts the row with the others, if it is not there.

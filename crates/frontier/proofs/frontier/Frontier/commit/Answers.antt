@@ -1,7 +1,6 @@
-use Rattle.std.proofs.Common.{rules, ◌≡◌, ap, length, refl, ◌∙◌}
-use Rattle.std.specs.Vec.{vec_len}
+use Rattle.std.proofs.Common.{refl}
 use Rattle.models.specs.Objects.{of_table}
-use Rattle.frontier.specs.declared.change.Change.TheVariants.{Nothing, Anew, Invoked, Returned}
+use Rattle.frontier.specs.declared.change.Change.TheVariants.{Nothing, Anew, Done, Invoked}
 use Rattle.frontier.proofs.Preparing.{made_by}
 use Rattle.frontier.proofs.frontier.Frontier.commit.Goals as goal
 
@@ -15,13 +14,12 @@ returns-in-Invoked-clause-stands g c marks =
     let o = of_table g.row.M-State.Denot g.M.SeqObject.start_state g.M.SeqObject.apply_to in
     made_by o c.args.self.now _ marks (Invoked c.in-Invoked.fresh) c.in-Invoked.ensures.value (refl, refl, refl, refl)
 
-pub returns-in-Returned-clause-stands : goal.returns-in-Returned-clause-stands
-returns-in-Returned-clause-stands g c marks =
+pub returns-in-Done-clause-stands : goal.returns-in-Done-clause-stands
+returns-in-Done-clause-stands g c marks =
     let o = of_table g.row.M-State.Denot g.M.SeqObject.start_state g.M.SeqObject.apply_to in
     let f = c.args.self.now in
-    let long : vec_len c.drop_call.new.calls ≡ length c.drop_call.new.calls.items = search rules in
-    made_by o f _ marks (Returned c.in-Returned.id) c.in-Returned.ensures.value
-    ((λ i. record { states = f.table.states; founds = f.table.founds; rows = c.swap.ensures.x_after i }), c.drop_call.ensures, c.len-self.ensures ∙ long ∙ ap length c.drop_call.ensures, refl)
+    made_by o f _ marks (Done c.in-Done.id c.in-Done.tried) c.in-Done.ensures.value
+    ((λ i. record { states = f.table.states; founds = f.table.founds; rows = c.swap.ensures.x_after i }), c.drop_call.ensures, refl, refl)
 
 pub returns-in-Anew-clause-stands : goal.returns-in-Anew-clause-stands
 returns-in-Anew-clause-stands g c marks =

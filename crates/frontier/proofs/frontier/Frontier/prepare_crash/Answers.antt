@@ -1,4 +1,4 @@
-use Rattle.std.proofs.Common.{◌≡◌, ◌↔◌, ◌≤◌, ◌∷◌, ◌++◌, [], IsTrue, not, ap, map, length, refl, ◌∙◌, subst, arith}
+use Rattle.std.proofs.Common.{◌↔◌, ◌≤◌, ◌∷◌, ◌++◌, [], IsTrue, not, ap, map, length, refl, ◌∙◌, subst, arith}
 use Rattle.models.specs.Objects.{of_table}
 use Rattle.history.specs.Events.Mark.{Crashed}
 use Rattle.linspec.specs.Ends.{End}

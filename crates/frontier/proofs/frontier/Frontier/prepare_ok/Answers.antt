@@ -1,8 +1,9 @@
-use Rattle.std.proofs.Common.{◌≤◌, ◌+◌, ◌*◌, ◌∷◌, ◌++◌, [], length, ap, refl, sym, ◌∙◌, subst}
+use Rattle.std.proofs.Common.{◌≡◌, ◌≤◌, ◌+◌, ◌-◌, ◌*◌, ◌∷◌, ◌++◌, [], length, ap, refl, ◌∙◌, subst, rules}
 use Rattle.std.specs.List.{filter}
+use Rattle.std.specs.Vec.{vec_len}
 use Rattle.models.specs.Objects.{of_table}
 use Rattle.history.specs.Events.Mark.{Returned}
-use Rattle.frontier.specs.declared.change.Change.TheVariants.{Returned as ToReturned}
+use Rattle.frontier.specs.declared.change.Change.TheVariants.{Done}
 use Rattle.frontier.specs.declared.frontier.Step.TheVariants.{Over}
 use Rattle.ends.specs.EndSteps.{is_other}
 use Rattle.frontier.specs.Meaning.{Answers, StandsFor}
@@ -88,7 +89,7 @@ returns-clause-step g c =
           let l = c.in_ok-list_fresh.ensures.listed marks given in
           let found = advanced o f marks l.lists c.deref.result.now c.deref.ensures.value t f.budget c.args.id c.args.answer.now
           (λ once ends shown closed. c.in_ok-all.ensures.all once ends shown closed c.if-not-all.false) in
-          step_by o found.left.more c.len.result (c.len.ensures ∙ found.left.shown.long) marks (Returned c.args.id c.args.answer.now)
+          step_by o found.left.more c.len-2.result (c.len-2.ensures ∙ found.left.shown.long) marks (Returned c.args.id c.args.answer.now)
           (generates_left o f marks l.lists f.budget t c.args.id is_open c.args.answer.now found)
           f.budget (within o f marks l.lists f.budget t c.args.id is_open c.args.answer.now found)
           _ c.step_of.ensures.alive c.step_of.ensures.dead c.step_of.ensures.never_over;
@@ -114,8 +115,11 @@ returns-clause-next g c =
           let l = c.in_ok-list_fresh.ensures.listed marks given in
           let found = advanced o f marks l.lists c.deref.result.now c.deref.ensures.value t f.budget c.args.id c.args.answer.now
           (λ once ends shown closed. c.in_ok-all.ensures.all once ends shown closed c.if-not-all.false) in
-          will_by o _ (marks ++ Returned c.args.id c.args.answer.now ∷ []) (ToReturned c.args.id) refl l.none t left (length left) (λ g made. made)
-          (λ g table calls tried. stands_after o f marks l.lists f.budget t c.args.id is_open c.args.answer.now found g table calls (tried ∙ ap length (sym calls)));
+          let tried = c.saturating_sub-tried.result in
+          let long : vec_len f.calls ≡ length f.calls.items = search rules in
+          let less : tried ≡ length f.calls.items - 1 = c.saturating_sub-tried.ensures ∙ ap (λ n. n - 1) (c.len.ensures ∙ long) in
+          will_by o _ (marks ++ Returned c.args.id c.args.answer.now ∷ []) (Done c.args.id tried) refl l.none t left tried (λ g made. made)
+          (λ g table calls is. stands_after o f marks l.lists f.budget t c.args.id is_open c.args.answer.now found g table calls (is ∙ less));
     }
 
 pub returns-clause-cost : goal.returns-clause-cost
