@@ -12,7 +12,7 @@ use Rattle.frontier.specs.declared.frontier.Frontier.{Frontier}
 use Rattle.ends.specs.declared.pending_op.PendingOp.{PendingOp}
 use Rattle.ends.specs.declared.table.Table.{Table}
 use Rattle.frontier.specs.Meaning.{Keeps}
-use Rattle.frontier.specs.Meaning.{IsIdle, IsOf, Lists, ListsBut, Makes, StandsFor, StandsWith, WillStandFor}
+use Rattle.frontier.specs.Kept.{IsIdle, IsOf, Lists, ListsBut, Makes, StandsFor, StandsWith, WillStandFor}
 use Rattle.ends.specs.Tables.{AreShown, Widens, rows_of}
 use Rattle.ends.proofs.Showing.{shown_more}
 use Rattle.frontier.proofs.Standing.{stands_too}

@@ -24,7 +24,8 @@ use Rattle.linspec.specs.MarkRule.{IsNew}
 use Rattle.linspec.specs.Ends.{End, IsEnd}
 use Rattle.ends.proofs.Starting.{back, to}
 use Rattle.ends.proofs.Closing.{closed_again}
-use Rattle.frontier.specs.Meaning.{Lists, Blows, IsStep}
+use Rattle.frontier.specs.Kept.{Lists}
+use Rattle.frontier.specs.Meaning.{Blows, IsStep}
 use Rattle.ends.specs.EndSteps.{Adds, Along, AreClosed, IsReached}
 use Rattle.frontier.proofs.Including.{included_more}
 use Rattle.frontier.proofs.Generating.{Generates, generates_by, reached_by, none_left, some_left}

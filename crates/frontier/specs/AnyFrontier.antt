@@ -6,7 +6,7 @@ use Rattle.models.specs.Objects.{register, cas_register, mutex, fifo_queue, set_
 use Rattle.history.specs.Events.{Mark}
 use Rattle.frontier.specs.declared.any_frontier.AnyFrontier.{AnyFrontier}
 use Rattle.frontier.specs.declared.any_frontier.AnyFrontier.TheVariants.{Register, CasRegister, Mutex, FifoQueue, Set, UnorderedQueue}
-use Rattle.frontier.specs.Meaning.{StandsFor, WillStandFor, applied_of, budget_of}
+use Rattle.frontier.specs.Kept.{StandsFor, WillStandFor, applied_of, budget_of}
 
 abbrev pub kind_of_frontier : AnyFrontier → ModelKind
 kind_of_frontier (Register f) = kinds.Register

@@ -3,9 +3,10 @@ ghost use Rattle.std.specs.Prelude.{◌≡◌, ◌≢◌, ◌↔◌, List, [], I
 ghost use Rattle.models.specs.Objects.{of_table};
 ghost use Rattle.history.specs.Events.{Mark};
 ghost use Rattle.history.specs.Events.Mark.{Invoked, Returned, Failed, Crashed};
-ghost use Rattle.frontier.specs.Meaning.{StandsFor, WillStandFor, IsListed, IsIdle};
+ghost use Rattle.frontier.specs.Kept.{StandsFor, WillStandFor, IsListed, IsIdle};
 ghost use Rattle.frontier.specs.Meaning.{Answers, Keeps, Takes, TakesUnlessOver};
-ghost use Rattle.frontier.specs.Meaning.{CostsAtMost, applied_of, budget_of, mark_by};
+ghost use Rattle.frontier.specs.Kept.{applied_of, budget_of};
+ghost use Rattle.frontier.specs.Meaning.{CostsAtMost, mark_by};
 
 use crate::change::{self, Change, Fresh};
 use ends::{KeptEnd, PendingOp, Room, Table};

@@ -3,7 +3,7 @@ use Rattle.std.proofs.lemmas.Result.{err_from_is_err_and}
 use Rattle.models.specs.Objects.{of_table}
 use Rattle.history.specs.Events.Mark.{Invoked}
 use Rattle.ends.specs.declared.pending_op.PendingOp.{PendingOp}
-use Rattle.frontier.specs.Meaning.{IsIdle, IsListed, StandsFor}
+use Rattle.frontier.specs.Kept.{IsIdle, IsListed, StandsFor}
 use Rattle.ends.specs.KeptEnds.{AreIncluded, ArePending}
 use Rattle.ends.specs.Tables.{AreShown, with_rows}
 use Rattle.ends.specs.EndSteps.{AreClosed}

@@ -1,6 +1,7 @@
 use Rattle.std.proofs.Common.{sym, subst}
 use Rattle.models.specs.Objects.{of_table}
-use Rattle.frontier.specs.Meaning.{CostsAtMost, StandsFor, mark_by}
+use Rattle.frontier.specs.Kept.{StandsFor}
+use Rattle.frontier.specs.Meaning.{CostsAtMost, mark_by}
 use Rattle.frontier.proofs.frontier.Frontier.observe.Goals as goal
 
 pub returns-clause-cost : goal.returns-clause-cost

@@ -1,7 +1,8 @@
 use Rattle.std.proofs.Common.{sym, subst}
 use Rattle.models.specs.Objects.{of_table}
 use Rattle.history.specs.Events.Mark.{Returned}
-use Rattle.frontier.specs.Meaning.{CostsAtMost, StandsFor}
+use Rattle.frontier.specs.Kept.{StandsFor}
+use Rattle.frontier.specs.Meaning.{CostsAtMost}
 use Rattle.frontier.proofs.frontier.Frontier.ok.Goals as goal
 
 pub returns-clause-cost : goal.returns-clause-cost

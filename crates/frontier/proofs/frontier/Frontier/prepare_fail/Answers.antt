@@ -5,7 +5,8 @@ use Rattle.history.specs.Events.Mark.{Failed}
 use Rattle.frontier.specs.declared.change.Change.TheVariants.{Done}
 use Rattle.ends.specs.EndSteps.{is_other}
 use Rattle.ends.specs.Tables.{with_rows}
-use Rattle.frontier.specs.Meaning.{Answers, StandsFor}
+use Rattle.frontier.specs.Kept.{StandsFor}
+use Rattle.frontier.specs.Meaning.{Answers}
 use Rattle.frontier.proofs.Standing.{step_by}
 use Rattle.frontier.proofs.Judging.{failed_by, generates_failed, stands_failed}
 use Rattle.frontier.proofs.Preparing.{listed_stands, stands_like, will_by}

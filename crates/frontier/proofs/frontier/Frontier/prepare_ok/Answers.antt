@@ -6,7 +6,8 @@ use Rattle.history.specs.Events.Mark.{Returned}
 use Rattle.frontier.specs.declared.change.Change.TheVariants.{Done}
 use Rattle.frontier.specs.declared.frontier.Step.TheVariants.{Over}
 use Rattle.ends.specs.EndSteps.{is_other}
-use Rattle.frontier.specs.Meaning.{Answers, StandsFor}
+use Rattle.frontier.specs.Kept.{StandsFor}
+use Rattle.frontier.specs.Meaning.{Answers}
 use Rattle.ends.specs.Tables.{with_rows}
 use Rattle.frontier.proofs.Standing.{step_by}
 use Rattle.ends.proofs.Growing.{cost_within}

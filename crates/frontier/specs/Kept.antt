@@ -1,0 +1,92 @@
+-- Invariant: how a frontier keeps the ends of the histories of one key that it stands for. No layer above cites how
+use Rattle.std.specs.Prelude.{◌≡◌, ◌↔◌, ℕ, ◌+◌, ◌≤◌, Option, Some, None, List, [], ◌∷◌, ◌++◌, length, take}
+use Rattle.std.specs.List.{filter}
+use Rattle.models.specs.Objects.{Object}
+use Rattle.history.specs.Events.{Mark}
+use Rattle.history.specs.Events.Mark.{Invoked}
+use Rattle.linspec.specs.MarkRule.{MayFollow}
+use Rattle.linspec.specs.Ends.{End, IsEnd}
+use Rattle.ends.specs.declared.pending_op.PendingOp.{PendingOp}
+use Rattle.ends.specs.declared.table.Table.{Table}
+use Rattle.frontier.specs.declared.change.Fresh.{Fresh}
+use Rattle.frontier.specs.declared.change.Change.{Change}
+use Rattle.frontier.specs.declared.change.Change.TheVariants.{Nothing, Anew, Done, Invoked as ToInvoked}
+use Rattle.frontier.specs.declared.frontier.Frontier.{Frontier}
+use Rattle.ends.specs.KeptEnds.{IsWellKept}
+use Rattle.ends.specs.Tables.{AreShown, with_rows}
+use Rattle.ends.specs.EndSteps.{AreClosed, IsReached, is_other}
+
+-- a frontier that keeps these ends represents the end: operations that may still take place lead to
+-- it, one after another, from an end that is kept (Lowe 2017)
+abbrev pub Represents : {M : Type 0} (o : Object) → Frontier M o.State → List (End o.State)
+    → End o.State → Type 0
+Represents o f kept e = IsReached o f.calls.items kept e
+
+-- its rows say some ends, and by these it represents exactly the ends of the history. The calls that
+-- were tried already lead from the kept ends to no others
+pub record Lists {M : Type 0} (o : Object) (f : Frontier M o.State) (marks : List Mark)
+    : Type 0 where
+  pub kept : List (End o.State)
+  pub shown : AreShown f.table f.calls.items kept
+  pub ends : (e : End o.State) → Represents o f kept e ↔ IsEnd o marks e
+  pub well_kept : IsWellKept f.calls.items kept marks
+  pub tried : f.tried ≤ length f.calls.items
+  pub closed : AreClosed o (take f.tried f.calls.items) kept
+
+-- its rows and calls are those of the history but for its last event, which invoked this operation
+pub record ListsBut {M : Type 0} (o : Object) (f : Frontier M o.State) (fresh : Fresh)
+    (marks : List Mark) : Type 0 where
+  pub before : List Mark
+  pub is : marks ≡ before ++ Invoked fresh.id fresh.op ∷ []
+  pub may : MayFollow before (Invoked fresh.id fresh.op)
+  pub lists : Lists o f before
+
+abbrev pub StandsWith : {M : Type 0} (o : Object) → Frontier M o.State → Option Fresh → List Mark
+    → Type 0
+StandsWith o f None marks = Lists o f marks
+StandsWith o f (Some fresh) marks = ListsBut o f fresh marks
+
+-- the frontier stands for the history
+pub record StandsFor {M : Type 0} (o : Object) (f : Frontier M o.State) (marks : List Mark)
+    : Type 0 where
+  pub stands : StandsWith o f f.fresh marks
+
+-- these rows, calls, tried calls and fresh operation are the frontier's
+abbrev pub IsOf : {M S : Type 0} → Frontier M S → Table S → List PendingOp → ℕ → Option Fresh
+    → Type 0
+IsOf g table calls tried fresh =
+    (g.table ≡ table) × (g.calls.items ≡ calls) × (g.tried ≡ tried) × (g.fresh ≡ fresh)
+
+-- the change makes the other frontier of this one
+abbrev pub Makes : {M S : Type 0} → Change S → Frontier M S → Frontier M S → Type 0
+Makes Nothing f g = IsOf g f.table f.calls.items f.tried f.fresh
+Makes (ToInvoked fresh) f g = IsOf g f.table f.calls.items f.tried (Some fresh)
+Makes (Done id tried) f g =
+    IsOf g (with_rows f.table f.room.rows) (filter (is_other id) f.calls.items) tried f.fresh
+Makes (Anew calls table tried) f g = IsOf g table.value calls.items tried f.fresh
+
+-- with what is prepared the frontier will stand for the history
+pub record WillStandFor {M : Type 0} (o : Object) (f : Frontier M o.State) (marks : List Mark)
+    : Type 0 where
+  pub will : (g : Frontier M o.State) → Makes f.next f g → StandsFor o g marks
+
+-- the frontier stands for the history, and nothing is prepared
+pub record IsIdle {M : Type 0} (o : Object) (f : Frontier M o.State) (marks : List Mark)
+    : Type 0 where
+  pub nothing : f.next ≡ Nothing
+  pub stands : StandsFor o f marks
+
+-- its rows and calls are those of the whole history, and nothing is prepared
+pub record IsListed {M : Type 0} (o : Object) (f : Frontier M o.State) (marks : List Mark)
+    : Type 0 where
+  pub nothing : f.next ≡ Nothing
+  pub none : f.fresh ≡ None
+  pub lists : Lists o f marks
+
+-- the greatest number of ends that an ok may meet
+abbrev pub budget_of : {M S : Type 0} → Frontier M S → ℕ
+budget_of f = f.budget
+
+-- how many steps were made so far: how often an operation was tried in a state
+abbrev pub applied_of : {M S : Type 0} → Frontier M S → ℕ
+applied_of f = f.applied
