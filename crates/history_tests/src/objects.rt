@@ -1,6 +1,7 @@
 //! The outcomes of a dequeue without an order; and copies, comparisons and names.
 use models::{
-    Answer, Found, Items, Members, ModelKind, Name, Op, Part, SeqObject, UnorderedQueue, fits,
+    Answer, Found, Items, Members, ModelKind, Name, Op, Part, SeqObject, Spans, UnorderedQueue,
+    fits,
 };
 use std::alloc::{AllocError, Global};
 use std::test::Fail;
@@ -57,6 +58,21 @@ fn members_are_ascending(rt: HostRuntime) -> Result<(), Fail> {
     assert_eq!(rt; spelled.as_slice(), [-1, 2, 3].as_slice());
     let one = Members::of_ascending(vec![in rt.alloc(); 3]?)?;
     assert!(rt; Members::new(rt.alloc()).with(3)? == one);
+    Ok(())
+}
+
+// Beside, between, far apart, at both ends of the integers, and there already.
+#[test]
+fn spans_have_their_members(rt: HostRuntime) -> Result<(), Fail> {
+    let mut spans = Spans::new(rt.alloc());
+    for value in [5, 3, i64::MAX, 4, i64::MIN, 3, 9, 6] {
+        spans = spans.with(value)?;
+    }
+    let members = [i64::MIN, 3, 4, 5, 6, 9, i64::MAX];
+    assert_eq!(rt; spans.to_members()?.as_slice(), members.as_slice());
+    assert!(rt; spans.copy()? == spans);
+    assert!(rt; spans.with(8)? != spans);
+    assert!(rt; Spans::new(rt.alloc()).to_members()?.as_slice().is_empty());
     Ok(())
 }
 
