@@ -69,8 +69,7 @@ impl Fault {
 }
 
 impl Body {
-    /// An equal body; `AllocError` where there is no memory for it. The members of a set are shared. Takes the time of a
-    /// partition's groups, and else constant time.
+    /// An equal body; `AllocError` where there is no memory for it. The members of a set are shared.
     pub fn copy(&self) -> Result<Body, AllocError>
         ensures { IfOk result (λ other. other ≡ self.now) }
     {
@@ -82,8 +81,7 @@ impl Body {
 }
 
 impl Event {
-    /// An equal event; `AllocError` where there is no memory for it. The members of a set are shared. Takes the time of a
-    /// partition's groups, and else constant time.
+    /// An equal event; `AllocError` where there is no memory for it. The members of a set are shared.
     pub fn copy(&self) -> Result<Event, AllocError>
         ensures { IfOk result (λ other. other ≡ self.now) }
     {

@@ -1,4 +1,4 @@
--- Invariant: values that stand once, each with a number
+-- values that stand once, each with a number
 use Rattle.std.specs.Prelude.{◌≡◌, ◌+◌, ℕ, Option, Some, None, List, slice_get}
 use Rattle.models.specs.declared.finding.Found.{Found}
 

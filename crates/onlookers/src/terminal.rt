@@ -43,8 +43,7 @@ pub struct OnTerminal<'a, X> {
 }
 
 impl<'a, X: Clock + Eprint> OnTerminal<'a, X> {
-    /// Says nothing yet. Whether standard error is a terminal stands for the whole run. It reads the clock where it is one,
-    /// and takes no memory.
+    /// Says nothing yet. Whether standard error is a terminal stands for the whole run.
     pub fn new(rt: &'a X, is_terminal: bool) -> Self {
         OnTerminal {
             rt,
@@ -61,13 +60,12 @@ impl<'a, X: Clock + Eprint> OnTerminal<'a, X> {
         }
     }
 
-    /// A line for how far a run of clients has come. It may go to the thread that shows it. It reads the clock where there
-    /// is a terminal, and takes no memory.
+    /// A line for how far a run of clients has come. It may go to the thread that shows it.
     pub fn moving_line(&self) -> MovingLine<'a, X> {
         MovingLine::new(self.rt, self.is_terminal)
     }
 
-    /// Says what is left to say at the end of a run. It may wait for standard error, whose errors are passed over.
+    /// Says what is left to say at the end of a run.
     pub fn end(&self) {
         let tally = self.tally.get();
         if let Some((line, refusal)) = tally.first {

@@ -47,8 +47,7 @@ impl<'a> KeyEvents<'a> {
         }
     }
 
-    /// Adds an event, which the process rule allows after those before it. Its index is its place in the whole history. It
-    /// takes constant time, but where memory grows.
+    /// Adds an event, which the process rule allows after those before it. Its index is its place in the whole history.
     ///
     /// # Errors
     /// `AllocError` where a growth was refused; the events are then as before.
@@ -62,7 +61,7 @@ impl<'a> KeyEvents<'a> {
         Ok(())
     }
 
-    /// The key. Takes no memory.
+    /// The key.
     pub fn key(&self) -> Key
         ensures { result ≡ self.now.key }
     {
