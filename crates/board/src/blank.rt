@@ -25,7 +25,7 @@ use std::sync::ledger::Share;
 use std::sync::{Mutex, ledger};
 
 /// A board before it has a name: the object, a tape without calls that opens on its state, with the right to go on, and a
-/// ledger with a share for each seat. It takes no memory before `open`, and may be let go.
+/// ledger with a share for each seat. Beside the object it takes no memory before `open`, and may be let go.
 #[derive(Drop)]
 pub struct Blank<X: OneThread> {
     pub object: X,

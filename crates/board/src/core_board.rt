@@ -48,7 +48,7 @@ pub struct Glance {
 }
 
 impl blank::Blank<Core> {
-    /// The parts of a board for so many seats, 1 to 64, that opens as configured.
+    /// The parts of a board for so many seats, 1 to 64, that opens as configured. It costs what [`Core::new`] costs.
     ///
     /// # Errors
     /// Those of [`Core::new`], else [`Refusal::NoSeat`] where the seats are not 1 to 64.
@@ -67,11 +67,12 @@ impl blank::Blank<Core> {
     }
 
     /// The board that the tag names, and its seats, numbered from 0, which have seen the tape without calls. Call it in a
-    /// function generic over the tag, and that one with std's `Brand`.
+    /// function generic over the tag, and that one with std's `Brand`. It takes the time of the seats, and memory for them
+    /// and for the published copies.
     ///
     /// # Errors
     /// [`Refusal::NoMemory`] where a growth was refused, [`Refusal::NoSeat`] where the published copy gave a seat no place
-    /// to read from.
+    /// to read from; what the copies took stays taken then.
     pub fn open<B: Tag>(self) -> Result<(Board<B>, Vec<Seat<B>>), Refusal>
         requires names { (self.word ≡ B.word) × (self.ledger.name ≡ B.name)
             × (self.ledger.parts ≡ B.parts) }
@@ -87,9 +88,9 @@ impl blank::Blank<Core> {
 
 impl<B: Tag> board::Board<Core, B> {
     /// Carries out a command under the lock, as one entry of the tape, and publishes it. A refused command is still an
-    /// entry, with the refusal as its reply. A verdict in the reply is the one from scratch on the history that the
-    /// tape's commands make. It waits for other calls, and for glances that are inside the copy which it writes. It costs
-    /// what [`Core::prepare`] costs, and each publication visits the reader's place of every seat.
+    /// entry, with the refusal as its reply. A verdict in the reply is the one from scratch on the history that the tape's
+    /// commands make. It waits for other calls, and for glances that are inside the copy which it writes. It costs what
+    /// [`Core::step`] costs, and each publication visits the reader's place of every seat.
     ///
     /// # Errors
     /// [`Refusal::TapeFull`] where the tape has 2^32 - 1 calls, all of which the seat has then seen, else
@@ -115,6 +116,7 @@ impl<B: Tag> board::Board<Core, B> {
     }
 
     /// A `call` whose gate begins, by the seat's number, under the lock before the entry is published, and ends after it.
+    /// It costs and waits as `call` does, and as the gate does.
     ///
     /// # Errors
     /// Those of `call`. The gate is then not called.
@@ -155,8 +157,9 @@ impl<B: Tag> board::Board<Core, B> {
         })
     }
 
-    /// The core, in the state after a legal tape that begins with all that these seats had seen. Where they are all
-    /// seats of the board, the tape has just their calls. It waits for glances that are still inside the published copy.
+    /// The core, in the state after a legal tape that begins with all that these seats had seen. Where they are all seats
+    /// of the board, the tape has just their calls. It waits for glances that are still inside the published copy. It takes
+    /// the time of the seats, and no memory.
     pub fn end<R: Wait>(self, rt: &R, seats: Vec<Seat<B>>) -> Core
         ensures { (tape : CoreTape) × LeadsTo tape result.machine
             × IsTapeOf self seats.items B.parts tape }

@@ -35,17 +35,17 @@ struct Prepared {
     replays: u64,
 }
 
-/// The events of one key with their indices, in the order in which they came, and what is known of the key. It is alive
-/// while every beginning of the events is linearizable (Herlihy and Wing 1990, section 2); else it is dead at the
-/// event that ends the shortest beginning that is not. Where an ok finds more ends than the budget just before it, the
-/// key is over at that ok, whatever else is known of it (this project's own).
+/// Where the events of one key stand, in the order in which they came, and what is known of the key. It is alive while every
+/// beginning of the events is linearizable (Herlihy and Wing 1990, section 2); else it is dead at the event that ends the
+/// shortest beginning that is not. Where an ok finds more ends than the budget just before it, the key is over at that ok,
+/// whatever else is known of it (this project's own).
 ///
 /// A line is that of one key because it is given that key's events alone; it looks at no key itself. It has no event of its
 /// own, but where each one stands in the whole history, in 4 bytes. Whoever has it judge events again lends it that history.
 ///
 /// Before the event that follows a 64th one it saves a copy of the ends, with the status, to go back to where events are cut. A
-/// key that is dead or over has no ends, and then the status alone is saved. So beside the places of its events a line takes the
-/// memory of its ends once for each 64 events: at 2^20 events 16,384 times, which is 1 GiB where a copy takes 64 KiB.
+/// key that is dead or over has no ends, and then the status alone is saved. So beside the places of its events a line takes
+/// the memory of its ends once for each 64 events: at 2^20 events 16,384 times, which is 1 GiB where a copy takes 64 KiB.
 ///
 /// Each change is prepared, which may fail and changes nothing but what is prepared, and then committed. What was prepared
 /// before is dropped. An event is prepared on the ends themselves, so no copy of them is made for it.
@@ -83,8 +83,8 @@ impl Model for KeyLine {
 }
 
 impl KeyLine {
-    /// The line of no events of a key whose object is of this kind. An ok of it may find at most `budget` ends just
-    /// before it.
+    /// The line of no events of a key whose object is of this kind. An ok of it may find at most `budget` ends just before it.
+    /// It takes constant time.
     ///
     /// # Errors
     ///

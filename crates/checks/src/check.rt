@@ -20,10 +20,13 @@ use std::{fs, io};
 /// Reads a recorded history to its end, judges it, writes what it comes to, and gives the exit status.
 ///
 /// That is the report, whose last line is that of the verdict; or one line: `refused NUMBER NAME event I`, where I elements
-/// were taken and the next one was refused, or `refused NUMBER NAME` for what is no element's refusal: `ReadFailed` where the
-/// reader has failed, `Unreadable` with its place, `NoMemory`. The status is that of the verdict, else 3, and 3 too where the writer has
-/// failed. The bytes are held once, and one element at a time. So many workers, 1 to 64, judge the keys, and what is written
-/// is the same by any number of them. The onlooker is told on the way how many events are taken, and when they are judged.
+/// were taken and the next one was refused, or `refused NUMBER NAME` for what is no element's refusal: `ReadFailed` where
+/// the reader has failed, what [`Config::check`] refuses, `Unreadable` with its place, `NoMemory`. The status is that of
+/// the verdict, else 3, and 3 too where the writer has failed.
+///
+/// The bytes are held once, and one element at a time. So many workers, 1 to 64, judge the keys, and what is written is the
+/// same by any number of them. It waits for the reader, the workers and the writer. The onlooker is told on the way how
+/// many events are taken, and when they are judged.
 pub fn check_text<X: Wait + Threads + Sync, R: Read + Failed, W: Write + Failed, L: Onlooker>(
     rt: &X,
     alloc: Global,
@@ -50,8 +53,8 @@ pub fn check_text<X: Wait + Threads + Sync, R: Read + Failed, W: Write + Failed,
     tell(rt, alloc, &findings, writer)
 }
 
-/// Judges the recorded history in a file: [`check_text`] of what the file has. A file that can't be opened is told as
-/// `ReadFailed`.
+/// Judges the recorded history in a file: [`check_text`] of what the file has, with the same status, cost and waiting. A
+/// file that can't be opened is told as `ReadFailed`, with status 3.
 pub fn check_file<X: Wait + Threads + Files + Sync, W: Write + Failed, L: Onlooker>(
     rt: &X,
     alloc: Global,

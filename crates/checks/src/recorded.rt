@@ -32,12 +32,13 @@ pub enum Findings {
     Refused(Refusal),
 }
 
-/// Judges a text whose elements are events, in turn, up to the first that is refused.
+/// Judges a text whose elements are events, in turn, up to the first that is refused. What [`Config::check`] refuses is
+/// found before anything is read.
 ///
-/// Where the bytes are no text, that is what is found, even if an element before that place would be refused. The bytes
-/// are read once, and one element of them is held at a time. Where all are taken, so many workers, 1 to 64, judge the keys
-/// (see [`Monitor::load`]); the calling thread is one of them. What is found is the same by any number of them. The onlooker is
-/// told on the way how many events are taken, and when they are judged.
+/// Where the bytes are no text, that is what is found, even if an element before that place would be refused. The bytes are
+/// read once, and one element of them is held at a time. Where all are taken, so many workers, 1 to 64, judge the keys, at
+/// the cost of [`Monitor::load`]; the calling thread is one of them, and waits for the others. What is found is the same by
+/// any number of them. The onlooker is told on the way how many events are taken, and when they are judged.
 pub fn judge_text<X: Threads + Sync, L: Onlooker>(
     rt: &X,
     alloc: Global,
@@ -130,11 +131,12 @@ fn told_by<L: Onlooker>(alloc: Global, monitor: &Monitor, onlooker: &L) -> Resul
     Ok(Findings::Judged(verdict, text))
 }
 
-/// The line of an event that is refused, where so many were taken before it, as `refused 6 BadIndex event 1`.
+/// The line of an event that is refused, where so many were taken before it, as `refused 6 BadIndex event 1`. Takes memory
+/// for the line.
 ///
 /// # Errors
 ///
-/// Where memory is refused.
+/// `AllocError` where there is no memory for it.
 pub fn event_text(alloc: Global, taken: usize, refusal: &Refusal) -> Result<String, AllocError>
     ensures { IfOk result (λ text. string_bytes text ≡ event_line taken refusal.now) }
 {

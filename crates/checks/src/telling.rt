@@ -15,7 +15,7 @@ pub const REFUSED: u8 = 3;
 // The line of want of memory, for which none may be left.
 const NO_MEMORY: &[u8] = b"refused 13 NoMemory\n";
 
-/// The exit status of a verdict.
+/// The exit status of a verdict: 0 legal, 1 illegal, 2 unknown. Takes no memory.
 pub fn status_of_verdict(verdict: &Verdict) -> u8
     ensures { result ≡ status_of verdict.now }
 {
@@ -26,7 +26,8 @@ pub fn status_of_verdict(verdict: &Verdict) -> u8
     }
 }
 
-/// Writes the line of a refusal, or that of want of memory where there was none for it, and gives 3.
+/// Writes the line of a refusal, or that of want of memory where there was none for it, flushes, and gives 3. It waits for
+/// the writer, and takes no memory of its own.
 pub fn put_refused<X: Wait, W: Write + Failed>(
     rt: &X,
     line: Result<String, AllocError>,
@@ -41,7 +42,8 @@ pub fn put_refused<X: Wait, W: Write + Failed>(
     }
 }
 
-/// Writes a text whole, and gives this status; or 3, where the writer has failed.
+/// Writes a text whole, flushes, and gives this status; or 3, where the writer has failed. It waits for the writer, and
+/// takes no memory of its own.
 pub fn put_text<X: Wait, W: Write + Failed>(rt: &X, text: &[u8], status: u8, writer: &mut W) -> u8
     ensures { IsPut text.now status
         (W.contents writer.old) (W.contents writer.new) (W.has_failed writer.new) result }

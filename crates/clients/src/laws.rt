@@ -16,10 +16,10 @@ ghost use Rattle.clients.specs.Runs.{ArePlayed, IsRun, calls_of};
 
 use machine::no_false_alarm;
 
-/// Where all seats of a board went to clients and the nemesis when they were new, and came back, the board's tape has calls of
-/// trials alone: each call of these seats is on it, once, and nothing else is. So each client has there just the calls that it
-/// made, from its first draw to its end, and the nemesis has its own on the last seat. What comes of a run has calls of trials
-/// alone for that.
+/// Where all seats of a board went to clients and the nemesis when they were new, and came back, the board's tape has calls
+/// of trials alone: each call of these seats is on it, once, and nothing else is. So each client has there just the calls
+/// that it made, from its first draw to its end, and the nemesis has its own on the last seat. What comes of a run has
+/// calls of trials alone for that. [`run_on`](crate::run_on) cites it.
 pub fn trials_alone()
     ensures trials { (m : Machine) (seats back : List CoreSeat) (tape : CoreTape)
         → IsFresh (opening_tape m) seats → HaveRun (λ seat. seat) seats back
@@ -41,7 +41,7 @@ pub fn trials_alone()
 {}
 
 /// No run of a strict store is a false alarm: the history to which it leads is linearizable, over all keys together. So no
-/// verdict on it is Illegal.
+/// verdict on it is Illegal. [`run_trial`](crate::run_trial) cites it.
 pub fn no_false_alarm_in_a_run()
     ensures linearizable { (setup : Setup) (threads : ℕ) (m : Machine) → setup.mode ≡ Strict
         → IsCount setup.replicas → IsRun threads (opening setup) m

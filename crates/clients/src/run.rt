@@ -25,17 +25,18 @@ struct Ended<S> {
 }
 
 /// Runs clients, each in a thread of its own: the seat at place `i` is that of the client of thread `i`, and the last one
-/// that of the nemesis. So it takes a seat more than there are threads.
+/// that of the nemesis. So there are 1 to 64 seats, one more than there are threads.
 ///
 /// A client draws, serves and finishes, one operation after the other, until there is none for it; where others completed
 /// or cut its operation, it draws again, and where there may be one later, it lets others go on before that. The nemesis
-/// strikes until all clients have ended; where no fault is due, it lets others make some calls first. The clients begin once it
-/// has tried for the first time, or after some turns. The gate begins by the place of a client before its first command, and ends
-/// after the answer to that; it is called outside the lock. The watch is told how far the run has come, where it wants to know,
-/// by glances from the nemesis's seat: they take no lock.
+/// strikes until all clients have ended; where no fault is due, it lets others make some calls first. The clients begin
+/// once it has tried for the first time, or after some turns. The gate begins by the place of a client before its first
+/// command, and ends after the answer to that; it is called outside the lock. The watch is told how far the run has come,
+/// where it wants to know, by glances from the nemesis's seat: they take no lock.
 ///
-/// A client whose thread can't be started runs in the thread that was to start it, and so does the nemesis, once the clients
-/// have ended, which leaves its seat unused.
+/// A client whose thread can't be started runs in the thread that was to start it, and so does the nemesis, once the
+/// clients have ended, which leaves its seat unused. The call waits until all of them have ended. It takes memory for the
+/// seats and the threads, and else costs what their calls on the board cost.
 ///
 /// # Errors
 /// [`Refusal::HistoryFull`], [`Refusal::TapeFull`] or [`Refusal::NoMemory`], where a seat met it: that of the lowest place.

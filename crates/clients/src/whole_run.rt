@@ -21,14 +21,16 @@ use std::marker::Brand;
 use std::sync::Wait;
 use std::thread::Threads;
 
-/// Opens a board as configured, with a seat for the client of each thread and one for the nemesis, runs them to their end, and
-/// gives the object to which the board's one tape leads. The watch is told meanwhile how far the run has come.
+/// Opens a board as configured, with a seat for the client of each thread and one for the nemesis, runs them to their end,
+/// and gives the object to which the board's one tape leads. The watch is told meanwhile how far the run has come. It waits
+/// and costs as [`run_clients`] does.
 ///
-/// Where the store is strict, its history is linearizable over all keys together, whatever clients and faults did, in any
-/// interleaving: an illegal verdict would be a false alarm.
+/// Where the store is strict, its history is linearizable (Herlihy and Wing 1990) over all keys together, whatever clients
+/// and faults did, in any interleaving: an illegal verdict would be a false alarm.
 ///
 /// # Errors
-/// Those of [`Blank::new`] for as many seats; else those of [`run_clients`], or [`Refusal::NoSeat`].
+/// Those of [`Blank::new`] for as many seats, and so [`Refusal::NoSeat`] where the concurrency is 64; else those of
+/// [`run_clients`], or [`Refusal::NoSeat`] where the published copy gave a seat no place.
 pub fn run_trial<W: Watch + Send + Drop, R: Threads + Wait + Sync>(
     rt: &R,
     alloc: Global,
@@ -52,8 +54,8 @@ pub fn run_trial<W: Watch + Send + Drop, R: Threads + Wait + Sync>(
     run_on::<Brand, OpenGate, W, R>(rt, alloc, blank, &OpenGate, watch)
 }
 
-/// Opens a board by its tag, runs clients and the nemesis on its seats, with a gate and a watch, and gives the object to which
-/// its one tape leads.
+/// Opens a board by its tag, runs clients and the nemesis on its seats, with a gate and a watch, and gives the object to
+/// which its one tape leads. It waits and costs as [`run_clients`] does.
 ///
 /// # Errors
 /// Those of [`run_clients`], or [`Refusal::NoSeat`] where the published copy gave a seat no place.

@@ -30,7 +30,7 @@ fn ends_atom(b: u8) -> bool
     )
 }
 
-/// The bytes up to the first that ends an atom, and the rest.
+/// The bytes up to the first that ends an atom, and the rest. Takes no memory.
 pub fn token(text: &[u8]) -> (&[u8], &[u8])
     ensures whole { text.now ≡ result.0.now ++ result.1.now }
     ensures inside { IsToken result.0.now }
@@ -131,8 +131,8 @@ fn longest_name(text: &[u8]) -> Option<(&[u8], &[u8])>
     Some(text.split_at(text.len() - rest.len()))
 }
 
-/// Whether the bytes are the name of a keyword: an ASCII letter, and then ASCII letters, digits and `-`, `_`, `?`, `!`, `*`
-/// or `.`.
+/// Whether the bytes are the name of a keyword: an ASCII letter, and then ASCII letters, digits and `-`, `_`, `?`, `!`, `*` or
+/// `.`. Takes no memory, and the time of the bytes.
 pub fn is_keyword_name(bytes: &[u8]) -> bool
     ensures { IsTrue result ↔ IsKeywordText bytes.now }
 {
@@ -176,7 +176,7 @@ fn without_plus(text: &[u8]) -> &[u8]
     }
 }
 
-/// The longest atom at the front, and what follows it.
+/// The longest atom at the front, and what follows it; or none where no atom stands there. Takes no memory.
 pub fn longest_atom(text: &[u8]) -> Option<(Atom<'_>, &[u8])>
     ensures found { IfSome result (λ x. IsLongest IsAtom text.now (atom_value x.0) x.1.now) }
     ensures none { IfNone result (HasNone IsAtom text.now) }
@@ -206,7 +206,8 @@ fn keyword_of(alloc: Global, name: &[u8]) -> Result<Edn, ReadError>
     Ok(Edn::Keyword(String::from_str(alloc, text)?))
 }
 
-/// The value of a whole token.
+/// The value of a whole token. [`ReadError::Unreadable`] where it is no atom, [`ReadError::NoMemory`] where a growth was
+/// refused. Takes the time of the token.
 pub fn atom_of(alloc: Global, token: &[u8]) -> Result<Edn, ReadError>
     ensures ok { IfOk result (λ e. IsAtom token.now (value_of e)) }
     ensures unreadable { OnUnreadable result ((v : Value) → ¬ IsAtom token.now v) }

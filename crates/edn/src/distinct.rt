@@ -14,6 +14,7 @@ use std::collections::BTreeSet;
 pub trait Keyed {
     ghost key_value: { Self → Value };
 
+    /// Its key. Takes no memory.
     fn key(&self) -> &Edn
         ensures { value_of result.now ≡ key_value self.now };
 }
@@ -103,9 +104,9 @@ fn rise<T: Keyed>(items: &[T]) -> bool
 // Among so many items each key is compared with those before it, which takes no memory.
 const FEW: usize = 8;
 
-/// Whether no two of the items have the same key. The time grows with the logarithm of their number for an atom or a
-/// string, and with their number for a collection. Of at most 8 items, each is compared with those before it; integers
-/// that rise are looked at once, and take no memory.
+/// Whether no two of the items have the same key; `AllocError` where there is no memory to find it. The time grows with the
+/// logarithm of their number for an atom or a string, and with their number for a collection. Of at most 8 items, each is
+/// compared with those before it; integers that rise are looked at once, and take no memory.
 pub fn are_distinct<T: Keyed>(alloc: Global, items: &[T]) -> Result<bool, AllocError>
     ensures { IfOk result
         (λ yes. IsTrue yes ↔ AreDistinct (list_of (map T.key_value items.now))) }

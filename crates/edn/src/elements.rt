@@ -33,7 +33,7 @@ impl<'a> Model for Elements<'a> {
 }
 
 impl<'a> Elements<'a> {
-    /// Reads nothing yet.
+    /// Reads nothing yet. Takes no memory.
     pub fn new(bytes: &'a [u8]) -> Self
         ensures bytes { result.bytes ≡ bytes.now }
         ensures left { result.left ≡ bytes.now }
@@ -45,12 +45,12 @@ impl<'a> Elements<'a> {
     /// The next element, or none at the end of the text.
     ///
     /// # Errors
-    /// [`Refusal::Unreadable`] where the input is no text, with the same place as
-    /// [`read_all`](crate::read_all): at the latest where the next element or the end of the text should stand, and then
-    /// at each further call. [`Refusal::NoMemory`] where a growth was refused; the element can be asked for again.
+    /// [`Refusal::Unreadable`] where the input is no text, with the same place as [`read_all`](crate::read_all): at the latest
+    /// where the next element or the end of the text should stand, and then at each further call. [`Refusal::NoMemory`] where a
+    /// growth was refused; the element can be asked for again.
     ///
-    /// The time is that of one pass over the element and the gap in front of it, and two over the input where it is
-    /// refused.
+    /// The time is that of one pass over the element and the gap in front of it, and two over the input where it is refused;
+    /// and of finding repeated keys and members, as [`read_all`](crate::read_all) says.
     pub fn next(&mut self, alloc: Global) -> Result<Option<Edn>, Refusal>
         ensures bytes { self.new.bytes ≡ self.old.bytes }
         ensures given { IfOk result (λ found. IfSome found (λ e. (given : Values)
@@ -68,15 +68,16 @@ impl<'a> Elements<'a> {
         Ok(found)
     }
 
-    /// What stands behind the elements that were given: the gap in front of the next one, that element, and so on.
+    /// What stands behind the elements that were given: the gap in front of the next one, that element, and so on. Takes no
+    /// memory.
     pub fn left(&self) -> &'a [u8]
         ensures { result.now ≡ self.now.left }
     {
         self.rest
     }
 
-    /// Passes over the next element, which the caller has read at the front of [`left`](Elements::left) by itself: rest
-    /// follows it.
+    /// Passes over the next element, which the caller has read at the front of [`left`](Elements::left) by itself: rest follows
+    /// it. Takes no memory, and constant time.
     pub fn pass_to(&mut self, rest: &'a [u8])
         requires { (v : Value) × IsNextAt self.old.left v rest.now }
         ensures bytes { self.new.bytes ≡ self.old.bytes }

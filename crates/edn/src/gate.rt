@@ -1,8 +1,10 @@
 /// What each piece of some work calls as it begins and as it ends, by its place from 0. A test gives one of its own
 /// to hold pieces back, and so sees that two of them run at once.
 pub trait Gate {
+    /// The piece at this place begins.
     fn begin(&self, place: u32);
 
+    /// The piece at this place has ended, whatever came of it.
     fn end(&self, place: u32);
 }
 

@@ -58,7 +58,8 @@ fn place_of(alloc: Global, bytes: &[u8]) -> Result<usize, ReadError>
     Ok(best)
 }
 
-/// Why an input that is no text is refused.
+/// Why an input that is no text is refused: [`Refusal::Unreadable`] with the length of its longest front that is one, or
+/// [`Refusal::NoMemory`] where a growth was refused. The time is that of reading the input.
 pub fn unreadable(alloc: Global, bytes: &[u8]) -> Refusal
     requires { (values : Values) → IsText bytes.now values → ⊥ }
     ensures { IsWhy bytes.now result }

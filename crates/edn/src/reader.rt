@@ -26,7 +26,8 @@ const ROOM: usize = 10;
 /// Drops an element. Dropped in a larger function, an enum gives that function's goals once for each variant.
 pub fn discarded(_value: Edn) {}
 
-/// The element at the front, and what follows it.
+/// The element at the front, and what follows it. [`ReadError::Unreadable`] where none stands there with so many collections
+/// open, [`ReadError::NoMemory`] where a growth was refused. The time is that of reading it.
 #[cycle(reader)]
 pub fn element(alloc: Global, depth: u8, text: &[u8]) -> Result<(Edn, &[u8]), ReadError>
     ensures ok { IfOk result (λ x. Reads depth text.now (value_of x.0) x.1.now) }
@@ -99,6 +100,8 @@ fn inside(alloc: Global, depth: u8, text: &[u8]) -> Result<(Vec<Edn>, &[u8]), Re
 }
 
 /// The next element behind a gap, and what follows it; or none where the text or a collection ends behind the gap.
+/// [`ReadError::Unreadable`] where neither is there, [`ReadError::NoMemory`] where a growth was refused. The time is that of
+/// reading it.
 #[cycle(reader)]
 pub fn next_element(
     alloc: Global,

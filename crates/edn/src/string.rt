@@ -41,7 +41,8 @@ fn next_byte(text: &[u8]) -> Option<(u8, &[u8])>
     Some((byte, behind))
 }
 
-/// The string behind an opening quote, and what follows its closing quote.
+/// The string behind an opening quote, and what follows its closing quote. [`ReadError::Unreadable`] where there is none or its
+/// bytes are no UTF-8, [`ReadError::NoMemory`] where a growth was refused. The time is that of its bytes.
 pub fn string_of(alloc: Global, text: &[u8]) -> Result<(String, &[u8]), ReadError>
     ensures ok { IfOk result (λ x. ReadsString text.now (string_bytes x.0) x.1.now) }
     ensures unreadable { OnUnreadable result

@@ -1,4 +1,4 @@
--- Invariant: how a frontier keeps ends, and the operations that may still take place
+-- Invariant: ends by themselves, as rows become where they are made anew, and the operations that may still take place
 use Rattle.std.specs.Prelude.{◌≡◌, ◌≢◌, ◌↔◌, ℕ, Option, Some, List, Bool, true, false, IsTrue}
 use Rattle.std.specs.List.{Contains}
 use Rattle.std.specs.Ordering.{nat_cmp}

@@ -82,7 +82,8 @@ fn settled_rows<S: Hash + Drop>(
 }
 
 /// Puts the rows after the operation has returned with this answer, of those where it is in and what it found fits, each
-/// without it, in place of the rows that were there.
+/// without it, in place of the rows that were there. None where it is not open. `AllocError` where there is no memory for them.
+/// Looks at one number of each row.
 pub fn settled<S: Hash + Drop>(
     table: &Table<S>,
     calls: &[PendingOp],
@@ -169,7 +170,8 @@ fn crashed_end<M: SeqObject>(
 }
 
 /// The ends after the operation has crashed, in the same order. If it counts it is among the crashed ones of an end that it is
-/// in, and else it is in no end any more. Ends that differed before may be the same then.
+/// in, and else it is in no end any more. Ends that differed before may be the same then. `AllocError` where there is no memory
+/// for them. Takes the time of the ends: for each that of a copy of its state, and of the operations in it.
 pub fn crashed_ends<M: SeqObject>(
     alloc: Global,
     ends: &[KeptEnd<M::State>],

@@ -78,7 +78,9 @@ fn narrowed<M: SeqObject>(
     Ok(Some(other))
 }
 
-/// A table that shows the same ends, with memory of its own, and with no more states than it has rows.
+/// A table that shows the same ends, with no more states than it has rows. Rows and states are copied, while the items of
+/// queues and the members that were found are shared. `AllocError` where there is no memory for it. Takes the time of the rows,
+/// the states and what was found.
 pub fn copied<M: SeqObject>(
     alloc: Global,
     table: &Table<M::State>,

@@ -20,7 +20,8 @@ use rows::RowSet;
 use std::alloc::{AllocError, Global};
 use std::hash::Hash;
 
-/// Memory that an ok works in, kept for the next one: what calls do in states, the row that is looked at, and the rows that are left.
+/// Memory that an ok works in, kept for the next one: what calls do in states, the row that is looked at, and the rows that are
+/// left, into which a fail puts its own too.
 #[derive(Drop)]
 pub struct Room<S> {
     moves: Moves<S>,
@@ -29,7 +30,7 @@ pub struct Room<S> {
 }
 
 impl<S> Room<S> {
-    /// None yet.
+    /// None yet. Takes no memory.
     pub fn new(alloc: Global) -> Room<S> {
         Room {
             moves: Moves::new(alloc),
@@ -87,7 +88,8 @@ fn put_led<S: Hash + Drop>(
         → ((target : ℕ × ℕ) → Contains (targets_of to targets.now) target
         → (f : End S) × Shows table.old calls (row_led row place target) f)
         → OnOk result (ShownWith table.new calls ends
-        (Along (λ target f. Shows table.old calls (row_led row place target) f) (targets_of to targets.now))) }
+        (Along (λ target f. Shows table.old calls (row_led row place target) f)
+        (targets_of to targets.now))) }
     ensures states { table.new.states ≡ table.old.states }
     ensures founds { table.new.founds ≡ table.old.founds }
     ensures front { IsFront (rows_of table.old) (rows_of table.new) }
@@ -120,8 +122,10 @@ fn grow_at<M: SeqObject>(
     requires number { number ≡ get_or row.now 0 0 }
     requires row { row.now ≡ get_or (rows_of table.old) from [] }
     requires zero_there { slice_get row.now (at + 1) ≡ Some 0 }
-    ensures moves { AreMoves M.apply_to table.old calls.now moves.old.known.items moves.old.targets.items
-        → OnOk result (AreMoves M.apply_to table.new calls.now moves.new.known.items moves.new.targets.items) }
+    ensures moves { AreMoves M.apply_to table.old calls.now
+        moves.old.known.items moves.old.targets.items
+        → OnOk result (AreMoves M.apply_to table.new calls.now
+        moves.new.known.items moves.new.targets.items) }
     ensures adds { let object = of_table M.State M.start_state M.apply_to in
         AreMoves M.apply_to table.old calls.now moves.old.known.items moves.old.targets.items
         → IsAlike calls.now at place → HasEachOnce calls.now
@@ -154,8 +158,10 @@ fn grow_from<M: SeqObject>(
 ) -> Result<(), AllocError>
     requires here { from < length (rows_of table.old) }
     requires row { row.now ≡ get_or (rows_of table.old) from [] }
-    ensures moves { AreMoves M.apply_to table.old calls.now moves.old.known.items moves.old.targets.items
-        → OnOk result (AreMoves M.apply_to table.new calls.now moves.new.known.items moves.new.targets.items) }
+    ensures moves { AreMoves M.apply_to table.old calls.now
+        moves.old.known.items moves.old.targets.items
+        → OnOk result (AreMoves M.apply_to table.new calls.now
+        moves.new.known.items moves.new.targets.items) }
     ensures adds { let object = of_table M.State M.start_state M.apply_to in
         AreMoves M.apply_to table.old calls.now moves.old.known.items moves.old.targets.items
         → AreAlike calls.now moves.old.likes.items → HasEachOnce calls.now
@@ -210,7 +216,8 @@ fn leads_beyond<M: SeqObject>(
     ensures beyond { let object = of_table M.State M.start_state M.apply_to in
         result ≡ true → (e : End M.State) → Shows table.now calls.now row.now e
         → ReachesMoreThan object calls.now (e ∷ []) budget }
-    ensures within { result ≡ false → (at : ℕ) (c : PendingOp) (e : End M.State) → first ≤ at
+    ensures within { result ≡ false → (at : ℕ) (c : PendingOp) (e : End M.State)
+        → first ≤ at
         → slice_get calls.now at ≡ Some c → Shows table.now calls.now row.now e
         → is_in e c.id c.crashed ≡ false → length (M.apply_to c.op e.state) ≤ budget }
 {
@@ -321,8 +328,12 @@ fn found_rows<M: SeqObject>(
 /// Puts the rows of the ends that are left after the operation has returned with this answer into the room: of those where it
 /// is in and what it found fits, each without it. False where all ends, these and what the calls lead to from them one after
 /// another, are more than the budget. This is so where each end is there once, each call is of another operation, and the first
-/// calls, so many as were tried already, lead from the ends to no others. No more ends than the budget are extended, and no call
-/// is tried that has more outcomes than the budget. The rows of the table stay.
+/// calls, so many as were tried already, lead from the ends to no others. No more ends than the budget are extended, and no
+/// call is tried that has more outcomes than the budget. The rows of the table stay.
+///
+/// `AllocError` where there is no memory for them: the rows of the table stay then too, and the steps that were made stay
+/// counted. It makes at most one step for each call and each end that is extended, and looks the row of each end that comes of
+/// one up among the others.
 pub fn advance<M: SeqObject>(
     alloc: Global,
     table: &mut Table<M::State>,

@@ -1,4 +1,4 @@
-//! Ends, as they are kept.
+//! Ends by themselves, as rows become where they are made anew.
 ghost use Rattle.std.specs.Prelude.{◌≡◌, true, false, IfOk, OnOk, option_copied};
 ghost use Rattle.ends.specs.KeptEnds.{end_kept, found_at, has_crashed};
 ghost use Rattle.ends.specs.EndSteps.{settled, after_crash, is_in, with_call};
@@ -15,7 +15,7 @@ pub struct KeptEnd<S> {
     pub crashed: Vec<u32>,
 }
 
-/// What the operation found, where it is among these.
+/// What the operation found, where it is among these. Takes no memory, and the time of these.
 pub fn found_in(pending: &[(u32, Found)], id: u32) -> Option<&Found>
     ensures { option_copied result ≡ found_at pending.now id }
 {
@@ -27,7 +27,7 @@ pub fn found_in(pending: &[(u32, Found)], id: u32) -> Option<&Found>
     None
 }
 
-/// Whether the operation is among these.
+/// Whether the operation is among these. Takes no memory, and the time of these.
 pub fn has(ids: &[u32], id: u32) -> bool
     ensures { result ≡ has_crashed ids.now id }
 {
@@ -46,7 +46,8 @@ fn copied(alloc: Global, pending: &[(u32, Found)]) -> Result<Vec<(u32, Found)>, 
     Ok(entries)
 }
 
-/// The same end.
+/// The same end. The items of queues and the members that were found are shared. `AllocError` where there is no memory for it.
+/// Takes the time of a copy of its state, and of the operations in it.
 pub fn copy_of<M: SeqObject>(
     alloc: Global,
     kept: &KeptEnd<M::State>,
@@ -71,7 +72,8 @@ impl<S> KeptEnd<S> {
         found_in(&self.pending, id).is_some()
     }
 
-    /// The call takes place in it, and finds this.
+    /// The call, which is not in it, takes place in it, and finds this. `AllocError` where there is no memory for it: then the
+    /// end is as it was. Takes constant time, but where its memory grows.
     pub fn include(&mut self, call: &PendingOp, found: Found) -> Result<(), AllocError>
         ensures { let id = call.now.id in let crashed = call.now.crashed in
             let old = end_kept self.old in is_in old id crashed ≡ false
@@ -85,14 +87,16 @@ impl<S> KeptEnd<S> {
         Ok(())
     }
 
-    /// The open operation is done now.
+    /// The open operation is done now, and what it found is told no more. Takes no memory, and the time of the open operations
+    /// in it.
     pub fn settle(&mut self, id: u32)
         ensures { end_kept self.new ≡ settled (end_kept self.old) id }
     {
         self.pending.retain(|entry| entry.0 != id);
     }
 
-    /// The open operation crashes, and is among the crashed ones if it is in it.
+    /// The open operation crashes, and is among the crashed ones if it is in it. `AllocError` where there is no memory for it:
+    /// then the end is as it was. Takes the time of the open operations in it.
     pub fn crash(&mut self, id: u32) -> Result<(), AllocError>
         ensures { OnOk result (end_kept self.new ≡ after_crash true (end_kept self.old) id) }
     {

@@ -52,7 +52,7 @@ pub struct Moves<S> {
 }
 
 impl<S> Moves<S> {
-    /// Nothing is known yet.
+    /// Nothing is known yet. Takes no memory.
     pub fn new(alloc: Global) -> Moves<S> {
         Moves {
             known: Vec::new(alloc),
@@ -70,7 +70,7 @@ fn place_of(number: usize, at: usize, calls: usize) -> usize
     number.saturating_mul(calls).saturating_add(at)
 }
 
-/// Forgets all moves. Keeps their memory, if it is not much.
+/// Forgets all moves. Keeps their memory, if it is not much. Takes no memory.
 pub fn forget<S: Drop>(alloc: Global, moves: &mut Moves<S>)
     ensures known { moves.new.known.items ≡ [] }
     ensures targets { moves.new.targets.items ≡ [] }
@@ -129,7 +129,8 @@ fn remember(
     to: Move,
 ) -> Result<(), AllocError>
     ensures { (p : ℕ) → let now = get_or moves.new.items p Move.Untried in
-        (now ≡ get_or moves.old.items p Move.Untried) ⊎ ((p ≡ number * calls + at) × (now ≡ to)) }
+        (now ≡ get_or moves.old.items p Move.Untried)
+        ⊎ ((p ≡ number * calls + at) × (now ≡ to)) }
 {
     let place = place_of(number, at, calls);
     if place >= MOST {
@@ -182,7 +183,8 @@ fn move_to_each<M: SeqObject>(
     outcomes: &mut Vec<(M::State, Found)>,
 ) -> Result<Move, AllocError>
     ensures leads { IfOk result (LeadsTo table.new crashed outcomes.old.items targets.new.items) }
-    ensures more { OnOk result ((more : List (ℕ × ℕ)) × (targets.new.items ≡ targets.old.items ++ more)) }
+    ensures more { OnOk result ((more : List (ℕ × ℕ))
+        × (targets.new.items ≡ targets.old.items ++ more)) }
     ensures widens { Widens table.old table.new }
     ensures rows { rows_of table.new ≡ rows_of table.old }
 {
@@ -199,7 +201,8 @@ fn move_to<M: SeqObject>(
     outcomes: &mut Vec<(M::State, Found)>,
 ) -> Result<Move, AllocError>
     ensures leads { IfOk result (LeadsTo table.new crashed outcomes.old.items targets.new.items) }
-    ensures more { OnOk result ((more : List (ℕ × ℕ)) × (targets.new.items ≡ targets.old.items ++ more)) }
+    ensures more { OnOk result ((more : List (ℕ × ℕ))
+        × (targets.new.items ≡ targets.old.items ++ more)) }
     ensures widens { Widens table.old table.new }
     ensures rows { rows_of table.new ≡ rows_of table.old }
 {
@@ -240,7 +243,8 @@ fn first_alike(calls: &[PendingOp], at: usize) -> usize
     at
 }
 
-/// Notes which calls do the same.
+/// Notes which calls do the same. `AllocError` where there is no memory for it. Takes the time of the calls: each is compared
+/// with the first 16 at most.
 pub fn note_likes<S>(moves: &mut Moves<S>, calls: &[PendingOp]) -> Result<(), AllocError>
     ensures likes { OnOk result (AreAlike calls.now moves.new.likes.items) }
     ensures known { moves.new.known ≡ moves.old.known }
@@ -271,7 +275,7 @@ fn like_before(calls: &[PendingOp], at: usize, next: Like) -> Like
     }
 }
 
-/// Which calls from this place on do the same.
+/// Which calls from this place on do the same. Takes no memory, and constant time.
 pub fn alike_at<S>(moves: &Moves<S>, calls: &[PendingOp], at: usize) -> Like
     requires within { at < length calls.now }
     ensures within { result.place ≤ at }
@@ -284,7 +288,8 @@ pub fn alike_at<S>(moves: &Moves<S>, calls: &[PendingOp], at: usize) -> Like
     }
 }
 
-/// How many of the calls from this place on that do the same are known to lead nowhere from the state with this number: all or none.
+/// How many of the calls from this place on that do the same are known to lead nowhere from the state with this number: all or
+/// none. Takes no memory, and constant time.
 #[inline(always)]
 pub fn stuck<S>(
     moves: &Moves<S>,
@@ -312,7 +317,8 @@ fn leads_nowhere<S>(moves: &Moves<S>, number: usize, at: usize, calls: usize) ->
     matches!(known(&moves.known, number, at, calls), Move::Nowhere)
 }
 
-/// What is known of the call at this place in the state with this number, where it was tried.
+/// What is known of the call at this place in the state with this number, where it was tried. Takes no memory, and constant
+/// time.
 pub fn recalled<S>(moves: &Moves<S>, number: usize, at: usize, calls: usize) -> Option<Move>
     ensures { IfSome result (λ to. (to ≡ known_at moves.now.known.items calls number at)
         × IsKnown to moves.now.targets.items) }
@@ -328,7 +334,9 @@ pub fn recalled<S>(moves: &Moves<S>, number: usize, at: usize, calls: usize) -> 
     }
 }
 
-/// Tries the call in the state with this number, and remembers where it leads.
+/// Tries the call in the state with this number, and remembers where it leads. `AllocError` where there is no memory for its
+/// outcomes or for what is remembered. Takes one step, the time of looking its outcomes up, and that of the list of moves where
+/// this grows.
 pub fn tried<M: SeqObject>(
     alloc: Global,
     table: &mut Table<M::State>,
@@ -339,8 +347,10 @@ pub fn tried<M: SeqObject>(
     applied: &mut u64,
 ) -> Result<Move, AllocError>
     requires within { at < length calls.now }
-    ensures moves { AreMoves M.apply_to table.old calls.now moves.old.known.items moves.old.targets.items
-        → OnOk result (AreMoves M.apply_to table.new calls.now moves.new.known.items moves.new.targets.items) }
+    ensures moves { AreMoves M.apply_to table.old calls.now
+        moves.old.known.items moves.old.targets.items
+        → OnOk result (AreMoves M.apply_to table.new calls.now
+        moves.new.known.items moves.new.targets.items) }
     ensures does { (s : M.State) (c : PendingOp) → slice_get table.old.states number ≡ Some s
         → slice_get calls.now at ≡ Some c
         → IfOk result (λ to. AreTo table.new c.crashed (M.apply_to c.op s)

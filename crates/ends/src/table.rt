@@ -20,9 +20,9 @@ use rows::RowSet;
 use std::alloc::{AllocError, Global};
 use std::hash::Hash;
 
-/// The ends that an ok finds, each a row of numbers. The first says where its state stands; then comes one for each call:
-/// zero where it is not in, and else one more than where what it found stands. States and what was found stand once, so
-/// equal ends are equal rows.
+/// The ends that a frontier keeps, and while an ok works those too that it finds, each a row of numbers. The first says where
+/// its state stands; then comes one for each call: zero where it is not in, and else one more than where what it found stands.
+/// States and what was found stand once, so equal ends are equal rows.
 #[derive(Drop)]
 pub struct Table<S: Hash + Drop> {
     pub states: States<S>,
@@ -83,6 +83,8 @@ fn row_of<M: SeqObject>(
 }
 
 /// Writes the outcomes of the operation in the state: one step, which is counted. No other function tries an operation.
+/// `AllocError` where there is no memory for them; the step is counted then too. Takes the time of
+/// [`SeqObject::append_outcomes`].
 pub fn step<M: SeqObject>(
     alloc: Global,
     state: &M::State,
@@ -98,7 +100,7 @@ pub fn step<M: SeqObject>(
     M::append_outcomes(alloc, state, op, outcomes)
 }
 
-/// The state with this number: that of the end of each row that has this number first.
+/// The state with this number: that of the end of each row that has this number first. Takes no memory, and constant time.
 pub fn state_numbered<S: Hash + Drop>(table: &Table<S>, number: usize) -> Option<&S>
     ensures { (calls : List PendingOp) (row : List ℕ) (e : End S) → number ≡ get_or row 0 0
         → Shows table.now calls row e → IsSomeAnd result (λ s. s.now ≡ e.state) }
@@ -106,14 +108,14 @@ pub fn state_numbered<S: Hash + Drop>(table: &Table<S>, number: usize) -> Option
     table.states.get(number)
 }
 
-/// What is told of what the call found.
+/// What is told of what the call found: of a crashed one nothing. Takes no memory.
 pub fn told_by(crashed: bool, found: Found) -> Found
     ensures { result ≡ told_by crashed found }
 {
     if crashed { Found::Unit } else { found }
 }
 
-/// The number of the state of the row's end.
+/// The number of the state of the row's end. Takes no memory, and constant time.
 pub fn number_of_state(row: &[usize]) -> usize
     ensures { result ≡ get_or row.now 0 0 }
 {
@@ -123,7 +125,7 @@ pub fn number_of_state(row: &[usize]) -> usize
     }
 }
 
-/// Whether the row has zero at this place: the call of that place is not in its end.
+/// Whether the row has zero at this place: the call of that place is not in its end. Takes no memory, and constant time.
 pub fn has_zero(row: &[usize], place: usize) -> bool
     ensures { IsTrue result ↔ (slice_get row.now place ≡ Some 0) }
 {
@@ -133,8 +135,9 @@ pub fn has_zero(row: &[usize], place: usize) -> bool
     }
 }
 
-/// Where the call at this place, which is not in it, leads from the end of the row, whose state has this number. The call at the
-/// other place does the same.
+/// Where the call at this place, which is not in it, leads from the end of the row, whose state has this number. The call at
+/// the other place does the same. `AllocError` where there is no memory for the outcomes. Takes constant time where that is
+/// known, and else one step, and the time of looking its outcomes up.
 pub fn led_to<M: SeqObject>(
     alloc: Global,
     table: &mut Table<M::State>,
@@ -150,8 +153,10 @@ pub fn led_to<M: SeqObject>(
     requires before { place ≤ at }
     requires number { number ≡ get_or row.now 0 0 }
     requires zero_there { slice_get row.now (at + 1) ≡ Some 0 }
-    ensures moves { AreMoves M.apply_to table.old calls.now moves.old.known.items moves.old.targets.items
-        → OnOk result (AreMoves M.apply_to table.new calls.now moves.new.known.items moves.new.targets.items) }
+    ensures moves { AreMoves M.apply_to table.old calls.now
+        moves.old.known.items moves.old.targets.items
+        → OnOk result (AreMoves M.apply_to table.new calls.now
+        moves.new.known.items moves.new.targets.items) }
     ensures next { let object = of_table M.State M.start_state M.apply_to in
         AreMoves M.apply_to table.old calls.now moves.old.known.items moves.old.targets.items
         → IsAlike calls.now at place → HasEachOnce calls.now
@@ -171,7 +176,8 @@ pub fn led_to<M: SeqObject>(
     }
 }
 
-/// The ends as rows.
+/// The ends as rows, in order; ends that are the same become one row. `AllocError` where there is no memory for them. Takes the
+/// time of a copy of each end's state, and of looking each call up in each end.
 pub fn of_ends<M: SeqObject>(
     alloc: Global,
     ends: &[KeptEnd<M::State>],
@@ -193,7 +199,7 @@ pub fn of_ends<M: SeqObject>(
     Ok(table)
 }
 
-/// What the call at this place found, by the row that stands here, if it is in.
+/// What the call at this place found, by the row that stands here, if it is in. Takes no memory, and constant time.
 pub fn found_in_row<'a, S: Hash + Drop>(
     table: &'a Table<S>,
     from: usize,
@@ -284,14 +290,16 @@ fn push_end<M: SeqObject>(
     }
 }
 
-/// The ends that the rows say, in order.
+/// The ends that the rows say, in order. `AllocError` where there is no memory for them. Takes the time of all numbers of the
+/// rows, and of a copy of each row's state.
 pub fn ends_of<M: SeqObject>(
     alloc: Global,
     table: &Table<M::State>,
     calls: &[PendingOp],
 ) -> Result<Vec<KeptEnd<M::State>>, AllocError>
     ensures { HasEachOnce calls.now → (ends : List (End M.State))
-        → AreShown table.now calls.now ends → IfOk result (λ kept. map end_kept kept.items ≡ ends) }
+        → AreShown table.now calls.now ends
+        → IfOk result (λ kept. map end_kept kept.items ≡ ends) }
 {
     let mut ends = Vec::with_capacity(alloc, table.rows.len())?;
     for from in 0..table.rows.len() {

@@ -81,8 +81,8 @@ macro_rules! commit_of {
 }
 
 impl AnyFrontier {
-    /// The frontier of a history without events of an object of this kind. The budget is the greatest number of ends
-    /// that an ok may meet. `AllocError` where there is no memory for it.
+    /// The frontier of a history without events of an object of this kind. The budget is the greatest number of ends that an ok
+    /// may meet. `AllocError` where there is no memory for it. Takes constant time.
     pub fn start(alloc: Global, kind: ModelKind, budget: u32) -> Result<Self, AllocError>
         ensures stands { IfOk result (λ f. AnyStandsFor f []) }
         ensures kind { IfOk result (λ f. kind_of_frontier f ≡ kind) }
@@ -92,10 +92,10 @@ impl AnyFrontier {
         each_kind!(start_of; kind, alloc, budget)
     }
 
-    /// An event of an operation: [`Frontier::observe`]. The id is the index of the operation's invocation, which is new
-    /// where the event is one, and else is that of an open operation; the part of an ok is the answer. Over where the
-    /// event is an ok and more ends than the budget stand just before it: then, and on `AllocError`, the frontier stands
-    /// for what it stood for. An invocation and an info are answered Alive, since they kill nothing.
+    /// An event of an operation: [`Frontier::observe`], at its cost. The id is the index of the operation's invocation, which
+    /// is new where the event is one, and else is that of an open operation; the part of an ok is the answer. Over where the
+    /// event is an ok and more ends than the budget stand just before it: then, and on `AllocError`, the frontier stands for
+    /// what it stood for. An invocation and an info are answered Alive, since they kill nothing.
     pub fn observe(&mut self, id: u32, kind: EventKind, op: &Op) -> Result<Step, AllocError>
         ensures step { let object = object_of (kind_of_frontier self.old) in
             let old = AnyStandsFor self.old in
@@ -112,9 +112,9 @@ impl AnyFrontier {
         each_kind!(observe_of; self, id, kind, op)
     }
 
-    /// Prepares an event of an operation, and gives its answer: [`Frontier::prepare`]. The frontier stands for what it stood
-    /// for until [`commit`](Self::commit). After Over nothing is prepared; after `AllocError` no commit must follow. What was
-    /// prepared before is dropped.
+    /// Prepares an event of an operation, and gives its answer: [`Frontier::prepare`], at its cost. The frontier stands for
+    /// what it stood for until [`commit`](Self::commit). After Over nothing is prepared; after `AllocError` no commit must
+    /// follow. What was prepared before is dropped.
     pub fn prepare(&mut self, id: u32, kind: EventKind, op: &Op) -> Result<Step, AllocError>
         ensures step { let object = object_of (kind_of_frontier self.old) in
             let old = AnyStandsFor self.old in
@@ -141,14 +141,16 @@ impl AnyFrontier {
         each_kind!(commit_of; self)
     }
 
-    /// How many steps were made so far: [`Frontier::applied`].
+    /// How many steps were made so far: [`Frontier::applied`]. Takes no memory.
     pub fn applied(&self) -> u64
         ensures { result ≡ any_applied_of self.now }
     {
         each_kind!(applied_of; self)
     }
 
-    /// An equal frontier, with memory of its own; `AllocError` where there is none.
+    /// An equal frontier, which shares the items of queues and the members that were found; nothing is prepared of it:
+    /// [`Frontier::copy`]. `AllocError` where there is no memory for it. Takes the time of the calls, the rows, the states and
+    /// what was found.
     pub fn copy(&self) -> Result<Self, AllocError>
         ensures same { IfOk result (λ f. (marks : List Mark)
             → AnyStandsFor f marks ↔ AnyStandsFor self.now marks) }

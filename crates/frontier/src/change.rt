@@ -27,14 +27,15 @@ pub enum Change<S: Hash + Drop> {
     Anew(Vec<PendingOp>, Box<Table<S>>, usize),
 }
 
-/// Nothing is prepared any more.
+/// Nothing is prepared any more. Takes no memory.
 pub fn drop_change<S: Hash + Drop>(change: &mut Change<S>)
     ensures { change.new ≡ Change.Nothing }
 {
     *change = Change::Nothing;
 }
 
-/// The same operation, if there is one.
+/// The same operation, if there is one, which shares the members of a set. Takes constant time, and no memory; `AllocError`
+/// where as many share them as can be counted.
 pub fn copied_fresh(fresh: &Option<Fresh>) -> Result<Option<Fresh>, AllocError>
     ensures { IfOk result (λ copy. copy ≡ fresh.now) }
 {

@@ -56,8 +56,8 @@ fn step_of(ends: usize) -> Step
 }
 
 impl<M: SeqObject> Frontier<M> {
-    /// The frontier of a history without events. The budget is the greatest number of ends that an ok may meet.
-    /// `AllocError` where there is no memory for it.
+    /// The frontier of a history without events. The budget is the greatest number of ends that an ok may meet. `AllocError`
+    /// where there is no memory for it. Takes constant time.
     pub fn start(alloc: Global, budget: u32) -> Result<Self, AllocError>
         ensures stands { let object = of_table M.State M.start_state M.apply_to in
             IfOk result (λ f. StandsFor object f []) }
@@ -85,10 +85,12 @@ impl<M: SeqObject> Frontier<M> {
         })
     }
 
-    /// Any event of an operation: [`invoke`](Self::invoke), [`ok`](Self::ok), [`fail`](Self::fail) or
-    /// [`crash`](Self::crash) by the kind of the event. The id is the index of the operation's invocation, and the part
-    /// of an ok is the answer. An invocation and an info are answered Alive, since they kill nothing. On `AllocError`
-    /// the frontier is unchanged. It is [`prepare`](Self::prepare) and [`commit`](Self::commit) in one.
+    /// Any event of an operation: [`invoke`](Self::invoke), [`ok`](Self::ok), [`fail`](Self::fail) or [`crash`](Self::crash) by
+    /// the kind of the event, at its cost. The id is the index of the operation's invocation, and the part of an ok is the
+    /// answer. An invocation and an info are answered Alive, since they kill nothing. Over where the event is an ok and more
+    /// ends than the budget stand just before it: then, and on `AllocError`, the frontier stands for what it stood for; the
+    /// steps that were made stay counted, and the call that was noted last may have its place in the rows. It is
+    /// [`prepare`](Self::prepare) and [`commit`](Self::commit) in one.
     pub fn observe(&mut self, id: u32, kind: EventKind, op: &Op) -> Result<Step, AllocError>
         ensures step { let object = of_table M.State M.start_state M.apply_to in
             let old = StandsFor object self.old in
@@ -108,9 +110,9 @@ impl<M: SeqObject> Frontier<M> {
         Ok(step)
     }
 
-    /// Prepares any event of an operation, and gives its answer, as [`observe`](Self::observe) does. The frontier stands
-    /// for what it stood for until [`commit`](Self::commit). After Over nothing is prepared; after `AllocError` no commit
-    /// must follow.
+    /// Prepares any event of an operation, and gives its answer, as [`observe`](Self::observe) does, at the same cost. The
+    /// frontier stands for what it stood for until [`commit`](Self::commit). After Over nothing is prepared; after `AllocError`
+    /// no commit must follow.
     pub fn prepare(&mut self, id: u32, kind: EventKind, op: &Op) -> Result<Step, AllocError>
         ensures step { let object = of_table M.State M.start_state M.apply_to in
             let old = StandsFor object self.old in
@@ -143,7 +145,7 @@ impl<M: SeqObject> Frontier<M> {
         }
     }
 
-    /// Carries out what is prepared, if anything is. Takes no memory.
+    /// Carries out what is prepared, if anything is. Takes no memory, and the time of the calls and of what it drops.
     pub fn commit(&mut self)
         ensures stands { let object = of_table M.State M.start_state M.apply_to in
             Keeps (WillStandFor object self.old) (StandsFor object self.new) }
@@ -166,8 +168,9 @@ impl<M: SeqObject> Frontier<M> {
         }
     }
 
-    /// An operation is invoked, whose id (the index of its invocation) no event before it has. On `AllocError` the
-    /// frontier is unchanged. Tries nothing.
+    /// An operation is invoked, whose id (the index of its invocation) no event before it has. On `AllocError` the frontier
+    /// stands for what it stood for. Tries nothing: it notes the call, and gives the one that was noted before its place in the
+    /// rows, which are made anew where they have no room for it.
     pub fn invoke(&mut self, id: u32, op: Op) -> Result<(), AllocError>
         ensures kept { let object = of_table M.State M.start_state M.apply_to in
             let old = StandsFor object self.old in let new = StandsFor object self.new in
@@ -261,11 +264,11 @@ impl<M: SeqObject> Frontier<M> {
         Ok(())
     }
 
-    /// An open operation has returned with this answer. Over where more ends than the budget stand just before it: then,
-    /// and on `AllocError`, the frontier stands for what it stood for. Tries each operation that may still take place
-    /// at most once on each end, and as a rule once in each state of an end, and on the ends that the last ok left only the
-    /// operations invoked since; looks what comes of it up in a hash set; goes on with no end once these are more than the
-    /// budget.
+    /// An open operation has returned with this answer. Over where more ends than the budget stand just before it: then, and on
+    /// `AllocError`, the frontier stands for what it stood for; the steps that were made stay counted. Tries each operation
+    /// that may still take place at most once on each end, and as a rule once in each state of an end, and on the ends that the
+    /// last ok left only the operations invoked since; looks what comes of it up in a hash set; goes on with no end once these
+    /// are more than the budget.
     pub fn ok(&mut self, id: u32, answer: &Answer) -> Result<Step, AllocError>
         ensures step { let object = of_table M.State M.start_state M.apply_to in
             let old = StandsFor object self.old in
@@ -321,17 +324,17 @@ impl<M: SeqObject> Frontier<M> {
         Ok(step_of(self.room.rows.len()))
     }
 
-    /// How many steps were made so far: how often an operation was tried in a state, also in an ok that was answered Over
-    /// or found no memory. Stops at the greatest u64. Takes no memory.
+    /// How many steps were made so far: how often an operation was tried in a state, also in an ok that was answered Over or
+    /// found no memory. Stops at the greatest u64. Takes no memory, and constant time.
     pub fn applied(&self) -> u64
         ensures { result ≡ applied_of self.now }
     {
         self.applied
     }
 
-    /// An open operation did not take place. Never Over. On `AllocError` the frontier is unchanged. Leaves the ends that do
-    /// not include the operation: looks at one number of each row, and puts each row that is left, without that number, into
-    /// a hash set.
+    /// An open operation did not take place. Never Over. On `AllocError` the frontier stands for what it stood for. Leaves the
+    /// ends that do not include the operation: looks at one number of each row, and puts each row that is left, without that
+    /// number, into a hash set.
     pub fn fail(&mut self, id: u32) -> Result<Step, AllocError>
         ensures step { let object = of_table M.State M.start_state M.apply_to in
             let old = StandsFor object self.old in
@@ -367,8 +370,8 @@ impl<M: SeqObject> Frontier<M> {
     }
 
     /// An open operation has crashed: it may take place at any later moment, or never. A read is set aside, since it decides
-    /// nothing any more: ends that differed by it alone are one then. On `AllocError` the frontier is unchanged. Makes its rows
-    /// anew.
+    /// nothing any more: ends that differed by it alone are one then. On `AllocError` the frontier stands for what it stood
+    /// for. Makes its rows anew.
     pub fn crash(&mut self, id: u32) -> Result<(), AllocError>
         ensures kept { let object = of_table M.State M.start_state M.apply_to in
             let old = StandsFor object self.old in let new = StandsFor object self.new in
@@ -408,7 +411,8 @@ impl<M: SeqObject> Frontier<M> {
         self.alloc
     }
 
-    /// An equal frontier, with memory of its own and nothing prepared; `AllocError` where there is none.
+    /// An equal frontier, which shares the items of queues and the members that were found; nothing is prepared of it.
+    /// `AllocError` where there is no memory for it. Takes the time of the calls, the rows, the states and what was found.
     pub fn copy(&self) -> Result<Self, AllocError>
         ensures same { let object = of_table M.State M.start_state M.apply_to in
             IfOk result (λ f. (marks : List Mark)

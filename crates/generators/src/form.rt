@@ -28,7 +28,8 @@ pub enum Gen {
 }
 
 impl Gen {
-    /// A copy of the child for each of `threads` threads; `AllocError` where there is no memory for them.
+    /// A generator with an equal copy of the child for each of the threads 0 to `threads` - 1; `AllocError` where there is
+    /// no memory for them. Takes the time of so many copies of the child.
     pub fn each_thread(alloc: Global, threads: u32, child: Gen) -> Result<Gen, AllocError>
         ensures { IfOk result (λ g.
             generator_of g ≡ each_thread (copies threads (generator_of child))) }
@@ -58,7 +59,8 @@ impl Gen {
         }
     }
 
-    /// An equal generator, with memory of its own; `AllocError` where there is none.
+    /// An equal generator, with memory of its own but for the members of sets, which are shared; `AllocError` where there
+    /// is none, or as many share the members as can be counted. Takes the time of the forms and items in it.
     #[cycle(copy)]
     pub fn copy(&self, alloc: Global) -> Result<Gen, AllocError>
         ensures { IfOk result (λ other. generator_of other ≡ generator_of self.now) }

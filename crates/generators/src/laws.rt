@@ -5,20 +5,22 @@ ghost use Rattle.generators.specs.declared.item.Drawn.{Drawn};
 ghost use Rattle.generators.specs.Generators.{Generator, AllItems};
 ghost use Rattle.generators.specs.Draws.{Ask, Draws, DrawOutcome, gives, is_for, MayAnswer, AreVain};
 
-/// An ask comes to one outcome, which the generator, the asker, the idle threads and the random words determine.
+/// An ask comes to one outcome at most, which the generator, the asker, the idle threads and the random words determine.
+/// The law [`one_run`] rests on it, and so does `one_step` of `machine`.
 pub fn one_outcome()
     ensures { (words : ℕ → ℕ) (ask : Ask) (g : Generator) (p : ℕ)
         (o u : DrawOutcome Generator)
         → Draws words ask g p o → Draws words ask g p u → o ≡ u }
 {}
 
-/// Each ask comes to an outcome.
+/// Each ask comes to an outcome, and by [`one_outcome`] to just one. No call rests on it.
 pub fn some_outcome()
     ensures { (words : ℕ → ℕ) (ask : Ask) (g : Generator) (p : ℕ)
         → (o : DrawOutcome Generator) × Draws words ask g p o }
 {}
 
-/// To a list of asks, one after another, there is one list of answers, and they leave one generator at one place.
+/// To a list of asks, one after another, there is one list of answers, and they leave one generator at one place. No call
+/// rests on it.
 pub fn one_run()
     ensures { (words : ℕ → ℕ) (asks : List Ask) (g : Generator) (p : ℕ) (ds es : List Drawn)
         (h k : Generator) (q r : ℕ)
@@ -26,21 +28,22 @@ pub fn one_run()
         → (ds ≡ es) × (h ≡ k) × (q ≡ r) }
 {}
 
-/// Draws that are answered without an item leave the generator and its place as they were.
+/// Draws that are answered without an item leave the generator and its place as they were. No call rests on it.
 pub fn vain_asks_move_nothing()
     ensures { (words : ℕ → ℕ) (asks : List Ask) (g : Generator) (p : ℕ) (ds : List Drawn)
         (h : Generator) (q : ℕ)
         → AreVain ds → MayAnswer words g p asks ds h q → (h ≡ g) × (q ≡ p) }
 {}
 
-/// What holds of each item of a generator holds of what it gives, and of each item of the generator afterwards.
+/// What holds of each item of a generator holds of what it gives, and of each item of the generator afterwards. `harness`
+/// rests on it: what may be drawn was tested when the object was opened.
 pub fn items_stay()
     ensures { (good : Item → Bool) (words : ℕ → ℕ) (ask : Ask) (g h : Generator) (p q : ℕ)
         (x : Item) → Draws words ask g p (gives x h q) → AllItems (λ y. good y ≡ true) g
         → (good x ≡ true) × AllItems (λ y. good y ≡ true) h }
 {}
 
-/// A thread is given operations, the nemesis faults.
+/// A thread is given operations, the nemesis faults. `harness` rests on it where it draws.
 pub fn items_are_for_the_asker()
     ensures { (words : ℕ → ℕ) (ask : Ask) (g h : Generator) (p q : ℕ) (x : Item)
         → Draws words ask g p (gives x h q) → is_for ask.asker x ≡ true }

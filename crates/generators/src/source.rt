@@ -97,8 +97,8 @@ impl Source {
         Ok(drawn)
     }
 
-    /// The answer that [`draw`](Source::draw) would give. The generator and its place stay as they are; the next `prepare`
-    /// or `draw` drops what is prepared.
+    /// The answer that [`draw`](Source::draw) would give, in the same time. The generator and its place stay as they are;
+    /// the next `prepare` or `draw` drops what is prepared.
     ///
     /// # Errors
     /// `AllocError` where there is an item, and no memory for it and the path to it; then nothing is prepared.
@@ -124,7 +124,8 @@ impl Source {
         }
     }
 
-    /// Brings what is prepared, if a draw is. Takes no memory and cannot fail.
+    /// Brings what is prepared, if a draw is. Takes no memory and cannot fail. Takes the time of the path to the item, and
+    /// of the children at its forms that are dropped or move up.
     pub fn commit(&mut self)
         ensures { self.new ≡ committed self.old }
     {
@@ -134,8 +135,9 @@ impl Source {
         }
     }
 
-    /// The same generator at the same place, with memory of its own and nothing prepared; `AllocError` where there is no
-    /// memory. Takes the time of the whole generator.
+    /// The same generator at the same place with nothing prepared, and with memory of its own but for the members of sets,
+    /// which are shared; `AllocError` where there is none, or as many share the members as can be counted. Takes the time
+    /// of the whole generator.
     pub fn copy(&self) -> Result<Source, AllocError>
         ensures { IfOk result (λ other. other ≡ record self.now { next = None }) }
     {

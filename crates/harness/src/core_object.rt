@@ -45,8 +45,8 @@ impl Model for Core {
 }
 
 impl Core {
-    /// Opens it on the history without events, with no tickets, the generator at the beginning of its random words, and a store
-    /// on which no key was changed.
+    /// Opens it on the history without events, with no tickets, the generator at the beginning of its random words, and a
+    /// store on which no key was changed. Takes the time of [`Config::check`].
     ///
     /// # Errors
     /// [`Refusal::BadBudget`], [`Refusal::BadConcurrency`], [`Refusal::NoSuchReplica`] and [`Refusal::BadValue`], in this
@@ -62,17 +62,27 @@ impl Core {
         })
     }
 
-    /// Prepares a command, and gives its reply and the verdict that [`commit`](Core::commit) will bring. The machine stays as
-    /// it is. The next `prepare` or `step` drops what is prepared.
+    /// Prepares a command, and gives its reply and the verdict that [`commit`](Core::commit) will bring. The machine stays
+    /// as it is. The next `prepare` or `step` drops what is prepared.
+    ///
+    /// It costs what the change costs the [`Monitor`]: an append for an event, a draw, a finish and a fault. A draw and a
+    /// fault take besides the time of [`Source::prepare`](generators::Source::prepare), a serve that of
+    /// [`Store::prepare_serve`](test_store::Store::prepare_serve), a fault that of
+    /// [`Store::prepare_fault`](test_store::Store::prepare_fault). The verdict takes constant time.
     ///
     /// # Errors
-    /// The first test that the command does not pass, in the order that stands with each: an event those of its history;
-    /// a rewind [`Refusal::NoSuchIndex`]; a budget [`Refusal::BadBudget`]; a draw [`Refusal::WrongProcess`],
-    /// [`Refusal::Busy`], [`Refusal::HistoryFull`], [`Refusal::TapeFull`]; a serve [`Refusal::Stale`],
-    /// [`Refusal::AlreadyServed`], [`Refusal::NotOpen`]; a finish [`Refusal::Stale`], [`Refusal::NotServed`],
-    /// [`Refusal::HistoryFull`], [`Refusal::NotOpen`]; the nemesis [`Refusal::Idle`], [`Refusal::HistoryFull`]. Else
-    /// [`Refusal::NoMemory`] where a growth was refused, which only a command that passes its tests may want. Then nothing is
-    /// prepared. [`Command::Verdict`] is never refused.
+    /// The first test that the command does not pass, in the order that stands with each. An event: those of
+    /// [`History::prepare_push`](history::History::prepare_push). A rewind: [`Refusal::NoSuchIndex`] where there are fewer
+    /// events. A budget: [`Refusal::BadBudget`] where it is not 1 to 65,536. A draw: [`Refusal::WrongProcess`] where there
+    /// is no such thread, [`Refusal::Busy`] where it has an operation open, [`Refusal::HistoryFull`] where there are 2^20
+    /// events, [`Refusal::TapeFull`] where there are 2^32 - 1 tickets. A serve: [`Refusal::Stale`] where no ticket has the
+    /// number or its invocation was cut, [`Refusal::AlreadyServed`] where it was served, [`Refusal::NotOpen`] where its
+    /// operation is not open. A finish: [`Refusal::Stale`], [`Refusal::NotServed`] where it was not served,
+    /// [`Refusal::HistoryFull`], [`Refusal::NotOpen`]. The nemesis: [`Refusal::Idle`] where no fault is due and the
+    /// generator gives it none, [`Refusal::HistoryFull`].
+    ///
+    /// Else [`Refusal::NoMemory`] where a growth was refused, which only a command that passes its tests may want. Then
+    /// nothing is prepared. [`Command::Verdict`] is never refused, and a kind for want of memory alone.
     pub fn prepare(&mut self, command: Command) -> Result<(Reply, Verdict), Refusal>
         ensures answered { IfOk result (λ answer.
             IsPrepared self.old.machine command answer self.new) }
@@ -88,7 +98,8 @@ impl Core {
         self.inner.prepare(command)
     }
 
-    /// Carries out what is prepared. It takes no memory and cannot fail.
+    /// Carries out what is prepared. It takes no memory and cannot fail. It takes the time of what it takes away, and for a
+    /// rewind that of the tickets.
     pub fn commit(&mut self)
         requires { IsSome self.old.next }
         ensures { IfSome self.old.next (λ next. self.new ≡ at_rest next) }
@@ -96,7 +107,8 @@ impl Core {
         self.inner.commit();
     }
 
-    /// Carries out a command, and gives its reply: [`prepare`](Core::prepare) and [`commit`](Core::commit) in one.
+    /// Carries out a command, and gives its reply: [`prepare`](Core::prepare) and [`commit`](Core::commit) in one, with the
+    /// time of both.
     ///
     /// # Errors
     /// Those of [`prepare`](Core::prepare); the machine then stays as it was.
@@ -124,7 +136,7 @@ impl Core {
         Ok(reply)
     }
 
-    /// The verdict on the history as it stands. Takes no memory.
+    /// The verdict on the history as it stands. Takes no memory, and constant time.
     pub fn verdict(&self) -> Verdict
         ensures { IsVerdictOn self.now.machine.judged result }
     {

@@ -7,7 +7,8 @@ ghost use Rattle.harness.specs.CoreView.{MayWantMemory};
 
 use history::one_refusal;
 
-/// A command that is refused wants no memory.
+/// A command that is refused wants no memory. So by the clauses of `Core::prepare`, of `Core::step` and of a board's calls,
+/// none for which another refusal is due is answered `NoMemory`. No call cites it.
 pub fn refused_wants_no_memory()
     ensures { (old new : Machine) (command : Command) (why : Refusal)
         → MayStep old command (Err why) new → ¬ MayWantMemory old command }

@@ -18,7 +18,8 @@ pub struct Clients {
 }
 
 impl Clients {
-    /// Those of a history without events.
+    /// Those of a history without events. [`Refusal::BadConcurrency`] where the concurrency is not 1 to 64, else
+    /// [`Refusal::NoMemory`] where a growth was refused. Takes the time of the threads.
     pub fn new(alloc: Global, concurrency: u32) -> Result<Clients, Refusal>
         ensures limits { OnOk result (IsConcurrency concurrency) }
         ensures number { IfOk result (λ clients. length clients.threads ≡ concurrency) }
@@ -33,7 +34,7 @@ impl Clients {
         Ok(Clients { threads, opened })
     }
 
-    /// Those that the events of a history make. Takes the time of all events.
+    /// Those that the events of a history make. [`Refusal::NoMemory`] where a growth was refused. Takes the time of all events.
     pub fn after(alloc: Global, concurrency: u32, events: &[Event]) -> Result<Clients, Refusal>
         requires limits { IsConcurrency concurrency }
         requires history { IsHistoryOf concurrency events.now }
@@ -50,7 +51,8 @@ impl Clients {
         Ok(clients)
     }
 
-    /// After an event of this index the thread of its process moves on. Where its process may not do so, nothing is said.
+    /// After an event of this index the thread of its process moves on. Where its process may not do so, nothing is said. Takes
+    /// no memory, and constant time.
     pub fn move_on(&mut self, index: u32, kind: EventKind, process: Process)
         requires some { 0 < length self.old.opened.items }
         requires next { HasNext process }

@@ -10,14 +10,14 @@ use edn::Edn;
 use models::Members;
 use std::alloc::{AllocError, Global};
 
-/// The integer of 0 to 255 that an element is.
+/// The integer of 0 to 255 that an element is, if it is one. Takes no memory.
 pub fn byte_of(element: &Edn) -> Option<u8>
     ensures { result ≡ number_in (2 ^ 8) (value_of element.now) }
 {
     u8::try_from(element.as_int()?).ok()
 }
 
-/// The integer of 0 to 65,535 that an element is.
+/// The integer of 0 to 65,535 that an element is, if it is one. Takes no memory.
 pub fn count_of(element: &Edn) -> Option<u16>
     ensures { result ≡ number_in (2 ^ 16) (value_of element.now) }
 {
@@ -25,7 +25,7 @@ pub fn count_of(element: &Edn) -> Option<u16>
 }
 
 /// The set of integers that an element is, ascending, in whatever order it was spelled. The time is that of sorting them.
-/// Memory is taken where each element is an integer.
+/// Memory is taken where each element is an integer, and `AllocError` where it was refused.
 pub fn set_of(alloc: Global, element: &Edn) -> Result<Option<Members>, AllocError>
     ensures found { IfOk result (λ found. found ≡ set_in (value_of element.now)) }
     ensures memory_last { IsErr result → IsSome (set_in (value_of element.now)) }
@@ -117,7 +117,8 @@ fn mark_each(element: &Edn, seen: &mut [bool]) -> bool
     true
 }
 
-/// The groups of numbers that an element is, a vector of vectors.
+/// The groups of numbers that an element is, a vector of vectors, if it is one. `AllocError` where there is no memory for them.
+/// Takes the time of the numbers.
 pub fn groups_of(alloc: Global, element: &Edn) -> Result<Option<Groups>, AllocError>
     ensures { IfOk result (λ found. found ≡ groups_in (value_of element.now)) }
 {

@@ -69,7 +69,8 @@ impl Fault {
 }
 
 impl Body {
-    /// An equal body; `AllocError` where there is no memory for it. The members of a set are shared.
+    /// An equal body; `AllocError` where there is no memory for it. The members of a set are shared. Takes the time of a
+    /// partition's groups, and else constant time.
     pub fn copy(&self) -> Result<Body, AllocError>
         ensures { IfOk result (λ other. other ≡ self.now) }
     {
@@ -81,7 +82,8 @@ impl Body {
 }
 
 impl Event {
-    /// An equal event; `AllocError` where there is no memory for it. The members of a set are shared.
+    /// An equal event; `AllocError` where there is no memory for it. The members of a set are shared. Takes the time of a
+    /// partition's groups, and else constant time.
     pub fn copy(&self) -> Result<Event, AllocError>
         ensures { IfOk result (λ other. other ≡ self.now) }
     {

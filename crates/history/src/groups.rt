@@ -23,14 +23,14 @@ impl Model for Groups {
 }
 
 impl Groups {
-    /// These groups, each the numbers of its replicas.
+    /// These groups, each the numbers of its replicas. Takes no memory.
     pub fn new(groups: Vec<Vec<u8>>) -> Groups
         ensures { result ≡ map (λ v. v.items) groups.items }
     {
         Groups { groups }
     }
 
-    /// The groups, in the order in which they were given.
+    /// The groups, in the order in which they were given. Takes no memory.
     pub fn groups(&self) -> &[Vec<u8>]
         ensures { map (λ v. v.items) result.now ≡ self.now }
     {
@@ -64,7 +64,8 @@ impl Groups {
     }
 }
 
-/// Marks the replicas that the numbers name. It answers false where a number is not that of a replica, or is marked.
+/// Marks the replicas that the numbers name. It answers false where a number is not that of a replica, or is marked. Takes no
+/// memory, and the time of the numbers.
 pub fn mark(numbers: &[u8], seen: &mut [bool]) -> bool
     requires { length seen.old ≡ 7 }
     ensures { (before : List ℕ) → HasSeen seen.old before → MatchBool result

@@ -63,11 +63,10 @@ impl Model for History {
 }
 
 impl History {
-    /// The history without events, of threads 0 to `concurrency` - 1.
+    /// The history without events, of threads 0 to `concurrency` - 1. It takes the time of the threads.
     ///
     /// # Errors
-    /// [`Refusal::BadConcurrency`] where the concurrency is not 1 to 64; else [`Refusal::NoMemory`] where a growth was
-    /// refused.
+    /// [`Refusal::BadConcurrency`] where the concurrency is not 1 to 64; else [`Refusal::NoMemory`] where a growth was refused.
     pub fn new(alloc: Global, concurrency: u32) -> Result<History, Refusal>
         ensures limits { OnOk result (IsConcurrency concurrency) }
         ensures opened { IfOk result (λ history. history ≡ no_events concurrency) }
@@ -251,7 +250,7 @@ impl History {
         }
     }
 
-    /// The number of threads, 1 to 64.
+    /// The number of threads, 1 to 64. Takes no memory.
     pub fn concurrency(&self) -> u32
         ensures value { result ≡ self.now.concurrency }
         ensures limits { IsConcurrency result }
@@ -259,8 +258,8 @@ impl History {
         self.concurrency
     }
 
-    /// The number of events, at most 2^20, which is the index of the next event. What is said here of the events holds
-    /// of every history.
+    /// The number of events, at most 2^20, which is the index of the next event. What is said here of the events holds of every
+    /// history. Takes no memory.
     pub fn len(&self) -> u32
         ensures value { result ≡ length self.now.events }
         ensures limit { result ≤ 2 ^ 20 }
@@ -269,14 +268,14 @@ impl History {
         self.events.len() as u32
     }
 
-    /// Whether there is no event.
+    /// Whether there is no event. Takes no memory.
     pub fn is_empty(&self) -> bool
         ensures { IsTrue result ↔ (self.now.events ≡ []) }
     {
         self.events.is_empty()
     }
 
-    /// The events, in order.
+    /// The events, in order. Takes no memory.
     pub fn events(&self) -> &[Event]
         ensures { result.now ≡ self.now.events }
     {
@@ -302,8 +301,8 @@ impl History {
         Ok(found)
     }
 
-    /// The map of an event: its index, type, process, name and value, in this order. What it spells is the event, which
-    /// states its index.
+    /// The map of an event: its index, type, process, name and value, in this order. What it spells is the event, which states
+    /// its index. It takes the time of the members of a set, or of a partition's groups, and else constant time.
     ///
     /// # Errors
     /// `AllocError` where a growth was refused.
@@ -321,7 +320,7 @@ impl History {
         )
     }
 
-    /// The process that the thread's next invocation must name.
+    /// The process that the thread's next invocation must name (the process rule of the Jepsen documentation). Takes no memory.
     pub fn current(&self, thread: u32) -> u32
         requires { thread < self.now.concurrency }
         ensures { result ≡ current_of self.now.concurrency (moves_of self.now.events) thread }
@@ -329,7 +328,7 @@ impl History {
         self.clients.threads.current(thread)
     }
 
-    /// The index of the invocation that a thread has open.
+    /// The index of the invocation that a thread has open, if it has one. Takes no memory.
     pub fn open_at(&self, thread: u32) -> Option<u32>
         requires { thread < self.now.concurrency }
         ensures { result ≡ open_index self.now.concurrency self.now.events thread }

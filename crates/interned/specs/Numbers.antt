@@ -1,4 +1,4 @@
--- values that stand once, each with a number
+-- Invariant: values that stand once, each with a number
 use Rattle.std.specs.Prelude.{◌≡◌, ◌+◌, ℕ, Option, Some, None, List, slice_get}
 use Rattle.models.specs.declared.finding.Found.{Found}
 

@@ -27,7 +27,8 @@ impl FoundKey {
         }
     }
 
-    /// What was found. The members of a set are shared.
+    /// What was found, which shares the members of a set. Takes constant time, and no memory; `AllocError` where as many share
+    /// them as can be counted.
     pub fn found(&self) -> Result<Found, AllocError>
         ensures { IfOk result (λ found. found ≡ found_of self.now) }
     {

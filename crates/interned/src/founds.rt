@@ -36,7 +36,7 @@ impl Model for Founds {
 }
 
 impl Founds {
-    /// Nothing.
+    /// Nothing. Takes no memory.
     pub fn new(alloc: Global) -> Founds
         ensures { result ≡ [] }
     {
@@ -46,7 +46,7 @@ impl Founds {
         }
     }
 
-    /// What stands at this place.
+    /// What stands at this place, if anything does. Takes no memory, and constant time.
     pub fn get(&self, at: usize) -> Option<&Found>
         ensures { option_copied result ≡ slice_get self.now at }
     {
@@ -94,7 +94,9 @@ fn put(founds: &mut Founds, found: Found) -> Result<(), AllocError>
     put_key(founds, FoundKey::of(found))
 }
 
-/// The number of what was found: one more than where it stands. It is put there if it is new.
+/// The number of what was found: one more than where it stands. It is put behind the others if it is new. `AllocError` where
+/// there is no memory for it, or where as many share the members of a set as can be counted: then nothing is put. It is
+/// compared with the first eight, and else looked up: the time grows with the logarithm of their number.
 pub fn slot_at(founds: &mut Founds, found: Found) -> Result<usize, AllocError>
     ensures slot { IfOk result (λ slot. IsSlot founds.new slot (Some found)) }
     ensures front { IsFront founds.old founds.new }
@@ -126,7 +128,8 @@ fn slot_behind(founds: &mut Founds, found: Found) -> Result<usize, AllocError>
     Ok(founds.items.len())
 }
 
-/// The same things, with the same numbers.
+/// The same things, with the same numbers, which share the members of sets. `AllocError` where there is no memory for them. The
+/// time grows with n log n.
 pub fn copied(alloc: Global, founds: &Founds) -> Result<Founds, AllocError>
     ensures { IfOk result (λ copy. copy ≡ founds.now) }
 {

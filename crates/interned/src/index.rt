@@ -16,7 +16,7 @@ pub struct Index {
     pub before: Vec<usize>,
 }
 
-/// The hash of the value.
+/// The hash of the value. Takes no memory, and the time of what the value feeds.
 pub fn hash_of<T: Hash>(value: &T) -> u64
     ensures { result ≡ hash_by T.hash_input value.now }
 {
@@ -36,13 +36,16 @@ fn bucket_of(hash: u64, many: usize) -> usize
 
 // Indexes the first hash that is not.
 fn index_hash(index: &mut Index) -> Result<(), AllocError>
-    requires index { IsIndex (bucket (length index.old.last.items)) index.old.hashes.items index.old.last.items index.old.before.items }
+    requires index { IsIndex (bucket (length index.old.last.items)) index.old.hashes.items
+        index.old.last.items index.old.before.items }
     requires left { length index.old.before.items < length index.old.hashes.items }
     requires some { 0 < length index.old.last.items }
-    ensures index { IsIndex (bucket (length index.new.last.items)) index.new.hashes.items index.new.last.items index.new.before.items }
+    ensures index { IsIndex (bucket (length index.new.last.items)) index.new.hashes.items
+        index.new.last.items index.new.before.items }
     ensures hashes { index.new.hashes.items ≡ index.old.hashes.items }
     ensures buckets { length index.new.last.items ≡ length index.old.last.items }
-    ensures more { OnOk result (length index.new.before.items ≡ length index.old.before.items + 1) }
+    ensures more { OnOk result
+        (length index.new.before.items ≡ length index.old.before.items + 1) }
 {
     let at = index.before.len();
     let its = bucket_of(index.hashes[at], index.last.len());
@@ -55,7 +58,8 @@ fn index_hash(index: &mut Index) -> Result<(), AllocError>
 fn make_buckets(index: &mut Index) -> Result<(), AllocError>
     ensures hashes { index.new.hashes.items ≡ index.old.hashes.items }
     ensures none { index.new.before.items ≡ [] }
-    ensures last { (b : ℕ) → b < length index.new.last.items → get_or index.new.last.items b 0 ≡ 0 }
+    ensures last { (b : ℕ) → b < length index.new.last.items
+        → get_or index.new.last.items b 0 ≡ 0 }
     ensures some { OnOk result (0 < length index.new.last.items) }
 {
     let wanted = index.hashes.len().saturating_mul(4).saturating_add(16);
@@ -65,11 +69,14 @@ fn make_buckets(index: &mut Index) -> Result<(), AllocError>
     Ok(())
 }
 
-/// Indexes all hashes, by more buckets than there are hashes.
+/// Indexes all hashes, by more buckets than there are hashes. `AllocError` where memory was refused: then the hashes are as
+/// they were. Takes the time of the hashes that are not indexed yet, and of all where new buckets are made.
 #[inline(never)]
 pub fn index_all(index: &mut Index) -> Result<(), AllocError>
-    requires index { IsIndex (bucket (length index.old.last.items)) index.old.hashes.items index.old.last.items index.old.before.items }
-    ensures index { IsIndex (bucket (length index.new.last.items)) index.new.hashes.items index.new.last.items index.new.before.items }
+    requires index { IsIndex (bucket (length index.old.last.items)) index.old.hashes.items
+        index.old.last.items index.old.before.items }
+    ensures index { IsIndex (bucket (length index.new.last.items)) index.new.hashes.items
+        index.new.last.items index.new.before.items }
     ensures hashes { index.new.hashes.items ≡ index.old.hashes.items }
     ensures all { OnOk result (length index.new.before.items ≡ length index.new.hashes.items) }
     ensures some { OnOk result (0 < length index.new.last.items) }
@@ -104,7 +111,8 @@ fn stands_at<M: SeqObject>(
     M::same(&items[at], state)
 }
 
-/// Where the state stands, if it is there: it has this hash, and all hashes are indexed.
+/// Where the state stands, if it is there: it has this hash, and all hashes are indexed. Takes no memory. Compares the hashes
+/// of one bucket, and the states of the same hash.
 pub fn place_of<M: SeqObject>(
     items: &[M::State],
     index: &Index,
@@ -113,7 +121,8 @@ pub fn place_of<M: SeqObject>(
 ) -> Option<usize>
     requires hash { hash ≡ hash_by M.State.hash_input state.now }
     requires hashes { index.now.hashes.items ≡ map (hash_by M.State.hash_input) items.now }
-    requires index { IsIndex (bucket (length index.now.last.items)) index.now.hashes.items index.now.last.items index.now.before.items }
+    requires index { IsIndex (bucket (length index.now.last.items)) index.now.hashes.items
+        index.now.last.items index.now.before.items }
     requires all { length index.now.before.items ≡ length index.now.hashes.items }
     requires some { 0 < length index.now.last.items }
     ensures there { IfSome result (λ at. slice_get items.now at ≡ Some state.now) }
@@ -130,14 +139,16 @@ pub fn place_of<M: SeqObject>(
     None
 }
 
-/// Puts the hash behind the others, which are all indexed. There is room for it.
+/// Puts the hash behind the others, which are all indexed. There is room for it. Takes no memory, and constant time.
 pub fn put_behind(index: &mut Index, hash: u64)
-    requires index { IsIndex (bucket (length index.old.last.items)) index.old.hashes.items index.old.last.items index.old.before.items }
+    requires index { IsIndex (bucket (length index.old.last.items)) index.old.hashes.items
+        index.old.last.items index.old.before.items }
     requires all { length index.old.before.items ≡ length index.old.hashes.items }
     requires some { 0 < length index.old.last.items }
     requires room { length index.old.hashes.items < vec_capacity index.old.hashes }
     requires places { length index.old.before.items < vec_capacity index.old.before }
-    ensures index { IsIndex (bucket (length index.new.last.items)) index.new.hashes.items index.new.last.items index.new.before.items }
+    ensures index { IsIndex (bucket (length index.new.last.items)) index.new.hashes.items
+        index.new.last.items index.new.before.items }
     ensures hashes { index.new.hashes.items ≡ index.old.hashes.items ++ hash ∷ [] }
 {
     let its = bucket_of(hash, index.last.len());

@@ -25,11 +25,12 @@ impl<S: Hash + Drop> Model for States<S> {
 
     ghost view = { λ a. a.items.items };
 
-    ghost invariant = { λ a. AreStates S.hash_input a.items.items a.index.hashes.items a.index.last.items a.index.before.items };
+    ghost invariant = { λ a. AreStates S.hash_input a.items.items
+        a.index.hashes.items a.index.last.items a.index.before.items };
 }
 
 impl<S: Hash + Drop> States<S> {
-    /// No states.
+    /// No states. Takes no memory.
     pub fn new(alloc: Global) -> States<S>
         ensures { result ≡ [] }
     {
@@ -43,7 +44,7 @@ impl<S: Hash + Drop> States<S> {
         }
     }
 
-    /// How many there are.
+    /// How many there are. Takes no memory, and constant time.
     pub fn len(&self) -> usize
         ensures is { result ≡ length self.now }
         ensures once { IsOnceIn self.now }
@@ -51,7 +52,7 @@ impl<S: Hash + Drop> States<S> {
         self.items.len()
     }
 
-    /// The state with this number.
+    /// The state with this number, if there is one. Takes no memory, and constant time.
     pub fn get(&self, at: usize) -> Option<&S>
         ensures { option_copied result ≡ slice_get self.now at }
     {
@@ -67,12 +68,14 @@ fn numbered<M: SeqObject>(
     state: M::State,
 ) -> Result<usize, AllocError>
     requires hash { hash ≡ hash_by M.State.hash_input state }
-    requires states { AreStates M.State.hash_input items.old.items index.old.hashes.items index.old.last.items index.old.before.items }
+    requires states { AreStates M.State.hash_input items.old.items
+        index.old.hashes.items index.old.last.items index.old.before.items }
     requires all { length index.old.before.items ≡ length index.old.hashes.items }
     requires some { 0 < length index.old.last.items }
     ensures there { IfOk result (λ at. slice_get items.new.items at ≡ Some state) }
     ensures front { IsFront items.old.items items.new.items }
-    ensures states { AreStates M.State.hash_input items.new.items index.new.hashes.items index.new.last.items index.new.before.items }
+    ensures states { AreStates M.State.hash_input items.new.items
+        index.new.hashes.items index.new.last.items index.new.before.items }
 {
     if let Some(at) = place_of::<M>(items, index, hash, &state) {
         return Ok(at);
@@ -86,7 +89,9 @@ fn numbered<M: SeqObject>(
     Ok(at)
 }
 
-/// The number of the state, which is put with the others if it is new.
+/// The number of the state, which is put behind the others if it is new. `AllocError` where memory was refused: then the states
+/// are as they were. Takes the time of its hash, and of comparing it with the states of the same hash; where there are as many
+/// states as buckets, all are indexed anew.
 pub fn number_of<M: SeqObject>(
     states: &mut States<M::State>,
     state: M::State,
@@ -104,7 +109,8 @@ pub fn number_of<M: SeqObject>(
     numbered::<M>(&mut states.items, &mut states.index, hash, state)
 }
 
-/// The same states, with the same numbers.
+/// The same states, with the same numbers; `AllocError` where there is no memory for them. Takes the time of a copy of each
+/// state. They are indexed when one is looked up.
 pub fn copied<M: SeqObject>(
     alloc: Global,
     states: &States<M::State>,

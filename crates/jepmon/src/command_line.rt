@@ -55,14 +55,15 @@ pub enum Stop {
     Refused(Refusal),
 }
 
-/// The order that the words after the program's name give. Without words it is `script` with its defaults.
+/// The order that the words after the program's name give. Without words it is `script` with its defaults, and takes no
+/// memory; else it takes memory for the table of the options and for what they say.
 ///
 /// # Errors
 ///
 /// `Help` where help or the version is asked for. `Usage` for words that are none of the program's, for a value that is no
-/// number, for a model, a mode or faults of another name, and for a seed, a number of operations, of keys or of workers out of
-/// its limits. `Refused` for another number out of its limits: `BadBudget` first, then `BadConcurrency`, then
-/// `NoSuchReplica`; and where memory is refused.
+/// number, for a model, a mode or faults of another name, and for a seed, a number of operations, of keys or of workers out
+/// of its limits. `Refused` for another number out of its limits: `BadBudget` first, then `BadConcurrency`, which `run` has
+/// above 63 too, then `NoSuchReplica`; and with `NoMemory` where memory is refused.
 pub fn order_of(alloc: Global, words: &[String]) -> Result<Order, Stop>
     ensures defaults { length words.now ≡ 0 → (config : Config)
         × (result ≡ Ok (Order.Script config)) × (setup_of config ≡ default_setup) }
@@ -187,7 +188,8 @@ fn config_of(alloc: Global, name: &str, options: &ArgMatches) -> Result<Config, 
     Ok(Config::to_judge(alloc, concurrency, kind, budget))
 }
 
-/// Why there is no order of words that are no text.
+/// Why there is no order of words that are no text: `Usage`, or `Refused` with `NoMemory` where there is no memory to say
+/// it.
 pub fn no_text(alloc: Global) -> Stop {
     match program(alloc) {
         Ok(mut command) => usage(&mut command, "the words are no UTF-8"),

@@ -11,8 +11,8 @@ use onlookers::Onlooker;
 use std::alloc::Global;
 use std::io::{Eprint, Print};
 
-/// The exit status after a script: 0 legal, 1 illegal, 2 unknown, and 3 for a refusal, whose line goes to standard
-/// error.
+/// The exit status after a script: 0 legal, 1 illegal, 2 unknown, and 3 for a refusal, whose line goes to standard error.
+/// It may wait for that; where there is no memory for the line, or an error, nothing is said.
 pub fn status_after<P: Eprint, L: Onlooker>(
     rt: &P,
     alloc: Global,
@@ -30,8 +30,9 @@ pub fn status_after<P: Eprint, L: Onlooker>(
     }
 }
 
-/// The exit status where there is no order: 0 for help and the version, which go to standard output, else 3. A usage fault
-/// and a refusal line go to standard error.
+/// The exit status where there is no order: 0 for help and the version, which go to standard output, else 3, and 3 too
+/// where they can't be written. A usage fault and a refusal line go to standard error, whose errors are passed over. It may
+/// wait for either.
 pub fn status_of_stop<P: Print + Eprint, L: Onlooker>(
     rt: &P,
     alloc: Global,

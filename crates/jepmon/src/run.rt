@@ -17,12 +17,13 @@ use std::sync::Wait;
 use std::thread::Threads;
 
 /// Runs clients and the nemesis against a store in the process, each in a thread of its own, writes the report of what they
-/// came to, and gives the exit status: that of the verdict. Or it writes the line of a refusal, and gives 3, which it is too
-/// where the writer has failed.
+/// came to, and gives the exit status: that of the verdict. Or it writes the line of a refusal, and gives 3, which it is
+/// too where the writer has failed.
 ///
-/// Where the store is strict, the status is never that of an illegal verdict, in whatever order the threads run. A thread that
-/// can't be started is run by another one. Nothing is written before all clients have ended. The watch is told meanwhile how far
-/// they have come, and the onlooker of the end.
+/// Where the store is strict, the status is never that of an illegal verdict, in whatever order the threads run. A thread
+/// that can't be started is run by another one. Nothing is written before all clients have ended. It waits for them and for
+/// the writer, and costs what [`run_trial`] and [`report`] cost. The watch is told meanwhile how far they have come, and
+/// the onlooker of the end.
 pub fn run_store<X: Threads + Wait + Sync, W: Write + Failed, L: Onlooker, V: Watch + Send + Drop>(
     rt: &X,
     alloc: Global,

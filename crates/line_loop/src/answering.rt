@@ -11,17 +11,18 @@ use std::alloc::Global;
 use std::io::{Read, Write};
 use std::sync::Wait;
 
-/// Reads lines, has the machine answer each, and writes the replies to the lines of one read before the next. At the
-/// reader's end it flushes the writer once and gives the machine's verdict.
+/// Reads lines, has the machine answer each, and writes the replies to the lines of one read before the next. At the reader's
+/// end it flushes the writer once and gives the machine's verdict.
 ///
-/// A last line without a line feed counts where it has a byte. A line of more than 65,536 bytes, its line feed not
-/// counted, is answered by the line of `TooLong`: the machine is told that there was one, and does not see it. Beside the
-/// machine it holds a piece of 8,192 bytes, one line, and the replies to the lines that end in one piece.
+/// A last line without a line feed counts where it has a byte. A line of more than 65,536 bytes, its line feed not counted, is
+/// answered by the line of `TooLong`: the machine is told that there was one, and does not see it. Beside the machine it holds
+/// a piece of 8,192 bytes, one line, and the replies to the lines that end in one piece. It takes the time of the bytes, and of
+/// the machine's answers.
 ///
 /// # Errors
 ///
-/// `ReadFailed` and `WriteFailed` where the reader or the writer has failed, and `NoMemory` where memory is refused. The
-/// writer has then taken a beginning of the replies.
+/// `ReadFailed` and `WriteFailed` where the reader or the writer has failed, and `NoMemory` where memory is refused. The writer
+/// has then taken a beginning of the replies.
 pub fn answer_lines<X: Wait, M: LineMachine, R: Read + Failed, W: Write + Failed>(
     rt: &X,
     alloc: Global,

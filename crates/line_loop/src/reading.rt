@@ -50,7 +50,7 @@ pub(crate) fn read_some<R: Read + Failed>(
     }
 }
 
-/// All that the reader has, read to its end in pieces of 8,192 bytes.
+/// All that the reader has, read to its end in pieces of 8,192 bytes. It takes the time of the bytes, and memory for them.
 ///
 /// # Errors
 ///

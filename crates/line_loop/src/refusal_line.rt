@@ -5,7 +5,7 @@ ghost use Rattle.line_loop.specs.RefusalLine.{refusal_line, place_text};
 use edn::Refusal;
 use std::alloc::{AllocError, Global};
 
-/// The line of a refusal with its line feed, as `refused 5 BadValue` or `refused 11 Unreadable 4`.
+/// The line of a refusal with its line feed, as `refused 5 BadValue` or `refused 11 Unreadable 4`. It takes constant time.
 ///
 /// # Errors
 ///
@@ -29,7 +29,7 @@ fn place_text(alloc: Global, refusal: &Refusal) -> Result<String, AllocError>
     }
 }
 
-/// Appends the line of a refusal to a reply.
+/// Appends the line of a refusal to a reply. It takes constant time, but where the reply's memory grows.
 ///
 /// # Errors
 ///

@@ -32,7 +32,7 @@ impl<T> Model for Watched<T> {
 }
 
 impl<T> Watched<T> {
-    /// Watches it from now on.
+    /// Watches it from now on. Takes no memory.
     pub fn new(inner: T) -> Watched<T>
         ensures fresh { result.has_failed ≡ false }
         ensures inner { result.inner ≡ inner }
@@ -43,14 +43,14 @@ impl<T> Watched<T> {
         }
     }
 
-    /// What is watched.
+    /// What is watched. Takes no memory.
     pub fn inner(&self) -> &T
         ensures { result.now ≡ self.now.inner }
     {
         &self.inner
     }
 
-    /// Watches no longer.
+    /// Watches no longer. Takes no memory.
     pub fn into_inner(self) -> T
         ensures { result ≡ self.inner }
     {

@@ -27,7 +27,7 @@ fn write_some<W: Write + Failed>(writer: &mut W, text: &[u8]) -> Result<usize, R
     }
 }
 
-/// Writes all of the text. After an error that leaves `failed()` false it writes again.
+/// Writes all of the text. After an error that leaves `failed()` false it writes again. It takes no memory itself.
 ///
 /// # Errors
 ///
@@ -53,7 +53,7 @@ pub fn write_text<X: Wait, W: Write + Failed>(
     unreachable!()
 }
 
-/// Flushes. After an error that leaves `failed()` false it flushes again.
+/// Flushes. After an error that leaves `failed()` false it flushes again. It takes no memory itself.
 ///
 /// # Errors
 ///

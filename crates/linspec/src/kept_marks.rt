@@ -72,7 +72,8 @@ fn mark_at(events: &[Event], at: usize) -> Result<Option<KeptMark>, AllocError>
     }
 }
 
-/// What happens to the operations of a history of these events. Takes the square of their number.
+/// What happens to the operations of a history of these events. `AllocError` where there is no memory for it. Takes the square
+/// of their number.
 pub fn marks_of(alloc: Global, events: &[Event]) -> Result<Vec<KeptMark>, AllocError>
     ensures { IfOk result (λ all.
         marks_of_kept all.items ≡ marks (entries_of (indexed_from 0 events.now))) }
@@ -114,14 +115,15 @@ fn has_returned(marks: &[KeptMark], id: usize) -> bool
     marks.iter().any(|mark| returns(mark, id))
 }
 
-/// Whether the operation has failed.
+/// Whether the operation has failed. Takes no memory, and the time of the marks.
 pub fn has_failed(marks: &[KeptMark], id: usize) -> bool
     ensures { IsTrue result ↔ Contains (marks_of_kept marks.now) (Failed id) }
 {
     marks.iter().any(|mark| fails(mark, id))
 }
 
-/// Whether `a` has returned before `b` is invoked.
+/// Whether `a` has returned before `b` is invoked (Herlihy and Wing 1990, section 2). Takes no memory, and the time of the
+/// marks.
 pub fn precedes(marks: &[KeptMark], a: usize, b: usize) -> bool
     ensures { IsTrue result ↔ Precedes (marks_of_kept marks.now) a b }
 {
@@ -144,7 +146,7 @@ fn agrees(mark: &KeptMark, id: usize, found: &Found) -> bool
     }
 }
 
-/// Whether what the operation found fits its answer, where it has returned.
+/// Whether what the operation found fits its answer, where it has returned. Takes no memory, and the time of the marks.
 pub fn fits_answer(marks: &[KeptMark], id: usize, found: &Found) -> bool
     ensures { IsTrue result ↔ ((answer : Answer) →
         Contains (marks_of_kept marks.now) (Returned id answer) → Fits found.now answer) }
@@ -152,7 +154,7 @@ pub fn fits_answer(marks: &[KeptMark], id: usize, found: &Found) -> bool
     marks.iter().all(|mark| agrees(mark, id, found))
 }
 
-/// Whether the operation is among these.
+/// Whether the operation is among these. Takes no memory, and the time of these.
 pub fn is_among(taken: &[usize], id: usize) -> bool
     ensures { IsTrue result ↔ Contains taken.now id }
 {
@@ -170,7 +172,7 @@ fn is_done(mark: &KeptMark, taken: &[usize]) -> bool
     }
 }
 
-/// Whether each operation that has returned is among these.
+/// Whether each operation that has returned is among these. Takes no memory, and for each mark the time of these.
 pub fn all_done(marks: &[KeptMark], taken: &[usize]) -> bool
     ensures { IsTrue result
         ↔ ((id : ℕ) → HasReturned (marks_of_kept marks.now) id → Contains taken.now id) }

@@ -18,9 +18,10 @@ ghost use Rattle.linspec.specs.JudgedHistory.{kind_of, entries_in, IsVerdictOn};
 ghost use Rattle.machine.specs.Machine.{Machine, Setup, opening, most_tickets, MayStep, Runs, serves_in, AreOfTrial};
 ghost use Rattle.machine.specs.Tickets.{served_of, StandsFor, IsAnswered, AreTickets};
 
-/// No false alarm: whatever draws, serves, finishes, faults, budgets and questions lead there, refused ones among them, from
-/// an opening with a strict store, the history is linearizable over all keys together: the serves that took place are a
-/// legal order of it. So no verdict on it is Illegal.
+/// No false alarm: whatever draws, serves, finishes, faults, budgets and questions lead there, refused ones among them,
+/// from an opening with a strict store, the history is linearizable (Herlihy and Wing 1990) over all keys together: the
+/// serves that took place are a legal order of it. So no verdict on it is Illegal. `Core::step` of `harness` cites it, and
+/// so do the laws `no_false_alarm_on_a_tape` of `board` and `no_false_alarm_in_a_run` of `clients`.
 pub fn no_false_alarm()
     ensures order { (setup : Setup) (run : List (Command × Result Reply Refusal))
         (m : Machine) → setup.mode ≡ Strict → IsCount setup.replicas → AreOfTrial run
@@ -38,14 +39,15 @@ pub fn no_false_alarm()
         → ¬ IsVerdictOn m.judged (Verdict.Illegal key index) }
 {}
 
-/// A command has one outcome at most, and leads to one machine.
+/// A command has one outcome at most, and leads to one machine. The law `one_reply` of `scripts` rests on it.
 pub fn one_step()
     ensures { (old new next : Machine) (command : Command) (outcome other : Result Reply Refusal)
         → MayStep old command outcome new → MayStep old command other next
         → (outcome ≡ other) × (new ≡ next) }
 {}
 
-/// The events are a history, each well-formed after those before it: at the opening, and after each step.
+/// The events are a history, each well-formed after those before it: at the opening, and after each step. No call rests on
+/// it.
 pub fn history_law()
     ensures opening { (setup : Setup) →
         IsHistoryOf setup.concurrency (opening setup).judged.events }
@@ -56,7 +58,7 @@ pub fn history_law()
 {}
 
 /// No version of the store is greater than the number of tickets that were served, of which there are fewer than 2^32. So a
-/// serve never wants a version that is no u64.
+/// serve never wants a version that is no u64: `harness` rests on it where it serves.
 pub fn counted_law()
     ensures opening { (setup : Setup) →
         VersionsWithin (opening setup).store (served_of (opening setup).tickets) }
@@ -69,9 +71,9 @@ pub fn counted_law()
         → length new.tickets ≤ most_tickets }
 {}
 
-/// Each ticket that is not stale stands for its invocation, and each can be completed as its serve came out: at the opening,
-/// and after each step. So an index is enough to know whether its operation is still open, and a completion of one that is
-/// open is well-formed wherever there is room.
+/// Each ticket that is not stale stands for its invocation, and each can be completed as its serve came out: at the
+/// opening, and after each step. So an index is enough to know whether its operation is still open, and a completion of one
+/// that is open is well-formed wherever there is room. `harness` rests on it where it serves and finishes.
 pub fn tickets_law()
     ensures opening { (c : ℕ) → AreTickets c [] [] }
     ensures step { (old new : Machine) (command : Command) (outcome : Result Reply Refusal)

@@ -1,6 +1,6 @@
 -- integers in turn, and spans of them
 use Rattle.std.proofs.Common.{◌≡◌, ◌+◌, ◌-◌, ◌<ℤ◌, ◌≤ℤ◌, ◌⊎◌, inl, inr, ⊎_elim, zero-add, sym, ap, ◌∙◌, subst, arith}
-use Rattle.std.specs.Prelude.{ℕ, zero, suc, ℤ, pos, negsuc, ◌+ℤ◌, ◌-ℤ◌, unsigned_abs, List, [], ◌∷◌, ◌++◌, refl}
+use Rattle.std.specs.Prelude.{ℕ, zero, suc, ℤ, pos, negsuc, ◌+ℤ◌, ◌-ℤ◌, unsigned_abs, List, [], ◌∷◌, ◌++◌, length, refl}
 use Rattle.std.specs.List.{Contains}
 use Rattle.std.proofs.lemmas.Int.{ints, by_lt_z}
 use Rattle.std.proofs.lemmas.List.Elements.{Contains-append_left, Contains-append_right, Contains-append_cases}
@@ -25,6 +25,15 @@ many_of a b n e = let h = many_is a b (omega (arith, ints)) in omega (arith, int
 
 same_or_below : (x y : ℤ) → x ≤ℤ y → (x ≡ y) ⊎ (x <ℤ y)
 same_or_below x y h = by_lt_z x y (λ l. inr l) (λ g. inl (omega (arith, ints)))
+
+length-in_turn : (x : ℤ) (n : ℕ) → length (in_turn x n) ≡ n
+length-in_turn x zero = refl
+length-in_turn x (suc n) = ap suc (length-in_turn (x +ℤ pos 1) n)
+
+pub length-from_to : (a b : ℤ) → a ≤ℤ b → length (from_to a b) ≡ unsigned_abs (b -ℤ a) + 1
+length-from_to a b h =
+    let e = non_negative (b -ℤ a) (omega (arith, ints)) in
+    length-in_turn a (many a b) ∙ many_of a b (unsigned_abs (b -ℤ a) + 1) (omega (arith, ints, e))
 
 -- integers in turn, and more
 pub in_turn-append : (x : ℤ) (n m : ℕ) → in_turn x (n + m) ≡ in_turn x n ++ in_turn (x +ℤ pos n) m

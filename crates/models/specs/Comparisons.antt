@@ -61,7 +61,7 @@ ints_ordered = partial_order_from_agreeing_total ints_cmp ints_ranked ints_agree
 pub ints_fed : (a b : List ℤ) → pointwise int_eq a b ≡ true → fed.slice fed.i64 a ≡ fed.slice fed.i64 b
 ints_fed = (fed.same_Alike (fed.slice fed.i64) (pointwise_decides Decides-int_eq)).fed
 
--- a set is hashed by the number of its members and their sum
+-- a set by its members is hashed by their number and their sum
 abbrev pub members_fed : List ℤ → fed.HashWrites
 members_fed xs = fed.usize (length xs) ++ fed.u64 (sum_of xs)
 

@@ -86,15 +86,16 @@ impl AnyState {
         each_kind!(start_of; alloc, kind)
     }
 
-    /// The kind of the object whose state this is.
+    /// The kind of the object whose state this is. Takes no memory, and constant time.
     pub fn kind(&self) -> ModelKind
         ensures { result ≡ kind_of_state self.now }
     {
         each_kind!(state_kind; self)
     }
 
-    /// An equal state; `AllocError` where there is no memory for it. Takes the time of the values of a queue without an
-    /// order, or of the spans of a set; the items of a queue are shared.
+    /// An equal state; `AllocError` where there is no memory for it, or where as many share the items of a queue as can be
+    /// counted. Takes the time of the values of a queue without an order, or of the spans of a set; the items of a queue are
+    /// shared.
     pub fn copy(&self, alloc: Global) -> Result<AnyState, AllocError>
         ensures { IfOk result (λ other. other ≡ self.now) }
     {
@@ -108,9 +109,10 @@ impl AnyState {
         each_kind!(same_state; self, other)
     }
 
-    /// The outcomes of the operation in the state, each once and in the order of the kind's table: the state after it and
-    /// what it finds. None where it can't take place; `AllocError` where there is no memory for a new state or for the
-    /// list. Leaves the state as it was. Takes the time of the items or members, for each outcome.
+    /// The outcomes of the operation in the state, each once and in the order of the kind's table: the state after it and what
+    /// it finds. None where it can't take place; `AllocError` where there is no memory for a new state or for the list. Leaves
+    /// the state as it was. Takes at most the time of the items, values or spans for each outcome; a read of a set, that of its
+    /// members.
     pub fn apply(&self, alloc: Global, op: &Op) -> Result<Vec<(AnyState, Found)>, AllocError>
         ensures { (kind : ModelKind) (s : (object_of kind).State) → self.now ≡ any kind s
             → IfOk result (λ outcomes. outcomes.items ≡ outcomes_of kind s op.now) }

@@ -81,7 +81,8 @@ fn few_with(values: &[i64], value: i64) -> [i64; 14]
 
 // The values with one more behind them, in new memory.
 fn laid_with(alloc: Global, values: &[i64], value: i64) -> Result<Shared, AllocError>
-    ensures with { IfOk result (λ shared. take (length values.now + 1) (lying shared) ≡ values.now ++ value ∷ []) }
+    ensures with { IfOk result (λ shared.
+        take (length values.now + 1) (lying shared) ≡ values.now ++ value ∷ []) }
     ensures within { IfOk result (λ shared. length values.now + 1 ≤ length (lying shared)) }
 {
     if values.len() < FEW {
@@ -107,7 +108,7 @@ impl Items {
         }
     }
 
-    /// These items, with memory of their own; `AllocError` where there is none.
+    /// These items, with memory of their own; `AllocError` where there is none. Takes the time of the items.
     pub fn of_slice(alloc: Global, values: &[i64]) -> Result<Items, AllocError>
         ensures { IfOk result (λ items. items ≡ values.now) }
     {
@@ -121,14 +122,15 @@ impl Items {
         })
     }
 
-    /// The items, the front first.
+    /// The items, the front first. Takes no memory, and constant time.
     pub fn as_slice(&self) -> &[i64]
         ensures { result.now ≡ self.now }
     {
         &all_of(&self.shared)[self.from..self.to]
     }
 
-    /// The same items, in the same memory; `AllocError` where that is shared as often as it can be.
+    /// The same items, in the same memory. Takes constant time, and no memory; `AllocError` where that is shared as often as it
+    /// can be.
     pub fn copy(&self) -> Result<Items, AllocError>
         ensures { IfOk result (λ other. other ≡ self.now) }
     {
@@ -155,7 +157,8 @@ impl Items {
         })
     }
 
-    /// These items without the front one, in the same memory; `AllocError` where that is shared as often as it can be.
+    /// These items without the front one, in the same memory. Takes constant time, and no memory; `AllocError` where that is
+    /// shared as often as it can be.
     pub(crate) fn without_front(&self) -> Result<Items, AllocError>
         requires { 0 < length self.now }
         ensures { IfOk result (λ rest. rest ≡ drop 1 self.now) }

@@ -14,7 +14,8 @@ use std::hash::{Hash, Hasher};
 use std::marker::Model;
 use std::sync::Arc;
 
-/// A set of integers, ascending. A copy shares the members, which are never changed where they lie.
+/// A set of integers, ascending, as a read finds it and an answer has it; the state of a set is [`Spans`](crate::Spans). A copy
+/// shares the members, which are never changed where they lie.
 #[derive(Drop)]
 pub struct Members {
     alloc: Global,
@@ -103,7 +104,8 @@ impl Members {
         Members::sharing(*values.allocator(), Listed::of(values))
     }
 
-    /// The same, where the caller knows the sum of the values, so that they are not gone through for it.
+    /// The same, where the caller knows the sum of the values, so that they are not gone through for it: it takes constant
+    /// time.
     pub(crate) fn of_listed(values: Vec<i64>, sum: u64) -> Result<Members, AllocError>
         requires { IsListed values.items sum }
         ensures { IfOk result (λ set. set ≡ values.items) }
@@ -123,7 +125,7 @@ impl Members {
         Members::of_ascending(items)
     }
 
-    /// The members, ascending.
+    /// The members, ascending. Takes no memory, and constant time.
     pub fn as_slice(&self) -> &[i64]
         ensures value { result.now ≡ self.now }
         ensures ascending { IsAscending self.now }

@@ -49,7 +49,7 @@ impl Multiset {
         }
     }
 
-    /// The values, ascending, each as often as it is in.
+    /// The values, ascending, each as often as it is in. Takes no memory, and constant time.
     pub fn as_slice(&self) -> &[i64]
         ensures value { result.now ≡ self.now }
         ensures never_falls { NeverFalls self.now }
@@ -57,7 +57,7 @@ impl Multiset {
         &self.values
     }
 
-    /// The same multiset, with memory of its own; `AllocError` where there is none.
+    /// The same multiset, with memory of its own; `AllocError` where there is none. Takes the time of the values.
     pub fn copy(&self) -> Result<Multiset, AllocError>
         ensures { IfOk result (λ other. other ≡ self.now) }
     {

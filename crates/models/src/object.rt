@@ -25,20 +25,23 @@ pub trait SeqObject {
     fn start(alloc: Global) -> Self::State
         ensures { result ≡ start_state };
 
-    /// An equal state; `AllocError` where there is no memory for it.
+    /// An equal state; `AllocError` where there is no memory for it, or where as many share it as can be counted. Takes the
+    /// time of the values of a queue without an order, or of the spans of a set, and else constant time; the items of a queue
+    /// are shared.
     fn copy(alloc: Global, state: &Self::State) -> Result<Self::State, AllocError>
         ensures { IfOk result (λ other. other ≡ state.now) };
 
     /// Whether the operation has more outcomes in the state than so many, for a caller who will not make them all. They leave
-    /// different states. Takes no memory.
+    /// different states. Takes no memory, and at most the time of the values of a queue without an order.
     fn has_more_outcomes(state: &Self::State, op: &Op, most: usize) -> bool
         requires { 1 ≤ most }
         ensures more { IsTrue result ↔ (most < length (apply_to op.now state.now)) }
         ensures apart { AreApart (apply_to op.now state.now) };
 
-    /// Puts the outcomes of the operation in the state behind those in the list, so that a caller who keeps the list has
-    /// no list made for each step; `AllocError` where there is no memory for a new state or for the list, which is then
-    /// as before. Leaves the state as it was.
+    /// Puts the outcomes of the operation in the state behind those in the list, so that a caller who keeps the list has no
+    /// list made for each step; `AllocError` where there is no memory for a new state or for the list, which is then as before.
+    /// Leaves the state as it was. Takes at most the time of the items, values or spans for each outcome; a read of a set, that
+    /// of its members.
     fn append_outcomes(
         alloc: Global,
         state: &Self::State,
@@ -55,8 +58,9 @@ pub trait SeqObject {
     /// A read leaves the state as it was.
     ghost reads: { ReadsLeave (of_table Self.State start_state apply_to) };
 
-    /// The outcomes of the operation in the state, each once: the state after it and what it finds. None where it can't
-    /// take place; `AllocError` where there is no memory for a new state or for the list. Leaves the state as it was.
+    /// The outcomes of the operation in the state, each once: the state after it and what it finds. None where it can't take
+    /// place; `AllocError` where there is no memory for a new state or for the list. Leaves the state as it was. Takes the time
+    /// of [`append_outcomes`](Self::append_outcomes).
     final fn apply(
         alloc: Global,
         state: &Self::State,

@@ -126,7 +126,8 @@ pub struct Op {
 }
 
 impl Op {
-    /// An equal operation, by a copy of its part.
+    /// An equal operation, which shares the members of a set. Takes constant time, and no memory; `AllocError` where as many
+    /// share them as can be counted.
     pub fn copy(&self) -> Result<Op, AllocError>
         ensures { IfOk result (λ other. other ≡ self.now) }
     {

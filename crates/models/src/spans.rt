@@ -1,6 +1,6 @@
 //! Sets of integers as spans of consecutive ones.
 ghost use Rattle.std.specs.Hash as fed;
-ghost use Rattle.std.specs.Prelude.{◌≡◌, ◌↔◌, ◌≤◌, ◌<◌, ◌<ℤ◌, ◌≤ℤ◌, ◌+ℤ◌, ◌-ℤ◌, pos, true, false, IsTrue, IfOk, OnOk, [], ◌∷◌, ◌++◌, List, ℤ, drop, get_or, length, take};
+ghost use Rattle.std.specs.Prelude.{◌≡◌, ◌↔◌, ◌≤◌, ◌<◌, ◌<ℤ◌, ◌≤ℤ◌, ◌+ℤ◌, ◌-ℤ◌, pos, true, false, IsTrue, IfOk, OnOk, [], ◌∷◌, ◌++◌, List, ℤ, drop, get_or, length, min, take};
 ghost use Rattle.std.specs.List.{Contains};
 ghost use Rattle.std.specs.Ordering.{int_eq};
 ghost use Rattle.std.specs.Cmp.Lexicographic.{pointwise};
@@ -136,7 +136,10 @@ fn are_same(xs: &[Span], ys: &[Span]) -> bool
 }
 
 // How many integers the spans have, or the greatest number where they are more.
-fn room_for(spans: &[Span]) -> usize {
+fn room_for(spans: &[Span]) -> usize
+    requires { StandApart spans.now }
+    ensures { result ≡ min (length (integers_in spans.now)) usize.MAX }
+{
     let mut room: usize = 0;
     for span in spans {
         room = room

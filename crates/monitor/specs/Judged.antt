@@ -1,4 +1,4 @@
--- Invariant: how the rows of the lines and the verdict stand to what is judged
+-- Promise and invariant: how the rows of the lines, which public clauses cite, and the verdict stand to what is judged
 use Rattle.std.specs.Prelude.{◌≡◌, ℕ, Option, Some, None, List, map, slice_get}
 use Rattle.indexmap.specs.Layout.{set_value_at}
 use Rattle.models.specs.declared.model_kind.ModelKind.{ModelKind}

@@ -1,4 +1,4 @@
--- Invariant: the lines of the keys
+-- Promise and invariant: the lines of the keys, of which public clauses cite what they have now and what a cut makes of them
 use Rattle.std.specs.Prelude.{◌≡◌, ℕ, true, false, if◌then◌else◌, Option, Some, None, IfSome, List, [], ◌∷◌, map, slice_get}
 use Rattle.history.specs.declared.event.Event.{Event}
 use Rattle.linspec.specs.declared.verdict.KeyStatus.{KeyStatus}

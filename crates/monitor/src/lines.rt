@@ -47,21 +47,21 @@ impl Lines {
         }
     }
 
-    /// How many there are.
+    /// How many there are. Takes no memory, and constant time.
     pub fn len(&self) -> usize
         ensures { result ≡ length self.now.rows }
     {
         self.map.len()
     }
 
-    /// The place of a key's line.
+    /// The place of a key's line, if the key has events. Takes no memory, and constant time.
     pub fn find(&self, key: Key) -> Option<usize>
         ensures { result ≡ position (nat_eq key) (keys_of self.now.rows) }
     {
         self.map.get_index_of(&key)
     }
 
-    /// The key and the line at a place.
+    /// The key and the line at a place. Takes no memory, and constant time.
     pub fn at(&self, place: usize) -> (Key, &KeyLine)
         requires { place < length self.now.rows }
         ensures { slice_get self.now.rows place ≡ Some (result.0, result.1.now) }
@@ -72,7 +72,9 @@ impl Lines {
         }
     }
 
-    /// Prepares one more event of the key at a place, and gives the status that it brings.
+    /// Prepares one more event of the key at a place, and gives the status that it brings. It takes the time of
+    /// [`KeyLine::prepare_push`]. `AllocError` where memory was refused: then the line has nothing prepared, and the rest is as
+    /// it was.
     pub fn prepare_push(
         &mut self,
         place: usize,
@@ -95,8 +97,9 @@ impl Lines {
         }
     }
 
-    /// Prepares that the key at a place is judged by this kind and budget, and gives the status that this brings. All events are
-    /// lent.
+    /// Prepares that the key at a place is judged by this kind and budget, and gives the status that this brings. All events
+    /// are lent. It takes the time of [`KeyLine::prepare_rebuild`]. `AllocError` where memory was refused: then the line has
+    /// nothing prepared, and the rest is as it was.
     pub fn prepare_rebuild(
         &mut self,
         place: usize,
@@ -123,9 +126,9 @@ impl Lines {
         }
     }
 
-    /// Prepares a cut at `n` of each line that has an event before `n`. All events are lent. Gives the number of these lines, and
-    /// the verdict that joins how they then stand. It takes the time of all lines, and of a cut of those that lose events. Where
-    /// memory was refused, no line has anything prepared.
+    /// Prepares a cut at `n` of each line that has an event before `n`. All events are lent. Gives the number of these lines,
+    /// and the verdict that joins how they then stand. It takes the time of all lines, and of a cut of those that lose events.
+    /// `AllocError` where memory was refused: then no line has anything prepared.
     pub fn prepare_cut(&mut self, n: u32, lent: &[Event]) -> Result<(usize, Verdict), AllocError>
         requires { AreRowsLentBy lent.now (nows self.old.rows) }
         ensures kept_lines { IfOk result (λ cut.
@@ -147,7 +150,8 @@ impl Lines {
         }
     }
 
-    /// The verdict that joins how the keys stand, where the one at a place stands so. It takes the time of all lines.
+    /// The verdict that joins how the keys stand, where the one at a place stands so. It takes no memory, and the time of all
+    /// lines.
     pub fn joined_with(&self, place: usize, status: KeyStatus) -> Verdict
         ensures { (next : KeyHistory) → IsStatusOf next status
             → JoinsRows (set_value_at (nows self.now.rows) place next) result }
@@ -194,7 +198,8 @@ impl Lines {
         }
     }
 
-    /// How many events of the line at a place were judged again for a prepared cut at `n`.
+    /// How many events of the line at a place were judged again for a prepared cut at `n`: none of a line that has no event
+    /// before `n`. Takes no memory, and constant time.
     pub fn replays_at(&self, place: usize, n: u32) -> u64
         requires within { place < length self.now.rows }
         requires next { AreCutAt n self.now.rows }
@@ -208,7 +213,8 @@ impl Lines {
         cut.due()
     }
 
-    /// Makes room for one more line.
+    /// Makes room for one more line. `AllocError` where memory was refused: then the lines are as they were. Takes constant
+    /// time, but where their memory grows.
     pub fn reserve(&mut self) -> Result<(), AllocError>
         ensures same { self.new.rows ≡ self.old.rows }
         ensures room { OnOk result (0 < self.new.room) }

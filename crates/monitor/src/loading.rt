@@ -28,8 +28,9 @@ impl Monitor {
     /// The monitor of a whole history: the one that [`new`](Self::new) opens, after appends of the history's events in turn.
     ///
     /// The keys are judged by as many workers as are asked for, 1 to 64, of which the calling thread is one (see
-    /// [`recheck`](parallel_recheck::recheck)); none is given an event before all events are grouped by their keys. The gate
-    /// is called as each key begins and as it ends, by its place in the order of first events. No event is copied.
+    /// [`recheck`](parallel_recheck::recheck)); none is given an event before all events are grouped by their keys. The gate is
+    /// called as each key begins and as it ends, by its place in the order of first events. No event is copied. It takes the
+    /// time of all events, and of a push of each to the line of its key.
     ///
     /// # Errors
     /// [`Refusal::BadBudget`] where the budget is not 1 to 65,536, else [`Refusal::NoMemory`] where a growth was refused, in

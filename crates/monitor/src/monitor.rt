@@ -101,12 +101,13 @@ impl Model for Monitor {
 }
 
 impl Monitor {
-    /// The monitor of no events, of threads 0 to `concurrency` - 1. Every key is an object of this kind, and an ok may find
-    /// at most `budget` ends of its key just before it, until another kind or budget is set for a key.
+    /// The monitor of no events, of threads 0 to `concurrency` - 1. Every key is an object of this kind, and an ok may find at
+    /// most `budget` ends of its key just before it, until another kind or budget is set for a key. It takes the time of the
+    /// threads.
     ///
     /// # Errors
-    /// [`Refusal::BadBudget`] where the budget is not 1 to 65,536, else [`Refusal::BadConcurrency`] where the concurrency
-    /// is not 1 to 64, else [`Refusal::NoMemory`] where a growth was refused.
+    /// [`Refusal::BadBudget`] where the budget is not 1 to 65,536, else [`Refusal::BadConcurrency`] where the concurrency is
+    /// not 1 to 64, else [`Refusal::NoMemory`] where a growth was refused.
     pub fn new(
         alloc: Global,
         concurrency: u32,
@@ -392,7 +393,8 @@ impl Monitor {
         &self.history
     }
 
-    /// The lines of the keys that have events, by first event. Each tells what was judged again for it so far. Takes no memory.
+    /// The lines of the keys that have events, by first event. Each tells how many replays were made for it so far, of which
+    /// each event that was pushed is one ([`KeyLine::replayed`]). Takes no memory.
     pub fn lines(&self) -> &Lines
         ensures { nows result.now.rows ≡ rows_of self.now.now }
     {

@@ -36,7 +36,7 @@ impl<T: Copy> Settings<T> {
         }
     }
 
-    /// What the key has.
+    /// What the key has. Takes no memory, and constant time.
     pub(crate) fn of(&self, key: Key) -> T
         ensures { result ≡ setting_of self.now key }
     {
@@ -46,7 +46,7 @@ impl<T: Copy> Settings<T> {
         }
     }
 
-    /// Makes room for one more key.
+    /// Makes room for one more key. `AllocError` where memory was refused: then what is set is as it was.
     pub(crate) fn reserve(&mut self) -> Result<(), AllocError>
         ensures default { self.new.default ≡ self.old.default }
         ensures same { self.new.set ≡ self.old.set }

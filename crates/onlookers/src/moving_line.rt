@@ -26,7 +26,7 @@ pub struct MovingLine<'a, X> {
 }
 
 impl<'a, X: Clock + Eprint> MovingLine<'a, X> {
-    /// It is not shown yet.
+    /// A line that is not shown yet. It reads the clock where there is a terminal, and takes no memory.
     pub fn new(rt: &'a X, is_terminal: bool) -> Self {
         let next = if is_terminal {
             time_in(rt, AT_FIRST)
@@ -40,17 +40,17 @@ impl<'a, X: Clock + Eprint> MovingLine<'a, X> {
         }
     }
 
-    /// Whether it is ever shown.
+    /// Whether it is ever shown: not without a terminal, and not where the clock can't be read. Takes no memory.
     pub fn moves(&self) -> bool {
         self.next.get().is_some()
     }
 
-    /// Whether it stands there, and no line follows it yet.
+    /// Whether it stands there, and no line follows it yet. Takes no memory.
     pub fn is_shown(&self) -> bool {
         self.is_open.get()
     }
 
-    /// Whether it is time to show it.
+    /// Whether it is time to show it, by the clock. Takes no memory.
     pub fn is_time(&self) -> bool {
         let Some(next) = self.next.get() else {
             return false;
@@ -58,14 +58,15 @@ impl<'a, X: Clock + Eprint> MovingLine<'a, X> {
         Instant::now(self.rt).is_ok_and(|now| now >= next)
     }
 
-    /// Shows this over what was shown before.
+    /// Shows this over what was shown before, now, whatever the time is. It may wait for standard error, whose errors are
+    /// passed over.
     pub fn show<D: Display + Drop>(&self, text: D) {
         let _ = eprint!(self.rt; "\r{text}");
         self.is_open.set(true);
         self.next.set(time_in(self.rt, BETWEEN));
     }
 
-    /// Ends the line, where it stands there.
+    /// Ends the line, where it stands there. It may wait for standard error, whose errors are passed over.
     pub fn leave(&self) {
         if self.is_open.replace(false) {
             let _ = self.rt.eprintln("");

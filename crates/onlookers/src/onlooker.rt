@@ -5,7 +5,8 @@ use linspec::Verdict;
 use monitor::Monitor;
 use std::io;
 
-/// Is told how far a run has come, and why something was refused.
+/// Is told how far a run has come, and why something was refused. No call gives anything back or is refused; whoever tells
+/// waits for it, and tells of each line and each event, so it should cost little.
 pub trait Onlooker {
     /// So many further bytes of a recorded history were read; 0 at its end.
     fn read(&self, bytes: usize);

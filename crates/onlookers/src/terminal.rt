@@ -43,7 +43,8 @@ pub struct OnTerminal<'a, X> {
 }
 
 impl<'a, X: Clock + Eprint> OnTerminal<'a, X> {
-    /// Says nothing yet. Whether standard error is a terminal stands for the whole run.
+    /// Says nothing yet. Whether standard error is a terminal stands for the whole run. It reads the clock where it is one,
+    /// and takes no memory.
     pub fn new(rt: &'a X, is_terminal: bool) -> Self {
         OnTerminal {
             rt,
@@ -60,12 +61,13 @@ impl<'a, X: Clock + Eprint> OnTerminal<'a, X> {
         }
     }
 
-    /// A line for how far a run of clients has come. It may go to the thread that shows it.
+    /// A line for how far a run of clients has come. It may go to the thread that shows it. It reads the clock where there
+    /// is a terminal, and takes no memory.
     pub fn moving_line(&self) -> MovingLine<'a, X> {
         MovingLine::new(self.rt, self.is_terminal)
     }
 
-    /// Says what is left to say at the end of a run.
+    /// Says what is left to say at the end of a run. It may wait for standard error, whose errors are passed over.
     pub fn end(&self) {
         let tally = self.tally.get();
         if let Some((line, refusal)) = tally.first {

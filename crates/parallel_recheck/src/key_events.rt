@@ -47,7 +47,8 @@ impl<'a> KeyEvents<'a> {
         }
     }
 
-    /// Adds an event, which the process rule allows after those before it. Its index is its place in the whole history.
+    /// Adds an event, which the process rule allows after those before it. Its index is its place in the whole history. It
+    /// takes constant time, but where memory grows.
     ///
     /// # Errors
     /// `AllocError` where a growth was refused; the events are then as before.
@@ -61,7 +62,7 @@ impl<'a> KeyEvents<'a> {
         Ok(())
     }
 
-    /// The key.
+    /// The key. Takes no memory.
     pub fn key(&self) -> Key
         ensures { result ≡ self.now.key }
     {

@@ -18,9 +18,10 @@ struct Placed {
     line: KeyLine,
 }
 
-/// The lines of these pieces, in their order. Piece `i` goes to worker `i mod workers`: the last worker is the calling
-/// thread, and each other one has a thread of its own. A worker whose thread can't be started leaves its pieces to the
-/// calling thread. The lines are the same whatever the number of workers.
+/// The lines of these pieces, in their order, made by 1 to 64 workers. Piece `i` goes to worker `i mod workers`: the last
+/// worker is the calling thread, and each other one has a thread of its own. A worker whose thread can't be started leaves its
+/// pieces to the calling thread. The lines are the same whatever the number of workers. Each takes the time of
+/// [`KeyEvents::line`], and those of different threads are made at once.
 ///
 /// The gate is called as each piece begins and as it ends, by its place.
 ///

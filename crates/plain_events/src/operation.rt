@@ -25,7 +25,7 @@ fn name_at(text: &[u8]) -> Option<(Name, &[u8])>
     each_name!(name_at; text)
 }
 
-/// The pair of `:f` and a name.
+/// The pair of `:f` and a name, and what follows it; or none, which says nothing. Takes no memory.
 pub fn name_pair(text: &[u8]) -> Option<(Name, &[u8])>
     ensures { IfSome result (λ x. IsPairAt text.now (codes "f") (keyword (text_of x.0)) x.1.now) }
 {
@@ -68,7 +68,7 @@ fn key_at(text: &[u8]) -> Option<(Key, &[u8])>
     Some((key, rest))
 }
 
-/// The pair of `:value` and a vector of a key and a part.
+/// The pair of `:value` and a vector of a key and a part, and what follows it; or none, which says nothing. Takes no memory.
 pub fn value_pair(text: &[u8]) -> Option<(Key, Part, &[u8])>
     ensures { IfSome result (λ x. IsValueAt text.now x.0 x.1 x.2.now) }
 {

@@ -20,7 +20,7 @@ fn ends_atom(b: u8) -> bool
     )
 }
 
-/// What follows the white space at the front.
+/// What follows the white space at the front. Takes no memory.
 #[inline(always)]
 pub fn past_white(text: &[u8]) -> &[u8]
     ensures { (d : ℕ) → SkipsGap d text.now result.now }
@@ -35,7 +35,7 @@ pub fn past_white(text: &[u8]) -> &[u8]
     rest
 }
 
-/// What follows the white space at the front, where an atom may end in front of it.
+/// What follows the white space at the front, where an atom may end in front of it. Takes no memory.
 #[inline(always)]
 pub fn past_end(text: &[u8]) -> Option<&[u8]>
     ensures ends { IfSome result (λ rest. MayFollowAtom text.now) }
@@ -48,7 +48,7 @@ pub fn past_end(text: &[u8]) -> Option<&[u8]>
     Some(past_white(text))
 }
 
-/// What follows a whole word of these bytes, and the white space behind it.
+/// What follows a whole word of these bytes, and the white space behind it; or none, which says nothing. Takes no memory.
 #[inline(always)]
 pub fn past_word<'a>(text: &'a [u8], word: &[u8]) -> Option<&'a [u8]>
     ensures { IfSome result (λ rest. IsWordAt text.now word.now rest.now) }
@@ -57,7 +57,7 @@ pub fn past_word<'a>(text: &'a [u8], word: &[u8]) -> Option<&'a [u8]>
     past_end(behind)
 }
 
-/// What follows this byte, and the white space behind it.
+/// What follows this byte, and the white space behind it; or none, which says nothing. Takes no memory.
 pub fn past_byte(text: &[u8], byte: u8) -> Option<&[u8]>
     ensures { IfSome result (λ rest. IsByteAt text.now byte rest.now) }
 {
@@ -68,7 +68,7 @@ pub fn past_byte(text: &[u8], byte: u8) -> Option<&[u8]>
     Some(past_white(behind))
 }
 
-/// What follows the keyword of this name, and the white space behind it.
+/// What follows the keyword of this name, and the white space behind it; or none, which says nothing. Takes no memory.
 #[inline(always)]
 pub fn past_keyword<'a>(text: &'a [u8], name: &str) -> Option<&'a [u8]>
     requires { IsKeywordText name.now }

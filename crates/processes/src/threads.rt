@@ -50,11 +50,10 @@ impl Model for Threads {
 }
 
 impl Threads {
-    /// Threads 0 to `concurrency` - 1, before any move.
+    /// Threads 0 to `concurrency` - 1, before any move. It takes the time of the threads.
     ///
     /// # Errors
-    /// [`Refusal::BadConcurrency`] where the concurrency is not 1 to 64; else [`Refusal::NoMemory`] where a growth was
-    /// refused.
+    /// [`Refusal::BadConcurrency`] where the concurrency is not 1 to 64; else [`Refusal::NoMemory`] where a growth was refused.
     pub fn new(alloc: Global, concurrency: u32) -> Result<Threads, Refusal>
         ensures limits { OnOk result (IsConcurrency concurrency) }
         ensures number { IfOk result (λ threads. length threads ≡ concurrency) }

@@ -5,11 +5,11 @@ ghost use Rattle.report.specs.VerdictLine.{verdict_line};
 use linspec::Verdict;
 use std::alloc::{AllocError, Global};
 
-/// The line of a verdict with its line feed, as `illegal key 7 index 3`.
+/// The line of a verdict with its line feed, as `illegal key 7 index 3`. Takes memory for the line.
 ///
 /// # Errors
 ///
-/// Where memory is refused.
+/// `AllocError` where there is no memory for it.
 pub fn verdict_text(alloc: Global, verdict: &Verdict) -> Result<String, AllocError>
     ensures { IfOk result (λ text. string_bytes text ≡ verdict_line verdict.now) }
 {
@@ -20,11 +20,11 @@ pub fn verdict_text(alloc: Global, verdict: &Verdict) -> Result<String, AllocErr
     }
 }
 
-/// Appends the line of a verdict to a reply.
+/// Appends the line of a verdict to a reply. Beside the reply it takes memory for one line, and for `legal` none.
 ///
 /// # Errors
 ///
-/// Where memory is refused, and then the reply is as it was.
+/// `AllocError` where memory is refused, and then the reply is as it was.
 pub fn append_verdict(
     alloc: Global,
     reply: &mut Vec<u8>,

@@ -36,13 +36,16 @@ fn bucket_of(word: u128, many: usize) -> usize
 
 // Indexes the first word that is not.
 fn index_word(words: &[u128], index: &mut Index) -> Result<(), AllocError>
-    requires index { IsIndex (bucket (length index.old.last.items)) words.now index.old.last.items index.old.before.items }
+    requires index { IsIndex (bucket (length index.old.last.items)) words.now
+        index.old.last.items index.old.before.items }
     requires left { length index.old.before.items < length words.now }
     requires few { length words.now < 2147483584 }
     requires some { 0 < length index.old.last.items }
-    ensures index { IsIndex (bucket (length index.new.last.items)) words.now index.new.last.items index.new.before.items }
+    ensures index { IsIndex (bucket (length index.new.last.items)) words.now
+        index.new.last.items index.new.before.items }
     ensures buckets { length index.new.last.items ≡ length index.old.last.items }
-    ensures more { OnOk result (length index.new.before.items ≡ length index.old.before.items + 1) }
+    ensures more { OnOk result
+        (length index.new.before.items ≡ length index.old.before.items + 1) }
 {
     let at = index.before.len();
     let its = bucket_of(words[at], index.last.len());
@@ -55,7 +58,8 @@ fn index_word(words: &[u128], index: &mut Index) -> Result<(), AllocError>
 fn make_buckets(many: usize, index: &mut Index) -> Result<(), AllocError>
     requires { many < 2147483584 }
     ensures none { index.new.before.items ≡ [] }
-    ensures last { (b : ℕ) → b < length index.new.last.items → get_or index.new.last.items b 0 ≡ 0 }
+    ensures last { (b : ℕ) → b < length index.new.last.items
+        → get_or index.new.last.items b 0 ≡ 0 }
     ensures some { OnOk result (many < length index.new.last.items) }
     ensures buckets { length index.new.last.items < 2 ^ 32 }
 {
@@ -74,12 +78,15 @@ fn make_buckets(many: usize, index: &mut Index) -> Result<(), AllocError>
     Ok(())
 }
 
-/// Indexes all words.
+/// Indexes all words. `AllocError` where there is no memory for the buckets or for a word's place. Takes the time of the words
+/// that are not indexed yet, and of all where new buckets are made.
 #[inline(never)]
 pub fn index_words(words: &[u128], index: &mut Index) -> Result<(), AllocError>
-    requires index { IsIndex (bucket (length index.old.last.items)) words.now index.old.last.items index.old.before.items }
+    requires index { IsIndex (bucket (length index.old.last.items)) words.now
+        index.old.last.items index.old.before.items }
     requires few { length words.now < 2147483584 }
-    ensures index { IsIndex (bucket (length index.new.last.items)) words.now index.new.last.items index.new.before.items }
+    ensures index { IsIndex (bucket (length index.new.last.items)) words.now
+        index.new.last.items index.new.before.items }
     ensures all { OnOk result (length index.new.before.items ≡ length words.now) }
     ensures some { OnOk result (0 < length index.new.last.items) }
 {
@@ -94,7 +101,8 @@ pub fn index_words(words: &[u128], index: &mut Index) -> Result<(), AllocError>
 
 // Whether the word is there, which is in this bucket.
 fn has_word(words: &[u128], index: &Index, its: usize, word: u128) -> bool
-    requires index { IsIndex (bucket (length index.now.last.items)) words.now index.now.last.items index.now.before.items }
+    requires index { IsIndex (bucket (length index.now.last.items)) words.now
+        index.now.last.items index.now.before.items }
     requires all { length index.now.before.items ≡ length words.now }
     requires within { its < length index.now.last.items }
     requires its { its ≡ bucket (length index.now.last.items) word }
@@ -113,7 +121,8 @@ fn has_word(words: &[u128], index: &Index, its: usize, word: u128) -> bool
 
 // Puts the word behind the others, which are all indexed: it is in this bucket, and is not there.
 fn put_behind(words: &mut Vec<u128>, index: &mut Index, its: usize, word: u128)
-    requires index { IsIndex (bucket (length index.old.last.items)) words.old.items index.old.last.items index.old.before.items }
+    requires index { IsIndex (bucket (length index.old.last.items)) words.old.items
+        index.old.last.items index.old.before.items }
     requires all { length index.old.before.items ≡ length words.old.items }
     requires within { its < length index.old.last.items }
     requires its { its ≡ bucket (length index.old.last.items) word }
@@ -121,7 +130,8 @@ fn put_behind(words: &mut Vec<u128>, index: &mut Index, its: usize, word: u128)
     requires room { length words.old.items < vec_capacity words.old }
     requires places { length index.old.before.items < vec_capacity index.old.before }
     ensures put { words.new.items ≡ words.old.items ++ word ∷ [] }
-    ensures index { IsIndex (bucket (length index.new.last.items)) words.new.items index.new.last.items index.new.before.items }
+    ensures index { IsIndex (bucket (length index.new.last.items)) words.new.items
+        index.new.last.items index.new.before.items }
 {
     index.before.push_reserved(index.last[its]);
     words.push_reserved(word);
@@ -136,14 +146,16 @@ fn put_with_room(
     its: usize,
     word: u128,
 ) -> Result<(), AllocError>
-    requires index { IsIndex (bucket (length index.old.last.items)) words.old.items index.old.last.items index.old.before.items }
+    requires index { IsIndex (bucket (length index.old.last.items)) words.old.items
+        index.old.last.items index.old.before.items }
     requires all { length index.old.before.items ≡ length words.old.items }
     requires within { its < length index.old.last.items }
     requires its { its ≡ bucket (length index.old.last.items) word }
     requires few { length words.old.items < 2147483584 }
     ensures put { OnOk result (words.new.items ≡ words.old.items ++ word ∷ []) }
     ensures err { OnErr result (words.new.items ≡ words.old.items) }
-    ensures index { IsIndex (bucket (length index.new.last.items)) words.new.items index.new.last.items index.new.before.items }
+    ensures index { IsIndex (bucket (length index.new.last.items)) words.new.items
+        index.new.last.items index.new.before.items }
 {
     words.reserve(1)?;
     index.before.reserve(1)?;
@@ -151,16 +163,19 @@ fn put_with_room(
     Ok(())
 }
 
-/// Puts the word with the others, which are all indexed, if it is not there.
+/// Puts the word with the others, which are all indexed, if it is not there. `AllocError` where memory was refused: then the
+/// words are as they were. Takes the time of the words of one bucket.
 #[inline(never)]
 pub fn put_indexed(words: &mut Vec<u128>, index: &mut Index, word: u128) -> Result<(), AllocError>
-    requires index { IsIndex (bucket (length index.old.last.items)) words.old.items index.old.last.items index.old.before.items }
+    requires index { IsIndex (bucket (length index.old.last.items)) words.old.items
+        index.old.last.items index.old.before.items }
     requires all { length index.old.before.items ≡ length words.old.items }
     requires some { 0 < length index.old.last.items }
     requires few { length words.old.items < 2147483584 }
     ensures put { OnOk result (IsPut word words.old.items words.new.items) }
     ensures err { OnErr result (words.new.items ≡ words.old.items) }
-    ensures index { IsIndex (bucket (length index.new.last.items)) words.new.items index.new.last.items index.new.before.items }
+    ensures index { IsIndex (bucket (length index.new.last.items)) words.new.items
+        index.new.last.items index.new.before.items }
 {
     let its = bucket_of(word, index.last.len());
     if has_word(words, index, its, word) {

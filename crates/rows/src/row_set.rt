@@ -166,7 +166,7 @@ fn number_in_word(words: &WordSet, bits: u32, long: usize, at: usize, place: usi
 }
 
 impl RowSet {
-    /// No rows. They are expected to have so many numbers.
+    /// No rows. They are expected to have so many numbers. Takes no memory.
     pub fn new(alloc: Global, long: usize) -> RowSet
         ensures { result ≡ [] }
     {
@@ -181,15 +181,16 @@ impl RowSet {
         }
     }
 
-    /// Takes all rows out. Those to come are expected to have so many numbers. Keeps the memory, unless that was for far
-    /// more rows than there were last.
+    /// Takes all rows out. Those to come are expected to have so many numbers. Keeps the memory, unless that was for far more
+    /// rows than there were last. Takes no memory, and at most the time of the rows.
     pub fn restart(&mut self, long: usize)
         ensures { self.new ≡ [] }
     {
         self.restart_with(long, bits_for(long, false), false);
     }
 
-    /// The same, where rows are expected to have numbers as those of the other.
+    /// The same, where rows are expected to have numbers as those of the other. Takes no memory, and at most the time of the
+    /// rows.
     pub fn restart_like(&mut self, other: &RowSet, long: usize)
         ensures { self.new ≡ [] }
     {
@@ -217,7 +218,7 @@ impl RowSet {
         self.bits = bits;
     }
 
-    /// How many rows there are.
+    /// How many rows there are. Takes no memory, and constant time.
     pub fn len(&self) -> usize
         ensures { result ≡ length self.now }
     {
@@ -228,7 +229,8 @@ impl RowSet {
         }
     }
 
-    /// Writes the row at this place, in place of what was there.
+    /// Writes the row at this place, in place of what was there. `AllocError` where there is no memory for it: then nothing is
+    /// said of what is written. Takes the time of its numbers.
     #[inline(always)]
     pub fn read(&self, at: usize, row: &mut Vec<usize>) -> Result<(), AllocError>
         requires { at < length self.now }
@@ -247,7 +249,7 @@ impl RowSet {
         }
     }
 
-    /// The number at this place of the row that stands here, and zero where there is none.
+    /// The number at this place of the row that stands here, and zero where there is none. Takes no memory, and constant time.
     pub fn number(&self, at: usize, place: usize) -> usize
         ensures { result ≡ get_or (get_or self.now at []) place 0 }
     {
@@ -269,7 +271,7 @@ impl RowSet {
         self.long
     }
 
-    /// Whether the row that stands here has a zero at this place, and not only no number.
+    /// Whether the row that stands here has a zero at this place, and not only no number. Takes no memory, and constant time.
     pub fn has_zero(&self, at: usize, place: usize) -> bool
         requires { at < length self.now }
         ensures { IsTrue result ↔ (slice_get (get_or self.now at []) place ≡ Some 0) }
@@ -277,7 +279,9 @@ impl RowSet {
         place < self.long_at(at) && self.number(at, place) == 0
     }
 
-    /// Puts the row with the others, if it is not there.
+    /// Puts the row with the others, if it is not there. `AllocError` where memory was refused: then the rows are as they were.
+    /// Takes the time of its numbers, and looks it up by its hash where there are more than a few; where it fits no word as the
+    /// others are, all are written anew, which happens twice at most until a restart.
     pub fn put(&mut self, row: &[usize]) -> Result<(), AllocError>
         ensures put { OnOk result (IsPut row.now self.old self.new) }
         ensures err { OnErr result (self.new ≡ self.old) }
@@ -342,6 +346,7 @@ impl RowSet {
     }
 
     /// Puts the row at a place with this first number, and with this number where it has zero, if that is not there.
+    /// `AllocError` where memory was refused: then the rows are as they were. Takes the time of [`put`](Self::put).
     #[inline(never)]
     pub fn put_next(
         &mut self,
@@ -391,7 +396,8 @@ impl RowSet {
         self.put(&next)
     }
 
-    /// Puts the row of the other set that stands here without the number at this place, if that is not there.
+    /// Puts the row of the other set that stands here without the number at this place, if that is not there. `AllocError`
+    /// where memory was refused: then the rows are as they were. Takes the time of [`put`](Self::put).
     pub fn put_without(
         &mut self,
         other: &RowSet,
@@ -450,7 +456,8 @@ impl RowSet {
         }
     }
 
-    /// Each row gets a zero behind it, if there is room for it without new memory, and it is told whether.
+    /// Each row gets a zero behind it, if there is room for it without new memory, and it is told whether. Takes no memory, and
+    /// constant time.
     pub fn lengthen(&mut self) -> bool
         ensures longer { IsTrue result → self.new ≡ map (λ row. row ++ 0 ∷ []) self.old }
         ensures same { result ≡ false → self.new ≡ self.old }
@@ -462,7 +469,7 @@ impl RowSet {
         true
     }
 
-    /// Leaves so many rows, the first ones.
+    /// Leaves so many rows, the first ones. Takes no memory, and at most the time of the rows.
     pub fn truncate(&mut self, len: usize)
         ensures { self.new ≡ take len self.old }
     {
@@ -473,7 +480,7 @@ impl RowSet {
         }
     }
 
-    /// The same rows, with memory of their own.
+    /// The same rows, with memory of their own; `AllocError` where there is none. Takes the time of all their numbers.
     pub fn copied(&self) -> Result<RowSet, AllocError>
         ensures { IfOk result (λ rows. rows ≡ self.now) }
     {

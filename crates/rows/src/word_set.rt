@@ -30,11 +30,13 @@ impl Model for WordSet {
 
     ghost view = { λ s. s.words.items };
 
-    ghost invariant = { λ s. AreApart s.words.items × IsIndex (bucket (length s.index.last.items)) s.words.items s.index.last.items s.index.before.items };
+    ghost invariant = { λ s. AreApart s.words.items
+        × IsIndex (bucket (length s.index.last.items)) s.words.items
+        s.index.last.items s.index.before.items };
 }
 
 impl WordSet {
-    /// No words.
+    /// No words. Takes no memory.
     pub fn new(alloc: Global) -> WordSet
         ensures { result ≡ [] }
     {
@@ -47,7 +49,7 @@ impl WordSet {
         }
     }
 
-    /// How many words there are.
+    /// How many words there are. Takes no memory.
     pub fn len(&self) -> usize
         ensures len { result ≡ length self.now }
         ensures apart { AreApart self.now }
@@ -55,19 +57,19 @@ impl WordSet {
         self.words.len()
     }
 
-    /// For how many words there is room.
+    /// For how many words there is room. Takes no memory.
     pub fn capacity(&self) -> usize {
         self.words.capacity()
     }
 
-    /// The word that stands here.
+    /// The word that stands here, if one does. Takes no memory, and constant time.
     pub fn get(&self, at: usize) -> Option<u128>
         ensures { result ≡ slice_get self.now at }
     {
         self.words.get(at).copied()
     }
 
-    /// Takes all words out.
+    /// Takes all words out. Takes no memory.
     pub fn clear(&mut self)
         ensures { self.new ≡ [] }
     {
@@ -76,7 +78,8 @@ impl WordSet {
         self.index.before.clear();
     }
 
-    /// Leaves so many words, the first ones.
+    /// Leaves so many words, the first ones. Where words go that are indexed, all are indexed anew when one is put. Takes no
+    /// memory.
     pub fn truncate(&mut self, len: usize)
         ensures { self.new ≡ take len self.old }
     {
@@ -87,7 +90,8 @@ impl WordSet {
         self.words.truncate(len);
     }
 
-    /// Puts the word with the others, if it is not there.
+    /// Puts the word with the others, if it is not there. `AllocError` where memory was refused: then the words are as they
+    /// were. Looks it up by the index where there are more than a few; where not all are indexed, all are.
     #[inline(always)]
     pub fn put(&mut self, word: u128) -> Result<(), AllocError>
         ensures put { OnOk result (IsPut word self.old self.new) }
@@ -125,7 +129,8 @@ impl WordSet {
         Ok(())
     }
 
-    /// The same words. They are indexed when one is put.
+    /// The same words, with memory of their own; `AllocError` where there is none. They are indexed when one is put. Takes the
+    /// time of the words.
     pub fn copied(&self, alloc: Global) -> Result<WordSet, AllocError>
         ensures { IfOk result (λ words. words ≡ self.now) }
     {

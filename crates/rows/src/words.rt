@@ -48,7 +48,7 @@ fn placed(number: usize, bits: u32, at: usize) -> u128
     (number as u128) << (bits * at as u32)
 }
 
-/// The number at this place of the word.
+/// The number at this place of the word. Takes no memory, and constant time.
 pub fn number_at(word: u128, bits: u32, at: usize) -> usize
     requires bits { bits ≤ 32 }
     requires some { 0 < bits }
@@ -93,7 +93,8 @@ fn lengthen(row: &mut Vec<usize>, long: usize) -> Result<(), AllocError>
     row.resize(long, 0)
 }
 
-/// Writes the numbers of the word: so many, each of so many bits, the first from the lowest.
+/// Writes the numbers of the word: so many, each of so many bits, the first from the lowest. `AllocError` where there is no
+/// memory for them. Takes the time of the numbers.
 #[inline(always)]
 pub fn unpack(word: u128, bits: u32, long: usize, row: &mut Vec<usize>) -> Result<(), AllocError>
     requires { bits ≤ 32 }
@@ -133,7 +134,7 @@ fn without_in_whole(word: u128, bits: u32, shift: u32) -> u128
     word - (rest << shift) + (rest >> bits << shift)
 }
 
-/// The word without the number at this place.
+/// The word without the number at this place. Takes no memory, and constant time.
 #[inline(always)]
 pub fn without(word: u128, bits: u32, long: usize, at: usize) -> u128
     requires bits { bits ≤ 32 }
@@ -150,7 +151,7 @@ pub fn without(word: u128, bits: u32, long: usize, at: usize) -> u128
     }
 }
 
-/// The word of the row, if none of its numbers has more bits.
+/// The word of the row, if none of its numbers has more bits. Takes no memory, and the time of its numbers.
 pub fn packed(row: &[usize], bits: u32) -> Option<u128>
     requires bits { bits ≤ 32 }
     requires room { bits * length row.now ≤ 128 }
@@ -168,7 +169,7 @@ pub fn packed(row: &[usize], bits: u32) -> Option<u128>
     Some(word)
 }
 
-/// The word with this first number, and with this number at a place where zero stands.
+/// The word with this first number, and with this number at a place where zero stands. Takes no memory, and constant time.
 pub fn changed(word: u128, bits: u32, long: usize, to: usize, at: usize, slot: usize) -> u128
     requires bits { bits ≤ 32 }
     requires some { 0 < bits }

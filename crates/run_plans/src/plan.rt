@@ -29,14 +29,16 @@ pub struct RunPlan {
 
 impl RunPlan {
     /// How the one-thread object is opened for it: as this one, which only judges, but for what the run has beside. The
-    /// generator gives so many operations, each by the next random word from one of its children; for each key in turn these
-    /// are one for each name of the kind, which goes round through the name's parts. Where faults strike, replica 0 is parted
-    /// from the others from the 20th event on and the network heals from the 40th on; a reply is lost from the 60th on;
-    /// replica 0 crashes from the 80th on, and starts again from the 100th on. No limit is tested here.
+    /// generator gives so many operations, each by the next random word from one of its children; for each key in turn
+    /// these are one for each name of the kind, which goes round through the name's parts. Where faults strike, replica 0
+    /// is parted from the others from the 20th event on and the network heals from the 40th on; a reply is lost from the
+    /// 60th on; replica 0 crashes from the 80th on, and starts again from the 100th on. No limit is tested here.
+    ///
+    /// It takes the time and the memory of the keys.
     ///
     /// # Errors
     ///
-    /// Where memory is refused.
+    /// `AllocError` where memory is refused.
     pub fn config(self, alloc: Global, judging: Config) -> Result<Config, AllocError>
         ensures { IfOk result (λ config. setup_of config ≡ run_setup self (setup_of judging)) }
     {

@@ -13,6 +13,9 @@ use std::alloc::Global;
 /// the verdict, `[:rewind n]` keeps the first n events, `[:model k m]` makes key k an object of kind m, and `[:budget k n]`
 /// gives it the budget n.
 ///
+/// An event that is spelled plainly takes the time of one pass over the line, and no memory. Any other line costs what
+/// [`read_all`](edn::read_all) and [`from_edn`](history::from_edn) cost.
+///
 /// # Errors
 ///
 /// `Unreadable` where the line is no text; `BadValue` where it has two elements or more, or one that is no command;

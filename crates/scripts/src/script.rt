@@ -136,17 +136,17 @@ fn reply_refusal<L: Onlooker>(
     }
 }
 
-/// Reads commands from a reader, a line each, and writes the reply to each before it reads further. At the reader's
-/// end it flushes once and gives the verdict on the history as it then stands.
+/// Reads commands from a reader, a line each, and writes the reply to each before it reads further. At the reader's end it
+/// flushes once and gives the verdict on the history as it then stands.
 ///
 /// A line is at most 65,536 bytes, its line feed not counted; a longer one is answered by `refused 22 TooLong`. A line
-/// without an element gets no reply. The time is that of the commands, and the memory that of the monitor and of two
-/// lines. The onlooker is told of each line.
+/// without an element gets no reply. The time is that of the commands, and the memory that of the monitor and of two lines.
+/// It waits for the reader and the writer. The onlooker is told of each line.
 ///
 /// # Errors
 ///
-/// What [`Core::new`] refuses, before anything is read. Else `ReadFailed` where the reader failed, `WriteFailed` where
-/// the writer failed or took none of some bytes, and `NoMemory`: the writer has then taken a beginning of the replies.
+/// What [`Core::new`] refuses, before anything is read. Else `ReadFailed` where the reader failed, `WriteFailed` where the
+/// writer failed or took none of some bytes, and `NoMemory`: the writer has then taken a beginning of the replies.
 pub fn run_script<X: Wait, R: Read + Failed, W: Write + Failed, L: Onlooker>(
     rt: &X,
     alloc: Global,

@@ -16,7 +16,9 @@ pub struct Held {
 }
 
 impl Held {
-    /// An equal copy, with memory of its own; `AllocError` where there is none.
+    /// An equal copy, which shares the items of a queue with an order; `AllocError` where there is no memory for it, or as
+    /// many share them as can be counted. Takes the time of the values of a queue without an order, or of the spans of a
+    /// set.
     pub fn copy(&self, alloc: Global) -> Result<Held, AllocError>
         ensures { IfOk result (λ other. other ≡ self.now) }
     {

@@ -11,6 +11,8 @@ ghost use Rattle.test_store.specs.Truth.{start_truth, IsTrueOf, KeepsTruth, Leav
 
 /// In strict mode the store holds one true state of each key, as one copy would: at first the start states; a serve that is
 /// done or lost steps it as the operation does, and one that is refused leaves it, and so does each fault.
+/// [`Store::serve`](crate::Store::serve) and [`Store::fault`](crate::Store::fault) cite it, and `no_false_alarm` of
+/// `trials` rests on it.
 pub fn strict_law()
     ensures opening { (n : ℕ) (kind : ModelKind) → IsCount n
         → IsTrueOf kind (opening n Strict kind) (start_truth kind) }
@@ -19,7 +21,8 @@ pub fn strict_law()
     ensures fault { (fault : Fault) (s : Cluster) → LeavesTruth s (after_fault fault s) }
 {}
 
-/// No version is greater than the number of serves: a serve raises the greatest version by one at most, and a fault by none.
+/// No version is greater than the number of serves: a serve raises the greatest version by one at most, and a fault by
+/// none. `store_tests` cites it, and the law `counted_law` of `machine` rests on it.
 pub fn versions_law()
     ensures opening { (n : ℕ) (mode : Mode) (kind : ModelKind)
         → VersionsWithin (opening n mode kind) 0 }
@@ -29,7 +32,7 @@ pub fn versions_law()
         → VersionsWithin s n → VersionsWithin (after_fault fault s) n }
 {}
 
-/// A serve has one outcome at most, and leads to one store.
+/// A serve has one outcome at most, and leads to one store. The law `one_step` of `machine` rests on it.
 pub fn one_serve_law()
     ensures { (old new other : Cluster) (e : ℕ) (op : Op) (outcome another : Outcome)
         → MayServe old e op outcome new → MayServe old e op another other

@@ -65,6 +65,7 @@ impl Model for Store {
 
 impl Store {
     /// A store of so many replicas, all up, in one group, with no key changed yet. Each key is an object of this kind.
+    /// Takes no memory.
     ///
     /// # Errors
     /// [`Refusal::NoSuchReplica`] where the number is not 1 to 7.
@@ -88,7 +89,7 @@ impl Store {
         })
     }
 
-    /// How many replicas it has.
+    /// How many replicas it has, 1 to 7. Takes no memory.
     pub fn replicas(&self) -> u8
         ensures value { result ≡ self.now.now.replicas }
         ensures limits { IsCount result }
@@ -97,7 +98,9 @@ impl Store {
     }
 
     /// Prepares a serve of the operation at the entry, and gives the outcome that [`commit`](Store::commit) will bring. The
-    /// store stays as it is. It takes the time of the replicas and of the state, and not that of the keys.
+    /// store stays as it is. The entry is the number of a replica, from 0, and no version of the key may be greater than
+    /// 2^64 - 2. It takes the time of the replicas and of the operation's outcomes in the key's state, and not that of the
+    /// keys, but where its memory grows.
     ///
     /// # Errors
     /// `AllocError` where a growth was refused; then nothing is prepared.
@@ -164,7 +167,7 @@ impl Store {
         Ok(())
     }
 
-    /// Carries out what is prepared. It takes no memory and cannot fail.
+    /// Carries out what is prepared. It takes no memory and cannot fail, and the time of what it takes away.
     pub fn commit(&mut self)
         requires { IsSome self.old.next }
         ensures { IfSome self.old.next (λ next. self.new ≡ at_rest next) }
@@ -188,7 +191,8 @@ impl Store {
         }
     }
 
-    /// Serves the operation at the entry: [`prepare_serve`](Store::prepare_serve) and [`commit`](Store::commit) in one.
+    /// Serves the operation at the entry: [`prepare_serve`](Store::prepare_serve) and [`commit`](Store::commit) in one,
+    /// with the time of both.
     ///
     /// # Errors
     /// `AllocError` where a growth was refused; the store is then as it was.
@@ -209,7 +213,8 @@ impl Store {
         Ok(outcome)
     }
 
-    /// Lets a fault strike: [`prepare_fault`](Store::prepare_fault) and [`commit`](Store::commit) in one.
+    /// Lets a fault strike: [`prepare_fault`](Store::prepare_fault) and [`commit`](Store::commit) in one, with the time of
+    /// both.
     ///
     /// # Errors
     /// Those of [`prepare_fault`](Store::prepare_fault); the store is then as it was.
@@ -228,8 +233,9 @@ impl Store {
         Ok(())
     }
 
-    /// An equal store with nothing prepared, and memory of its own; `AllocError` where there is none. It takes the time of
-    /// all keys that were changed.
+    /// An equal store with nothing prepared, and memory of its own but for the items of queues with an order, which are
+    /// shared; `AllocError` where there is none, or as many share the items as can be counted. It takes the time of all
+    /// keys that were changed.
     pub fn copy(&self) -> Result<Store, AllocError>
         ensures { IfOk result (λ other. other ≡ at_rest self.now.now) }
     {

@@ -12,9 +12,10 @@ ghost use Rattle.test_store.specs.Store.{IsCount};
 ghost use Rattle.trials.specs.Trials.{Answers, Trial, Move, opening, Leads, serves_of, AreOfTickets, entries_in};
 ghost use Rattle.trials.specs.Examples.{IsDoneTrial, IsLostTrial, IsRefusedTrial};
 
-/// No false alarm: whatever moves lead there from the opening, where the store is strict, the history is linearizable, over
-/// all keys together: the serves that took place are a legal order of it. So no verdict on it is Illegal, with whatever
-/// budgets, and so with whatever keys set aside.
+/// No false alarm: whatever moves lead there from the opening, where the store is strict, the history is linearizable
+/// (Herlihy and Wing 1990), over all keys together: the serves that took place are a legal order of it. So no verdict on it
+/// is Illegal, with whatever budgets, and so with whatever keys set aside. The law of the same name of `machine` rests on
+/// it.
 pub fn no_false_alarm()
     ensures order { (c n : ℕ) (kind : ModelKind) (moves : List Move) (m : Trial)
         → IsCount n → Leads (opening c n kind) moves m
@@ -31,13 +32,15 @@ pub fn no_false_alarm()
 {}
 
 /// Where an operation takes place in an object, what it finds makes an ok that the tables and the process rule allow. So a
-/// served operation that is open can be completed wherever the history has room.
+/// served operation that is open can be completed wherever the history has room. The law `tickets_law` of `machine` rests
+/// on it.
 pub fn answers_law()
     ensures { (kind : ModelKind) (s t : (object_of kind).State) (op : Op) (found : Found)
         → (object_of kind).Steps s op found t → Answers op.name op.part found }
 {}
 
-/// There are trials: in one a write returns, in one its reply is lost, and in one it is refused.
+/// There are trials: in one a write returns, in one its reply is lost, and in one it is refused. So what is said of all
+/// trials is said of some. No call rests on it.
 pub fn trials_law()
     ensures done { (v : ℤ) → IsDoneTrial v }
     ensures lost { (v : ℤ) → IsLostTrial v }

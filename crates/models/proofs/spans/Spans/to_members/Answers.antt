@@ -11,6 +11,9 @@ use Rattle.models.proofs.InSpans.{not_empty, integers_ascend}
 use Rattle.models.proofs.Joining.{integers_more}
 use Rattle.models.proofs.spans.Spans.to_members.Goals as goal
 
+pub room_for-requires : goal.room_for-requires
+room_for-requires c = subst StandApart (sym c.as_slice-spans.ensures.value) c.self.invariant.apart
+
 pub append_integers-requires : goal.append_integers-requires
 append_integers-requires c =
     let xs = c.as_slice-spans.result.now in
