@@ -5,19 +5,13 @@ ghost use Rattle.harness.specs.Setups.{setup_of, judging, AllPass, IsSetup, MayN
 use crate::fitness::{Test, all_items_pass, all_scheduled_pass};
 use edn::Refusal;
 use generators::{Cycle, Gen};
+use history::MOST_REPLICAS;
 use models::ModelKind;
+use monitor::MOST_ENDS;
 use nemesis::Schedule;
+use processes::MOST_THREADS;
 use std::alloc::Global;
 use test_store::Mode;
-
-// The greatest budget.
-const MOST_ENDS: u32 = 65_536;
-
-// The greatest concurrency.
-const MOST_THREADS: u32 = 64;
-
-// The most replicas.
-const MOST_REPLICAS: u8 = 7;
 
 /// How it is opened.
 #[derive(Drop)]

@@ -15,10 +15,10 @@ ghost use Rattle.harness.specs.CoreView.{at_rest, with_next, IsPrepared, MayWant
 use crate::asking::{Drew, draw_fault, draw_op, why_full};
 use crate::config::Config;
 use crate::parts::{append, invoke, strike};
-use crate::tickets::{MOST_EVENTS, come_to, entry_of, finishing, make_stale, test_draw, unserved};
+use crate::tickets::{come_to, entry_of, finishing, make_stale, test_draw, unserved};
 use edn::Refusal;
 use generators::Source;
-use history::Event;
+use history::{Event, MOST_EVENTS};
 use linspec::Verdict;
 use machine::{Command, Reply};
 use models::{Key, ModelKind};

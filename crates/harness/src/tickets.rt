@@ -11,14 +11,11 @@ ghost use Rattle.harness.specs.CoreView.{MayDecline};
 ghost use Rattle.harness.specs.Tickets.{IsOf, MayServe, MayFinish};
 
 use edn::Refusal;
-use history::{Body, Event, EventKind, History, Process};
+use history::{Body, Event, EventKind, History, MOST_EVENTS, Process};
 use models::{Found, Op, Part};
 use std::alloc::AllocError;
 use test_store::Outcome;
 use trials::Ticket;
-
-/// The most events of a history.
-pub(crate) const MOST_EVENTS: u32 = 1_048_576;
 
 /// The most tickets.
 const MOST_TICKETS: usize = 4_294_967_295;

@@ -4,11 +4,9 @@ ghost use Rattle.models.specs.declared.operation.Part.TheVariants.{Set};
 ghost use Rattle.history.specs.WellFormed.{IsPart, IsOkPart, IsPartOf, IsFault, IsInTables, IsRepeat, Completes};
 
 use crate::event::{Body, EventKind, Fault, Process};
+use crate::groups::MOST_REPLICAS;
 use models::{Members, Name, Op, Part, each_name};
 use std::alloc::Global;
-
-/// The greatest number of a replica.
-const LAST_REPLICA: u8 = 6;
 
 // Whether the part is the one that the name's line has for an invocation.
 macro_rules! is_invoked {
@@ -79,10 +77,10 @@ fn is_fault(fault: &Fault) -> bool
     match fault {
         Fault::Partition(groups) => groups.are_apart(),
         Fault::Heal => true,
-        Fault::Pause(replica) => *replica <= LAST_REPLICA,
-        Fault::Resume(replica) => *replica <= LAST_REPLICA,
-        Fault::Crash(replica) => *replica <= LAST_REPLICA,
-        Fault::Restart(replica) => *replica <= LAST_REPLICA,
+        Fault::Pause(replica) => *replica < MOST_REPLICAS,
+        Fault::Resume(replica) => *replica < MOST_REPLICAS,
+        Fault::Crash(replica) => *replica < MOST_REPLICAS,
+        Fault::Restart(replica) => *replica < MOST_REPLICAS,
         Fault::LoseReplies(_) => true,
     }
 }

@@ -5,7 +5,10 @@ ghost use Rattle.history.specs.Replicas.{AreApart, AreGroups, HasSeen};
 use std::alloc::AllocError;
 use std::marker::Model;
 
-/// The replicas are numbered from 0 to one below this.
+/// The most replicas: they are numbered from 0 to one below this.
+pub const MOST_REPLICAS: u8 = 7;
+
+/// As many, as a length.
 pub const REPLICAS: usize = 7;
 
 /// The groups into which a partition cuts the replicas, by their numbers. A replica that no group names is alone.

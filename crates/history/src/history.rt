@@ -20,7 +20,7 @@ use std::alloc::{AllocError, Global};
 use std::marker::Model;
 
 /// The most events of a history.
-const MOST_EVENTS: u32 = 1_048_576;
+pub const MOST_EVENTS: u32 = 1_048_576;
 
 /// A history of events, in the manner of Jepsen (<https://github.com/jepsen-io/jepsen>): an event enters it only where
 /// it is well-formed after those before it. The index of an event is its place, from 0. A history holds at most 2^20

@@ -15,8 +15,8 @@ mod spelling;
 
 pub use allowed::is_part_of;
 pub use event::{Body, Event, EventKind, Fault, Process};
-pub use groups::Groups;
-pub use history::History;
+pub use groups::{Groups, MOST_REPLICAS};
+pub use history::{History, MOST_EVENTS};
 pub use laws::{
     crashed_process_is_replaced, key_events_law, one_event, one_refusal,
     order_of_a_set_says_nothing, process_rule_law, refusals_in_order,

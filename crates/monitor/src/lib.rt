@@ -12,4 +12,4 @@ mod pieces;
 mod settings;
 
 pub use lines::Lines;
-pub use monitor::{KeyRow, Monitor};
+pub use monitor::{KeyRow, MOST_ENDS, Monitor};

@@ -27,7 +27,7 @@ use std::alloc::{AllocError, Global};
 use std::marker::Model;
 
 /// The greatest budget.
-const MOST_ENDS: u32 = 65_536;
+pub const MOST_ENDS: u32 = 65_536;
 
 /// What is known of a key that has events.
 #[derive(Clone, Copy)]

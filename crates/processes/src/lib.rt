@@ -8,4 +8,4 @@ mod threads;
 pub use laws::{
     crashed_process_stays_away, processes_are_sequential, rule_is_refused_for_one_reason,
 };
-pub use threads::{Thread, Threads};
+pub use threads::{MOST_THREADS, Thread, Threads};

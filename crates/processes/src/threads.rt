@@ -9,7 +9,7 @@ use std::alloc::{AllocError, Global};
 use std::marker::Model;
 
 /// The most threads.
-const MOST_THREADS: u32 = 64;
+pub const MOST_THREADS: u32 = 64;
 
 /// A thread: its current process, and whether that process has an open operation.
 #[derive(Clone, Copy)]

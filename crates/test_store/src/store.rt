@@ -14,13 +14,10 @@ use crate::links::{Links, alone, count};
 use crate::outcome::{Mode, Outcome};
 use crate::rows::Rows;
 use edn::Refusal;
-use history::Fault;
+use history::{Fault, MOST_REPLICAS};
 use models::{AnyState, Found, Key, ModelKind, Op};
 use std::alloc::{AllocError, Global};
 use std::marker::Model;
-
-/// The most replicas of a store.
-const MOST_REPLICAS: u8 = 7;
 
 /// What is prepared.
 #[derive(Drop)]
