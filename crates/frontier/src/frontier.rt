@@ -42,7 +42,6 @@ pub struct Frontier<M: SeqObject> {
     fresh: Option<Fresh>,
     tried: usize,
     table: Table<M::State>,
-    spare: Table<M::State>,
     room: Room<M::State>,
     next: Change<M::State>,
 }
@@ -81,7 +80,6 @@ impl<M: SeqObject> Frontier<M> {
             fresh: None,
             tried: 0,
             table,
-            spare: ends::empty(alloc),
             room: Room::new(alloc),
             next: Change::Nothing,
         })
@@ -241,7 +239,7 @@ impl<M: SeqObject> Frontier<M> {
         self.table.states.len() / 4 > self.table.rows.len().saturating_add(8)
     }
 
-    // The same as `list_fresh`, with another table, in the memory of the one before.
+    // The same as `list_fresh`, with a new table.
     fn list_anew(&mut self) -> Result<(), AllocError>
         ensures listed { let object = of_table M.State M.start_state M.apply_to in
             OnOk result (Keeps (IsIdle object self.old) (IsListed object self.new)) }
@@ -260,9 +258,7 @@ impl<M: SeqObject> Frontier<M> {
             crashed: false,
         })?;
         let ends = ends::ends_of::<M>(self.alloc, &self.table, &self.calls)?;
-        ends::refill::<M>(self.alloc, &mut self.spare, &ends, &calls)?;
-        swap(&mut self.table, &mut self.spare);
-        ends::clear(&mut self.spare);
+        self.table = ends::of_ends::<M>(self.alloc, &ends, &calls)?;
         self.calls = calls;
         self.fresh = None;
         Ok(())
@@ -432,7 +428,6 @@ impl<M: SeqObject> Frontier<M> {
             fresh: change::copied_fresh(&self.fresh)?,
             tried: self.tried,
             table: ends::copied::<M>(self.alloc, &self.table, &self.calls)?,
-            spare: ends::empty(self.alloc),
             room: Room::new(self.alloc),
             next: Change::Nothing,
         })

@@ -12,4 +12,3 @@ pub mod Sums
 pub mod InSpans
 pub mod Joining
 pub mod Alike
-pub mod Rolling
