@@ -16,17 +16,16 @@ use crate::moves::{self, Move, Moves};
 use crate::pending_op::PendingOp;
 use crate::table::{self, Table};
 use models::{Answer, SeqObject};
-use rows::{Row, RowSet};
+use rows::RowSet;
 use std::alloc::{AllocError, Global};
 use std::hash::Hash;
 
-/// Memory that an ok works in, kept for the next one: what calls do in states, the row that is looked at, the marks of what fits
-/// the answer, and the rows that are left, into which a fail puts its own too.
+/// Memory that an ok works in, kept for the next one: what calls do in states, the row that is looked at, and the rows that are
+/// left, into which a fail puts its own too.
 #[derive(Drop)]
 pub struct Room<S> {
     moves: Moves<S>,
-    row: Row,
-    marks: Vec<bool>,
+    row: Vec<usize>,
     pub rows: RowSet,
 }
 
@@ -35,8 +34,7 @@ impl<S> Room<S> {
     pub fn new(alloc: Global) -> Room<S> {
         Room {
             moves: Moves::new(alloc),
-            row: Row::new(alloc),
-            marks: Vec::new(alloc),
+            row: Vec::new(alloc),
             rows: RowSet::new(alloc, 0),
         }
     }
@@ -112,7 +110,7 @@ fn grow_at<M: SeqObject>(
     moves: &mut Moves<M::State>,
     from: usize,
     number: usize,
-    row: &Row,
+    row: &[usize],
     calls: &[PendingOp],
     at: usize,
     place: usize,
@@ -153,7 +151,7 @@ fn grow_from<M: SeqObject>(
     table: &mut Table<M::State>,
     moves: &mut Moves<M::State>,
     from: usize,
-    row: &Row,
+    row: &[usize],
     calls: &[PendingOp],
     first: usize,
     applied: &mut u64,
@@ -176,10 +174,10 @@ fn grow_from<M: SeqObject>(
     ensures front { IsFront (rows_of table.old) (rows_of table.new) }
     ensures cost { applied.new ≤ applied.old + length calls.now }
 {
-    let number = row.first();
+    let number = table::number_of_state(row);
     let mut at = first;
     'places: while at < calls.len() {
-        if !row.has_zero(at + 1) {
+        if !table::has_zero(row, at + 1) {
             at += 1;
             continue;
         }
@@ -209,7 +207,7 @@ fn first_for(at: usize, kept: usize, tried: usize) -> usize
 // more outcomes in its state.
 fn leads_beyond<M: SeqObject>(
     table: &Table<M::State>,
-    row: &Row,
+    row: &[usize],
     calls: &[PendingOp],
     first: usize,
     budget: u32,
@@ -223,11 +221,13 @@ fn leads_beyond<M: SeqObject>(
         → slice_get calls.now at ≡ Some c → Shows table.now calls.now row.now e
         → is_in e c.id c.crashed ≡ false → length (M.apply_to c.op e.state) ≤ budget }
 {
-    let Some(state) = table::state_numbered(table, row.first()) else {
+    let Some(state) = table::state_numbered(table, table::number_of_state(row)) else {
         return false;
     };
     for at in first..calls.len() {
-        if M::has_more_outcomes(state, &calls[at].op, budget as usize) && row.has_zero(at + 1) {
+        if M::has_more_outcomes(state, &calls[at].op, budget as usize)
+            && table::has_zero(row, at + 1)
+        {
             return true;
         }
     }
@@ -241,7 +241,7 @@ fn grow<M: SeqObject>(
     alloc: Global,
     table: &mut Table<M::State>,
     moves: &mut Moves<M::State>,
-    row: &mut Row,
+    row: &mut Vec<usize>,
     calls: &[PendingOp],
     tried: usize,
     budget: u32,
@@ -274,7 +274,7 @@ fn grow<M: SeqObject>(
         if first >= calls.len() {
             continue;
         }
-        table.rows.look(at, row)?;
+        table.rows.read(at, row)?;
         if leads_beyond::<M>(table, row, calls, first, budget) {
             return Ok(false);
         }
@@ -321,7 +321,7 @@ fn found_rows<M: SeqObject>(
     )? {
         return Ok(false);
     }
-    after::settled(table, calls, id, answer, &mut room.marks, &mut room.rows)?;
+    after::settled(table, calls, id, answer, &mut room.rows)?;
     Ok(true)
 }
 
