@@ -615,12 +615,13 @@ def client(number):
 with Monitor({PROGRAM!r}) as monitor:
     monitor.run(client, 4)
 """
-    child = subprocess.Popen([sys.executable, "-B", "-c", script], stdout=subprocess.PIPE, stderr=subprocess.PIPE,
-                             env=dict(os.environ, PYTHONPATH=str(TOP / "examples" / "python")))
-    assert child.stdout is not None and child.stdout.readline() == b"\n"
-    child.send_signal(signal.SIGINT)
-    _, errors = child.communicate(timeout=30)
-    assert child.returncode != 0 and errors.rstrip().endswith(b"KeyboardInterrupt"), errors
+    for _ in range(10):  # it comes at one moment or another, also while threads start
+        child = subprocess.Popen([sys.executable, "-B", "-c", script], stdout=subprocess.PIPE, stderr=subprocess.PIPE,
+                                 env=dict(os.environ, PYTHONPATH=str(TOP / "examples" / "python")))
+        assert child.stdout is not None and child.stdout.readline() == b"\n"
+        child.send_signal(signal.SIGINT)
+        _, errors = child.communicate(timeout=30)
+        assert child.returncode != 0 and errors.rstrip().endswith(b"KeyboardInterrupt"), errors
 
 
 def another_model() -> None:

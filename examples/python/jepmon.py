@@ -36,7 +36,6 @@ import subprocess
 import tempfile
 import threading
 import time
-from concurrent.futures import FIRST_EXCEPTION, ThreadPoolExecutor, wait
 from types import TracebackType
 from typing import Any, Callable, Deque, Dict, Hashable, Iterable, List, NoReturn, Optional, Set, TextIO, Tuple, Type, Union
 
@@ -53,6 +52,7 @@ OPERATIONS: Set[str] = set().union(*MODELS.values())
 REGISTERS = ("register", "cas-register")
 LAST_EVENTS = 16  # of a key, in the text of an exception
 PATIENCE = 10.0  # seconds for what is not worth more: another model that is tried, the end of the program
+GLANCE = 0.05  # seconds between two looks at clients that go on: Ctrl-C that comes just before a wait is seen at its end
 VERDICT = re.compile(r"(illegal|unknown) key ([0-9]+) index ([0-9]+)")
 HINTS = {  # beside a refusal, by its name
     "HistoryFull": "a history has 1048576 events at most: at a quiet moment go on with a new Monitor and new keys",
@@ -195,25 +195,42 @@ class Monitor:
     def run(self, work: Callable[[int], object], threads: int) -> None:
         """Does work(0) to work(threads - 1), each in a thread of its own. Raises what is not legal, else what one raised first.
         An exception in one of them, and Ctrl-C, end each other one at its next operation."""
-        pool = ThreadPoolExecutor(threads)
-        raised: Optional[BaseException] = None
+        faults: "Deque[BaseException]" = collections.deque()
+
+        def client(number: int) -> None:
+            signal.pthread_sigmask(signal.SIG_SETMASK, mask)
+            try:
+                work(number)
+            except BaseException as fault:  # whatever it is, it is raised below
+                faults.append(fault)
+
+        started: List[threading.Thread] = []
+        # Ctrl-C is held back while threads start: it could leave a lock that one of them waits for taken for good.
+        mask = signal.pthread_sigmask(signal.SIG_BLOCK, [signal.SIGINT])
         try:
-            tasks = [pool.submit(work, number) for number in range(threads)]
-            done, _ = wait(tasks, return_when=FIRST_EXCEPTION)
-            raised = next((task.exception() for task in done if task.exception() is not None), None)
-            if raised is not None:
-                self._broken_off = Refused(f"the test was broken off: another client has raised {raised!r}")
-            wait(tasks)
+            try:
+                for number in range(threads):
+                    thread = threading.Thread(target=client, args=(number,))
+                    thread.start()
+                    started.append(thread)
+            finally:
+                signal.pthread_sigmask(signal.SIG_SETMASK, mask)
+            for thread in started:
+                while thread.is_alive():
+                    thread.join(GLANCE)
+                    if faults and self._broken_off is None:
+                        self._broken_off = Refused(f"the test was broken off: another client has raised {faults[0]!r}")
         except BaseException:
             self.failure = self.failure or Refused("the test was broken off")
             raise
         finally:
-            pool.shutdown()
+            for thread in started:
+                thread.join()
             self._broken_off = None
         if self.failure is not None:
             raise copy.copy(self.failure)
-        if raised is not None:
-            raise raised
+        if faults:
+            raise faults[0]
 
     # What is said of a key.
 
