@@ -15,4 +15,5 @@ pub mod Telling
 pub mod Moving
 pub mod Passing
 pub mod Settling
+pub mod Marking
 pub mod Renewing

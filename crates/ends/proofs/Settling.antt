@@ -1,5 +1,5 @@
 -- ends after an ok and a fail, by rows
-use Rattle.std.proofs.Common.{◌≡◌, ◌≢◌, ℕ, zero, suc, ◌+◌, ◌<◌, ◌≤◌, ⊎_elim, Bool, true, false, not, Some, None, List, [], ◌∷◌, length, slice_get, get_or, set, take, refl, sym, ap, ◌∙◌, subst, arith}
+use Rattle.std.proofs.Common.{◌≡◌, ◌≢◌, ℕ, zero, suc, ◌+◌, ◌<◌, ◌≤◌, ⊎_elim, Bool, true, false, not, Some, None, List, [], ◌∷◌, length, slice_get, get_or, set, refl, sym, ap, ◌∙◌, subst, arith}
 use Rattle.std.specs.FinMap as finmap
 use Rattle.std.proofs.lemmas.Bool.{cases_eq, cases_lt, eq-eqb, ne_eqb, true≢false}
 use Rattle.std.specs.List.{Contains, filter, remove}
@@ -14,11 +14,11 @@ use Rattle.linspec.proofs.Lists.{Contains-head, Contains-tail}
 use Rattle.linspec.proofs.FinLaws.{get-remove_same, get-remove_other}
 use Rattle.ends.specs.declared.pending_op.PendingOp.{PendingOp}
 use Rattle.ends.specs.declared.table.Table.{Table}
-use Rattle.ends.specs.EndSteps.{Adds, Along, Fails, FitsAt, IsOut, Settles, is_other, settled}
+use Rattle.ends.specs.EndSteps.{Adds, Along, FitsAt, IsOut, Settles, is_other, settled}
 use Rattle.ends.specs.KeptEnds.{IsIncluded}
-use Rattle.ends.specs.Tables.{AreShown, HasEachOnce, IsOpenAt, Says, ShownWith, found_by, found_in_end}
+use Rattle.ends.specs.Tables.{AreShown, HasEachOnce, IsOpenAt, Says, found_by, found_in_end}
 use Rattle.interned.specs.Numbers.{IsSlot}
-use Rattle.ends.proofs.Adding.{Adds-none, Adds-skip}
+use Rattle.ends.proofs.Adding.{Adds-none}
 use Rattle.ends.proofs.Rows.{not_in_by, not_told, other_ids, told_pending, zero_none}
 use Rattle.ends.proofs.Changes.{same_parts}
 use Rattle.std.specs.Cmp.{nat_cmp_total}
@@ -79,16 +79,6 @@ module _ {S : Type 0} (calls : List PendingOp) where
           (cases_eq j at);
       included = included_settled a.included;
     }
-
--- one end more, which does not fit
-pub settles_less : {S : Type 0} (calls : List PendingOp) (t : Table S) (ends : List (End S)) (id : ℕ) (answer : Answer) (i : ℕ) (e : End S) → slice_get ends i ≡ Some e → ¬ FitsAt e id answer
-    → ShownWith t calls [] (Along (Settles id answer) (take i ends)) → ShownWith t calls [] (Along (Settles id answer) (take (i + 1) ends))
-settles_less calls t ends id answer i e here none s = record {
-  more = s.more;
-  shown = s.shown;
-  front = s.front;
-  adds = Adds-skip (Settles id answer) ends [] s.more i e (slice_get_within ends i e here) (sym (get_or_from_slice_get ends i e e here)) s.adds (λ f r. none r.0);
-}
 
 -- the calls without one
 pub without_call : (calls : List PendingOp) → HasEachOnce calls → (at id : ℕ) (c : PendingOp) → slice_get calls at ≡ Some c → c.id ≡ id → filter (is_other id) calls ≡ remove calls at
@@ -195,13 +185,3 @@ settled_out e id out =
     (λ ne. get-remove_other e.pending id q ne)
     (cases_eq q id)))
     refl
-
--- one end more, which it is in
-pub fails_less : {S : Type 0} (calls : List PendingOp) (t : Table S) (ends : List (End S)) (id i : ℕ) (e : End S) → slice_get ends i ≡ Some e → ¬ IsOut e id
-    → ShownWith t calls [] (Along (Fails id) (take i ends)) → ShownWith t calls [] (Along (Fails id) (take (i + 1) ends))
-fails_less calls t ends id i e here none s = record {
-  more = s.more;
-  shown = s.shown;
-  front = s.front;
-  adds = Adds-skip (Fails id) ends [] s.more i e (slice_get_within ends i e here) (sym (get_or_from_slice_get ends i e e here)) s.adds (λ f r. none r.0);
-}

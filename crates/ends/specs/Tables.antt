@@ -6,7 +6,7 @@ use Rattle.std.specs.FinSet as finset
 use Rattle.models.specs.declared.finding.Answer.{Answer}
 use Rattle.models.specs.declared.finding.Found.{Found}
 use Rattle.models.specs.declared.finding.Found.TheVariants.{Unit as Nothing}
-use Rattle.models.specs.Objects.{Object}
+use Rattle.models.specs.Objects.{Object, Fits}
 use Rattle.history.specs.Events.{IsFront}
 use Rattle.linspec.specs.Orders.{Pairwise}
 use Rattle.linspec.specs.Ends.{End}
@@ -115,6 +115,13 @@ pub record IsToldBefore {S : Type 0} (calls : List PendingOp) (e k : End S) (n :
   pub before : (i : ℕ) (c : PendingOp) → slice_get calls i ≡ Some c → i < n
       → found_by k c ≡ found_by e c
   pub after : (i : ℕ) (c : PendingOp) → slice_get calls i ≡ Some c → n ≤ i → found_by k c ≡ None
+
+-- the marks of the numbers that a row may have at the place of an open operation: zero, with which it is not in, has none, and each
+-- other one where what it stands for fits the answer
+pub record AreMarksOf (answer : Answer) (founds : List Found) (marks : List Bool) : Type 0 where
+  pub none : get_or marks 0 false ≡ false
+  pub each : (at : ℕ) (found : Found) → slice_get founds at ≡ Some found
+      → (get_or marks (at + 1) false ≡ true) ↔ Fits found answer
 
 -- the table with these rows
 abbrev pub with_rows : {S : Type 0} → Table S → List (List ℕ) → Table S

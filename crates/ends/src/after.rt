@@ -4,12 +4,13 @@ ghost use Rattle.std.specs.Prelude.{IfOk, OnOk, IfSome};
 ghost use Rattle.linspec.specs.Ends.{End};
 ghost use Rattle.ends.specs.KeptEnds.{end_kept};
 ghost use Rattle.std.specs.List.{filter};
-ghost use Rattle.ends.specs.EndSteps.{FitsAt, Settles, Fails, Along, after_crash, is_other};
-ghost use Rattle.ends.specs.Tables.{AreShown, HasEachOnce, IsOpenAt, Shows, ShownWith, rows_of, with_rows};
+ghost use Rattle.ends.specs.EndSteps.{Settles, Fails, Along, after_crash, is_other};
+ghost use Rattle.ends.specs.Tables.{AreMarksOf, AreShown, HasEachOnce, IsOpenAt, ShownWith, with_rows};
 
 use crate::kept_end::{KeptEnd, copy_of};
 use crate::pending_op::PendingOp;
 use crate::table::{self, Table};
+use interned::Founds;
 use models::{Answer, SeqObject, finding};
 use rows::RowSet;
 use std::alloc::{AllocError, Global};
@@ -36,47 +37,30 @@ fn place_of_open(calls: &[PendingOp], id: u32) -> Option<usize>
     None
 }
 
-// Whether what the open operation at this place found, by the row that stands here, fits the answer.
-fn fits_in_row<S: Hash + Drop>(
-    table: &Table<S>,
-    from: usize,
-    calls: &[PendingOp],
-    at: usize,
-    answer: &Answer,
-) -> bool
-    requires { at < length calls.now }
-    ensures fits { let row = get_or (rows_of table.now) from [] in
-        (id : ℕ) (e : End S) → IsOpenAt calls.now at id
-        → Shows table.now calls.now row e → IsTrue result ↔ FitsAt e id answer.now }
-    ensures within { let row = get_or (rows_of table.now) from [] in
-        IsTrue result → at + 1 < length row }
+// Makes room for one mark more than so many.
+#[inline(never)]
+fn lengthen(marks: &mut Vec<bool>, long: usize) -> Result<(), AllocError>
+    ensures { OnOk result (long < length marks.new.items) }
 {
-    match table::found_in_row(table, from, calls, at) {
-        Some(found) => finding::fits(found, answer),
-        None => false,
-    }
+    marks.resize(long, false)?;
+    marks.push(false)?;
+    Ok(())
 }
 
-// Puts the rows of those ends where what the open operation at this place found fits the answer, each without it, in place
-// of the rows that were there.
-fn settled_rows<S: Hash + Drop>(
-    table: &Table<S>,
-    calls: &[PendingOp],
-    call: usize,
-    answer: &Answer,
-    rows: &mut RowSet,
-) -> Result<(), AllocError>
-    requires { call < length calls.now }
-    ensures { HasEachOnce calls.now → (id : ℕ) → IsOpenAt calls.now call id
-        → (ends : List (End S)) → AreShown table.now calls.now ends → OnOk result
-        (ShownWith (with_rows table.now rows.new) (filter (is_other id) calls.now) []
-        (Along (Settles id answer.now) ends)) }
+// Writes the marks of the numbers that a row may have at the place of an open operation: it has one where what the number stands
+// for fits the answer, and none where the operation is not in.
+fn mark_fitting(founds: &Founds, answer: &Answer, marks: &mut Vec<bool>) -> Result<(), AllocError>
+    ensures { OnOk result (AreMarksOf answer.now founds.now marks.new.items) }
 {
-    rows.restart_like(&table.rows, calls.len());
-    for at in 0..table.rows.len() {
-        if fits_in_row(table, at, calls, call, answer) {
-            rows.put_without(&table.rows, at, call + 1)?;
-        }
+    if marks.len() <= founds.len() {
+        lengthen(marks, founds.len())?;
+    }
+    marks[0] = false;
+    for at in 0..founds.len() {
+        let Some(found) = founds.get(at) else {
+            unreachable!()
+        };
+        marks[at + 1] = finding::fits(found, answer);
     }
     Ok(())
 }
@@ -89,6 +73,7 @@ pub fn settled<S: Hash + Drop>(
     calls: &[PendingOp],
     id: u32,
     answer: &Answer,
+    marks: &mut Vec<bool>,
     rows: &mut RowSet,
 ) -> Result<(), AllocError>
     ensures { HasEachOnce calls.now → (ends : List (End S))
@@ -97,35 +82,16 @@ pub fn settled<S: Hash + Drop>(
         (Along (Settles id answer.now) ends)) }
 {
     match place_of_open(calls, id) {
-        Some(call) => settled_rows(table, calls, call, answer, rows),
+        Some(call) => {
+            mark_fitting(&table.founds, answer, marks)?;
+            rows.restart_like(&table.rows, calls.len());
+            rows.put_marked(&table.rows, call + 1, marks)
+        }
         None => {
             rows.restart(calls.len());
             Ok(())
         }
     }
-}
-
-// Puts the rows of those ends that the open operation at this place is not in, each without its number, in place of the rows
-// that were there.
-fn failed_rows<S: Hash + Drop>(
-    table: &Table<S>,
-    calls: &[PendingOp],
-    call: usize,
-    rows: &mut RowSet,
-) -> Result<(), AllocError>
-    requires { call < length calls.now }
-    ensures { HasEachOnce calls.now → (id : ℕ) → IsOpenAt calls.now call id
-        → (ends : List (End S)) → AreShown table.now calls.now ends → OnOk result
-        (ShownWith (with_rows table.now rows.new) (filter (is_other id) calls.now) []
-        (Along (Fails id) ends)) }
-{
-    rows.restart_like(&table.rows, calls.len());
-    for at in 0..table.rows.len() {
-        if table.rows.has_zero(at, call + 1) {
-            rows.put_without(&table.rows, at, call + 1)?;
-        }
-    }
-    Ok(())
 }
 
 /// Puts the rows after the operation, which is open, has failed, of those ends that it is not in, each without its number, in
@@ -143,7 +109,10 @@ pub fn failed<S: Hash + Drop>(
         (Along (Fails id) ends)) }
 {
     match place_of_open(calls, id) {
-        Some(call) => failed_rows(table, calls, call, rows),
+        Some(call) => {
+            rows.restart_like(&table.rows, calls.len());
+            rows.put_marked(&table.rows, call + 1, &[true])
+        }
         None => {
             rows.restart(calls.len());
             Ok(())

@@ -16,16 +16,17 @@ use crate::moves::{self, Move, Moves};
 use crate::pending_op::PendingOp;
 use crate::table::{self, Table};
 use models::{Answer, SeqObject};
-use rows::RowSet;
+use rows::{Row, RowSet};
 use std::alloc::{AllocError, Global};
 use std::hash::Hash;
 
-/// Memory that an ok works in, kept for the next one: what calls do in states, the row that is looked at, and the rows that are
-/// left, into which a fail puts its own too.
+/// Memory that an ok works in, kept for the next one: what calls do in states, the row that is looked at, the marks of what fits
+/// the answer, and the rows that are left, into which a fail puts its own too.
 #[derive(Drop)]
 pub struct Room<S> {
     moves: Moves<S>,
-    row: Vec<usize>,
+    row: Row,
+    marks: Vec<bool>,
     pub rows: RowSet,
 }
 
@@ -34,7 +35,8 @@ impl<S> Room<S> {
     pub fn new(alloc: Global) -> Room<S> {
         Room {
             moves: Moves::new(alloc),
-            row: Vec::new(alloc),
+            row: Row::new(alloc),
+            marks: Vec::new(alloc),
             rows: RowSet::new(alloc, 0),
         }
     }
@@ -110,7 +112,7 @@ fn grow_at<M: SeqObject>(
     moves: &mut Moves<M::State>,
     from: usize,
     number: usize,
-    row: &[usize],
+    row: &Row,
     calls: &[PendingOp],
     at: usize,
     place: usize,
@@ -151,7 +153,7 @@ fn grow_from<M: SeqObject>(
     table: &mut Table<M::State>,
     moves: &mut Moves<M::State>,
     from: usize,
-    row: &[usize],
+    row: &Row,
     calls: &[PendingOp],
     first: usize,
     applied: &mut u64,
@@ -174,10 +176,10 @@ fn grow_from<M: SeqObject>(
     ensures front { IsFront (rows_of table.old) (rows_of table.new) }
     ensures cost { applied.new ≤ applied.old + length calls.now }
 {
-    let number = table::number_of_state(row);
+    let number = row.first();
     let mut at = first;
     'places: while at < calls.len() {
-        if !table::has_zero(row, at + 1) {
+        if !row.has_zero(at + 1) {
             at += 1;
             continue;
         }
@@ -207,7 +209,7 @@ fn first_for(at: usize, kept: usize, tried: usize) -> usize
 // more outcomes in its state.
 fn leads_beyond<M: SeqObject>(
     table: &Table<M::State>,
-    row: &[usize],
+    row: &Row,
     calls: &[PendingOp],
     first: usize,
     budget: u32,
@@ -221,13 +223,11 @@ fn leads_beyond<M: SeqObject>(
         → slice_get calls.now at ≡ Some c → Shows table.now calls.now row.now e
         → is_in e c.id c.crashed ≡ false → length (M.apply_to c.op e.state) ≤ budget }
 {
-    let Some(state) = table::state_numbered(table, table::number_of_state(row)) else {
+    let Some(state) = table::state_numbered(table, row.first()) else {
         return false;
     };
     for at in first..calls.len() {
-        if M::has_more_outcomes(state, &calls[at].op, budget as usize)
-            && table::has_zero(row, at + 1)
-        {
+        if M::has_more_outcomes(state, &calls[at].op, budget as usize) && row.has_zero(at + 1) {
             return true;
         }
     }
@@ -241,7 +241,7 @@ fn grow<M: SeqObject>(
     alloc: Global,
     table: &mut Table<M::State>,
     moves: &mut Moves<M::State>,
-    row: &mut Vec<usize>,
+    row: &mut Row,
     calls: &[PendingOp],
     tried: usize,
     budget: u32,
@@ -274,7 +274,7 @@ fn grow<M: SeqObject>(
         if first >= calls.len() {
             continue;
         }
-        table.rows.read(at, row)?;
+        table.rows.look(at, row)?;
         if leads_beyond::<M>(table, row, calls, first, budget) {
             return Ok(false);
         }
@@ -321,7 +321,7 @@ fn found_rows<M: SeqObject>(
     )? {
         return Ok(false);
     }
-    after::settled(table, calls, id, answer, &mut room.rows)?;
+    after::settled(table, calls, id, answer, &mut room.marks, &mut room.rows)?;
     Ok(true)
 }
 

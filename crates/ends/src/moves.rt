@@ -260,19 +260,38 @@ pub fn note_likes<S>(moves: &mut Moves<S>, calls: &[PendingOp]) -> Result<(), Al
 }
 
 // Which calls from this place on do the same, by which do from the next one on.
+#[inline(always)]
 fn like_before(calls: &[PendingOp], at: usize, next: Like) -> Like
     requires within { at < length calls.now }
     ensures { AreAll calls.now (at + 1) next → AreAll calls.now at result }
 {
-    let place = first_alike(calls, at);
-    if place == next.place {
+    if does_as(calls, at, next.place) {
         Like {
-            place,
+            place: next.place,
             run: next.run.saturating_add(1),
         }
     } else {
-        Like { place, run: 1 }
+        like_anew(calls, at)
     }
+}
+
+// Whether the call at this place is the one at the other place, which stands before it, or does the same.
+#[inline(always)]
+fn does_as(calls: &[PendingOp], at: usize, place: usize) -> bool
+    requires within { at < length calls.now }
+    ensures { IsTrue result → IsAlike calls.now at place }
+{
+    place == at || place < at && is_alike(&calls[place], &calls[at])
+}
+
+// Which call does the same as the one at this place alone, looked for among the first few.
+#[inline(never)]
+fn like_anew(calls: &[PendingOp], at: usize) -> Like
+    requires within { at < length calls.now }
+    ensures { AreAll calls.now at result }
+{
+    let place = first_alike(calls, at);
+    Like { place, run: 1 }
 }
 
 /// Which calls from this place on do the same. Takes no memory, and constant time.

@@ -16,7 +16,7 @@ use crate::moves::{self, Move, Moves};
 use crate::pending_op::PendingOp;
 use interned::{Founds, States, founds, states};
 use models::{Found, Op, SeqObject};
-use rows::RowSet;
+use rows::{Row, RowSet};
 use std::alloc::{AllocError, Global};
 use std::hash::Hash;
 
@@ -115,26 +115,6 @@ pub fn told_by(crashed: bool, found: Found) -> Found
     if crashed { Found::Unit } else { found }
 }
 
-/// The number of the state of the row's end. Takes no memory, and constant time.
-pub fn number_of_state(row: &[usize]) -> usize
-    ensures { result ≡ get_or row.now 0 0 }
-{
-    match row.first() {
-        Some(number) => *number,
-        None => 0,
-    }
-}
-
-/// Whether the row has zero at this place: the call of that place is not in its end. Takes no memory, and constant time.
-pub fn has_zero(row: &[usize], place: usize) -> bool
-    ensures { IsTrue result ↔ (slice_get row.now place ≡ Some 0) }
-{
-    match row.get(place) {
-        Some(number) => *number == 0,
-        None => false,
-    }
-}
-
 /// Where the call at this place, which is not in it, leads from the end of the row, whose state has this number. The call at
 /// the other place does the same. `AllocError` where there is no memory for the outcomes. Takes constant time where that is
 /// known, and else one step, and the time of looking its outcomes up.
@@ -143,7 +123,7 @@ pub fn led_to<M: SeqObject>(
     table: &mut Table<M::State>,
     moves: &mut Moves<M::State>,
     number: usize,
-    row: &[usize],
+    row: &Row,
     calls: &[PendingOp],
     at: usize,
     place: usize,

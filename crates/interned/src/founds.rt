@@ -46,6 +46,13 @@ impl Founds {
         }
     }
 
+    /// How many there are. Takes no memory, and constant time.
+    pub fn len(&self) -> usize
+        ensures { result ≡ length self.now }
+    {
+        self.items.len()
+    }
+
     /// What stands at this place, if anything does. Takes no memory, and constant time.
     pub fn get(&self, at: usize) -> Option<&Found>
         ensures { option_copied result ≡ slice_get self.now at }

@@ -1,5 +1,7 @@
 pub mod Elements
 pub mod Digits
 pub mod Packing
+pub mod Marks
 pub mod Putting
 pub mod Without
+pub mod Looking

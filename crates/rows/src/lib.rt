@@ -2,8 +2,11 @@
 #![tactic(auto)]
 
 mod index;
+mod marked;
+mod row;
 mod row_set;
 mod word_set;
 mod words;
 
+pub use row::Row;
 pub use row_set::RowSet;

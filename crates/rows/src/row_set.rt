@@ -2,10 +2,12 @@
 ghost use Rattle.std.specs.Prelude.{◌≡◌, ◌↔◌, ◌<◌, ◌≤◌, ◌*◌, ◌^◌, [], ◌∷◌, ◌++◌, true, false, Some, IsTrue, map, take, length, get_or, set, slice_get, IfOk, IfSome, OnOk, OnErr};
 ghost use Rattle.std.specs.List.{remove};
 ghost use Rattle.rows.specs.Words.{ArePacked, digits, items_of};
-ghost use Rattle.rows.specs.RowSets.{IsPut};
+ghost use Rattle.rows.specs.RowSets.{IsPut, PutsMarked, is_marked};
 
+use crate::marked::{has_mark, put_marked_words};
+use crate::row::Row;
 use crate::word_set::WordSet;
-use crate::words::{changed, number_at, packed, unpack, without};
+use crate::words::{changed, number_at, packed, unpack};
 use indexmap::IndexSet;
 use std::alloc::{AllocError, Global};
 use std::marker::Model;
@@ -229,9 +231,30 @@ impl RowSet {
         }
     }
 
+    /// Reads the row at this place, in place of what was read. `AllocError` where there is no memory
+    /// for it: then nothing is said of what was read. Takes constant time where the row is half a
+    /// word, and else that of its numbers.
+    #[inline(always)]
+    pub fn look(&self, at: usize, row: &mut Row) -> Result<(), AllocError>
+        requires { at < length self.now }
+        ensures { OnOk result (slice_get self.now at ≡ Some row.new) }
+    {
+        if self.wide {
+            let Some(list) = self.lists.get_index(at) else {
+                unreachable!()
+            };
+            row.set_list(list)
+        } else {
+            let Some(word) = self.words.get(at) else {
+                unreachable!()
+            };
+            row.set_word(word, self.bits, self.long)
+        }
+    }
+
     /// Writes the row at this place, in place of what was there. `AllocError` where there is no memory for it: then nothing is
     /// said of what is written. Takes the time of its numbers.
-    #[inline(always)]
+    #[inline(never)]
     pub fn read(&self, at: usize, row: &mut Vec<usize>) -> Result<(), AllocError>
         requires { at < length self.now }
         ensures { OnOk result (slice_get self.now at ≡ Some row.new.items) }
@@ -269,14 +292,6 @@ impl RowSet {
             return long_in_lists(&self.lists, at);
         }
         self.long
-    }
-
-    /// Whether the row that stands here has a zero at this place, and not only no number. Takes no memory, and constant time.
-    pub fn has_zero(&self, at: usize, place: usize) -> bool
-        requires { at < length self.now }
-        ensures { IsTrue result ↔ (slice_get (get_or self.now at []) place ≡ Some 0) }
-    {
-        place < self.long_at(at) && self.number(at, place) == 0
     }
 
     /// Puts the row with the others, if it is not there. `AllocError` where memory was refused: then the rows are as they were.
@@ -396,36 +411,66 @@ impl RowSet {
         self.put(&next)
     }
 
-    /// Puts the row of the other set that stands here without the number at this place, if that is not there. `AllocError`
-    /// where memory was refused: then the rows are as they were. Takes the time of [`put`](Self::put).
-    pub fn put_without(
+    /// Puts each row of the other set whose number at this place is marked, without that number, if it is not there. The marks
+    /// are those of the numbers, from 0 on; a number beyond them has none. `AllocError` where memory was refused: then some of
+    /// them are put. Takes the time of a [`put`](Self::put) for each of these rows, and a look at one number of each other.
+    pub fn put_marked(
         &mut self,
         other: &RowSet,
-        from: usize,
         place: usize,
+        marks: &[bool],
     ) -> Result<(), AllocError>
-        requires from { from < length other.now }
-        requires within { place < length (get_or other.now from []) }
-        ensures put { OnOk result
-            (IsPut (remove (get_or other.now from []) place) self.old self.new) }
-        ensures err { OnErr result (self.new ≡ self.old) }
+        ensures { OnOk result
+            (PutsMarked place marks.now other.now (length other.now) self.old self.new) }
     {
         if !self.wide
             && !other.wide
-            && other.bits > 0
+            && self.bits > 0
             && self.bits == other.bits
             && self.long + 1 == other.long
+            && place < other.long
         {
-            let Some(word) = other.words.get(from) else {
-                unreachable!()
-            };
-            let left = without(word, other.bits, other.long, place);
-            return self.words.put(left);
+            return put_marked_words(
+                &mut self.words,
+                &other.words,
+                self.bits,
+                self.long,
+                place,
+                marks,
+            );
         }
-        self.put_without_by_list(other, from, place)
+        self.put_marked_by_list(other, place, marks)
     }
 
-    // The same, by way of a list.
+    // The same, row by row.
+    #[inline(never)]
+    fn put_marked_by_list(
+        &mut self,
+        other: &RowSet,
+        place: usize,
+        marks: &[bool],
+    ) -> Result<(), AllocError>
+        ensures { OnOk result
+            (PutsMarked place marks.now other.now (length other.now) self.old self.new) }
+    {
+        for at in 0..other.len() {
+            if other.has_marked(at, place, marks) {
+                self.put_without_by_list(other, at, place)?;
+            }
+        }
+        Ok(())
+    }
+
+    // Whether the row that stands here has a number at this place, and the number a mark.
+    fn has_marked(&self, at: usize, place: usize, marks: &[bool]) -> bool
+        requires { at < length self.now }
+        ensures marked { result ≡ is_marked place marks.now (get_or self.now at []) }
+        ensures within { IsTrue result → place < length (get_or self.now at []) }
+    {
+        place < self.long_at(at) && has_mark(marks, self.number(at, place))
+    }
+
+    // Puts the row of the other set that stands here without the number at this place, if that is not there, by way of a list.
     #[inline(never)]
     fn put_without_by_list(
         &mut self,

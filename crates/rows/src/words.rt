@@ -1,5 +1,5 @@
 //! Rows of numbers as words.
-ghost use Rattle.std.specs.Prelude.{◌≡◌, ◌+◌, ◌-◌, ◌*◌, ◌/◌, ◌%◌, ◌^◌, ◌<◌, ◌≤◌, length, get_or, set, IfSome, OnOk};
+ghost use Rattle.std.specs.Prelude.{◌≡◌, ℕ, ◌+◌, ◌-◌, ◌*◌, ◌/◌, ◌%◌, ◌^◌, ◌<◌, ◌≤◌, ◌↔◌, IsTrue, length, get_or, set, IfSome, OnOk};
 ghost use Rattle.std.specs.List.{remove};
 ghost use Rattle.rows.specs.Words.{IsWordOf, digits, value};
 
@@ -15,8 +15,8 @@ fn base_of(bits: u32) -> u128
     1 << bits
 }
 
-// The largest number of so many bits.
-fn largest_of(bits: u32) -> u64
+/// The largest number of so many bits. Takes no memory, and constant time.
+pub fn largest_of(bits: u32) -> u64
     requires { bits ≤ 32 }
     ensures { result ≡ 2 ^ bits - 1 }
 {
@@ -56,6 +56,28 @@ pub fn number_at(word: u128, bits: u32, at: usize) -> usize
     ensures { result ≡ word / (2 ^ bits) ^ at % 2 ^ bits }
 {
     first_of(word >> (bits * at as u32), bits)
+}
+
+/// The first number of the word, which is of 64 bits, by the largest number. Takes no memory, and
+/// constant time.
+#[inline(always)]
+pub fn first_in_half(word: u64, largest: u64) -> usize
+    ensures { (bits : ℕ) → largest ≡ 2 ^ bits - 1 → result ≡ word % 2 ^ bits }
+{
+    (word & largest) as usize
+}
+
+/// Whether zero stands at this place of the word, which is of 64 bits, by the largest number. Takes
+/// no memory, and constant time.
+#[inline(always)]
+pub fn has_zero_in_half(word: u64, bits: u32, largest: u64, at: usize) -> bool
+    requires bits { bits ≤ 32 }
+    requires some { 0 < bits }
+    requires room { bits * (at + 1) ≤ 64 }
+    requires largest { largest ≡ 2 ^ bits - 1 }
+    ensures { IsTrue result ↔ (word / (2 ^ bits) ^ at % 2 ^ bits ≡ 0) }
+{
+    first_in_half(word >> (bits * at as u32), largest) == 0
 }
 
 // Writes the numbers of the word, which is of 64 bits.

@@ -1,10 +1,23 @@
-use Rattle.std.proofs.Common.{[]}
+use Rattle.std.proofs.Common.{◌+◌, Bool, List, [], length, subst}
 use Rattle.std.specs.List.{filter}
+use Rattle.std.proofs.lemmas.Result.{on_ok_weaker}
+use Rattle.rows.specs.RowSets.{PutsMarked}
 use Rattle.ends.specs.EndSteps.{is_other}
 use Rattle.ends.proofs.Adding.{IsFront-itself}
+use Rattle.ends.proofs.Marking.{left_settled}
 use Rattle.ends.proofs.Settling.{none_settles}
 use Rattle.ends.proofs.Showing.{shown_no_rows}
 use Rattle.ends.proofs.after.settled.Goals as goal
+
+pub returns-in_ok-mark_fitting-in-Some : goal.returns-in_ok-mark_fitting-in-Some
+returns-in_ok-mark_fitting-in-Some g c once ends shown =
+    on_ok_weaker c.put_marked.result
+    (λ puts.
+    left_settled c.args.table.now c.args.calls.now once c.in-Some.call c.args.id c.in-Some.ensures.there ends shown c.args.answer.now c.mark_fitting.new.marks.items
+    c.in_ok-mark_fitting-in-Some.ensures c.restart_like.new.self c.put_marked.new.self c.restart_like.ensures
+    (subst (λ (marks : List Bool). PutsMarked (c.in-Some.call + 1) marks c.args.table.now.rows (length c.args.table.now.rows) c.restart_like.new.self c.put_marked.new.self)
+    c.deref.ensures.value puts))
+    c.put_marked.ensures
 
 pub returns-in-None : goal.returns-in-None
 returns-in-None g c once ends shown = record {

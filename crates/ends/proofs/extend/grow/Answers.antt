@@ -6,7 +6,7 @@ use Rattle.linspec.proofs.Lists.{Contains-nil}
 use Rattle.ends.specs.declared.moves.Like.{Like}
 use Rattle.ends.specs.declared.moves.Move.{Move}
 use Rattle.ends.specs.Moves.{AreAlike}
-use Rattle.ends.specs.Tables.{Shows, rows_of}
+use Rattle.ends.specs.Tables.{rows_of}
 use Rattle.ends.proofs.Growing.{Grows-itself, cost_more}
 use Rattle.ends.proofs.Closing.{all_tried}
 use Rattle.ends.proofs.Moving.{moves_none}
@@ -38,9 +38,9 @@ loop-at-preserved g c =
       front = IsFront-trans (rows_of c.args.table.now) (rows_of c.loop-at.table) (rows_of c.grow_from.new.table) c.loop-at.invariant.front c.in_ok-grow_from.ensures.front;
       grown = λ once ends shown closed.
           let s = c.loop-at.invariant.grown once ends shown closed in
-          let p = end_at c.args.calls.now c.loop-at.table s.0 s.1 c.loop-at.at c.read.new.row.items c.in_ok-read.ensures in
+          let p = end_at c.args.calls.now c.loop-at.table s.0 s.1 c.loop-at.at c.look.new.row c.in_ok-look.ensures in
           let long = c.len-kept.ensures ∙ shown.long in
-          let v = c.in_ok-grow_from.ensures.adds c.loop-at.invariant.moves c.loop-at.invariant.alike once p.0 s.0 (subst (λ r. Shows c.loop-at.table c.args.calls.now r p.0) (sym c.deref-in-loop-at.ensures.value) p.2) s.1 in
+          let v = c.in_ok-grow_from.ensures.adds c.loop-at.invariant.moves c.loop-at.invariant.alike once p.0 s.0 p.2 s.1 in
           let w = all_tried o c.args.calls.now ends s.0 c.args.tried c.first_for-first.result c.loop-at.at p.0 p.1 s.4 closed (λ lt. c.first_for-first.ensures.old (omega (arith, long, lt))) (λ le. c.first_for-first.ensures.new (omega (arith, long, le))) c.grow_from.new.table v in
           (w.more, w.shown, grows_on o c.args.calls.now ends s.0 c.loop-at.at p.0 p.1 c.grow_from.new.table w s.2, done_on o c.args.calls.now ends s.0 c.loop-at.at p.0 p.1 c.grow_from.new.table w s.3, IsFront-trans ends s.0 w.more s.4 w.front);
       cost = cost_more c.args.applied.now c.loop-at.applied c.grow_from.new.applied c.loop-at.at (length c.args.calls.now) c.loop-at.invariant.cost c.in_ok-grow_from.ensures.cost;
@@ -70,7 +70,7 @@ loop-at-preserved-then-first-calls g c =
     }
 
 pub grow_from-requires-clause-row : goal.grow_from-requires-clause-row
-grow_from-requires-clause-row g c = c.deref-in-loop-at.ensures.value ∙ sym (get_or_from_slice_get (rows_of c.loop-at.table) c.loop-at.at c.read.new.row.items [] c.in_ok-read.ensures)
+grow_from-requires-clause-row g c = sym (get_or_from_slice_get (rows_of c.loop-at.table) c.loop-at.at c.look.new.row [] c.in_ok-look.ensures)
 
 pub returns-then-at-len-clause-grows : goal.returns-then-at-len-clause-grows
 returns-then-at-len-clause-grows g c once ends shown closed =
@@ -117,5 +117,5 @@ pub returns-then-leads_beyond-clause-over : goal.returns-then-leads_beyond-claus
 returns-then-leads_beyond-clause-over g c once ends each_once shown closed _ =
     let o = of_table g.row.M-State.Denot g.M.SeqObject.start_state g.M.SeqObject.apply_to in
     let s = c.loop-at.invariant.grown once ends shown closed in
-    let p = end_at c.args.calls.now c.loop-at.table s.0 s.1 c.loop-at.at c.read.new.row.items c.in_ok-read.ensures in
-    beyond_from o c.args.calls.now ends c.args.budget p.0 (s.2.reached p.0 (has_place s.0 c.loop-at.at p.0 p.1)) (c.leads_beyond.ensures.beyond c.if-leads_beyond.true p.0 (subst (λ r. Shows c.loop-at.table c.args.calls.now r p.0) (sym c.deref.ensures.value) p.2))
+    let p = end_at c.args.calls.now c.loop-at.table s.0 s.1 c.loop-at.at c.look.new.row c.in_ok-look.ensures in
+    beyond_from o c.args.calls.now ends c.args.budget p.0 (s.2.reached p.0 (has_place s.0 c.loop-at.at p.0 p.1)) (c.leads_beyond.ensures.beyond c.if-leads_beyond.true p.0 p.2)

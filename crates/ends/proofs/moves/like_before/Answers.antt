@@ -1,4 +1,4 @@
-use Rattle.std.proofs.Common.{◌≡◌, ◌+◌, ◌<◌, ℕ, List, zero, suc, sym, subst, arith}
+use Rattle.std.proofs.Common.{◌≡◌, ◌+◌, ◌<◌, ℕ, List, zero, suc, subst, arith}
 use Rattle.ends.specs.declared.pending_op.PendingOp.{PendingOp}
 use Rattle.ends.specs.Moves.{IsAlike}
 use Rattle.ends.proofs.moves.like_before.Goals as goal
@@ -7,9 +7,9 @@ more : (calls : List PendingOp) (at place run : ℕ) → IsAlike calls at place 
 more calls at place run first rest zero lt = subst (λ k. IsAlike calls k place) (let same : at ≡ at + 0 = omega arith in same) first
 more calls at place run first rest (suc i) lt = subst (λ k. IsAlike calls k place) (let same : at + 1 + i ≡ at + suc i = omega arith in same) (rest i (omega (arith, lt)))
 
-pub returns-then-place-next : goal.returns-then-place-next
-returns-then-place-next c next i lt =
+pub returns-then-does_as : goal.returns-then-does_as
+returns-then-does_as c next i lt =
     let calls = c.args.calls.now in
     let most = c.saturating_add.ensures in
-    more calls c.args.at c.first_alike-place.result c.args.next.run c.first_alike-place.ensures
-    (λ k low. subst (IsAlike calls (c.args.at + 1 + k)) (sym c.if-place-next.true) (next k low)) i (omega (arith, lt, most))
+    more calls c.args.at c.args.next.place c.args.next.run (c.does_as.ensures c.if-does_as.true)
+    next i (omega (arith, lt, most))

@@ -1,0 +1,48 @@
+//! Rows that are taken over from others, where their number at one place is marked.
+ghost use Rattle.std.specs.Prelude.{◌≡◌, ◌↔◌, ◌<◌, ◌+◌, ◌^◌, Bool, false, get_or, length, map, IsTrue, OnOk};
+ghost use Rattle.rows.specs.RowSets.{PutsMarked};
+ghost use Rattle.rows.specs.Words.{ArePacked, digits};
+
+use crate::word_set::WordSet;
+use crate::words::{number_at, without};
+use std::alloc::AllocError;
+
+/// Whether the number is marked: the marks have true for it, by place.
+pub(crate) fn has_mark(marks: &[bool], number: usize) -> bool
+    ensures { result ≡ get_or marks.now number false }
+{
+    match marks.get(number) {
+        Some(mark) => *mark,
+        None => false,
+    }
+}
+
+/// Puts the row of each of the other words whose number at this place is marked, without that number, if it is not there.
+/// `AllocError` where memory was refused: then some of them are put.
+pub(crate) fn put_marked_words(
+    words: &mut WordSet,
+    others: &WordSet,
+    bits: u32,
+    long: usize,
+    place: usize,
+    marks: &[bool],
+) -> Result<(), AllocError>
+    requires some { 0 < bits }
+    requires others { ArePacked bits (long + 1) others.now }
+    requires words { ArePacked bits long words.old }
+    requires within { place < long + 1 }
+    ensures put { OnOk result (PutsMarked place marks.now
+        (map (digits (2 ^ bits) (long + 1)) others.now) (length others.now)
+        (map (digits (2 ^ bits) long) words.old) (map (digits (2 ^ bits) long) words.new)) }
+    ensures packed { ArePacked bits long words.new }
+{
+    for at in 0..others.len() {
+        let Some(word) = others.get(at) else {
+            unreachable!()
+        };
+        if has_mark(marks, number_at(word, bits, place)) {
+            words.put(without(word, bits, long + 1, place))?;
+        }
+    }
+    Ok(())
+}

@@ -1,0 +1,133 @@
+//! A row that is looked at.
+ghost use Rattle.std.specs.Prelude.{◌≡◌, ◌↔◌, ◌*◌, ◌^◌, ◌≤◌, [], Some, IsTrue, get_or, slice_get, OnOk};
+ghost use Rattle.rows.specs.Words.{digits};
+
+use crate::words::{first_in_half, has_zero_in_half, largest_of, unpack};
+use std::alloc::{AllocError, Global};
+use std::marker::Model;
+
+/// A row of numbers that was read from where it stands. Where it was half a word, it is looked at
+/// there; else each of its numbers has a place in a list, whose memory is kept for the next one.
+#[derive(Drop)]
+pub struct Row {
+    long: usize,
+    bits: u32,
+    largest: u64,
+    half: u64,
+    list: Vec<usize>,
+}
+
+impl Model for Row {
+    ghost use Rattle.std.specs.Prelude.{List, ℕ};
+    ghost use Rattle.rows.specs.Words.{IsHalf, row_in};
+
+    ghost Value = { List ℕ };
+
+    ghost view = { λ r. row_in r.long r.bits r.half r.list.items };
+
+    ghost invariant = { λ r. IsHalf r.bits r.long r.largest };
+}
+
+impl Row {
+    /// No numbers. Takes no memory.
+    pub fn new(alloc: Global) -> Row
+        ensures { result ≡ [] }
+    {
+        Row {
+            long: 0,
+            bits: 1,
+            largest: 1,
+            half: 0,
+            list: Vec::new(alloc),
+        }
+    }
+
+    /// The numbers of the word, so many, each of so many bits, in place of those that were there.
+    /// `AllocError` where there is no memory for them. Takes constant time where they are half a
+    /// word, and else that of the numbers.
+    #[inline(always)]
+    pub fn set_word(&mut self, word: u128, bits: u32, long: usize) -> Result<(), AllocError>
+        requires few { bits ≤ 32 }
+        requires room { bits * long ≤ 128 }
+        ensures { OnOk result (self.new ≡ digits (2 ^ bits) long word) }
+    {
+        match u64::try_from(word) {
+            Ok(half) if long > 0 && bits > 0 && bits as usize * long <= 64 => {
+                self.long = long;
+                self.bits = bits;
+                self.largest = largest_of(bits);
+                self.half = half;
+                Ok(())
+            }
+            _ => self.set_unpacked(word, bits, long),
+        }
+    }
+
+    // The same, by way of the list.
+    #[inline(never)]
+    fn set_unpacked(&mut self, word: u128, bits: u32, long: usize) -> Result<(), AllocError>
+        requires few { bits ≤ 32 }
+        ensures { OnOk result (self.new ≡ digits (2 ^ bits) long word) }
+    {
+        unpack(word, bits, long, &mut self.list)?;
+        self.long = 0;
+        Ok(())
+    }
+
+    /// These numbers, in place of those that were there. `AllocError` where there is no memory for
+    /// them. Takes the time of the numbers.
+    #[inline(never)]
+    pub fn set_list(&mut self, list: &[usize]) -> Result<(), AllocError>
+        ensures { OnOk result (self.new ≡ list.now) }
+    {
+        self.list.clear();
+        self.list.extend_from_slice(list)?;
+        self.long = 0;
+        Ok(())
+    }
+
+    /// Its first number, and zero where there is none. Takes no memory, and constant time.
+    #[inline(always)]
+    pub fn first(&self) -> usize
+        ensures { result ≡ get_or self.now 0 0 }
+    {
+        if self.long > 0 {
+            first_in_half(self.half, self.largest)
+        } else {
+            first_in_list(&self.list)
+        }
+    }
+
+    /// Whether it has a zero at this place, and not only no number. Takes no memory, and constant
+    /// time.
+    #[inline(always)]
+    pub fn has_zero(&self, place: usize) -> bool
+        ensures { IsTrue result ↔ (slice_get self.now place ≡ Some 0) }
+    {
+        if place < self.long {
+            has_zero_in_half(self.half, self.bits, self.largest, place)
+        } else {
+            self.long == 0 && has_zero_in_list(&self.list, place)
+        }
+    }
+}
+
+// The first number of the list, and zero where there is none.
+fn first_in_list(list: &[usize]) -> usize
+    ensures { result ≡ get_or list.now 0 0 }
+{
+    match list.first() {
+        Some(number) => *number,
+        None => 0,
+    }
+}
+
+// Whether the list has zero at this place.
+fn has_zero_in_list(list: &[usize], place: usize) -> bool
+    ensures { IsTrue result ↔ (slice_get list.now place ≡ Some 0) }
+{
+    match list.get(place) {
+        Some(number) => *number == 0,
+        None => false,
+    }
+}
