@@ -64,7 +64,7 @@ fn next_event(
         → IsText elements.old.bytes given)) }
     ensures refused { IfErr result (λ why. IsWhy elements.old.bytes why) }
 {
-    if let Some((event, rest)) = plain_event(elements.left()) {
+    if let Some((event, rest)) = plain_event(alloc, elements.left()) {
         elements.pass_to(rest);
         return Ok(Some(Ok(event)));
     }

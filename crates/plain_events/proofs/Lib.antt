@@ -2,3 +2,4 @@ pub mod Elements
 pub mod Words
 pub mod Numerals
 pub mod Spelled
+pub mod Sets

@@ -1,5 +1,6 @@
 -- What calls of the functions below give, as what their callers give
-use Rattle.std.proofs.Common.{◌≡◌, ℕ, List, ◌∷◌, ◌++◌, Option, Some, None, Bor, IfSome, sym, subst, IsTrue}
+use Rattle.std.proofs.Common.{◌≡◌, ℕ, ◌+◌, ◌<◌, ◌≤◌, List, [], ◌∷◌, ◌++◌, length, take, get_or, Option, Some, None, Bor, IfSome, sym, ap, ◌∙◌, subst, append_assoc, IsTrue}
+use Rattle.std.proofs.lemmas.List.{take_more, take_all}
 use Rattle.edn.specs.Value.{Value, keyword}
 use Rattle.edn.specs.Bytes.{ends_atom, MayFollowAtom, IsKeywordText}
 use Rattle.edn.specs.Text.{SkipsGap}
@@ -8,6 +9,14 @@ use Rattle.plain_events.proofs.Elements.{keyword_at}
 
 pub may_follow : (text : List ℕ) (b : ℕ) (rest : List ℕ) → text ≡ b ∷ rest → IsTrue (ends_atom b) → MayFollowAtom text
 may_follow text b rest e on = subst MayFollowAtom (sym e) on
+
+-- bytes that stand in front, one after the other
+pub bytes_more : (text bytes rest behind : List ℕ) (i b : ℕ) → i < length bytes → get_or bytes i 0 ≡ b → text ≡ take i bytes ++ rest → rest ≡ b ∷ behind → text ≡ take (i + 1) bytes ++ behind
+bytes_more text bytes rest behind i b below at cut e =
+    cut ∙ ap (λ l. take i bytes ++ l) e ∙ sym (append_assoc (take i bytes) (b ∷ []) behind) ∙ ap (λ l. l ++ behind) (sym (take_more bytes i 0 below ∙ ap (λ x. take i bytes ++ x ∷ []) at))
+
+pub bytes_all : (text bytes rest : List ℕ) (i : ℕ) → length bytes ≤ i → text ≡ take i bytes ++ rest → text ≡ bytes ++ rest
+bytes_all text bytes rest i whole cut = cut ∙ ap (λ l. l ++ rest) (take_all i bytes whole)
 
 pub word_from : (text word behind : List ℕ) (r : Option (Bor (List ℕ))) → text ≡ word ++ behind → IfSome r (λ rest. MayFollowAtom behind) → IfSome r (λ rest. (d : ℕ) → SkipsGap d behind rest.now)
     → IfSome r (λ rest. IsWordAt text word rest.now)

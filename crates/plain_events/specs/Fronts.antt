@@ -1,10 +1,12 @@
 -- Invariant: what stands at the front of a text, with the gap behind it, for the functions behind `plain_event`
-use Rattle.std.specs.Prelude.{◌≡◌, ℕ, ◌<◌, ◌≤◌, ◌^◌, ℤ, Option, Some, None, List, ◌∷◌, ◌++◌, codes}
+use Rattle.std.specs.Prelude.{◌≡◌, ℕ, ◌<◌, ◌≤◌, ◌^◌, ℤ, Option, Some, None, List, ◌∷◌, ◌++◌, map, codes}
 use Rattle.std.specs.Str.Parse.{digits_value}
-use Rattle.edn.specs.Value.{Value, int, keyword}
+use Rattle.edn.specs.Value.{Value, int, keyword, members, Values, joined}
 use Rattle.edn.specs.Bytes.{MayFollowAtom, IsNumeral}
-use Rattle.edn.specs.Text.{SkipsGap, Reads}
+use Rattle.edn.specs.Text.{SkipsGap, Reads, ReadsAll}
+use Rattle.edn.specs.View.{list_of}
 use Rattle.models.specs.declared.operation.Part.{Part}
+use Rattle.models.specs.Members.{IsAscending}
 use Rattle.history.specs.EventMap.{number}
 use Rattle.history.specs.Spelling.{SpellsPart, SpellsKeyed}
 
@@ -65,6 +67,16 @@ pub record AreTwoAt (text : List ℕ) (a b : ℤ) (rest : List ℕ) : Type 0 whe
   pub first : IsAtomAt text (int a) second
   pub then : IsAtomAt second (int b) closing
   pub end : IsByteAt closing 93 rest
+
+-- integers, each with the gap behind it: what elements rest has, the text has behind them
+abbrev pub AreIntegersAt : List ℕ → List ℤ → List ℕ → Type 0
+AreIntegersAt text xs rest =
+    (d : ℕ) (vs : Values) (end : List ℕ) → ReadsAll d rest vs end → ReadsAll d text (joined (list_of (map int xs)) vs) end
+
+-- an element of a vector in a map, which is a set of these integers, written in ascending order
+pub record IsSetAt (text : List ℕ) (xs : List ℤ) (rest : List ℕ) : Type 0 where
+  pub element : IsElementAt 2 text (members (list_of (map int xs))) rest
+  pub ascending : IsAscending xs
 
 -- an element of a vector in a map, which spells the part
 pub record IsPartAt (text : List ℕ) (part : Part) (rest : List ℕ) : Type 0 where

@@ -11,6 +11,7 @@ use crate::operation::{name_pair, value_pair};
 use crate::word::{past_byte, past_keyword, past_white};
 use history::{Body, Event, EventKind, Process, is_part_of};
 use models::Op;
+use std::alloc::Global;
 
 // The pair of `:index` and a number, where it is there.
 fn index_pair(text: &[u8]) -> Option<(Option<u32>, &[u8])>
@@ -60,10 +61,10 @@ fn process_pair(text: &[u8]) -> Option<(u32, &[u8])>
 }
 
 /// The event of a client that is spelled plainly at the front, behind any white space, and what follows it; or none, which
-/// says nothing. Takes no memory.
+/// says nothing. Memory is taken for the members of a set alone, and none is given where it was refused.
 ///
 /// The time is that of one pass over the event.
-pub fn plain_event(text: &[u8]) -> Option<(Event, &[u8])>
+pub fn plain_event(alloc: Global, text: &[u8]) -> Option<(Event, &[u8])>
     ensures { IfSome result (λ x. BeginsWith text.now x.0 x.1.now) }
 {
     let inner = past_byte(past_white(text), b'{')?;
@@ -71,7 +72,7 @@ pub fn plain_event(text: &[u8]) -> Option<(Event, &[u8])>
     let (kind, rest) = kind_pair(rest)?;
     let (process, rest) = process_pair(rest)?;
     let (name, rest) = name_pair(rest)?;
-    let (key, part, rest) = value_pair(rest)?;
+    let (key, part, rest) = value_pair(alloc, rest)?;
     let (last, rest) = rest.split_first()?;
     if *last != b'}' {
         return None;
@@ -88,14 +89,14 @@ pub fn plain_event(text: &[u8]) -> Option<(Event, &[u8])>
     Some((event, rest))
 }
 
-/// The event of a client that a line spells plainly, with white space alone around it; or none, which says nothing. Takes
-/// no memory.
+/// The event of a client that a line spells plainly, with white space alone around it; or none, which says nothing. Memory
+/// is taken for the members of a set alone, and none is given where it was refused.
 ///
 /// The time is that of one pass over the line.
-pub fn plain_line(line: &[u8]) -> Option<Event>
+pub fn plain_line(alloc: Global, line: &[u8]) -> Option<Event>
     ensures { IfSome result (λ event. IsLineOf line.now event) }
 {
-    let (event, rest) = plain_event(line)?;
+    let (event, rest) = plain_event(alloc, line)?;
     if past_white(rest).is_empty() {
         Some(event)
     } else {

@@ -18,6 +18,7 @@ fn is_digit(b: u8) -> bool
 }
 
 // The number with the digit at the front added to it, and what follows that digit.
+#[inline(always)]
 fn with_digit(value: u64, text: &[u8]) -> Option<(u64, &[u8])>
     ensures { IfSome result
         (λ x. TakesDigit 999999999999999999 value text.now x.0 x.1.now) }
@@ -34,6 +35,7 @@ fn with_digit(value: u64, text: &[u8]) -> Option<(u64, &[u8])>
 }
 
 // The number of the digits at the front, and what follows them.
+#[inline(always)]
 fn digits(text: &[u8]) -> Option<(u64, &[u8])>
     ensures { IfSome result (λ x. BeginsNumeral text.now x.0 x.1.now) }
 {
@@ -50,6 +52,7 @@ fn digits(text: &[u8]) -> Option<(u64, &[u8])>
 }
 
 // The number of a whole numeral, and what follows it and the white space behind it.
+#[inline(always)]
 fn numeral(text: &[u8]) -> Option<(u64, &[u8])>
     ensures { IfSome result (λ x. IsNumeralAt text.now x.0 x.1.now) }
 {
@@ -73,6 +76,7 @@ fn negated(size: u64) -> i64
 }
 
 /// An integer, and what follows it and the white space behind it; or none, which says nothing. Takes no memory.
+#[inline(always)]
 pub fn integer(text: &[u8]) -> Option<(i64, &[u8])>
     ensures { IfSome result (λ x. IsAtomAt text.now (int x.0) x.1.now) }
 {
@@ -86,6 +90,7 @@ pub fn integer(text: &[u8]) -> Option<(i64, &[u8])>
 }
 
 /// A number of 32 bits, and what follows it and the white space behind it; or none, which says nothing. Takes no memory.
+#[inline(always)]
 pub fn number(text: &[u8]) -> Option<(u32, &[u8])>
     ensures atom { IfSome result (λ x. IsAtomAt text.now (number x.0) x.1.now) }
     ensures below { IfSome result (λ x. x.0 < 2 ^ 32) }

@@ -6,8 +6,10 @@ ghost use Rattle.history.specs.EventMap.{number};
 ghost use Rattle.plain_events.specs.Fronts.{IsAtomAt, IsPairAt, AreTwoAt, IsPartAt, IsValueAt};
 
 use crate::numbers::{integer, number};
+use crate::set::set_at;
 use crate::word::{past_byte, past_keyword, past_word};
 use models::{Key, Name, Part, each_name};
+use std::alloc::Global;
 
 macro_rules! name_at {
     ($text:expr; $($N:ident $spelled:literal $part:ident $how:ident [$($parts:ident)*]),*) => {{
@@ -43,8 +45,8 @@ fn two(inner: &[u8]) -> Option<(i64, i64, &[u8])>
     Some((a, b, rest))
 }
 
-// The part of an operation: nil, an integer or a vector of two.
-fn part_at(text: &[u8]) -> Option<(Part, &[u8])>
+// The part of an operation: nil, an integer, a vector of two or a set.
+fn part_at(alloc: Global, text: &[u8]) -> Option<(Part, &[u8])>
     ensures { IfSome result (λ x. IsPartAt text.now x.0 x.1.now) }
 {
     if let Some(rest) = past_word(text, b"nil") {
@@ -53,6 +55,9 @@ fn part_at(text: &[u8]) -> Option<(Part, &[u8])>
     if let Some(inner) = past_byte(text, b'[') {
         let (a, b, rest) = two(inner)?;
         return Some((Part::Pair(a, b), rest));
+    }
+    if let Some((members, rest)) = set_at(alloc, text) {
+        return Some((Part::Set(members), rest));
     }
     let (a, rest) = integer(text)?;
     Some((Part::Int(a), rest))
@@ -68,14 +73,15 @@ fn key_at(text: &[u8]) -> Option<(Key, &[u8])>
     Some((key, rest))
 }
 
-/// The pair of `:value` and a vector of a key and a part, and what follows it; or none, which says nothing. Takes no memory.
-pub fn value_pair(text: &[u8]) -> Option<(Key, Part, &[u8])>
+/// The pair of `:value` and a vector of a key and a part, and what follows it; or none, which says nothing. Memory is taken
+/// for the members of a set alone.
+pub fn value_pair(alloc: Global, text: &[u8]) -> Option<(Key, Part, &[u8])>
     ensures { IfSome result (λ x. IsValueAt text.now x.0 x.1 x.2.now) }
 {
     let value = past_keyword(text, "value")?;
     let inner = past_byte(value, b'[')?;
     let (key, rest) = key_at(inner)?;
-    let (part, rest) = part_at(rest)?;
+    let (part, rest) = part_at(alloc, rest)?;
     let rest = past_byte(rest, b']')?;
     Some((key, part, rest))
 }

@@ -1,5 +1,5 @@
 //! Words, and the gaps of white space behind them.
-ghost use Rattle.std.specs.Prelude.{◌≡◌, ℕ, IfSome};
+ghost use Rattle.std.specs.Prelude.{◌≡◌, ◌++◌, ℕ, IfSome};
 ghost use Rattle.edn.specs.Value.{keyword};
 ghost use Rattle.edn.specs.Bytes.{is_white, ends_atom, MayFollowAtom, IsKeywordText};
 ghost use Rattle.edn.specs.Text.{SkipsGap};
@@ -11,6 +11,7 @@ fn is_white(b: u8) -> bool
     matches!(b, b' ' | b'\t' | b'\n' | b'\r' | b',')
 }
 
+#[inline(never)]
 fn ends_atom(b: u8) -> bool
     ensures { result ≡ ends_atom b }
 {
@@ -25,6 +26,17 @@ fn ends_atom(b: u8) -> bool
 pub fn past_white(text: &[u8]) -> &[u8]
     ensures { (d : ℕ) → SkipsGap d text.now result.now }
 {
+    match text.split_first() {
+        Some((first, _)) if *first <= b',' => past_all_white(text),
+        _ => text,
+    }
+}
+
+// The same, byte by byte. Mostly there is nothing to skip, so it stands by itself.
+#[inline(never)]
+fn past_all_white(text: &[u8]) -> &[u8]
+    ensures { (d : ℕ) → SkipsGap d text.now result.now }
+{
     let mut rest = text;
     while let Some((first, behind)) = rest.split_first() {
         if !is_white(*first) {
@@ -35,17 +47,64 @@ pub fn past_white(text: &[u8]) -> &[u8]
     rest
 }
 
+// What follows a blank at the front, where there is one.
+#[inline(always)]
+fn past_blank(text: &[u8]) -> &[u8]
+    ensures { (d : ℕ) → SkipsGap d text.now result.now }
+{
+    match text.split_first() {
+        Some((first, behind)) if *first == b' ' => behind,
+        _ => text,
+    }
+}
+
+// What follows the white space at the front, where that is often one blank.
+#[inline(always)]
+fn past_more(text: &[u8]) -> &[u8]
+    ensures { (d : ℕ) → SkipsGap d text.now result.now }
+{
+    past_white(past_blank(text))
+}
+
 /// What follows the white space at the front, where an atom may end in front of it. Takes no memory.
 #[inline(always)]
 pub fn past_end(text: &[u8]) -> Option<&[u8]>
     ensures ends { IfSome result (λ rest. MayFollowAtom text.now) }
     ensures gap { IfSome result (λ rest. (d : ℕ) → SkipsGap d text.now rest.now) }
 {
-    let (first, _) = text.split_first()?;
+    let (first, behind) = text.split_first()?;
+    if *first == b' ' {
+        return Some(past_white(behind));
+    }
+    if *first == b',' {
+        return Some(past_more(behind));
+    }
+    if *first == b']' {
+        return Some(text);
+    }
     if !ends_atom(*first) {
         return None;
     }
     Some(past_white(text))
+}
+
+/// What follows these bytes at the front; or none. Takes no memory.
+#[inline(always)]
+pub fn past_bytes<'a>(text: &'a [u8], bytes: &[u8]) -> Option<&'a [u8]>
+    ensures { IfSome result (λ rest. text.now ≡ bytes.now ++ rest.now) }
+{
+    if text.len() < bytes.len() {
+        return None;
+    }
+    let mut rest = text;
+    for byte in bytes {
+        let (first, behind) = rest.split_first()?;
+        if *first != *byte {
+            return None;
+        }
+        rest = behind;
+    }
+    Some(rest)
 }
 
 /// What follows a whole word of these bytes, and the white space behind it; or none, which says nothing. Takes no memory.
@@ -53,11 +112,12 @@ pub fn past_end(text: &[u8]) -> Option<&[u8]>
 pub fn past_word<'a>(text: &'a [u8], word: &[u8]) -> Option<&'a [u8]>
     ensures { IfSome result (λ rest. IsWordAt text.now word.now rest.now) }
 {
-    let behind = text.strip_prefix(word)?;
+    let behind = past_bytes(text, word)?;
     past_end(behind)
 }
 
 /// What follows this byte, and the white space behind it; or none, which says nothing. Takes no memory.
+#[inline(always)]
 pub fn past_byte(text: &[u8], byte: u8) -> Option<&[u8]>
     ensures { IfSome result (λ rest. IsByteAt text.now byte rest.now) }
 {

@@ -13,8 +13,8 @@ use std::alloc::Global;
 /// the verdict, `[:rewind n]` keeps the first n events, `[:model k m]` makes key k an object of kind m, and `[:budget k n]`
 /// gives it the budget n.
 ///
-/// An event that is spelled plainly takes the time of one pass over the line, and no memory. Any other line costs what
-/// [`read_all`](edn::read_all) and [`from_edn`](history::from_edn) cost.
+/// An event that is spelled plainly takes the time of one pass over the line, and memory for the members of a set alone.
+/// Any other line costs what [`read_all`](edn::read_all) and [`from_edn`](history::from_edn) cost.
 ///
 /// # Errors
 ///
@@ -24,7 +24,7 @@ use std::alloc::Global;
 pub fn read_command(alloc: Global, line: &[u8]) -> Result<Option<Command>, Refusal>
     ensures { result ≢ Err Refusal.NoMemory → Asks line.now result }
 {
-    if let Some(event) = plain_line(line) {
+    if let Some(event) = plain_line(alloc, line) {
         return Ok(Some(Command::Append(event)));
     }
     let elements = edn::read_all(alloc, line)?;
