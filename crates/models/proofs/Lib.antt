@@ -12,3 +12,4 @@ pub mod Sums
 pub mod InSpans
 pub mod Joining
 pub mod Alike
+pub mod Rolling

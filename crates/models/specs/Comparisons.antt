@@ -11,6 +11,7 @@ use Rattle.std.specs.Cmp.Lexicographic.{pointwise, pointwise_decides, slice_cmp,
 use Rattle.std.proofs.Common.{refl, ap, subst, ◌∙◌}
 use Rattle.std.proofs.lemmas.Bool.Decides.{Decides-int_eq}
 use Rattle.std.proofs.lemmas.Cmp.{int_cmp_total, nat_cmp_total, int_eq_equiv, then_total}
+use Rattle.models.specs.Rolled.{rolled}
 use Rattle.models.specs.Sums.{sum_of}
 
 pub option_eq-exact : (a b : Option ℤ) → option_eq int_eq a b ≡ true → a ≡ b
@@ -74,6 +75,13 @@ sum_fed xs = fed.u64 (sum_of xs)
 
 pub sum_fed-alike : (a b : List ℤ) → pointwise int_eq a b ≡ true → sum_fed a ≡ sum_fed b
 sum_fed-alike a b e = ap sum_fed (ints_eq-exact a b e)
+
+-- the items of a queue are hashed by their sum alone
+abbrev pub rolled_fed : List ℤ → fed.HashWrites
+rolled_fed xs = fed.u64 (rolled xs)
+
+pub rolled_fed-alike : (a b : List ℤ) → pointwise int_eq a b ≡ true → rolled_fed a ≡ rolled_fed b
+rolled_fed-alike a b e = ap rolled_fed (ints_eq-exact a b e)
 
 -- the eight integers from this place on are the same
 abbrev pub AreSameAt : List ℤ → List ℤ → ℕ → Type 0

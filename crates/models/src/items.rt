@@ -1,12 +1,13 @@
 //! The items of a queue.
-ghost use Rattle.std.specs.Hash as fed;
-ghost use Rattle.std.specs.Prelude.{◌≡◌, ◌+◌, ◌<◌, ◌≤◌, IfOk, [], ◌∷◌, ◌++◌, List, ℤ, Some, drop, length, take};
+ghost use Rattle.std.specs.Prelude.{◌≡◌, ◌+◌, ◌<◌, ◌≤◌, IfOk, [], ◌∷◌, ◌++◌, List, ℤ, drop, length, take};
 ghost use Rattle.models.specs.Lying.{lying};
-ghost use Rattle.std.specs.Ordering.{int_cmp, int_eq};
-ghost use Rattle.std.specs.Cmp.Lexicographic.{pointwise, slice_cmp};
-ghost use Rattle.models.specs.Comparisons.{ints_alike, ints_equal, ints_fed};
+ghost use Rattle.std.specs.Ordering.{int_eq};
+ghost use Rattle.std.specs.Cmp.Lexicographic.{pointwise};
+ghost use Rattle.models.specs.Comparisons.{ints_alike, ints_equal, rolled_fed, rolled_fed-alike};
+ghost use Rattle.models.specs.Rolled.{rolled, weighted};
 
 use crate::copies::copy_with_room;
+use crate::members::mixed;
 use std::alloc::{AllocError, Global};
 use std::hash::{Hash, Hasher};
 use std::marker::Model;
@@ -23,24 +24,27 @@ enum Shared {
     Many(Arc<Vec<i64>>),
 }
 
-/// Integers, the front first. They lie in memory that may be shared with others, of which these are a part.
+/// Integers, the front first. They lie in memory that may be shared with others, of which these are a part. Beside them stands
+/// their sum, each by its place, so that their hash takes constant time.
 #[derive(Drop)]
 pub struct Items {
     alloc: Global,
     shared: Shared,
     from: usize,
     to: usize,
+    sum: u64,
 }
 
 impl Model for Items {
     ghost use Rattle.std.specs.Prelude.{List, ℤ, ◌-◌, ◌≤◌, drop, take, length};
     ghost use Rattle.models.specs.Lying.{lying};
+    ghost use Rattle.models.specs.Rolled.{AreRolled};
 
     ghost Value = { List ℤ };
 
     ghost view = { λ a. take (a.to - a.from) (drop a.from (lying a.shared)) };
 
-    ghost invariant = { λ a. (a.from ≤ a.to) × (a.to ≤ length (lying a.shared)) };
+    ghost invariant = { λ a. AreRolled (lying a.shared) a.from a.to a.sum };
 }
 
 // All that lie there.
@@ -95,6 +99,41 @@ fn laid_with(alloc: Global, values: &[i64], value: i64) -> Result<Shared, AllocE
     Ok(Shared::Many(many))
 }
 
+// What an item adds to the sum where so many stand behind it. Its place is in the upper half alone.
+fn weighted(behind: usize, value: i64) -> u64
+    ensures { result ≡ weighted behind value }
+{
+    let weight = (behind as u64).wrapping_mul(0x1_0000_0000).wrapping_add(1);
+    weight.wrapping_mul(mixed(value))
+}
+
+// The sum of the items with one more behind them, by theirs.
+fn sum_with(sum: u64, value: i64) -> u64
+    ensures { (values : List ℤ) → sum ≡ rolled values → result ≡ rolled (values ++ value ∷ []) }
+{
+    sum.wrapping_mul(0x1_0000_0001).wrapping_add(mixed(value))
+}
+
+// The sum of the items without the front one, by theirs.
+fn sum_without_front(sum: u64, values: &[i64]) -> u64
+    requires some { 0 < length values.now }
+    requires sum { sum ≡ rolled values.now }
+    ensures { result ≡ rolled (drop 1 values.now) }
+{
+    sum.wrapping_sub(weighted(values.len() - 1, values[0]))
+}
+
+// The sum of the items.
+fn sum_of(values: &[i64]) -> u64
+    ensures { result ≡ rolled values.now }
+{
+    let mut sum: u64 = 0;
+    for value in values {
+        sum = sum_with(sum, *value);
+    }
+    sum
+}
+
 impl Items {
     /// No items. Takes no memory.
     pub fn new(alloc: Global) -> Items
@@ -105,6 +144,7 @@ impl Items {
             shared: Shared::Nowhere,
             from: 0,
             to: 0,
+            sum: 0,
         }
     }
 
@@ -119,6 +159,7 @@ impl Items {
             shared: Shared::Many(shared),
             from: 0,
             to: values.len(),
+            sum: sum_of(values),
         })
     }
 
@@ -139,6 +180,7 @@ impl Items {
             shared: shared_again(&self.shared)?,
             from: self.from,
             to: self.to,
+            sum: self.sum,
         })
     }
 
@@ -154,6 +196,7 @@ impl Items {
             shared: laid_with(self.alloc, values, value)?,
             from: 0,
             to,
+            sum: sum_with(self.sum, value),
         })
     }
 
@@ -164,12 +207,14 @@ impl Items {
         ensures { IfOk result (λ rest. rest ≡ drop 1 self.now) }
     {
         let (from, to) = (self.from, self.to);
+        let sum = sum_without_front(self.sum, self.as_slice());
         let shared = shared_again(&self.shared)?;
         Ok(Items {
             alloc: self.alloc,
             shared,
             from: from + 1,
             to,
+            sum,
         })
     }
 }
@@ -189,11 +234,11 @@ impl Eq for Items {
 }
 
 impl Hash for Items {
-    ghost hash_input = { fed.slice fed.i64 };
+    ghost hash_input = { rolled_fed };
 
-    ghost respects_eq = { ints_fed };
+    ghost respects_eq = { rolled_fed-alike };
 
     fn hash<H: Hasher>(&self, state: &mut H) {
-        self.as_slice().hash(state);
+        self.sum.hash(state);
     }
 }

@@ -1,0 +1,13 @@
+use Rattle.std.proofs.Common.{◌≡◌, ◌+◌, ◌*◌, ◌%◌, ◌^◌, ℕ, w64, sym, ap, ◌∙◌}
+use Rattle.std.proofs.Math.Nat.{mod-add-mod}
+use Rattle.std.proofs.lemmas.Int.{to_z-of_z}
+use Rattle.models.specs.Sums.{mixed}
+use Rattle.models.proofs.Rolling.{rolled-push}
+use Rattle.models.proofs.items.sum_with.Goals as goal
+
+pub returns : goal.returns
+returns c values is =
+    let v = c.args.value in
+    let here : c.mixed.result ≡ mixed v = c.mixed.ensures ∙ ap mixed (to_z-of_z w64 v c.ranges.value) in
+    mod-add-mod (c.args.sum * 4294967297) (2 ^ 64) c.mixed.result ∙ ap (λ (n : ℕ). (c.args.sum * 4294967297 + n) % 2 ^ 64) here
+    ∙ ap (λ (n : ℕ). (n * 4294967297 + mixed v) % 2 ^ 64) is ∙ sym (rolled-push values v)
