@@ -53,6 +53,14 @@ impl Founds {
         self.items.len()
     }
 
+    /// Takes all away, and keeps the memory of their list. Takes no memory, and the time of what was found.
+    pub fn clear(&mut self)
+        ensures { self.new ≡ [] }
+    {
+        self.items.clear();
+        self.slots.clear();
+    }
+
     /// What stands at this place, if anything does. Takes no memory, and constant time.
     pub fn get(&self, at: usize) -> Option<&Found>
         ensures { option_copied result ≡ slice_get self.now at }
@@ -104,6 +112,7 @@ fn put(founds: &mut Founds, found: Found) -> Result<(), AllocError>
 /// The number of what was found: one more than where it stands. It is put behind the others if it is new. `AllocError` where
 /// there is no memory for it, or where as many share the members of a set as can be counted: then nothing is put. It is
 /// compared with the first eight, and else looked up: the time grows with the logarithm of their number.
+#[inline(always)]
 pub fn slot_at(founds: &mut Founds, found: Found) -> Result<usize, AllocError>
     ensures slot { IfOk result (λ slot. IsSlot founds.new slot (Some found)) }
     ensures front { IsFront founds.old founds.new }

@@ -1,5 +1,5 @@
 //! States by number.
-ghost use Rattle.std.specs.Prelude.{◌≡◌, ◌<◌, [], length, Some, slice_get, option_copied, IfOk};
+ghost use Rattle.std.specs.Prelude.{◌≡◌, ◌<◌, [], length, Some, slice_get, option_copied, vec_capacity, IfOk, OnOk};
 ghost use Rattle.history.specs.Events.{IsFront};
 ghost use Rattle.interned.specs.Index.{AreStates, hash_by};
 ghost use Rattle.interned.specs.Numbers.{IsOnceIn};
@@ -9,6 +9,9 @@ use models::SeqObject;
 use std::alloc::{AllocError, Global};
 use std::hash::Hash;
 use std::marker::Model;
+
+// So many states are few: their list grows to four times its length.
+const FEW: usize = 512;
 
 /// Different states, each with a number, which is its place. An index of their hashes finds them.
 #[derive(Drop)]
@@ -44,6 +47,16 @@ impl<S: Hash + Drop> States<S> {
         }
     }
 
+    /// Takes all states away, and keeps the memory of their list and of its index. Takes no memory, and the time of the states.
+    pub fn clear(&mut self)
+        ensures { self.new ≡ [] }
+    {
+        self.items.clear();
+        self.index.hashes.clear();
+        self.index.before.clear();
+        self.index.last.clear();
+    }
+
     /// How many there are. Takes no memory, and constant time.
     pub fn len(&self) -> usize
         ensures is { result ≡ length self.now }
@@ -60,7 +73,21 @@ impl<S: Hash + Drop> States<S> {
     }
 }
 
+// Makes room for one more where there is none. A short list gets room for four times as many, so that it is seldom moved.
+#[inline(always)]
+fn make_room<T>(list: &mut Vec<T>) -> Result<(), AllocError>
+    ensures items { list.new.items ≡ list.old.items }
+    ensures room { OnOk result (length list.new.items < vec_capacity list.new) }
+{
+    let len = list.len();
+    if len >= list.capacity() {
+        list.reserve(if len < FEW { len * 3 + 1 } else { 1 })?;
+    }
+    Ok(())
+}
+
 // The number of the state, which has this hash. All hashes are indexed.
+#[inline(always)]
 fn numbered<M: SeqObject>(
     items: &mut Vec<M::State>,
     index: &mut Index,
@@ -80,9 +107,9 @@ fn numbered<M: SeqObject>(
     if let Some(at) = place_of::<M>(items, index, hash, &state) {
         return Ok(at);
     }
-    items.reserve(1)?;
-    index.hashes.reserve(1)?;
-    index.before.reserve(1)?;
+    make_room(items)?;
+    make_room(&mut index.hashes)?;
+    make_room(&mut index.before)?;
     let at = items.len();
     items.push_reserved(state);
     put_behind(index, hash);
@@ -92,6 +119,7 @@ fn numbered<M: SeqObject>(
 /// The number of the state, which is put behind the others if it is new. `AllocError` where memory was refused: then the states
 /// are as they were. Takes the time of its hash, and of comparing it with the states of the same hash; where there are as many
 /// states as buckets, all are indexed anew.
+#[inline(always)]
 pub fn number_of<M: SeqObject>(
     states: &mut States<M::State>,
     state: M::State,
