@@ -14,4 +14,4 @@ pub use copies::copied;
 pub use extend::{Room, advance};
 pub use kept_end::KeptEnd;
 pub use pending_op::{PendingOp, copy_calls, crash_call, drop_call, is_read};
-pub use table::{Table, ends_of, of_ends};
+pub use table::{Table, clear, empty, ends_of, of_ends, refill};

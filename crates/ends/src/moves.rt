@@ -18,6 +18,9 @@ const MOST: usize = 1 << 20;
 // So many calls are looked through for one that does the same.
 const FEW: usize = 16;
 
+// So many places more are made at once, at most.
+const MORE: usize = 64;
+
 // The memory of more moves than these is not kept.
 const MOST_KEPT: usize = 1 << 14;
 
@@ -106,21 +109,35 @@ fn known(moves: &[Move], number: usize, at: usize, calls: usize) -> Move
     }
 }
 
+// Makes the list longer, so that it has this place, and some behind it.
+#[inline(never)]
+fn lengthen(moves: &mut Vec<Move>, place: usize) -> Result<(), AllocError>
+    requires place { place < 1048576 }
+    requires new { length moves.old.items ≤ place }
+    ensures kept { (p : ℕ) → get_or moves.new.items p Move.Untried
+        ≡ get_or moves.old.items p Move.Untried }
+    ensures long { OnOk result (place < length moves.new.items) }
+{
+    moves.resize(place + 1 + place.min(MORE), Move::Untried)?;
+    Ok(())
+}
+
 // Remembers the move at this place.
+#[inline(always)]
 fn put_at(moves: &mut Vec<Move>, place: usize, to: Move) -> Result<(), AllocError>
     requires { place < 1048576 }
     ensures { (p : ℕ) → let now = get_or moves.new.items p Move.Untried in
         (now ≡ get_or moves.old.items p Move.Untried) ⊎ ((p ≡ place) × (now ≡ to)) }
 {
-    let short = (place + 1).saturating_sub(moves.len());
-    for _more in 0..short {
-        moves.push(Move::Untried)?;
+    if place >= moves.len() {
+        lengthen(moves, place)?;
     }
     moves[place] = to;
     Ok(())
 }
 
 // Remembers what the call at this place does in the state with this number.
+#[inline(always)]
 fn remember(
     moves: &mut Vec<Move>,
     number: usize,

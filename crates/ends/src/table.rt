@@ -156,6 +156,45 @@ pub fn led_to<M: SeqObject>(
     }
 }
 
+/// A table without ends. Takes no memory.
+pub fn empty<S: Hash + Drop>(alloc: Global) -> Table<S> {
+    Table {
+        states: States::new(alloc),
+        founds: Founds::new(alloc),
+        rows: RowSet::new(alloc, 0),
+    }
+}
+
+/// Takes all ends away, with their states and what was found, and keeps the memory of their lists. Takes no memory, and the time
+/// of the states and of what was found.
+pub fn clear<S: Hash + Drop>(table: &mut Table<S>) {
+    table.states.clear();
+    table.founds.clear();
+    table.rows.restart(0);
+}
+
+/// Puts the ends as rows, in order, in place of those of the table; ends that are the same become one row. `AllocError` where
+/// there is no memory for them: then some of them are there. Takes the time of a copy of each end's state, and of looking each
+/// call up in each end.
+pub fn refill<M: SeqObject>(
+    alloc: Global,
+    table: &mut Table<M::State>,
+    ends: &[KeptEnd<M::State>],
+    calls: &[PendingOp],
+) -> Result<(), AllocError>
+    ensures { AreIncluded calls.now (map end_kept ends.now)
+        → OnOk result (ShownWith table.new calls.now [] (Along IsThat (map end_kept ends.now))) }
+{
+    table.states.clear();
+    table.founds.clear();
+    table.rows.restart(calls.len().saturating_add(1));
+    for kept in ends {
+        let row = row_of::<M>(alloc, table, kept, calls)?;
+        table.rows.put(&row)?;
+    }
+    Ok(())
+}
+
 /// The ends as rows, in order; ends that are the same become one row. `AllocError` where there is no memory for them. Takes the
 /// time of a copy of each end's state, and of looking each call up in each end.
 pub fn of_ends<M: SeqObject>(
@@ -167,15 +206,8 @@ pub fn of_ends<M: SeqObject>(
         → IfOk result (λ table.
         ShownWith table calls.now [] (Along IsThat (map end_kept ends.now))) }
 {
-    let mut table = Table {
-        states: States::new(alloc),
-        founds: Founds::new(alloc),
-        rows: RowSet::new(alloc, calls.len().saturating_add(1)),
-    };
-    for kept in ends {
-        let row = row_of::<M>(alloc, &mut table, kept, calls)?;
-        table.rows.put(&row)?;
-    }
+    let mut table = empty(alloc);
+    refill::<M>(alloc, &mut table, ends, calls)?;
     Ok(table)
 }
 

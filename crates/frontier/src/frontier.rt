@@ -42,6 +42,7 @@ pub struct Frontier<M: SeqObject> {
     fresh: Option<Fresh>,
     tried: usize,
     table: Table<M::State>,
+    spare: Table<M::State>,
     room: Room<M::State>,
     next: Change<M::State>,
 }
@@ -80,6 +81,7 @@ impl<M: SeqObject> Frontier<M> {
             fresh: None,
             tried: 0,
             table,
+            spare: ends::empty(alloc),
             room: Room::new(alloc),
             next: Change::Nothing,
         })
@@ -239,7 +241,7 @@ impl<M: SeqObject> Frontier<M> {
         self.table.states.len() / 4 > self.table.rows.len().saturating_add(8)
     }
 
-    // The same as `list_fresh`, with a new table.
+    // The same as `list_fresh`, with another table, in the memory of the one before.
     fn list_anew(&mut self) -> Result<(), AllocError>
         ensures listed { let object = of_table M.State M.start_state M.apply_to in
             OnOk result (Keeps (IsIdle object self.old) (IsListed object self.new)) }
@@ -258,7 +260,9 @@ impl<M: SeqObject> Frontier<M> {
             crashed: false,
         })?;
         let ends = ends::ends_of::<M>(self.alloc, &self.table, &self.calls)?;
-        self.table = ends::of_ends::<M>(self.alloc, &ends, &calls)?;
+        ends::refill::<M>(self.alloc, &mut self.spare, &ends, &calls)?;
+        swap(&mut self.table, &mut self.spare);
+        ends::clear(&mut self.spare);
         self.calls = calls;
         self.fresh = None;
         Ok(())
@@ -428,6 +432,7 @@ impl<M: SeqObject> Frontier<M> {
             fresh: change::copied_fresh(&self.fresh)?,
             tried: self.tried,
             table: ends::copied::<M>(self.alloc, &self.table, &self.calls)?,
+            spare: ends::empty(self.alloc),
             room: Room::new(self.alloc),
             next: Change::Nothing,
         })

@@ -6,10 +6,10 @@ use Rattle.ends.specs.Tables.{IsThat, ShownWith, rows_of}
 use Rattle.rows.specs.RowSets.{IsPut}
 use Rattle.interned.proofs.Lists.{has_place, mapped_at}
 use Rattle.ends.proofs.Showing.{shown_after, shown_first, shown_none, widens_rows}
-use Rattle.ends.proofs.table.of_ends.Goals as goal
+use Rattle.ends.proofs.table.refill.Goals as goal
 
 pub loop-kept-init : goal.loop-kept-init
-loop-kept-init g c included = shown_first c.args.calls.now _ IsThat (shown_none c.args.calls.now _ c.new.ensures c.new-2.ensures c.new-3.ensures)
+loop-kept-init g c included = shown_first c.args.calls.now _ IsThat (shown_none c.args.calls.now _ c.clear.ensures c.clear-2.ensures c.restart.ensures)
 
 pub loop-kept-preserved : goal.loop-kept-preserved
 loop-kept-preserved g c included =
