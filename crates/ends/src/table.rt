@@ -157,7 +157,9 @@ pub fn led_to<M: SeqObject>(
 }
 
 /// A table without ends. Takes no memory.
-pub fn empty<S: Hash + Drop>(alloc: Global) -> Table<S> {
+pub fn empty<S: Hash + Drop>(alloc: Global) -> Table<S>
+    ensures { rows_of result ≡ [] }
+{
     Table {
         states: States::new(alloc),
         founds: Founds::new(alloc),
@@ -167,7 +169,9 @@ pub fn empty<S: Hash + Drop>(alloc: Global) -> Table<S> {
 
 /// Takes all ends away, with their states and what was found, and keeps the memory of their lists. Takes no memory, and the time
 /// of the states and of what was found.
-pub fn clear<S: Hash + Drop>(table: &mut Table<S>) {
+pub fn clear<S: Hash + Drop>(table: &mut Table<S>)
+    ensures { rows_of table.new ≡ [] }
+{
     table.states.clear();
     table.founds.clear();
     table.rows.restart(0);
