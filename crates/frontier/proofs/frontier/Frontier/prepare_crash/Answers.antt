@@ -45,6 +45,7 @@ returns-clause-next g c marks given is_open =
       fresh = f.fresh;
       tried = 0;
       table = c.in_ok-table.table;
+      spare = f.spare;
       room = f.room;
       next = f.next;
     } in
