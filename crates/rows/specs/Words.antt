@@ -31,10 +31,10 @@ pub record ArePacked (bits long : ℕ) (words : List ℕ) : Type 0 where
   pub room : bits * long ≤ 128
   pub exact : (w : ℕ) → Contains words w → value (2 ^ bits) (digits (2 ^ bits) long w) ≡ w
 
--- the row, which is half a word of so many numbers, and a list where that has none
+-- the row, which is a word of so many numbers, and other numbers where that has none
 abbrev pub row_in : ℕ → ℕ → ℕ → List ℕ → List ℕ
-row_in zero bits half list = list
-row_in (suc n) bits half list = digits (2 ^ bits) (suc n) half
+row_in zero bits word other = other
+row_in (suc n) bits word other = digits (2 ^ bits) (suc n) word
 
 -- a row of so many numbers has room in half a word, of which this is the largest
 pub record IsHalf (bits long largest : ℕ) : Type 0 where
@@ -42,3 +42,8 @@ pub record IsHalf (bits long largest : ℕ) : Type 0 where
   pub some : 0 < bits
   pub room : bits * long ≤ 64
   pub most : largest ≡ 2 ^ bits - 1
+
+-- a row of so many numbers has room in a whole word
+pub record IsWhole (bits long : ℕ) : Type 0 where
+  pub few : bits ≤ 32
+  pub room : bits * long ≤ 128

@@ -2,6 +2,7 @@
 #![tactic(auto)]
 
 mod index;
+mod long_row;
 mod marked;
 mod row;
 mod row_set;

@@ -2,19 +2,21 @@
 ghost use Rattle.std.specs.Prelude.{◌≡◌, ◌↔◌, ◌*◌, ◌^◌, ◌≤◌, [], Some, IsTrue, get_or, slice_get, OnOk};
 ghost use Rattle.rows.specs.Words.{digits};
 
-use crate::words::{first_in_half, has_zero_in_half, largest_of, unpack};
+use crate::long_row::LongRow;
+use crate::words::{first_in_half, has_zero_in_half, largest_of};
 use std::alloc::{AllocError, Global};
 use std::marker::Model;
 
-/// A row of numbers that was read from where it stands. Where it was half a word, it is looked at
-/// there; else each of its numbers has a place in a list, whose memory is kept for the next one.
+/// A row of numbers that was read from where it stands. Where it was half a word or a whole one, it
+/// is looked at there; else each of its numbers has a place in a list, whose memory is kept for the
+/// next one.
 #[derive(Drop)]
 pub struct Row {
     long: usize,
     bits: u32,
     largest: u64,
     half: u64,
-    list: Vec<usize>,
+    longer: LongRow,
 }
 
 impl Model for Row {
@@ -23,7 +25,7 @@ impl Model for Row {
 
     ghost Value = { List ℕ };
 
-    ghost view = { λ r. row_in r.long r.bits r.half r.list.items };
+    ghost view = { λ r. row_in r.long r.bits r.half r.longer };
 
     ghost invariant = { λ r. IsHalf r.bits r.long r.largest };
 }
@@ -38,18 +40,17 @@ impl Row {
             bits: 1,
             largest: 1,
             half: 0,
-            list: Vec::new(alloc),
+            longer: LongRow::new(alloc),
         }
     }
 
     /// The numbers of the word, so many, each of so many bits, in place of those that were there.
-    /// `AllocError` where there is no memory for them. Takes constant time where they are half a
-    /// word, and else that of the numbers.
+    /// Takes no memory, and constant time.
     #[inline(always)]
-    pub fn set_word(&mut self, word: u128, bits: u32, long: usize) -> Result<(), AllocError>
+    pub fn set_word(&mut self, word: u128, bits: u32, long: usize)
         requires few { bits ≤ 32 }
         requires room { bits * long ≤ 128 }
-        ensures { OnOk result (self.new ≡ digits (2 ^ bits) long word) }
+        ensures { self.new ≡ digits (2 ^ bits) long word }
     {
         match u64::try_from(word) {
             Ok(half) if long > 0 && bits > 0 && bits as usize * long <= 64 => {
@@ -57,21 +58,12 @@ impl Row {
                 self.bits = bits;
                 self.largest = largest_of(bits);
                 self.half = half;
-                Ok(())
             }
-            _ => self.set_unpacked(word, bits, long),
+            _ => {
+                self.long = 0;
+                self.longer.set_word(word, bits, long);
+            }
         }
-    }
-
-    // The same, by way of the list.
-    #[inline(never)]
-    fn set_unpacked(&mut self, word: u128, bits: u32, long: usize) -> Result<(), AllocError>
-        requires few { bits ≤ 32 }
-        ensures { OnOk result (self.new ≡ digits (2 ^ bits) long word) }
-    {
-        unpack(word, bits, long, &mut self.list)?;
-        self.long = 0;
-        Ok(())
     }
 
     /// These numbers, in place of those that were there. `AllocError` where there is no memory for
@@ -80,10 +72,8 @@ impl Row {
     pub fn set_list(&mut self, list: &[usize]) -> Result<(), AllocError>
         ensures { OnOk result (self.new ≡ list.now) }
     {
-        self.list.clear();
-        self.list.extend_from_slice(list)?;
         self.long = 0;
-        Ok(())
+        self.longer.set_list(list)
     }
 
     /// Its first number, and zero where there is none. Takes no memory, and constant time.
@@ -94,7 +84,7 @@ impl Row {
         if self.long > 0 {
             first_in_half(self.half, self.largest)
         } else {
-            first_in_list(&self.list)
+            self.longer.first()
         }
     }
 
@@ -107,27 +97,7 @@ impl Row {
         if place < self.long {
             has_zero_in_half(self.half, self.bits, self.largest, place)
         } else {
-            self.long == 0 && has_zero_in_list(&self.list, place)
+            self.long == 0 && self.longer.has_zero(place)
         }
-    }
-}
-
-// The first number of the list, and zero where there is none.
-fn first_in_list(list: &[usize]) -> usize
-    ensures { result ≡ get_or list.now 0 0 }
-{
-    match list.first() {
-        Some(number) => *number,
-        None => 0,
-    }
-}
-
-// Whether the list has zero at this place.
-fn has_zero_in_list(list: &[usize], place: usize) -> bool
-    ensures { IsTrue result ↔ (slice_get list.now place ≡ Some 0) }
-{
-    match list.get(place) {
-        Some(number) => *number == 0,
-        None => false,
     }
 }

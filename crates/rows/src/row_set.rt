@@ -232,8 +232,8 @@ impl RowSet {
     }
 
     /// Reads the row at this place, in place of what was read. `AllocError` where there is no memory
-    /// for it: then nothing is said of what was read. Takes constant time where the row is half a
-    /// word, and else that of its numbers.
+    /// for it: then nothing is said of what was read. Takes constant time where the row is a word, and
+    /// else that of its numbers.
     #[inline(always)]
     pub fn look(&self, at: usize, row: &mut Row) -> Result<(), AllocError>
         requires { at < length self.now }
@@ -248,7 +248,8 @@ impl RowSet {
             let Some(word) = self.words.get(at) else {
                 unreachable!()
             };
-            row.set_word(word, self.bits, self.long)
+            row.set_word(word, self.bits, self.long);
+            Ok(())
         }
     }
 

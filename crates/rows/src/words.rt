@@ -30,8 +30,8 @@ fn low_half(word: u128) -> u64
     (word % 18446744073709551616) as u64
 }
 
-// The first number of the word.
-fn first_of(word: u128, bits: u32) -> usize
+/// The first number of the word. Takes no memory, and constant time.
+pub fn first_of(word: u128, bits: u32) -> usize
     requires { bits ≤ 32 }
     ensures { result ≡ word % 2 ^ bits }
 {
@@ -78,6 +78,16 @@ pub fn has_zero_in_half(word: u64, bits: u32, largest: u64, at: usize) -> bool
     ensures { IsTrue result ↔ (word / (2 ^ bits) ^ at % 2 ^ bits ≡ 0) }
 {
     first_in_half(word >> (bits * at as u32), largest) == 0
+}
+
+/// Whether zero stands at this place of the word. Takes no memory, and constant time.
+#[inline(always)]
+pub fn has_zero_in_whole(word: u128, bits: u32, at: usize) -> bool
+    requires bits { bits ≤ 32 }
+    requires room { bits * (at + 1) ≤ 128 }
+    ensures { IsTrue result ↔ (word / (2 ^ bits) ^ at % 2 ^ bits ≡ 0) }
+{
+    bits == 0 || number_at(word, bits, at) == 0
 }
 
 // Writes the numbers of the word, which is of 64 bits.

@@ -8,7 +8,7 @@ pub returns-then-place-self : goal.returns-then-place-self
 returns-then-place-self c =
     let i = c.self.inside in
     let lt : c.args.place < i.long = c.if-place-self.true in
-    let row : digits (2 ^ i.bits) i.long i.half ≡ c.args.self.now = sym (row_half i.long i.bits i.half i.list.items (omega (arith, lt))) ∙ c.self.view_is in (
+    let row : digits (2 ^ i.bits) i.long i.half ≡ c.args.self.now = sym (row_half i.long i.bits i.half i.longer (omega (arith, lt))) ∙ c.self.view_is in (
       (λ h. subst (λ (l : List ℕ). slice_get l c.args.place ≡ Some 0) row (zero_there (2 ^ i.bits) i.long i.half c.args.place lt (c.has_zero_in_half.ensures.0 h))),
       (λ h. c.has_zero_in_half.ensures.1 (is_zero (2 ^ i.bits) i.long i.half c.args.place lt (subst (λ (l : List ℕ). slice_get l c.args.place ≡ Some 0) (sym row) h))),
     )
@@ -17,7 +17,7 @@ pub returns-else-self-eq0 : goal.returns-else-self-eq0
 returns-else-self-eq0 c =
     let i = c.self.inside in
     let behind : i.long ≤ c.args.place = omega arith in
-    let row : digits (2 ^ i.bits) i.long i.half ≡ c.args.self.now = sym (row_half i.long i.bits i.half i.list.items (omega arith)) ∙ c.self.view_is in (
+    let row : digits (2 ^ i.bits) i.long i.half ≡ c.args.self.now = sym (row_half i.long i.bits i.half i.longer (omega arith)) ∙ c.self.view_is in (
       (λ h. absurd (c.if-self-eq0.false (eqb-true i.long 0 h))),
       (λ h. absurd (not_behind (2 ^ i.bits) i.long i.half c.args.place behind (subst (λ (l : List ℕ). slice_get l c.args.place ≡ Some 0) (sym row) h))),
     )

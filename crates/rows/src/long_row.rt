@@ -1,0 +1,115 @@
+//! A row that is looked at and is more than half a word.
+ghost use Rattle.std.specs.Prelude.{◌≡◌, ◌↔◌, ◌*◌, ◌^◌, ◌≤◌, [], Some, IsTrue, get_or, slice_get, OnOk};
+ghost use Rattle.rows.specs.Words.{digits};
+
+use crate::words::{first_of, has_zero_in_whole};
+use std::alloc::{AllocError, Global};
+use std::marker::Model;
+
+/// A row of numbers that stand in a whole word; where none stand there, each has a place in a list,
+/// whose memory is kept for the next one.
+#[derive(Drop)]
+pub struct LongRow {
+    long: usize,
+    bits: u32,
+    word: u128,
+    list: Vec<usize>,
+}
+
+impl Model for LongRow {
+    ghost use Rattle.std.specs.Prelude.{List, ℕ};
+    ghost use Rattle.rows.specs.Words.{IsWhole, row_in};
+
+    ghost Value = { List ℕ };
+
+    ghost view = { λ r. row_in r.long r.bits r.word r.list.items };
+
+    ghost invariant = { λ r. IsWhole r.bits r.long };
+}
+
+impl LongRow {
+    /// No numbers. Takes no memory.
+    pub fn new(alloc: Global) -> LongRow
+        ensures { result ≡ [] }
+    {
+        LongRow {
+            long: 0,
+            bits: 1,
+            word: 0,
+            list: Vec::new(alloc),
+        }
+    }
+
+    /// The numbers of the word, so many, each of so many bits, in place of those that were there.
+    /// Takes no memory, and constant time.
+    #[inline(always)]
+    pub fn set_word(&mut self, word: u128, bits: u32, long: usize)
+        requires few { bits ≤ 32 }
+        requires room { bits * long ≤ 128 }
+        ensures { self.new ≡ digits (2 ^ bits) long word }
+    {
+        self.list.clear();
+        self.long = long;
+        self.bits = bits;
+        self.word = word;
+    }
+
+    /// These numbers, in place of those that were there. `AllocError` where there is no memory for
+    /// them. Takes the time of the numbers.
+    #[inline(never)]
+    pub fn set_list(&mut self, list: &[usize]) -> Result<(), AllocError>
+        ensures { OnOk result (self.new ≡ list.now) }
+    {
+        self.list.clear();
+        self.list.extend_from_slice(list)?;
+        self.long = 0;
+        Ok(())
+    }
+
+    /// Its first number, and zero where there is none. Takes no memory, and constant time.
+    #[inline(always)]
+    pub fn first(&self) -> usize
+        ensures { result ≡ get_or self.now 0 0 }
+    {
+        if self.long > 0 {
+            first_of(self.word, self.bits)
+        } else {
+            first_in_list(&self.list)
+        }
+    }
+
+    /// Whether it has a zero at this place, and not only no number. Takes no memory, and constant
+    /// time.
+    #[inline(always)]
+    pub fn has_zero(&self, place: usize) -> bool
+        ensures { IsTrue result ↔ (slice_get self.now place ≡ Some 0) }
+    {
+        if place < self.long {
+            has_zero_in_whole(self.word, self.bits, place)
+        } else {
+            self.long == 0 && has_zero_in_list(&self.list, place)
+        }
+    }
+}
+
+// The first number of the list, and zero where there is none.
+#[inline(never)]
+fn first_in_list(list: &[usize]) -> usize
+    ensures { result ≡ get_or list.now 0 0 }
+{
+    match list.first() {
+        Some(number) => *number,
+        None => 0,
+    }
+}
+
+// Whether the list has zero at this place.
+#[inline(never)]
+fn has_zero_in_list(list: &[usize], place: usize) -> bool
+    ensures { IsTrue result ↔ (slice_get list.now place ≡ Some 0) }
+{
+    match list.get(place) {
+        Some(number) => *number == 0,
+        None => false,
+    }
+}
