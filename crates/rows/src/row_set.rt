@@ -11,6 +11,7 @@ use crate::words::{changed, number_at, packed, unpack};
 use indexmap::IndexSet;
 use std::alloc::{AllocError, Global};
 use std::marker::Model;
+use std::mem::swap;
 
 /// Rows of numbers, none twice, in the order in which they were put. As long as they are of the expected length and
 /// their numbers small, each is one word, of which at first half is used; else each is a list of its own.
@@ -213,7 +214,9 @@ impl RowSet {
             self.words = WordSet::new(self.alloc);
         }
         self.words.clear();
-        self.lists = IndexSet::new(self.alloc);
+        if self.wide {
+            self.lists = IndexSet::new(self.alloc);
+        }
         self.wide = false;
         self.whole = whole;
         self.long = long;
@@ -513,6 +516,22 @@ impl RowSet {
         }
         self.long += 1;
         true
+    }
+
+    /// Each set gets the rows of the other. Takes no memory, and constant time.
+    pub fn trade(&mut self, other: &mut RowSet)
+        ensures mine { self.new ≡ other.old }
+        ensures others { other.new ≡ self.old }
+    {
+        swap(&mut self.long, &mut other.long);
+        swap(&mut self.bits, &mut other.bits);
+        swap(&mut self.whole, &mut other.whole);
+        swap(&mut self.wide, &mut other.wide);
+        swap(&mut self.words, &mut other.words);
+        if !self.wide && !other.wide {
+            return;
+        }
+        swap(&mut self.lists, &mut other.lists);
     }
 
     /// Leaves so many rows, the first ones. Takes no memory, and at most the time of the rows.
