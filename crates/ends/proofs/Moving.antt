@@ -11,9 +11,10 @@ use Rattle.models.specs.declared.operation.Op.{Op}
 use Rattle.models.specs.declared.finding.Found.{Found}
 use Rattle.ends.specs.declared.pending_op.PendingOp.{PendingOp}
 use Rattle.ends.specs.declared.table.Table.{Table}
+use Rattle.ends.specs.declared.moves.Known.{Known}
 use Rattle.ends.specs.declared.moves.Move.{Move}
 use Rattle.ends.specs.declared.moves.Move.TheVariants.{Untried, Nowhere, To, ToEach}
-use Rattle.ends.specs.Moves.{AreMoves, AreTo, IsKnown, IsTo, LeadsTo, known_at, targets_of}
+use Rattle.ends.specs.Moves.{AreMoves, AreTo, IsKnown, IsTo, LeadsTo, known_at, known_from, targets_of}
 use Rattle.ends.specs.Tables.{Widens, told_by}
 use Rattle.ends.proofs.Rows.{slot_more}
 use Rattle.interned.proofs.Lists.{get_front, one_of}
@@ -46,6 +47,37 @@ set_there xs now place to d lt is p =
     (λ q. inr (q, ap (λ l. get_or l p d) is ∙ ap (λ k. get_or (set xs place to) k d) q ∙ get_or-set_same xs place to d lt))
     (λ ne. inl (ap (λ l. get_or l p d) is ∙ get_or-set_other xs place p to d ne))
     (cases_eq p place)
+
+-- what is known from a base on, where the list says nothing, at a place of the list, and where one place of it is another
+from_none : (base calls n at : ℕ) (moves : List Move) → moves ≡ [] → known_from base moves calls n at ≡ Untried
+from_none zero calls n at moves none = ap (λ l. get_or l (n * calls + at) Untried) none
+from_none (suc base) calls zero at moves none = refl
+from_none (suc base) calls (suc n) at moves none = from_none base calls n at moves none
+
+pub from_there : (base : ℕ) (moves : List Move) (calls n at : ℕ) → base ≤ n → known_from base moves calls n at ≡ get_or moves ((n - base) * calls + at) Untried
+from_there zero moves calls n at le = ap (λ k. get_or moves (k * calls + at) Untried) (let same : n ≡ n - 0 = omega arith in same)
+from_there (suc base) moves calls zero at le = absurd (omega (arith, le))
+from_there (suc base) moves calls (suc n) at le =
+    from_there base moves calls n at (omega (arith, le)) ∙ ap (λ k. get_or moves (k * calls + at) Untried) (let same : n - base ≡ suc n - suc base = omega arith in same)
+
+pub from_with : (base : ℕ) (old new : List Move) (calls number at : ℕ) (to : Move) → at < calls → base ≤ number
+    → ((p : ℕ) → (get_or new p Untried ≡ get_or old p Untried) ⊎ ((p ≡ (number - base) * calls + at) × (get_or new p Untried ≡ to)))
+    → (n b : ℕ) → b < calls → (known_from base new calls n b ≡ known_from base old calls n b) ⊎ ((n ≡ number) × (b ≡ at) × (known_from base new calls n b ≡ to))
+from_with zero old new calls number at to lt le each n b less =
+    ⊎_elim
+    (λ same. inl same)
+    (λ q.
+    let p = same_place n number calls b at less lt (q.0 ∙ ap (λ k. k * calls + at) (let same : number - 0 ≡ number = omega arith in same)) in
+    inr (p.0, p.1, q.1))
+    (each (n * calls + b))
+from_with (suc base) old new calls zero at to lt le each n b less = absurd (omega (arith, le))
+from_with (suc base) old new calls (suc number) at to lt le each zero b less = inl refl
+from_with (suc base) old new calls (suc number) at to lt le each (suc n) b less =
+    ⊎_elim
+    (λ same. inl same)
+    (λ q. inr (ap suc q.0, q.1, q.2))
+    (from_with base old new calls number at to lt (omega (arith, le))
+    (λ p. subst (λ k. (get_or new p Untried ≡ get_or old p Untried) ⊎ ((p ≡ k * calls + at) × (get_or new p Untried ≡ to))) (let same : suc number - suc base ≡ number - base = omega arith in same) (each p)) n b less)
 
 -- a list that is one element, by its length
 pub alone : {X : Type 0} (xs ys : List X) (x : X) → xs ≡ ys ++ x ∷ [] → length xs ≤ 1 → xs ≡ x ∷ []
@@ -130,10 +162,10 @@ module _ {S : Type 0} where
   )
 
   module _ (apply : Op → S → List (S × Found)) (calls : List PendingOp) where
-    pub moves_none : (t : Table S) (moves : List Move) (targets : List (ℕ × ℕ)) → moves ≡ [] → AreMoves apply t calls moves targets
-    moves_none t moves targets none n at c here = inl (ap (λ l. known_at l (length calls) n at) none)
+    pub moves_none : (t : Table S) (moves : Known) (targets : List (ℕ × ℕ)) → moves.list.items ≡ [] → AreMoves apply t calls moves targets
+    moves_none t moves targets none n at c here = inl (from_none moves.base (length calls) n at moves.list.items none)
 
-    pub moves_more : (t u : Table S) (moves : List Move) (targets more new : List (ℕ × ℕ)) → Widens t u → new ≡ targets ++ more → AreMoves apply t calls moves targets → AreMoves apply u calls moves new
+    pub moves_more : (t u : Table S) (moves : Known) (targets more new : List (ℕ × ℕ)) → Widens t u → new ≡ targets ++ more → AreMoves apply t calls moves targets → AreMoves apply u calls moves new
     moves_more t u moves targets more new w is a n at c here =
         ⊎_elim
         (λ h. inl h)
@@ -144,12 +176,12 @@ module _ {S : Type 0} where
         ))
         (a n at c here)
 
-    pub moves_wider : (t u : Table S) (moves : List Move) (targets : List (ℕ × ℕ)) → Widens t u → AreMoves apply t calls moves targets → AreMoves apply u calls moves targets
+    pub moves_wider : (t u : Table S) (moves : Known) (targets : List (ℕ × ℕ)) → Widens t u → AreMoves apply t calls moves targets → AreMoves apply u calls moves targets
     moves_wider t u moves targets w a = moves_more t u moves targets [] targets w (sym (append-nil targets)) a
 
     module _ (t : Table S) (number at : ℕ) (call : PendingOp) (is_call : slice_get calls at ≡ Some call) (s : S) (is_state : slice_get t.states number ≡ Some s) where
       -- one that is known
-      pub known_does : (moves : List Move) (targets : List (ℕ × ℕ)) (to : Move) → AreMoves apply t calls moves targets → to ≡ known_at moves (length calls) number at → IsKnown to targets
+      pub known_does : (moves : Known) (targets : List (ℕ × ℕ)) (to : Move) → AreMoves apply t calls moves targets → to ≡ known_at moves (length calls) number at → IsKnown to targets
           → AreTo t call.crashed (apply call.op s) (targets_of to targets)
       known_does moves targets to a told known =
           ⊎_elim
@@ -158,14 +190,13 @@ module _ {S : Type 0} where
           (a number at call is_call)
 
       -- one more
-      pub moves_with : (old new : List Move) (targets : List (ℕ × ℕ)) (to : Move) → LeadsTo t call.crashed (apply call.op s) targets to
-          → ((p : ℕ) → (get_or new p Untried ≡ get_or old p Untried) ⊎ ((p ≡ number * length calls + at) × (get_or new p Untried ≡ to)))
+      pub moves_with : (old new : Known) (targets : List (ℕ × ℕ)) (to : Move) → LeadsTo t call.crashed (apply call.op s) targets to
+          → ((n b : ℕ) → b < length calls → (known_at new (length calls) n b ≡ known_at old (length calls) n b) ⊎ ((n ≡ number) × (b ≡ at) × (known_at new (length calls) n b ≡ to)))
           → AreMoves apply t calls old targets → AreMoves apply t calls new targets
       moves_with old new targets to is each a n b c here =
           ⊎_elim
           (λ same. ⊎_elim (λ h. inl (same ∙ h)) (λ h. inr (h.0, h.1, subst (LeadsTo t c.crashed (apply c.op h.0) targets) (sym same) h.2)) (a n b c here))
           (λ q.
-          let p = same_place n number (length calls) b at (slice_get_within calls b c here) (slice_get_within calls at call is_call) q.0 in
-          let same : call ≡ c = one_of call c (sym is_call ∙ ap (slice_get calls) (sym p.1) ∙ here) in
-          inr (s, subst (λ k. slice_get t.states k ≡ Some s) (sym p.0) is_state, subst (λ (x : PendingOp). LeadsTo t x.crashed (apply x.op s) targets (get_or new (n * length calls + b) Untried)) same (subst (LeadsTo t call.crashed (apply call.op s) targets) (sym q.1) is)))
-          (each (n * length calls + b))
+          let same : call ≡ c = one_of call c (sym is_call ∙ ap (slice_get calls) (sym q.1) ∙ here) in
+          inr (s, subst (λ k. slice_get t.states k ≡ Some s) (sym q.0) is_state, subst (λ (x : PendingOp). LeadsTo t x.crashed (apply x.op s) targets (known_at new (length calls) n b)) same (subst (LeadsTo t call.crashed (apply call.op s) targets) (sym q.2) is)))
+          (each n b (slice_get_within calls b c here))

@@ -7,7 +7,7 @@ use Rattle.models.specs.declared.operation.Op.{Op}
 use Rattle.models.specs.Objects.{Object, of_table}
 use Rattle.linspec.specs.Ends.{End}
 use Rattle.linspec.proofs.Lists.{Contains-nil}
-use Rattle.ends.specs.declared.moves.Move.{Move}
+use Rattle.ends.specs.declared.moves.Known.{Known}
 use Rattle.ends.specs.declared.moves.Move.TheVariants.{Nowhere}
 use Rattle.ends.specs.declared.pending_op.PendingOp.{PendingOp}
 use Rattle.ends.specs.declared.table.Table.{Table}
@@ -43,7 +43,7 @@ in_already o calls t row e shows at c here other f last =
     true≢false (sym (in_unless t.founds e c row (at + 1) (omega (arith, within, long)) (shows.slots at c here) other) ∙ last.not_in)
 
 -- one that is known to lead nowhere
-module _ (S : Type 0) (start : S) (apply : Op → S → List (S × Found)) (calls : List PendingOp) (t : Table S) (moves : List Move) (targets : List (ℕ × ℕ)) (known : AreMoves apply t calls moves targets) (row : List ℕ) (e : End S) (shows : Shows t calls row e) where
+module _ (S : Type 0) (start : S) (apply : Op → S → List (S × Found)) (calls : List PendingOp) (t : Table S) (moves : Known) (targets : List (ℕ × ℕ)) (known : AreMoves apply t calls moves targets) (row : List ℕ) (e : End S) (shows : Shows t calls row e) where
   pub stuck_there : (n at : ℕ) (c : PendingOp) → n ≡ get_or row 0 0 → slice_get calls at ≡ Some c → IsStuck calls moves n at → (f : End S) → ¬ TakesLast (of_table S start apply) e c f
   stuck_there n at c is here q f last =
       let d = q.alike c here in

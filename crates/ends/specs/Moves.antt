@@ -1,11 +1,12 @@
 -- Invariant: what calls do in states, by numbers
-use Rattle.std.specs.Prelude.{◌≡◌, ◌<◌, ◌≤◌, ℕ, ◌+◌, ◌-◌, ◌*◌, ◌⊎◌, Bool, Some, List, [], ◌∷◌, length, slice_get, slice_range, get_or}
+use Rattle.std.specs.Prelude.{◌≡◌, ◌<◌, ◌≤◌, ℕ, ◌+◌, ◌-◌, ◌*◌, ◌⊎◌, zero, suc, Bool, Some, List, [], ◌∷◌, length, slice_get, slice_range, get_or}
 use Rattle.std.specs.List.{Contains}
 use Rattle.models.specs.declared.operation.Op.{Op}
 use Rattle.models.specs.declared.finding.Found.{Found}
 use Rattle.models.specs.Objects.{IsOneOf}
 use Rattle.ends.specs.declared.pending_op.PendingOp.{PendingOp}
 use Rattle.ends.specs.declared.table.Table.{Table}
+use Rattle.ends.specs.declared.moves.Known.{Known}
 use Rattle.ends.specs.declared.moves.Like.{Like}
 use Rattle.ends.specs.declared.moves.Move.{Move}
 use Rattle.ends.specs.declared.moves.Move.TheVariants.{Untried, Nowhere, To, ToEach}
@@ -49,17 +50,23 @@ abbrev pub LeadsTo : {S : Type 0} → Table S → Bool → List (S × Found) →
 LeadsTo t crashed outcomes targets to =
     IsKnown to targets × AreTo t crashed outcomes (targets_of to targets)
 
+-- what a list says of a call in the state with this number, where its first places are those of the base: nothing below it
+abbrev pub known_from : ℕ → List Move → ℕ → ℕ → ℕ → Move
+known_from zero moves calls n at = get_or moves (n * calls + at) Untried
+known_from (suc base) moves calls zero at = Untried
+known_from (suc base) moves calls (suc n) at = known_from base moves calls n at
+
 -- what is known of a call in the state with this number
-abbrev pub known_at : List Move → ℕ → ℕ → ℕ → Move
-known_at moves calls n at = get_or moves (n * calls + at) Untried
+abbrev pub known_at : Known → ℕ → ℕ → ℕ → Move
+known_at known calls n at = known_from known.base known.list.items calls n at
 
 -- what is known of each call in each state is so
 abbrev pub AreMoves : {S : Type 0} → (Op → S → List (S × Found)) → Table S → List PendingOp
-    → List Move → List (ℕ × ℕ) → Type 0
-AreMoves {S} apply t calls moves targets = (n at : ℕ) (c : PendingOp) → slice_get calls at ≡ Some c →
-    (known_at moves (length calls) n at ≡ Untried)
+    → Known → List (ℕ × ℕ) → Type 0
+AreMoves {S} apply t calls known targets = (n at : ℕ) (c : PendingOp) → slice_get calls at ≡ Some c →
+    (known_at known (length calls) n at ≡ Untried)
     ⊎ ((s : S) × (slice_get t.states n ≡ Some s)
-    × LeadsTo t c.crashed (apply c.op s) targets (known_at moves (length calls) n at))
+    × LeadsTo t c.crashed (apply c.op s) targets (known_at known (length calls) n at))
 
 -- a call at the other place does the same as the one at this place
 abbrev pub IsAlike : List PendingOp → ℕ → ℕ → Type 0
@@ -76,7 +83,7 @@ AreAlike calls likes = (behind : ℕ) (like : Like) → slice_get likes behind �
     → AreAll calls (length calls - 1 - behind) like
 
 -- a call that does the same as this one is known to lead nowhere
-pub record IsStuck (calls : List PendingOp) (moves : List Move) (n at : ℕ) : Type 0 where
+pub record IsStuck (calls : List PendingOp) (known : Known) (n at : ℕ) : Type 0 where
   pub place : ℕ
-  pub nowhere : known_at moves (length calls) n place ≡ Nowhere
+  pub nowhere : known_at known (length calls) n place ≡ Nowhere
   pub alike : IsAlike calls at place

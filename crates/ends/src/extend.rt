@@ -125,11 +125,11 @@ fn grow_at<M: SeqObject>(
     requires row { row.now ≡ get_or (rows_of table.old) from [] }
     requires zero_there { slice_get row.now (at + 1) ≡ Some 0 }
     ensures moves { AreMoves M.apply_to table.old calls.now
-        moves.old.known.items moves.old.targets.items
+        moves.old.known moves.old.targets.items
         → OnOk result (AreMoves M.apply_to table.new calls.now
-        moves.new.known.items moves.new.targets.items) }
+        moves.new.known moves.new.targets.items) }
     ensures adds { let object = of_table M.State M.start_state M.apply_to in
-        AreMoves M.apply_to table.old calls.now moves.old.known.items moves.old.targets.items
+        AreMoves M.apply_to table.old calls.now moves.old.known moves.old.targets.items
         → IsAlike calls.now at place → HasEachOnce calls.now
         → (c : PendingOp) (e : End M.State) (ends : List (End M.State))
         → slice_get calls.now at ≡ Some c → Shows table.old calls.now row.now e
@@ -161,11 +161,11 @@ fn grow_from<M: SeqObject>(
     requires here { from < length (rows_of table.old) }
     requires row { row.now ≡ get_or (rows_of table.old) from [] }
     ensures moves { AreMoves M.apply_to table.old calls.now
-        moves.old.known.items moves.old.targets.items
+        moves.old.known moves.old.targets.items
         → OnOk result (AreMoves M.apply_to table.new calls.now
-        moves.new.known.items moves.new.targets.items) }
+        moves.new.known moves.new.targets.items) }
     ensures adds { let object = of_table M.State M.start_state M.apply_to in
-        AreMoves M.apply_to table.old calls.now moves.old.known.items moves.old.targets.items
+        AreMoves M.apply_to table.old calls.now moves.old.known moves.old.targets.items
         → AreAlike calls.now moves.old.likes.items → HasEachOnce calls.now
         → (e : End M.State) (ends : List (End M.State))
         → Shows table.old calls.now row.now e → AreShown table.old calls.now ends
@@ -260,7 +260,7 @@ fn grow<M: SeqObject>(
     ensures front { IsFront (rows_of table.old) (rows_of table.new) }
     ensures cost { applied.new ≤ applied.old + (budget + 1) * length calls.now }
 {
-    moves::forget(alloc, moves);
+    moves::forget(alloc, moves, table::lower_bound(table));
     moves::note_likes(moves, calls)?;
     let kept = table.rows.len();
     for at in 0..budget as usize {

@@ -37,6 +37,13 @@ pub enum Move {
     ToEach(usize, usize),
 }
 
+/// What is known of calls in the states from the base on: of those with a number below it nothing is remembered.
+#[derive(Drop)]
+pub struct Known {
+    base: usize,
+    list: Vec<Move>,
+}
+
 /// Where a call stands that does the same as so many from some place on.
 #[derive(Clone, Copy)]
 pub struct Like {
@@ -48,7 +55,7 @@ pub struct Like {
 /// and of each call where one stands that does the same, which is tried in its place.
 #[derive(Drop)]
 pub struct Moves<S> {
-    known: Vec<Move>,
+    known: Known,
     pub targets: Vec<(usize, usize)>,
     outcomes: Vec<(S, Found)>,
     likes: Vec<Like>,
@@ -58,7 +65,10 @@ impl<S> Moves<S> {
     /// Nothing is known yet. Takes no memory.
     pub fn new(alloc: Global) -> Moves<S> {
         Moves {
-            known: Vec::new(alloc),
+            known: Known {
+                base: 0,
+                list: Vec::new(alloc),
+            },
             targets: Vec::new(alloc),
             outcomes: Vec::new(alloc),
             likes: Vec::new(alloc),
@@ -66,44 +76,51 @@ impl<S> Moves<S> {
     }
 }
 
-// Where the call at this place stands in the state with this number, among so many calls, or behind all places that a list has.
-fn place_of(number: usize, at: usize, calls: usize) -> usize
-    ensures { (result ≡ number * calls + at) ⊎ (result ≡ 2 ^ 64 - 1) }
+// Where the call at this place stands in the state with this number, among so many calls, where the places begin with those of
+// the base; or behind all places that a list has.
+#[inline(always)]
+fn place_of(base: usize, number: usize, at: usize, calls: usize) -> usize
+    ensures { ((base ≤ number) × (result ≡ (number - base) * calls + at))
+        ⊎ (result ≡ 2 ^ 64 - 1) }
 {
-    number.saturating_mul(calls).saturating_add(at)
+    if number < base || number - base >= MOST || calls >= MOST {
+        return usize::MAX;
+    }
+    ((number - base) * calls).saturating_add(at)
 }
 
-/// Forgets all moves. Keeps their memory, if it is not much. Takes no memory.
-pub fn forget<S: Drop>(alloc: Global, moves: &mut Moves<S>)
-    ensures known { moves.new.known.items ≡ [] }
+/// Forgets all moves, and takes this base for those to come. Keeps their memory, if it is not much. Takes no memory.
+pub fn forget<S: Drop>(alloc: Global, moves: &mut Moves<S>, base: usize)
+    ensures known { moves.new.known.list.items ≡ [] }
     ensures targets { moves.new.targets.items ≡ [] }
     ensures likes { moves.new.likes ≡ moves.old.likes }
 {
-    if moves.known.capacity() > MOST_KEPT {
-        moves.known = Vec::new(alloc);
+    if moves.known.list.capacity() > MOST_KEPT {
+        moves.known.list = Vec::new(alloc);
     }
     if moves.targets.capacity() > MOST_KEPT {
         moves.targets = Vec::new(alloc);
     }
-    moves.known.clear();
+    moves.known.list.clear();
+    moves.known.base = base;
     moves.targets.clear();
 }
 
 // Forgets all moves where their targets are very many.
 fn forget_many<S: Drop>(alloc: Global, moves: &mut Moves<S>)
-    ensures moves { (moves.new ≡ moves.old) ⊎ (moves.new.known.items ≡ []) }
+    ensures moves { (moves.new ≡ moves.old) ⊎ (moves.new.known.list.items ≡ []) }
     ensures likes { moves.new.likes ≡ moves.old.likes }
 {
     if moves.targets.len() > MOST {
-        forget(alloc, moves);
+        forget(alloc, moves, moves.known.base);
     }
 }
 
 // What is known of the call at this place in the state with this number.
-fn known(moves: &[Move], number: usize, at: usize, calls: usize) -> Move
-    ensures { (result ≡ Move.Untried) ⊎ (result ≡ known_at moves.now calls number at) }
+fn known_of(known: &Known, number: usize, at: usize, calls: usize) -> Move
+    ensures { (result ≡ Move.Untried) ⊎ (result ≡ known_at known.now calls number at) }
 {
-    match moves.get(place_of(number, at, calls)) {
+    match known.list.get(place_of(known.base, number, at, calls)) {
         Some(to) => *to,
         None => Move::Untried,
     }
@@ -139,21 +156,21 @@ fn put_at(moves: &mut Vec<Move>, place: usize, to: Move) -> Result<(), AllocErro
 // Remembers what the call at this place does in the state with this number.
 #[inline(always)]
 fn remember(
-    moves: &mut Vec<Move>,
+    known: &mut Known,
     number: usize,
     at: usize,
     calls: usize,
     to: Move,
 ) -> Result<(), AllocError>
-    ensures { (p : ℕ) → let now = get_or moves.new.items p Move.Untried in
-        (now ≡ get_or moves.old.items p Move.Untried)
-        ⊎ ((p ≡ number * calls + at) × (now ≡ to)) }
+    requires within { at < calls }
+    ensures { (n b : ℕ) → b < calls → let now = known_at known.new calls n b in
+        (now ≡ known_at known.old calls n b) ⊎ ((n ≡ number) × (b ≡ at) × (now ≡ to)) }
 {
-    let place = place_of(number, at, calls);
+    let place = place_of(known.base, number, at, calls);
     if place >= MOST {
         return Ok(());
     }
-    put_at(moves, place, to)
+    put_at(&mut known.list, place, to)
 }
 
 // The target that is this outcome.
@@ -337,7 +354,7 @@ pub fn stuck<S>(
     requires within { at < length calls.now }
     ensures upto { at + result ≤ length calls.now }
     ensures stuck { AreAll calls.now at like → (i : ℕ) → i < result
-        → IsStuck calls.now moves.now.known.items number (at + i) }
+        → IsStuck calls.now moves.now.known number (at + i) }
 {
     if leads_nowhere(moves, number, like.place, calls.len()) {
         like.run.min(calls.len() - at)
@@ -348,18 +365,18 @@ pub fn stuck<S>(
 
 // Whether the call at this place is known to lead nowhere from the state with this number.
 fn leads_nowhere<S>(moves: &Moves<S>, number: usize, at: usize, calls: usize) -> bool
-    ensures { IsTrue result → known_at moves.now.known.items calls number at ≡ Move.Nowhere }
+    ensures { IsTrue result → known_at moves.now.known calls number at ≡ Move.Nowhere }
 {
-    matches!(known(&moves.known, number, at, calls), Move::Nowhere)
+    matches!(known_of(&moves.known, number, at, calls), Move::Nowhere)
 }
 
 /// What is known of the call at this place in the state with this number, where it was tried. Takes no memory, and constant
 /// time.
 pub fn recalled<S>(moves: &Moves<S>, number: usize, at: usize, calls: usize) -> Option<Move>
-    ensures { IfSome result (λ to. (to ≡ known_at moves.now.known.items calls number at)
+    ensures { IfSome result (λ to. (to ≡ known_at moves.now.known calls number at)
         × IsKnown to moves.now.targets.items) }
 {
-    match known(&moves.known, number, at, calls) {
+    match known_of(&moves.known, number, at, calls) {
         Move::Untried => None,
         Move::Nowhere => Some(Move::Nowhere),
         Move::To(number, slot) => Some(Move::To(number, slot)),
@@ -384,9 +401,9 @@ pub fn tried<M: SeqObject>(
 ) -> Result<Move, AllocError>
     requires within { at < length calls.now }
     ensures moves { AreMoves M.apply_to table.old calls.now
-        moves.old.known.items moves.old.targets.items
+        moves.old.known moves.old.targets.items
         → OnOk result (AreMoves M.apply_to table.new calls.now
-        moves.new.known.items moves.new.targets.items) }
+        moves.new.known moves.new.targets.items) }
     ensures does { (s : M.State) (c : PendingOp) → slice_get table.old.states number ≡ Some s
         → slice_get calls.now at ≡ Some c
         → IfOk result (λ to. AreTo table.new c.crashed (M.apply_to c.op s)

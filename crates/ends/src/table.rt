@@ -20,6 +20,9 @@ use rows::{Row, RowSet};
 use std::alloc::{AllocError, Global};
 use std::hash::Hash;
 
+// So many states are few.
+const FEW_STATES: usize = 32;
+
 /// The ends that a frontier keeps, and while an ok works those too that it finds, each a row of numbers. The first says where
 /// its state stands; then comes one for each call: zero where it is not in, and else one more than where what it found stands.
 /// States and what was found stand once, so equal ends are equal rows.
@@ -108,6 +111,19 @@ pub fn state_numbered<S: Hash + Drop>(table: &Table<S>, number: usize) -> Option
     table.states.get(number)
 }
 
+/// A number that no state of a row is below: the least one, or zero where there are few states, which then come again and again.
+/// Takes no memory, and at most a look at one number of each row.
+pub fn lower_bound<S: Hash + Drop>(table: &Table<S>) -> usize {
+    if table.states.len() <= FEW_STATES {
+        return 0;
+    }
+    let mut least = table.rows.number(0, 0);
+    for at in 1..table.rows.len() {
+        least = least.min(table.rows.number(at, 0));
+    }
+    least
+}
+
 /// What is told of what the call found: of a crashed one nothing. Takes no memory.
 pub fn told_by(crashed: bool, found: Found) -> Found
     ensures { result ≡ told_by crashed found }
@@ -134,11 +150,11 @@ pub fn led_to<M: SeqObject>(
     requires number { number ≡ get_or row.now 0 0 }
     requires zero_there { slice_get row.now (at + 1) ≡ Some 0 }
     ensures moves { AreMoves M.apply_to table.old calls.now
-        moves.old.known.items moves.old.targets.items
+        moves.old.known moves.old.targets.items
         → OnOk result (AreMoves M.apply_to table.new calls.now
-        moves.new.known.items moves.new.targets.items) }
+        moves.new.known moves.new.targets.items) }
     ensures next { let object = of_table M.State M.start_state M.apply_to in
-        AreMoves M.apply_to table.old calls.now moves.old.known.items moves.old.targets.items
+        AreMoves M.apply_to table.old calls.now moves.old.known moves.old.targets.items
         → IsAlike calls.now at place → HasEachOnce calls.now
         → (c : PendingOp) (e : End M.State) → slice_get calls.now at ≡ Some c
         → Shows table.old calls.now row.now e

@@ -4,7 +4,7 @@ use Rattle.std.proofs.lemmas.Option.{get_or_from_slice_get}
 use Rattle.models.specs.Objects.{of_table}
 use Rattle.linspec.proofs.Lists.{Contains-nil}
 use Rattle.ends.specs.declared.moves.Like.{Like}
-use Rattle.ends.specs.declared.moves.Move.{Move}
+use Rattle.ends.specs.declared.moves.Known.{Known}
 use Rattle.ends.specs.Moves.{AreAlike}
 use Rattle.ends.specs.Tables.{rows_of}
 use Rattle.ends.proofs.Growing.{Grows-itself, cost_more}
@@ -20,7 +20,7 @@ pub loop-at-init : goal.loop-at-init
 loop-at-init g c =
     let o = of_table g.row.M-State.Denot g.M.SeqObject.start_state g.M.SeqObject.apply_to in
     record {
-      moves = moves_none g.M.SeqObject.apply_to c.args.calls.now c.args.table.now c.note_likes.new.moves.known.items c.note_likes.new.moves.targets.items (ap (λ (v : Vec Move Global). v.items) c.in_ok-note_likes.ensures.known ∙ c.forget.ensures.known);
+      moves = moves_none g.M.SeqObject.apply_to c.args.calls.now c.args.table.now c.note_likes.new.moves.known c.note_likes.new.moves.targets.items (ap (λ (k : Known). k.list.items) c.in_ok-note_likes.ensures.known ∙ c.forget.ensures.known);
       alike = c.in_ok-note_likes.ensures.likes;
       widens = widens_itself c.args.table.now;
       front = IsFront-itself (rows_of c.args.table.now);

@@ -11,7 +11,7 @@ use Rattle.ends.proofs.extend.grow.Given as goal
 abbrev pub invariant-loop-at : goal.invariant-loop-at
 invariant-loop-at g l =
     record {
-      moves : AreMoves g.M.SeqObject.apply_to l.table l.calls l.moves.known.items l.moves.targets.items;
+      moves : AreMoves g.M.SeqObject.apply_to l.table l.calls l.moves.known l.moves.targets.items;
       alike : AreAlike l.calls l.moves.likes.items;
       widens : Widens l.initial.table l.table;
       front : IsFront (rows_of l.initial.table) (rows_of l.table);

@@ -11,7 +11,7 @@ use Rattle.ends.proofs.extend.grow_at.Goals as goal
 
 pub returns-clause-moves : goal.returns-clause-moves
 returns-clause-moves g c known =
-    on_ok c.put_led.result (moves_wider g.M.SeqObject.apply_to c.args.calls.now c.led_to.new.table c.put_led.new.table c.led_to.new.moves.known.items c.led_to.new.moves.targets.items
+    on_ok c.put_led.result (moves_wider g.M.SeqObject.apply_to c.args.calls.now c.led_to.new.table c.put_led.new.table c.led_to.new.moves.known c.led_to.new.moves.targets.items
     (widens_rows c.led_to.new.table c.put_led.new.table c.put_led.ensures.states c.put_led.ensures.founds) (c.in_ok-to.ensures.moves known))
 
 pub returns-clause-adds : goal.returns-clause-adds

@@ -94,7 +94,7 @@ places-preserved-then-stuck-gt0 g c =
       grown = λ known alike once e ends shows shown.
           let now = subst (λ (v : Vec Like Global). AreAlike calls v.items) (sym i.likes) alike in
           pass o calls e ends c.args.first t c.stuck-stuck.result c.places.at i.from high
-          (λ k call lt there. stuck_there g.row.M-State.Denot g.M.SeqObject.start_state g.M.SeqObject.apply_to calls t m.known.items m.targets.items (i.moves known) c.args.row.now e
+          (λ k call lt there. stuck_there g.row.M-State.Denot g.M.SeqObject.start_state g.M.SeqObject.apply_to calls t m.known m.targets.items (i.moves known) c.args.row.now e
           (shows_more calls c.args.table.now t c.args.row.now e i.widens shows) c.first-number.result (c.places.at + k) call c.first-number.ensures there (c.stuck-stuck.ensures.stuck (c.alike_at-like.ensures.all now) k lt))
           (i.grown known alike once e ends shows shown);
       likes = i.likes;

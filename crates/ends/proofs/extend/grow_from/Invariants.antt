@@ -14,8 +14,8 @@ invariant-places g l =
       front : IsFront (rows_of l.initial.table) (rows_of l.table);
       here : get_or (rows_of l.table) l.from [] ≡ get_or (rows_of l.initial.table) l.from [];
       within : l.from < length (rows_of l.table);
-      moves : AreMoves g.M.SeqObject.apply_to l.initial.table l.calls l.initial.moves.known.items l.initial.moves.targets.items → AreMoves g.M.SeqObject.apply_to l.table l.calls l.moves.known.items l.moves.targets.items;
-      grown : AreMoves g.M.SeqObject.apply_to l.initial.table l.calls l.initial.moves.known.items l.initial.moves.targets.items → AreAlike l.calls l.initial.moves.likes.items → HasEachOnce l.calls → (e : End g.row.M-State.Denot) (ends : List (End g.row.M-State.Denot)) → Shows l.initial.table l.calls l.row e → AreShown l.initial.table l.calls ends
+      moves : AreMoves g.M.SeqObject.apply_to l.initial.table l.calls l.initial.moves.known l.initial.moves.targets.items → AreMoves g.M.SeqObject.apply_to l.table l.calls l.moves.known l.moves.targets.items;
+      grown : AreMoves g.M.SeqObject.apply_to l.initial.table l.calls l.initial.moves.known l.initial.moves.targets.items → AreAlike l.calls l.initial.moves.likes.items → HasEachOnce l.calls → (e : End g.row.M-State.Denot) (ends : List (End g.row.M-State.Denot)) → Shows l.initial.table l.calls l.row e → AreShown l.initial.table l.calls ends
           → ShownWith l.table l.calls ends (Next (of_table g.row.M-State.Denot g.M.SeqObject.start_state g.M.SeqObject.apply_to) (drop l.first (take l.at l.calls)) e);
       likes : l.moves.likes ≡ l.initial.moves.likes;
       from : l.first ≤ l.at;
