@@ -5,7 +5,7 @@ ghost use Rattle.history.specs.Events.{Mark};
 ghost use Rattle.history.specs.Events.Mark.{Invoked, Returned, Failed, Crashed};
 ghost use Rattle.frontier.specs.Kept.{StandsFor, WillStandFor, IsListed, IsIdle};
 ghost use Rattle.frontier.specs.Meaning.{Answers, Keeps, Takes, TakesUnlessOver};
-ghost use Rattle.frontier.specs.Kept.{applied_of, budget_of};
+ghost use Rattle.frontier.specs.Kept.{IsOf, applied_of, budget_of};
 ghost use Rattle.frontier.specs.Meaning.{CostsAtMost, mark_by};
 
 use crate::change::{self, Change, Fresh};
@@ -158,16 +158,24 @@ impl<M: SeqObject> Frontier<M> {
             Change::Nothing => {}
             Change::Invoked(fresh) => self.fresh = Some(fresh),
             Change::Done(id, tried) => {
-                swap(&mut self.table.rows, &mut self.room.rows);
+                self.table.rows.trade(&mut self.room.rows);
                 ends::drop_call(&mut self.calls, id);
                 self.tried = tried;
             }
-            Change::Anew(calls, table, tried) => {
-                self.calls = calls;
-                self.table = Box::into_inner(table);
-                self.tried = tried;
-            }
+            Change::Anew(calls, table, tried) => self.take_anew(calls, table, tried),
         }
+    }
+
+    // These calls and this table take the place of the others, and so many of the calls count as tried.
+    #[inline(never)]
+    fn take_anew(&mut self, calls: Vec<PendingOp>, table: Box<Table<M::State>>, tried: usize)
+        ensures is { IsOf self.new table.value calls.items tried self.old.fresh }
+        ensures budget { budget_of self.new ≡ budget_of self.old }
+        ensures cost { applied_of self.new ≡ applied_of self.old }
+    {
+        self.calls = calls;
+        self.table = Box::into_inner(table);
+        self.tried = tried;
     }
 
     /// An operation is invoked, whose id (the index of its invocation) no event before it has. On `AllocError` the frontier
@@ -242,6 +250,7 @@ impl<M: SeqObject> Frontier<M> {
     }
 
     // The same as `list_fresh`, with another table, in the memory of the one before.
+    #[inline(never)]
     fn list_anew(&mut self) -> Result<(), AllocError>
         ensures listed { let object = of_table M.State M.start_state M.apply_to in
             OnOk result (Keeps (IsIdle object self.old) (IsListed object self.new)) }
@@ -389,6 +398,7 @@ impl<M: SeqObject> Frontier<M> {
     }
 
     // The first half of `crash`: makes the rows that take the others' place at `commit`.
+    #[inline(never)]
     fn prepare_crash(&mut self, id: u32) -> Result<(), AllocError>
         ensures now { let object = of_table M.State M.start_state M.apply_to in
             Keeps (StandsFor object self.old) (StandsFor object self.new) }

@@ -19,9 +19,9 @@ returns-in-Done-clause-stands g c marks =
     let o = of_table g.row.M-State.Denot g.M.SeqObject.start_state g.M.SeqObject.apply_to in
     let f = c.args.self.now in
     made_by o f _ marks (Done c.in-Done.id c.in-Done.tried) c.in-Done.ensures.value
-    ((λ i. record { states = f.table.states; founds = f.table.founds; rows = c.swap.ensures.x_after i }), c.drop_call.ensures, refl, refl)
+    ((λ i. record { states = f.table.states; founds = f.table.founds; rows = c.trade.ensures.mine i }), c.drop_call.ensures, refl, refl)
 
 pub returns-in-Anew-clause-stands : goal.returns-in-Anew-clause-stands
 returns-in-Anew-clause-stands g c marks =
     let o = of_table g.row.M-State.Denot g.M.SeqObject.start_state g.M.SeqObject.apply_to in
-    made_by o c.args.self.now _ marks (Anew c.in-Anew.calls c.in-Anew.table c.in-Anew.tried) c.in-Anew.ensures.value (c.into_inner.ensures, refl, refl, refl)
+    made_by o c.args.self.now _ marks (Anew c.in-Anew.calls c.in-Anew.table c.in-Anew.tried) c.in-Anew.ensures.value c.take_anew.ensures.is
