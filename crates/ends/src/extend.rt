@@ -260,7 +260,7 @@ fn grow<M: SeqObject>(
     ensures front { IsFront (rows_of table.old) (rows_of table.new) }
     ensures cost { applied.new ≤ applied.old + (budget + 1) * length calls.now }
 {
-    moves::forget(alloc, moves, table::lower_bound(table));
+    moves::forget(alloc, moves, table::first_number(table));
     moves::note_likes(moves, calls)?;
     let kept = table.rows.len();
     for at in 0..budget as usize {

@@ -21,7 +21,7 @@ use std::alloc::{AllocError, Global};
 use std::hash::Hash;
 
 // So many states are few.
-const FEW_STATES: usize = 32;
+const FEW_STATES: usize = 64;
 
 /// The ends that a frontier keeps, and while an ok works those too that it finds, each a row of numbers. The first says where
 /// its state stands; then comes one for each call: zero where it is not in, and else one more than where what it found stands.
@@ -111,17 +111,14 @@ pub fn state_numbered<S: Hash + Drop>(table: &Table<S>, number: usize) -> Option
     table.states.get(number)
 }
 
-/// A number that no state of a row is below: the least one, or zero where there are few states, which then come again and again.
-/// Takes no memory, and at most a look at one number of each row.
-pub fn lower_bound<S: Hash + Drop>(table: &Table<S>) -> usize {
-    if table.states.len() <= FEW_STATES {
-        return 0;
+/// The number of the state of the first row, which is seldom above that of another one; or zero where there are few states, which
+/// come again and again. Takes no memory, and constant time.
+pub fn first_number<S: Hash + Drop>(table: &Table<S>) -> usize {
+    if table.states.len() > FEW_STATES {
+        table.rows.number(0, 0)
+    } else {
+        0
     }
-    let mut least = table.rows.number(0, 0);
-    for at in 1..table.rows.len() {
-        least = least.min(table.rows.number(at, 0));
-    }
-    least
 }
 
 /// What is told of what the call found: of a crashed one nothing. Takes no memory.
