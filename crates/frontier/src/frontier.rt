@@ -13,6 +13,7 @@ use ends::{KeptEnd, PendingOp, Room, Table};
 use history::EventKind;
 use models::{Answer, Op, SeqObject};
 use std::alloc::{AllocError, Global};
+use std::hash::Hash;
 use std::mem::{replace, swap};
 
 /// What an event leaves.
@@ -42,7 +43,7 @@ pub struct Frontier<M: SeqObject> {
     fresh: Option<Fresh>,
     tried: usize,
     table: Table<M::State>,
-    spare: Table<M::State>,
+    spare: Option<Box<Table<M::State>>>,
     room: Room<M::State>,
     next: Change<M::State>,
 }
@@ -54,6 +55,18 @@ fn step_of(ends: usize) -> Step
     ensures never_over { result ≢ Step.Over }
 {
     if ends == 0 { Step::Dead } else { Step::Alive }
+}
+
+// The table that is kept for another one to be made in its memory, or a new one without ends. `AllocError` where there is no memory
+// for that.
+fn spare_table<S: Hash + Drop>(
+    alloc: Global,
+    spare: &mut Option<Box<Table<S>>>,
+) -> Result<Box<Table<S>>, AllocError> {
+    match spare.take() {
+        Some(table) => Ok(table),
+        None => Ok(Box::new(alloc, ends::empty(alloc))?),
+    }
 }
 
 impl<M: SeqObject> Frontier<M> {
@@ -81,7 +94,7 @@ impl<M: SeqObject> Frontier<M> {
             fresh: None,
             tried: 0,
             table,
-            spare: ends::empty(alloc),
+            spare: None,
             room: Room::new(alloc),
             next: Change::Nothing,
         })
@@ -269,9 +282,11 @@ impl<M: SeqObject> Frontier<M> {
             crashed: false,
         })?;
         let ends = ends::ends_of::<M>(self.alloc, &self.table, &self.calls)?;
-        ends::refill::<M>(self.alloc, &mut self.spare, &ends, &calls)?;
-        swap(&mut self.table, &mut self.spare);
-        ends::clear(&mut self.spare);
+        let mut spare = spare_table(self.alloc, &mut self.spare)?;
+        ends::refill::<M>(self.alloc, &mut *spare, &ends, &calls)?;
+        swap(&mut self.table, &mut *spare);
+        ends::clear(&mut *spare);
+        self.spare = Some(spare);
         self.calls = calls;
         self.fresh = None;
         Ok(())
@@ -442,7 +457,7 @@ impl<M: SeqObject> Frontier<M> {
             fresh: change::copied_fresh(&self.fresh)?,
             tried: self.tried,
             table: ends::copied::<M>(self.alloc, &self.table, &self.calls)?,
-            spare: ends::empty(self.alloc),
+            spare: None,
             room: Room::new(self.alloc),
             next: Change::Nothing,
         })

@@ -37,7 +37,8 @@ returns-clause-listed g c marks idle =
       lists = lists_is o _ marks (before ++ Invoked id op ∷ []) but.is
           (stands_shown o _ (before ++ Invoked id op ∷ []) (map end_kept c.in_ok-ends.ends.items) (f.calls.items ++ call ∷ []) calls
           (subst (λ t. ShownWith t (f.calls.items ++ call ∷ []) [] (Along IsThat (map end_kept c.in_ok-ends.ends.items))) (sym c.swap.ensures.x_after)
-          (shown_of c.refill.new.table c.deref-4.result.now (f.calls.items ++ call ∷ []) c.deref-3.result.now c.in_ok-ends.ends.items (c.deref-4.ensures.value ∙ calls) c.deref-3.ensures.value c.in_ok-refill.ensures included))
+          (subst (λ t. ShownWith t (f.calls.items ++ call ∷ []) [] (Along IsThat (map end_kept c.in_ok-ends.ends.items))) (sym c.deref_mut-2.ensures.value)
+          (shown_of c.refill.new.table c.deref-4.result.now (f.calls.items ++ call ∷ []) c.deref-3.result.now c.in_ok-ends.ends.items (c.deref-4.ensures.value ∙ calls) c.deref-3.ensures.value c.in_ok-refill.ensures included)))
           (generates_after_invoke o g.met.M.SeqObject.reads (map end_kept c.in_ok-ends.ends.items) before id op but.may (subst (λ l. Generates o l before) (sym are) (generates_of o f before stands)))
           (calls_after_invoke f.calls.items before stands.well_kept.pending id op but.may)
           (once_after_invoke f.calls.items before stands.well_kept.pending id op but.may stands.well_kept.calls_once) included
