@@ -1,20 +1,19 @@
 -- an equal frontier stands for the same events
 use Rattle.std.proofs.Common.{◌≡◌, ◌↔◌, ℕ, List, ◌∙◌, ap}
-use Rattle.std.specs.Ordering.{is_eq, nat_cmp}
-use Rattle.std.specs.Map.{lookup}
 use Rattle.models.specs.declared.model_kind.ModelKind.{ModelKind}
 use Rattle.history.specs.declared.event.Event.{Event}
 use Rattle.history.specs.Events.{Mark, entries_of, marks}
 use Rattle.frontier.specs.AnyFrontier.{AnyStandsFor, any_budget_of, kind_of_frontier}
 use Rattle.checkpoints.specs.declared.live_key.LiveKey.{LiveKey}
+use Rattle.checkpoints.specs.Noted.{noted_of}
 use Rattle.checkpoints.specs.LiveKey.{IsLiveKey}
 
 pub IsLiveKey-same : (kind : ModelKind) (budget : ℕ) (events : List (ℕ × Event)) (live : LiveKey) → IsLiveKey kind budget events live → (copy : LiveKey)
-    → ((ms : List Mark) → AnyStandsFor copy.frontier ms ↔ AnyStandsFor live.frontier ms) → kind_of_frontier copy.frontier ≡ kind_of_frontier live.frontier → any_budget_of copy.frontier ≡ any_budget_of live.frontier → copy.invocations.entries ≡ live.invocations.entries
+    → ((ms : List Mark) → AnyStandsFor copy.frontier ms ↔ AnyStandsFor live.frontier ms) → kind_of_frontier copy.frontier ≡ kind_of_frontier live.frontier → any_budget_of copy.frontier ≡ any_budget_of live.frontier → copy.invocations ≡ live.invocations
     → IsLiveKey kind budget events copy
 IsLiveKey-same kind budget events live is_live copy same_events kind_stays budget_stays same = record {
   stands = (same_events (marks (entries_of events))).1 is_live.stands;
   kind_is = kind_stays ∙ is_live.kind_is;
   budget_is = budget_stays ∙ is_live.budget_is;
-  knows = λ p k h. ap (lookup (λ q. is_eq (nat_cmp p q))) same ∙ is_live.knows p k h;
+  knows = λ p k h. ap (λ l. noted_of l p) same ∙ is_live.knows p k h;
 }

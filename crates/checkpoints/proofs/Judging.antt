@@ -1,8 +1,6 @@
 -- how a key stands with one more event
 use Rattle.std.proofs.Common.{◌≡◌, ◌≢◌, ℕ, ◌⊎◌, inl, inr, ⊎_elim, Option, Some, None, List, [], ◌∷◌, ◌++◌, refl, sym, ap, ◌∙◌, subst}
 use Rattle.std.proofs.lemmas.List.{append-nil}
-use Rattle.std.specs.Ordering.{nat_cmp}
-use Rattle.std.specs.BTreeMap.{get}
 use Rattle.models.specs.declared.operation.Op.{Op}
 use Rattle.models.specs.declared.finding.Answer.{Answer}
 use Rattle.models.specs.declared.model_kind.ModelKind.{ModelKind}
@@ -30,6 +28,7 @@ use Rattle.frontier.specs.AnyFrontier.{AnyStandsFor, any_budget_of, kind_of_fron
 use Rattle.checkpoints.specs.declared.live_key.LiveKey.{LiveKey}
 use Rattle.checkpoints.specs.declared.key_state.KeyState.{KeyState}
 use Rattle.checkpoints.specs.declared.key_state.KeyState.TheVariants.{Alive, Dead, Over}
+use Rattle.checkpoints.specs.Noted.{noted_of}
 use Rattle.checkpoints.specs.LiveKey.{invocation_of, busy_of, KnowsOpen, IsLiveKey, id_by, closed_by}
 use Rattle.checkpoints.specs.KeyState.{status_of, IsAlive, IsKeyState}
 use Rattle.checkpoints.proofs.Noting.{IsNoted, knows_after, still_known, none_closed}
@@ -134,13 +133,13 @@ module _ (kind : ModelKind) (budget : ℕ) (events : List (ℕ × Event)) (index
     abbrev pub the_id : ℕ
     the_id = id_for index event.kind (invocation_of events p)
 
-    finds_id : id_by index event.kind (get nat_cmp live.invocations p) ≡ Some the_id
+    finds_id : id_by index event.kind (noted_of live.invocations p) ≡ Some the_id
     finds_id = id_is index p op.key (invocation_of events p) event.kind op (busy_of events) _
         (subst (MayCome (busy_of events)) speaks (MayCome-push events (index, event) history))
         (λ h. is_live.knows p op.key h)
 
     -- a completion finds an open operation
-    pub always_some : id_by index event.kind (get nat_cmp live.invocations p) ≡ None → ⊥
+    pub always_some : id_by index event.kind (noted_of live.invocations p) ≡ None → ⊥
     always_some none = (let clash : None ≡ Some the_id = sym none ∙ finds_id in cc)
 
     abbrev pub entry : Entry
@@ -160,15 +159,15 @@ module _ (kind : ModelKind) (budget : ℕ) (events : List (ℕ × Event)) (index
     last_then : (q : ℕ) → invocation_of (events ++ (index, event) ∷ []) q ≡ last_by index (invocation_of events) p (act_by event.kind op) q
     last_then q = ap (λ (f : ℕ → ℕ). f q) (invocation_of-push events (index, event)) ∙ ap (λ o. last_after index (invocation_of events) o q) speaks
 
-    pub knows_then : (after : LiveKey) → ((q : ℕ) → q ≢ p → get nat_cmp after.invocations q ≡ get nat_cmp live.invocations q) → IsNoted index event.kind (get nat_cmp after.invocations p) → KnowsOpen (events ++ (index, event) ∷ []) after
+    pub knows_then : (after : LiveKey) → ((q : ℕ) → q ≢ p → noted_of after.invocations q ≡ noted_of live.invocations q) → IsNoted index event.kind (noted_of after.invocations p) → KnowsOpen (events ++ (index, event) ∷ []) after
     knows_then after others noted q k h =
-        knows_after index p op.key op (invocation_of events) (busy_of events) (get nat_cmp live.invocations) (get nat_cmp after.invocations) is_live.knows others event.kind noted q k (sym (busy_then q) ∙ h)
+        knows_after index p op.key op (invocation_of events) (busy_of events) (noted_of live.invocations) (noted_of after.invocations) is_live.knows others event.kind noted q k (sym (busy_then q) ∙ h)
         ∙ ap Some (sym (last_then q))
 
     -- the events so far are known still, and the process that is closed has no open operation after the event
-    pub knows_still : (after : LiveKey) → ((q : ℕ) → q ≢ p → get nat_cmp after.invocations q ≡ get nat_cmp live.invocations q) → get nat_cmp after.invocations p ≡ id_by index event.kind (get nat_cmp live.invocations p) → KnowsOpen events after
+    pub knows_still : (after : LiveKey) → ((q : ℕ) → q ≢ p → noted_of after.invocations q ≡ noted_of live.invocations q) → noted_of after.invocations p ≡ id_by index event.kind (noted_of live.invocations p) → KnowsOpen events after
     knows_still after others here =
-        still_known index p op.key op (invocation_of events) (busy_of events) (get nat_cmp live.invocations) (get nat_cmp after.invocations) is_live.knows others event.kind
+        still_known index p op.key op (invocation_of events) (busy_of events) (noted_of live.invocations) (noted_of after.invocations) is_live.knows others event.kind
         (subst (MayCome (busy_of events)) speaks (MayCome-push events (index, event) history)) here
 
     pub closed_then : (q : ℕ) → closed_by p event.kind ≡ Some q → busy_of (events ++ (index, event) ∷ []) q ≡ None
@@ -198,7 +197,7 @@ module _ (kind : ModelKind) (budget : ℕ) (events : List (ℕ × Event)) (index
         subst (λ l. IsKeyStatus (object_of kind) budget l (status.Over index)) (sym entries) (over_here (object_of kind) budget (entries_of events) entry b.0.0 b.0.1 b.0.2 alive.0 b.1)
 
     -- the same in the words of the code: the operation that was found, and what the step was
-    module _ (found : Option ℕ) (finds : found ≡ id_by index event.kind (get nat_cmp live.invocations p)) where
+    module _ (found : Option ℕ) (finds : found ≡ id_by index event.kind (noted_of live.invocations p)) where
       pub never_none : found ≡ None → ⊥
       never_none none = always_some (sym finds ∙ none)
 

@@ -4,6 +4,7 @@ pub mod Soundness
 pub mod Pushes
 pub mod Statuses
 pub mod Judging
+pub mod Noted
 pub mod Noting
 pub mod Preparing
 pub mod Copies

@@ -1,7 +1,5 @@
 -- a key that is alive, where one more event is prepared of it and carried out
 use Rattle.std.proofs.Common.{◌≡◌, ℕ, cond, nat_eq, List, [], ◌∷◌, ◌++◌, sym, ◌∙◌}
-use Rattle.std.specs.Ordering.{nat_cmp}
-use Rattle.std.specs.BTreeMap.{get}
 use Rattle.models.specs.declared.operation.Op.{Op}
 use Rattle.models.specs.declared.model_kind.ModelKind.{ModelKind}
 use Rattle.history.specs.declared.event.Process.TheVariants as processes
@@ -12,13 +10,14 @@ use Rattle.history.specs.ProcessRule.{IsHistory}
 use Rattle.frontier.specs.Meaning.{Keeps}
 use Rattle.frontier.specs.AnyFrontier.{AnyStandsFor, AnyWillStandFor, any_budget_of, kind_of_frontier}
 use Rattle.checkpoints.specs.declared.live_key.LiveKey.{LiveKey}
+use Rattle.checkpoints.specs.Noted.{noted_of}
 use Rattle.checkpoints.specs.LiveKey.{IsLiveKey, WillBeLive, id_by, closed_by}
 use Rattle.checkpoints.specs.KeyState.{IsAlive}
 use Rattle.checkpoints.proofs.Noting.{noted_others, noted_as, noted_here}
 use Rattle.checkpoints.proofs.Judging.{knows_then, knows_still, closed_then}
 
 module _ (kind : ModelKind) (budget : ℕ) (events : List (ℕ × Event)) (index : ℕ) (event : Event) (live : LiveKey) (is_live : IsLiveKey kind budget events live) (alive : IsAlive kind budget events) (history : IsHistory (events ++ (index, event) ∷ [])) (p : ℕ) (is_client : event.process ≡ processes.Client p) (op : Op) (is_op : event.body ≡ bodies.Op op) (after : LiveKey)
-    (kind_stays : kind_of_frontier after.frontier ≡ kind_of_frontier live.frontier) (budget_stays : any_budget_of after.frontier ≡ any_budget_of live.frontier) (noted : (q : ℕ) → get nat_cmp after.invocations q ≡ cond (nat_eq q p) (id_by index event.kind (get nat_cmp live.invocations q)) (get nat_cmp live.invocations q)) where
+    (kind_stays : kind_of_frontier after.frontier ≡ kind_of_frontier live.frontier) (budget_stays : any_budget_of after.frontier ≡ any_budget_of live.frontier) (noted : (q : ℕ) → noted_of after.invocations q ≡ cond (nat_eq q p) (id_by index event.kind (noted_of live.invocations q)) (noted_of live.invocations q)) where
   -- it stands as it stood
   pub still_live : Keeps (AnyStandsFor live.frontier) (AnyStandsFor after.frontier) → IsLiveKey kind budget events after
   still_live keeps = record {
@@ -26,7 +25,7 @@ module _ (kind : ModelKind) (budget : ℕ) (events : List (ℕ × Event)) (index
     kind_is = kind_stays ∙ is_live.kind_is;
     budget_is = budget_stays ∙ is_live.budget_is;
     knows = knows_still kind budget events index event live is_live alive history p is_client op is_op after
-        (noted_others index p event.kind (get nat_cmp live.invocations) (get nat_cmp after.invocations) noted) (noted_as index p event.kind (get nat_cmp live.invocations) (get nat_cmp after.invocations) noted);
+        (noted_others index p event.kind (noted_of live.invocations) (noted_of after.invocations) noted) (noted_as index p event.kind (noted_of live.invocations) (noted_of after.invocations) noted);
   }
 
   -- what is prepared is the event
@@ -36,6 +35,6 @@ module _ (kind : ModelKind) (budget : ℕ) (events : List (ℕ × Event)) (index
     kind_is = kind_stays ∙ is_live.kind_is;
     budget_is = budget_stays ∙ is_live.budget_is;
     knows = knows_then kind budget events index event live is_live alive history p is_client op is_op after
-        (noted_others index p event.kind (get nat_cmp live.invocations) (get nat_cmp after.invocations) noted) (noted_here index p event.kind (get nat_cmp live.invocations) (get nat_cmp after.invocations) noted);
+        (noted_others index p event.kind (noted_of live.invocations) (noted_of after.invocations) noted) (noted_here index p event.kind (noted_of live.invocations) (noted_of after.invocations) noted);
     closed = λ q is. closed_then kind budget events index event live is_live alive history p is_client op is_op q (sym closes ∙ is);
   }

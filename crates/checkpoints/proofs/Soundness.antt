@@ -1,6 +1,8 @@
 -- what a line keeps where its prepared change is carried out, dropped or replaced
 use Rattle.std.proofs.Common.{◌≡◌, ℕ, ◌*◌, ◌/◌, ◌≤◌, Option, Some, None, option_map, List, [], ◌∷◌, ◌++◌, length, take, sym, ap, ◌∙◌, subst, arith}
 use Rattle.std.proofs.lemmas.List.{take_all, take-map, map-append}
+use Rattle.std.specs.declared.boxed.Box.{Box}
+use Rattle.std.specs.Global.{Global}
 use Rattle.models.specs.declared.model_kind.ModelKind.{ModelKind}
 use Rattle.models.specs.Objects.{object_of}
 use Rattle.history.specs.declared.event.Event.{Event}
@@ -12,7 +14,7 @@ use Rattle.checkpoints.specs.declared.key_state.KeyState.{KeyState}
 use Rattle.checkpoints.specs.declared.key_state.KeyState.TheVariants.{Alive, Dead, Over}
 use Rattle.checkpoints.specs.declared.key_line.Prepared.{Prepared}
 use Rattle.checkpoints.specs.declared.next.Next.{Next}
-use Rattle.checkpoints.specs.declared.next.Next.TheVariants.{Stays, Goes, Becomes}
+use Rattle.checkpoints.specs.declared.next.Next.TheVariants.{Stays, Goes, Dies, Blows, Becomes}
 use Rattle.checkpoints.specs.KeyState.{IsKeyState, status_of}
 use Rattle.checkpoints.specs.Next.{IsNext, status_by}
 use Rattle.linspec.specs.KeyHistory.{KeyHistory, IsStatusOf, events_below, with_pushed, cut_at, judged_by}
@@ -35,7 +37,9 @@ next_right kind budget events state Stays is s eq = status_right kind budget eve
 next_right kind budget events (Alive live) Goes is s eq = subst (IsKeyStatus (object_of kind) budget (entries_of events)) (sym eq) is.0
 next_right kind budget events (Dead i) Goes is s eq = absurd is
 next_right kind budget events (Over i) Goes is s eq = absurd is
-next_right kind budget events state (Becomes other) is s eq = status_right kind budget events other is s eq
+next_right kind budget events state (Dies i) is s eq = status_right kind budget events (Dead i) is s eq
+next_right kind budget events state (Blows i) is s eq = status_right kind budget events (Over i) is s eq
+next_right kind budget events state (Becomes other) is s eq = status_right kind budget events other.value is s eq
 
 -- all of the places, and one more
 all_and : (events : List (ℕ × Event)) (places : List ℕ) → places ≡ places_of events → (k : ℕ) → length places ≤ k → (x : ℕ × Event) → kept_and_added k (Some x.0) places ≡ places_of (events ++ x ∷ [])
@@ -67,14 +71,14 @@ module _ (kind : ModelKind) (budget : ℕ) (events : List (ℕ × Event)) (place
   }
 
   -- all events are kept, and judged by another kind and budget
-  pub rebuilt_brought : (k : ℕ) → k ≡ length places → (other : ModelKind) (new_budget : ℕ) (standing : KeyState) (new_saved : List KeyState) → IsKeyState other new_budget events standing → AreSaved other new_budget events new_saved
+  pub rebuilt_brought : (k : ℕ) → k ≡ length places → (other : ModelKind) (new_budget : ℕ) (standing : Box KeyState Global) (new_saved : List KeyState) → IsKeyState other new_budget events standing.value → AreSaved other new_budget events new_saved
       → IsBrought other new_budget (take k events) (take k places) state (Becomes standing) new_saved
   rebuilt_brought k all other new_budget standing new_saved stands are =
       let same : take k events ≡ events = take_all k events (omega (arith, many_places)) in
       record {
         history = IsHistory-take k events now.history;
         places_are = ap (take k) now.places_are ∙ take-map (λ (x : ℕ × Event). x.0) k events;
-        stands = subst (λ l. IsKeyState other new_budget l standing) (sym same) stands;
+        stands = subst (λ l. IsKeyState other new_budget l standing.value) (sym same) stands;
         saved_are = subst (λ l. AreSaved other new_budget l new_saved) (sym same) are;
       }
 

@@ -2,6 +2,7 @@ pub mod LiveKey
 pub mod KeyState
 pub mod Lent
 pub mod Next
+pub mod Noted
 pub mod KeyLineView
 pub mod Saved
 pub mod Saves

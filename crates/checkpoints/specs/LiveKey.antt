@@ -1,7 +1,5 @@
 -- Invariant: what a key that is alive keeps of its events
 use Rattle.std.specs.Prelude.{◌≡◌, ℕ, Option, Some, None, List, [], ◌∷◌}
-use Rattle.std.specs.Ordering.{nat_cmp}
-use Rattle.std.specs.BTreeMap.{get}
 use Rattle.models.specs.declared.model_kind.ModelKind.{ModelKind}
 use Rattle.history.specs.declared.event.EventKind.{EventKind}
 use Rattle.history.specs.declared.event.EventKind.TheVariants.{Invoke, Ok, Fail, Info}
@@ -9,6 +7,7 @@ use Rattle.history.specs.declared.event.Event.{Event}
 use Rattle.history.specs.Events.{op_event, last_after, entries_of, marks}
 use Rattle.history.specs.ProcessRule.{busy_after}
 use Rattle.frontier.specs.AnyFrontier.{AnyStandsFor, AnyWillStandFor, any_budget_of, kind_of_frontier}
+use Rattle.checkpoints.specs.Noted.{noted_of}
 use Rattle.checkpoints.specs.declared.live_key.LiveKey.{LiveKey}
 
 -- the last invocation of each process, and the key of each process's open operation, after events
@@ -29,7 +28,7 @@ busy_of events = busy_from (λ _. None) events
 -- the open operation of each process that has one is known
 abbrev pub KnowsOpen : List (ℕ × Event) → LiveKey → Type 0
 KnowsOpen events live = (p k : ℕ) → busy_of events p ≡ Some k
-    → get nat_cmp live.invocations p ≡ Some (invocation_of events p)
+    → noted_of live.invocations p ≡ Some (invocation_of events p)
 
 -- the frontier stands for the events, and what is open is known
 pub record IsLiveKey (kind : ModelKind) (budget : ℕ) (events : List (ℕ × Event)) (live : LiveKey)

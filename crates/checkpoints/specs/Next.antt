@@ -7,7 +7,7 @@ use Rattle.checkpoints.specs.LiveKey.{WillBeLive}
 use Rattle.checkpoints.specs.declared.key_state.KeyState.{KeyState}
 use Rattle.checkpoints.specs.declared.key_state.KeyState.TheVariants.{Alive, Dead, Over}
 use Rattle.checkpoints.specs.declared.next.Next.{Next}
-use Rattle.checkpoints.specs.declared.next.Next.TheVariants.{Stays, Goes, Becomes}
+use Rattle.checkpoints.specs.declared.next.Next.TheVariants.{Stays, Goes, Dies, Blows, Becomes}
 use Rattle.checkpoints.specs.KeyState.{status_of, IsAlive, IsKeyState}
 
 -- the key will be alive after the events, once it carries out what it has prepared. A key that is dead
@@ -22,10 +22,14 @@ GoesOn kind budget events (Over i) = ⊥
 abbrev pub IsNext : ModelKind → ℕ → List (ℕ × Event) → KeyState → Next → Type 0
 IsNext kind budget events state Stays = IsKeyState kind budget events state
 IsNext kind budget events state Goes = GoesOn kind budget events state
-IsNext kind budget events state (Becomes other) = IsKeyState kind budget events other
+IsNext kind budget events state (Dies i) = IsKeyState kind budget events (Dead i)
+IsNext kind budget events state (Blows i) = IsKeyState kind budget events (Over i)
+IsNext kind budget events state (Becomes other) = IsKeyState kind budget events other.value
 
 -- what is known of the key then. A key that goes on is alive now and then
 abbrev pub status_by : KeyState → Next → KeyStatus
 status_by state Stays = status_of state
 status_by state Goes = status_of state
-status_by state (Becomes other) = status_of other
+status_by state (Dies i) = status_of (Dead i)
+status_by state (Blows i) = status_of (Over i)
+status_by state (Becomes other) = status_of other.value

@@ -159,7 +159,7 @@ impl KeyLine {
         let kept = count_below(&self.places, n);
         let mut replays = 0;
         let next = if kept < self.places.len() {
-            Next::Becomes(gone_back(
+            let state = gone_back(
                 self.alloc,
                 self.kind,
                 self.budget,
@@ -168,7 +168,8 @@ impl KeyLine {
                 &self.saved,
                 kept,
                 &mut replays,
-            )?)
+            )?;
+            Next::Becomes(Box::new(self.alloc, state)?)
         } else {
             Next::Stays
         };
@@ -220,13 +221,14 @@ impl KeyLine {
             &mut replays,
         )?;
         let status = state.status();
+        let boxed = Box::new(self.alloc, state)?;
         let change = Prepared {
             kind,
             budget,
             kept,
             added: None,
             told: self.told.first(&kept),
-            next: Next::Becomes(state),
+            next: Next::Becomes(boxed),
             saves: Saves::Anew(saved),
             replays,
         };

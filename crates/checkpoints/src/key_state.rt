@@ -73,7 +73,9 @@ impl KeyState {
                     live.commit();
                 }
             }
-            Next::Becomes(state) => *self = state,
+            Next::Dies(index) => *self = KeyState::Dead(index),
+            Next::Blows(index) => *self = KeyState::Over(index),
+            Next::Becomes(state) => *self = Box::into_inner(state),
         }
     }
 

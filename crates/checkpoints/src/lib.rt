@@ -1,6 +1,7 @@
 //! The line of one key: where its events stand, and what is known of the key while they come.
 #![tactic(auto)]
 
+mod invocations;
 mod key_line;
 mod key_state;
 pub mod laws;

@@ -1,30 +1,28 @@
 //! A key that is alive, with the ends of its events.
 ghost use Rattle.std.specs.Prelude.{◌≡◌, ℕ, List, [], ◌∷◌, ◌++◌, nat_eq, if◌then◌else◌, IfOk, OnOk, OnErr};
-ghost use Rattle.std.specs.Ordering.{nat_cmp};
-ghost use Rattle.std.specs.BTreeMap.{get};
 ghost use Rattle.models.specs.declared.model_kind.ModelKind.{ModelKind};
 ghost use Rattle.history.specs.declared.event.Event.{Event};
 ghost use Rattle.history.specs.ProcessRule.{IsHistory};
 ghost use Rattle.checkpoints.specs.LiveKey.{IsLiveKey, WillBeLive, id_by, closed_by};
 ghost use Rattle.checkpoints.specs.KeyState.{IsAlive, IsKeyState};
 ghost use Rattle.checkpoints.specs.Next.{IsNext};
+ghost use Rattle.checkpoints.specs.Noted.{noted_of};
 ghost use Rattle.checkpoints.specs.declared.key_state.KeyState.{KeyState};
 
-use crate::key_state::KeyState;
+use crate::invocations::Invocations;
 use crate::next::Next;
 use frontier::{AnyFrontier, Step};
 use history::{Body, Event, EventKind, Process};
 use linspec::laws::never_kills_law;
 use models::ModelKind;
 use std::alloc::{AllocError, Global};
-use std::collections::BTreeMap;
 
 /// The ends of the events so far, and for each process with an open operation the index of its invocation. Where one more
 /// event is prepared, the frontier has it, and `closes` is the process that it leaves with no open operation, if it does.
 #[derive(Drop)]
 pub(crate) struct LiveKey {
     frontier: AnyFrontier,
-    invocations: BTreeMap<u32, u32>,
+    invocations: Invocations,
     closes: Option<u32>,
 }
 
@@ -36,7 +34,7 @@ impl LiveKey {
         let frontier = AnyFrontier::start(alloc, kind, budget)?;
         Ok(LiveKey {
             frontier,
-            invocations: BTreeMap::new(alloc),
+            invocations: Invocations::new(alloc),
             closes: None,
         })
     }
@@ -47,7 +45,7 @@ impl LiveKey {
             → IsLiveKey kind budget events self.now → IfOk result (IsLiveKey kind budget events) }
     {
         let frontier = self.frontier.copy()?;
-        let invocations = self.invocations.clone()?;
+        let invocations = self.invocations.copy()?;
         Ok(LiveKey {
             frontier,
             invocations,
@@ -83,8 +81,8 @@ impl LiveKey {
         self.closes = closing(process, event.kind);
         match self.frontier.prepare(id, event.kind, op)? {
             Step::Alive => Ok(Next::Goes),
-            Step::Dead => Ok(Next::Becomes(KeyState::Dead(index))),
-            Step::Over => Ok(Next::Becomes(KeyState::Over(index))),
+            Step::Dead => Ok(Next::Dies(index)),
+            Step::Over => Ok(Next::Blows(index)),
         }
     }
 
@@ -94,7 +92,7 @@ impl LiveKey {
             → WillBeLive kind budget events self.old → IsLiveKey kind budget events self.new }
     {
         if let Some(process) = self.closes.take() {
-            self.invocations.remove(&process);
+            self.invocations.forget(process);
         }
         self.frontier.commit();
     }
@@ -103,24 +101,24 @@ impl LiveKey {
 // The operation that a prepared event of the process is of, named by the index of its invocation. This is noted at once, since its process has no open
 // operation before it; what a completion closes stays noted until it is carried out.
 fn noted(
-    invocations: &mut BTreeMap<u32, u32>,
+    invocations: &mut Invocations,
     process: u32,
     index: u32,
     kind: EventKind,
 ) -> Result<Option<u32>, AllocError>
-    ensures id { IfOk result (λ id. id ≡ id_by index kind (get nat_cmp invocations.old process)) }
-    ensures invocations { OnOk result ((q : ℕ) → get nat_cmp invocations.new q
-        ≡ (if nat_eq q process then id_by index kind (get nat_cmp invocations.old q)
-        else get nat_cmp invocations.old q)) }
+    ensures id { IfOk result (λ id. id ≡ id_by index kind (noted_of invocations.old process)) }
+    ensures invocations { OnOk result ((q : ℕ) → noted_of invocations.new q
+        ≡ (if nat_eq q process then id_by index kind (noted_of invocations.old q)
+        else noted_of invocations.old q)) }
     ensures err { OnErr result ((q : ℕ) →
-        get nat_cmp invocations.new q ≡ get nat_cmp invocations.old q) }
+        noted_of invocations.new q ≡ noted_of invocations.old q) }
 {
     match kind {
         EventKind::Invoke => {
-            invocations.insert(process, index)?;
+            invocations.note(process, index)?;
             Ok(Some(index))
         }
-        EventKind::Ok | EventKind::Fail | EventKind::Info => Ok(invocations.get(&process).copied()),
+        EventKind::Ok | EventKind::Fail | EventKind::Info => Ok(invocations.get(process)),
     }
 }
 

@@ -12,8 +12,12 @@ pub(crate) enum Next {
     Stays,
     /// The key is alive, and carries out what it has prepared.
     Goes,
-    /// This state takes its place.
-    Becomes(KeyState),
+    /// The key is dead from the event of this index on.
+    Dies(u32),
+    /// The key is over from the event of this index on.
+    Blows(u32),
+    /// This state takes its place. It is large, and rare, so it stands apart.
+    Becomes(Box<KeyState>),
 }
 
 impl Next {
@@ -23,6 +27,8 @@ impl Next {
     {
         match self {
             Next::Stays | Next::Goes => state.status(),
+            Next::Dies(index) => KeyStatus::Dead(*index),
+            Next::Blows(index) => KeyStatus::Over(*index),
             Next::Becomes(other) => other.status(),
         }
     }

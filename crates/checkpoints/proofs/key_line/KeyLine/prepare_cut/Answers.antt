@@ -1,5 +1,6 @@
 use Rattle.std.proofs.Common.{◌≡◌, ◌≤◌, ◌∙◌, length, take, refl, sym, subst, arith}
 use Rattle.linspec.specs.KeyHistory.{events_below}
+use Rattle.checkpoints.specs.KeyState.{IsKeyState}
 use Rattle.checkpoints.specs.Next.{IsNext}
 use Rattle.checkpoints.specs.Saved.{AreSaved}
 use Rattle.checkpoints.specs.Saves.{saved_by}
@@ -7,7 +8,7 @@ use Rattle.checkpoints.specs.SoundLine.{IsBrought}
 use Rattle.checkpoints.specs.declared.saving.Saves.TheVariants.{Kept}
 use Rattle.checkpoints.proofs.Soundness.{cut_brought, all_stand, lent_seen, cut_seen, next_right, IsSoundLine-prepared}
 use Rattle.checkpoints.proofs.key_line.KeyLine.prepare_cut.Goals as goal
-use Rattle.checkpoints.proofs.key_line.KeyLine.prepare_cut.Goals.{then-kept-len+in_ok-gone_back, else-kept-len}
+use Rattle.checkpoints.proofs.key_line.KeyLine.prepare_cut.Goals.{then-kept-len+in_ok-state+in_ok-new, else-kept-len}
 
 within : (c : goal.After-prepare) → c.count_below-kept.result ≤ length c.self.inside.places.items
 within c = subst (λ l. c.count_below-kept.result ≤ length l) c.deref.ensures.value c.count_below-kept.ensures.within
@@ -22,10 +23,10 @@ stands c =
     let kind = c.self.inside.kind in
     let budget = c.self.inside.budget in
     elim c.if-kept-len.branch [
-      | then-kept-len+in_ok-gone_back w ↦ rw w.next-is
-          (w.in_ok-gone_back.ensures.stands events now.history
+      | then-kept-len+in_ok-state+in_ok-new w ↦ rw w.next-is
+          (subst (IsKeyState kind budget (take c.count_below-kept.result events)) (sym w.in_ok-new.ensures.ok) (w.in_ok-state.ensures.stands events now.history
           (record { places_are = w.deref-then-kept-len.ensures.value ∙ now.places_are; are_lent = lent_seen _ _ _ _ _ _ c.self.view_is c.args.lent.now c.requires })
-          (subst (AreSaved kind budget events) (sym w.deref-then-kept-len-2.ensures.value) now.saved_are))
+          (subst (AreSaved kind budget events) (sym w.deref-then-kept-len-2.ensures.value) now.saved_are)))
       | else-kept-len w ↦ rw w.next-is
           (all_stand kind budget events c.self.inside.places.items c.self.inside.state c.self.inside.saved.items now c.count_below-kept.result (omega arith))
     ]

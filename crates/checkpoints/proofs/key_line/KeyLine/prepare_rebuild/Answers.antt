@@ -23,8 +23,9 @@ invariant_of-self-2 c =
     let all : c.len-kept.result ≡ length places = omega (arith, c.self.inside.places.ok.0) in
     let are : AreSaved c.args.kind c.args.budget c.self.inside.told.events c.in_ok-state.saved.items = c.in_ok-state.ensures.saved c.self.inside.told.events now.history (at c) in
     IsSoundLine-prepared _ _ _ _ _ _ _ _ c.self.invariant _ now.stands _ refl _ now.saved_are _ _ _ c.prepare.ensures (record {
-      brings = subst (λ l. IsBrought c.args.kind c.args.budget l (take c.len-kept.result places) c.self.inside.state (Becomes c.in_ok-state.state) c.in_ok-state.saved.items) (sym c.first.ensures)
-          (rebuilt_brought c.self.inside.kind c.self.inside.budget c.self.inside.told.events places c.self.inside.state c.self.inside.saved.items now c.len-kept.result all c.args.kind c.args.budget c.in_ok-state.state c.in_ok-state.saved.items (stands c) are);
+      brings = subst (λ l. IsBrought c.args.kind c.args.budget l (take c.len-kept.result places) c.self.inside.state (Becomes c.in_ok-boxed.boxed) c.in_ok-state.saved.items) (sym c.first.ensures)
+          (rebuilt_brought c.self.inside.kind c.self.inside.budget c.self.inside.told.events places c.self.inside.state c.self.inside.saved.items now c.len-kept.result all c.args.kind c.args.budget c.in_ok-boxed.boxed c.in_ok-state.saved.items
+          (subst (IsKeyState c.args.kind c.args.budget c.self.inside.told.events) (sym c.in_ok-boxed.ensures.ok) (stands c)) are);
       place = tt;
     })
 

@@ -1,7 +1,6 @@
-use Rattle.std.proofs.lemmas.Map.Entries.{entries_from_clone}
 use Rattle.checkpoints.proofs.Copies.{IsLiveKey-same}
 use Rattle.checkpoints.proofs.live_key.LiveKey.copy.Goals as goal
 
 pub returns : goal.returns
 returns c kind budget events is_live =
-    IsLiveKey-same kind budget events c.args.self.now is_live _ c.in_ok-frontier.ensures.same c.in_ok-frontier.ensures.kind c.in_ok-frontier.ensures.budget (entries_from_clone _ _ (λ x y h. h) (λ v w h. h) _ _ c.in_ok-invocations.ensures.cases)
+    IsLiveKey-same kind budget events c.args.self.now is_live _ c.in_ok-frontier.ensures.same c.in_ok-frontier.ensures.kind c.in_ok-frontier.ensures.budget c.in_ok-invocations.ensures

@@ -1,0 +1,92 @@
+//! Which operations of a key are open.
+ghost use Rattle.std.specs.Prelude.{◌≡◌, ◌≢◌, ℕ, None, Some, nat_eq, if◌then◌else◌, IfOk, IfSome, OnOk, OnErr};
+ghost use Rattle.checkpoints.specs.Noted.{IsNotedAt, noted_of};
+
+use std::alloc::{AllocError, Global};
+use std::marker::Model;
+
+/// For each process that has one, the index of the invocation of its open operation. These are few, so they stand in a list
+/// that is looked through.
+#[derive(Drop)]
+pub(crate) struct Invocations {
+    noted: Vec<(u32, u32)>,
+}
+
+impl Model for Invocations {
+    ghost use Rattle.std.specs.Prelude.{List, ℕ};
+
+    ghost Value = { List (ℕ × ℕ) };
+
+    ghost view = { λ a. a.noted.items };
+}
+
+impl Invocations {
+    /// None. Takes no memory.
+    pub(crate) fn new(alloc: Global) -> Invocations
+        ensures { (process : ℕ) → noted_of result process ≡ None }
+    {
+        Invocations {
+            noted: Vec::new(alloc),
+        }
+    }
+
+    /// The same invocations, with memory of their own; `AllocError` where there is none.
+    pub(crate) fn copy(&self) -> Result<Invocations, AllocError>
+        ensures { IfOk result (λ copy. copy ≡ self.now) }
+    {
+        let noted = self.noted.clone()?;
+        Ok(Invocations { noted })
+    }
+
+    /// The index that is noted for the process, if one is.
+    pub(crate) fn get(&self, process: u32) -> Option<u32>
+        ensures { result ≡ noted_of self.now process }
+    {
+        match place_of(&self.noted, process) {
+            Some(at) => {
+                let pair = &self.noted[at];
+                Some(pair.1)
+            }
+            None => None,
+        }
+    }
+
+    /// Notes the index for the process, in place of the one that was noted. `AllocError` where there is no memory for it: then
+    /// all is as it was.
+    pub(crate) fn note(&mut self, process: u32, index: u32) -> Result<(), AllocError>
+        ensures noted { OnOk result ((q : ℕ) → noted_of self.new q
+            ≡ (if nat_eq q process then Some index else noted_of self.old q)) }
+        ensures err { OnErr result (self.new ≡ self.old) }
+    {
+        match place_of(&self.noted, process) {
+            Some(at) => self.noted[at] = (process, index),
+            None => {
+                self.noted.push((process, index))?;
+            }
+        }
+        Ok(())
+    }
+
+    /// Forgets what is noted for the process, and for no other. Takes no memory.
+    pub(crate) fn forget(&mut self, process: u32)
+        ensures { (q : ℕ) → q ≢ process → noted_of self.new q ≡ noted_of self.old q }
+    {
+        if let Some(at) = place_of(&self.noted, process) {
+            let _ = self.noted.remove(at);
+        }
+    }
+}
+
+// Where the first index stands that is noted for the process.
+fn place_of(noted: &[(u32, u32)], process: u32) -> Option<usize>
+    ensures there { IfSome result (IsNotedAt noted.now process) }
+    ensures none { result ≡ None → noted_of noted.now process ≡ None }
+{
+    for at in 0..noted.len() {
+        let pair = &noted[at];
+        if pair.0 == process {
+            return Some(at);
+        }
+    }
+    None
+}
