@@ -1,5 +1,5 @@
 -- what a line keeps where its prepared change is carried out, dropped or replaced
-use Rattle.std.proofs.Common.{◌≡◌, ℕ, ◌*◌, ◌/◌, ◌≤◌, Option, Some, None, option_map, List, [], ◌∷◌, ◌++◌, length, take, sym, ap, ◌∙◌, subst, arith}
+use Rattle.std.proofs.Common.{◌≡◌, ℕ, ◌*◌, ◌/◌, ◌<◌, ◌≤◌, Option, Some, None, option_map, List, [], ◌∷◌, ◌++◌, length, take, sym, ap, ◌∙◌, subst, arith}
 use Rattle.std.proofs.lemmas.List.{take_all, take-map, map-append}
 use Rattle.std.specs.declared.boxed.Box.{Box}
 use Rattle.std.specs.Global.{Global}
@@ -12,7 +12,10 @@ use Rattle.linspec.specs.declared.verdict.KeyStatus.{KeyStatus}
 use Rattle.linspec.specs.Verdicts.{IsKeyStatus}
 use Rattle.checkpoints.specs.declared.key_state.KeyState.{KeyState}
 use Rattle.checkpoints.specs.declared.key_state.KeyState.TheVariants.{Alive, Dead, Over}
+use Rattle.checkpoints.specs.declared.key_line.Change.{Change}
 use Rattle.checkpoints.specs.declared.key_line.Prepared.{Prepared}
+use Rattle.checkpoints.specs.declared.key_line.Prepared.TheVariants.{Push, Change as ToChange}
+use Rattle.checkpoints.specs.declared.told.Told.{Told}
 use Rattle.checkpoints.specs.declared.next.Next.{Next}
 use Rattle.checkpoints.specs.declared.next.Next.TheVariants.{Stays, Goes, Dies, Blows, Becomes}
 use Rattle.checkpoints.specs.KeyState.{IsKeyState, status_of}
@@ -22,7 +25,7 @@ use Rattle.checkpoints.specs.KeyLineView.{KeyLineView}
 use Rattle.checkpoints.specs.Lent.{AreLentBy, places_of}
 use Rattle.checkpoints.specs.Saved.{AreSaved}
 use Rattle.checkpoints.specs.Saves.{saved_by}
-use Rattle.checkpoints.specs.SoundLine.{kept_and_added, brought, replays_of, HasPlace, IsJudged, IsBrought, IsReady, IsSoundLine}
+use Rattle.checkpoints.specs.SoundLine.{brought, replays_of, IsJudged, IsBrought, IsReady, IsSoundLine}
 use Rattle.checkpoints.proofs.Judging.{status_is}
 use Rattle.checkpoints.proofs.Cutting.{IsHistory-take, length-places}
 use Rattle.checkpoints.proofs.SavedStates.{AreSaved-take}
@@ -42,24 +45,18 @@ next_right kind budget events state (Blows i) is s eq = status_right kind budget
 next_right kind budget events state (Becomes other) is s eq = status_right kind budget events other.value is s eq
 
 -- all of the places, and one more
-all_and : (events : List (ℕ × Event)) (places : List ℕ) → places ≡ places_of events → (k : ℕ) → length places ≤ k → (x : ℕ × Event) → kept_and_added k (Some x.0) places ≡ places_of (events ++ x ∷ [])
-all_and events places are k le x = ap (λ l. l ++ x.0 ∷ []) (take_all k places le ∙ are) ∙ sym (map-append (λ (y : ℕ × Event). y.0) events (x ∷ []))
+all_and : (events : List (ℕ × Event)) (places : List ℕ) → places ≡ places_of events → (x : ℕ × Event) → places ++ x.0 ∷ [] ≡ places_of (events ++ x ∷ [])
+all_and events places are x = ap (λ l. l ++ x.0 ∷ []) are ∙ sym (map-append (λ (y : ℕ × Event). y.0) events (x ∷ []))
 
 module _ (kind : ModelKind) (budget : ℕ) (events : List (ℕ × Event)) (places : List ℕ) (state : KeyState) (saved : List KeyState) (now : IsJudged kind budget events places state saved) where
   pub many_places : length places ≡ length events
   many_places = ap length now.places_are ∙ length-places events
 
   -- an event is added behind all others
-  pub pushed : (k : ℕ) → length places ≤ k → (x : ℕ × Event) (standing : KeyState) (next : Next) (new_saved : List KeyState) → IsHistory (events ++ x ∷ []) → IsNext kind budget (events ++ x ∷ []) standing next → AreSaved kind budget events new_saved → AreSaved kind budget (events ++ x ∷ []) new_saved
-      → IsBrought kind budget (events ++ x ∷ []) (kept_and_added k (Some x.0) places) standing next (take (k / 64) new_saved)
-  pushed k all x standing next new_saved history stands before are =
-      let within : 64 * length new_saved ≤ length events = before.within in
-      record {
-        history = history;
-        places_are = all_and events places now.places_are k all x;
-        stands = stands;
-        saved_are = subst (AreSaved kind budget (events ++ x ∷ [])) (sym (take_all (k / 64) new_saved (omega (arith, many_places)))) are;
-      }
+  pub pushed : (x : ℕ × Event) (standing : KeyState) (next : Next) (new_saved : List KeyState) → IsHistory (events ++ x ∷ []) → IsNext kind budget (events ++ x ∷ []) standing next → AreSaved kind budget (events ++ x ∷ []) new_saved
+      → IsBrought kind budget (events ++ x ∷ []) (places ++ x.0 ∷ []) standing next new_saved
+  pushed x standing next new_saved history stands are =
+      record { history = history; places_are = all_and events places now.places_are x; stands = stands; saved_are = are }
 
   -- the first so many events are kept
   pub cut_brought : (k : ℕ) → k ≤ length places → (next : Next) → IsNext kind budget (take k events) state next → IsBrought kind budget (take k events) (take k places) state next (take (k / 64) saved)
@@ -93,7 +90,7 @@ history_of kind budget events = record { kind = kind; budget = budget; events = 
 abbrev pub seen_as : ModelKind → ℕ → List (ℕ × Event) → Option Prepared → ℕ → KeyLineView
 seen_as kind budget events prepared replayed = record {
   now = history_of kind budget events;
-  next = option_map brought prepared;
+  next = option_map (brought kind budget) prepared;
   replayed = replayed;
   due = replays_of prepared;
 }
@@ -132,28 +129,46 @@ module _ (kind : ModelKind) (budget : ℕ) (events : List (ℕ × Event)) (place
 
   -- a change is prepared
   pub IsSoundLine-prepared : (standing : KeyState) → IsKeyState kind budget events standing → (new : List ℕ) → new ≡ places → (new_saved : List KeyState) → AreSaved kind budget events new_saved → (new_room : ℕ) (p : Prepared) (left : Option Prepared) → left ≡ Some p
-      → IsReady places standing new_saved new_room p → IsSoundLine kind budget events new standing new_saved new_room left
+      → IsReady kind budget places standing new_saved new_room p → IsSoundLine kind budget events new standing new_saved new_room left
   IsSoundLine-prepared standing stands new same new_saved are new_room p left left_is ready = record {
     now = still standing stands new same new_saved are;
-    next = λ q is. (let both : Some p ≡ Some q = sym left_is ∙ is in let eq : p ≡ q = cc in subst (IsReady new standing new_saved new_room) eq
-        (subst (λ l. IsReady l standing new_saved new_room p) (sym same) ready));
+    next = λ q is. (let both : Some p ≡ Some q = sym left_is ∙ is in let eq : p ≡ q = cc in subst (IsReady kind budget new standing new_saved new_room) eq
+        (subst (λ l. IsReady kind budget l standing new_saved new_room p) (sym same) ready));
   }
 
-  pub has_place : (p : Prepared) → prepared ≡ Some p → HasPlace (length places) room p.added
-  has_place p is = (sound.next p is).place
+  -- there is room for the event that is added
+  pub has_place : (i : ℕ) (told : Told) (next : Next) → prepared ≡ Some (Push i told next) → length places < room
+  has_place i told next is = (sound.next (Push i told next) is).1
 
-  -- it is carried out
-  pub IsSoundLine-committed : (p : Prepared) → prepared ≡ Some p → (left : Option Prepared) → left ≡ None → (after : KeyState) → ((k : ModelKind) (b : ℕ) (es : List (ℕ × Event)) → IsNext k b es state p.next → IsKeyState k b es after)
-      → (new : List ℕ) (new_saved : List KeyState) (new_room : ℕ) → new ≡ kept_and_added p.kept p.added places → new_saved ≡ saved_by p.kept p.saves saved
-      → IsSoundLine p.kind p.budget p.told.events new after new_saved new_room left
-  IsSoundLine-committed p is left none after goes new new_saved new_room are are_saved =
-      let brings = (sound.next p is).brings in
+  -- the event is added
+  pub IsSoundLine-pushed : (i : ℕ) (told : Told) (next : Next) → prepared ≡ Some (Push i told next) → (left : Option Prepared) → left ≡ None → (after : KeyState) → ((k : ModelKind) (b : ℕ) (es : List (ℕ × Event)) → IsNext k b es state next → IsKeyState k b es after)
+      → (new : List ℕ) (new_room : ℕ) → new ≡ places ++ i ∷ []
+      → IsSoundLine kind budget told.events new after saved new_room left
+  IsSoundLine-pushed i told next is left none after goes new new_room are =
+      let brings = (sound.next (Push i told next) is).0 in
       record {
         now = record {
           history = brings.history;
           places_are = are ∙ brings.places_are;
-          stands = goes p.kind p.budget p.told.events brings.stands;
-          saved_are = subst (AreSaved p.kind p.budget p.told.events) (sym are_saved) brings.saved_are;
+          stands = goes kind budget told.events brings.stands;
+          saved_are = brings.saved_are;
+        };
+        next = λ q e. (let clash : None ≡ Some q = sym none ∙ e in cc);
+      }
+
+  -- the other change is carried out
+  pub IsSoundLine-changed : (boxed : Box Change Global) → prepared ≡ Some (ToChange boxed) → (c : Change) → c ≡ boxed.value → (left : Option Prepared) → left ≡ None → (after : KeyState) → ((k : ModelKind) (b : ℕ) (es : List (ℕ × Event)) → IsNext k b es state c.next → IsKeyState k b es after)
+      → (new : List ℕ) (new_saved : List KeyState) (new_room : ℕ) → new ≡ take c.kept places → new_saved ≡ saved_by c.kept c.saves saved
+      → IsSoundLine c.kind c.budget c.told.events new after new_saved new_room left
+  IsSoundLine-changed boxed is c same left none after goes new new_saved new_room are are_saved =
+      let brings : IsBrought c.kind c.budget c.told.events (take c.kept places) state c.next (saved_by c.kept c.saves saved) =
+      subst (λ (d : Change). IsBrought d.kind d.budget d.told.events (take d.kept places) state d.next (saved_by d.kept d.saves saved)) (sym same) (sound.next (ToChange boxed) is) in
+      record {
+        now = record {
+          history = brings.history;
+          places_are = are ∙ brings.places_are;
+          stands = goes c.kind c.budget c.told.events brings.stands;
+          saved_are = subst (AreSaved c.kind c.budget c.told.events) (sym are_saved) brings.saved_are;
         };
         next = λ q e. (let clash : None ≡ Some q = sym none ∙ e in cc);
       }

@@ -5,6 +5,7 @@ use Rattle.history.specs.declared.event.Event.{Event}
 use Rattle.history.specs.ProcessRule.{IsHistory}
 use Rattle.checkpoints.specs.declared.key_state.KeyState.{KeyState}
 use Rattle.checkpoints.specs.declared.key_line.Prepared.{Prepared}
+use Rattle.checkpoints.specs.declared.key_line.Prepared.TheVariants.{Push, Change}
 use Rattle.checkpoints.specs.declared.next.Next.{Next}
 use Rattle.checkpoints.specs.KeyState.{IsKeyState}
 use Rattle.linspec.specs.KeyHistory.{KeyHistory}
@@ -13,24 +14,18 @@ use Rattle.checkpoints.specs.Next.{IsNext}
 use Rattle.checkpoints.specs.Saved.{AreSaved}
 use Rattle.checkpoints.specs.Saves.{saved_by}
 
--- the first so many places, and one more if there is one
-abbrev pub kept_and_added : ℕ → Option ℕ → List ℕ → List ℕ
-kept_and_added kept None places = take kept places
-kept_and_added kept (Some i) places = take kept places ++ i ∷ []
-
--- what a prepared change brings
-abbrev pub brought : Prepared → KeyHistory
-brought p = record { kind = p.kind; budget = p.budget; events = p.told.events }
+-- what a prepared change brings to a key that is judged by this kind and budget
+abbrev pub brought : ModelKind → ℕ → Prepared → KeyHistory
+brought kind budget (Push i told next) =
+    record { kind = kind; budget = budget; events = told.events }
+brought kind budget (Change c) =
+    record { kind = c.value.kind; budget = c.value.budget; events = c.value.told.events }
 
 -- the replays of what is prepared
 abbrev pub replays_of : Option Prepared → ℕ
 replays_of None = 0
-replays_of (Some p) = p.replays
-
--- where an event is added, there is a place for it
-abbrev pub HasPlace : ℕ → ℕ → Option ℕ → Type 0
-HasPlace length room None = Unit {0}
-HasPlace length room (Some i) = length < room
+replays_of (Some (Push i told next)) = 1
+replays_of (Some (Change c)) = c.value.replays
 
 -- the events are a history and stand at these places, their key stands so after them, and stood as is saved
 pub record IsJudged (kind : ModelKind) (budget : ℕ) (events : List (ℕ × Event)) (places : List ℕ)
@@ -49,14 +44,15 @@ pub record IsBrought (kind : ModelKind) (budget : ℕ) (events : List (ℕ × Ev
   pub saved_are : AreSaved kind budget events saved
 
 -- what a prepared change brings is right, and carrying it out needs no memory
-pub record IsReady (places : List ℕ) (state : KeyState) (saved : List KeyState) (room : ℕ)
-    (p : Prepared) : Type 0 where
-  pub brings : IsBrought p.kind p.budget p.told.events (kept_and_added p.kept p.added places) state p.next
-      (saved_by p.kept p.saves saved)
-  pub place : HasPlace (length places) room p.added
+abbrev pub IsReady : ModelKind → ℕ → List ℕ → KeyState → List KeyState → ℕ → Prepared → Type 0
+IsReady kind budget places state saved room (Push i told next) =
+    IsBrought kind budget told.events (places ++ i ∷ []) state next saved × (length places < room)
+IsReady kind budget places state saved room (Change c) =
+    IsBrought c.value.kind c.value.budget c.value.told.events (take c.value.kept places) state
+    c.value.next (saved_by c.value.kept c.value.saves saved)
 
 pub record IsSoundLine (kind : ModelKind) (budget : ℕ) (events : List (ℕ × Event)) (places : List ℕ)
     (state : KeyState) (saved : List KeyState) (room : ℕ) (prepared : Option Prepared)
     : Type 0 where
   pub now : IsJudged kind budget events places state saved
-  pub next : (p : Prepared) → prepared ≡ Some p → IsReady places state saved room p
+  pub next : (p : Prepared) → prepared ≡ Some p → IsReady kind budget places state saved room p

@@ -9,7 +9,6 @@ ghost use Rattle.checkpoints.specs.KeyLineView.{at_rest, with_next};
 ghost use Rattle.linspec.specs.KeyHistory.{events_below, loses_at, begins_below};
 ghost use Rattle.checkpoints.specs.KeyLineView.{replays_at, count_on};
 ghost use Rattle.checkpoints.specs.Lent.{AreLentBy, places_of};
-ghost use Rattle.checkpoints.specs.SoundLine.{kept_and_added, HasPlace};
 
 use crate::key_state::KeyState;
 use crate::next::Next;
@@ -21,14 +20,22 @@ use models::ModelKind;
 use std::alloc::{AllocError, Global};
 use std::marker::Model;
 
-/// What may be committed: the first so many events stay, one may follow, and then the line was told these; this becomes of the
-/// key, which is then judged by this kind and budget. It took so many replays.
+/// What may be committed.
 #[derive(Drop)]
-struct Prepared {
+enum Prepared {
+    /// One event more, at this place of the history: the line was told these then, and this becomes of the key.
+    Push(u32, Told, Next),
+    /// A change of another sort. It is large, and rare, so it stands apart.
+    Change(Box<Change>),
+}
+
+/// The first so many events stay, the line was told these then, and this becomes of the key, which is then judged by this kind
+/// and budget. It took so many replays.
+#[derive(Drop)]
+struct Change {
     kind: ModelKind,
     budget: u32,
     kept: usize,
-    added: Option<u32>,
     told: Told,
     next: Next,
     saves: Saves,
@@ -72,7 +79,7 @@ impl Model for KeyLine {
 
     ghost view = { λ a. record {
       now = record { kind = a.kind; budget = a.budget; events = a.told.events };
-      next = option_map brought a.prepared;
+      next = option_map (brought a.kind a.budget) a.prepared;
       replayed = a.replayed;
       due = replays_of a.prepared;
     } };
@@ -126,17 +133,8 @@ impl KeyLine {
         let count = self.places.len();
         let next = prepare_event(&mut self.state, &mut self.saved, count, index, event)?;
         let status = next.status(&self.state);
-        let change = Prepared {
-            kind: self.kind,
-            budget: self.budget,
-            kept: count,
-            added: Some(index),
-            told: self.told.with(&index, event),
-            next,
-            saves: Saves::Kept,
-            replays: 1,
-        };
-        prepare(&mut self.prepared, change);
+        let told = self.told.with(&index, event);
+        prepare(&mut self.prepared, Prepared::Push(index, told, next));
         Ok(status)
     }
 
@@ -174,17 +172,17 @@ impl KeyLine {
             Next::Stays
         };
         let status = next.status(&self.state);
-        let change = Prepared {
+        let change = Change {
             kind: self.kind,
             budget: self.budget,
             kept,
-            added: None,
             told: self.told.first(&kept),
             next,
             saves: Saves::Kept,
             replays,
         };
-        prepare(&mut self.prepared, change);
+        let boxed = Box::new(self.alloc, change)?;
+        prepare(&mut self.prepared, Prepared::Change(boxed));
         Ok(status)
     }
 
@@ -221,18 +219,18 @@ impl KeyLine {
             &mut replays,
         )?;
         let status = state.status();
-        let boxed = Box::new(self.alloc, state)?;
-        let change = Prepared {
+        let becomes = Box::new(self.alloc, state)?;
+        let change = Change {
             kind,
             budget,
             kept,
-            added: None,
             told: self.told.first(&kept),
-            next: Next::Becomes(boxed),
+            next: Next::Becomes(becomes),
             saves: Saves::Anew(saved),
             replays,
         };
-        prepare(&mut self.prepared, change);
+        let boxed = Box::new(self.alloc, change)?;
+        prepare(&mut self.prepared, Prepared::Change(boxed));
         Ok(status)
     }
 
@@ -242,24 +240,32 @@ impl KeyLine {
         ensures { IfSome self.old.next (λ next.
             self.new ≡ at_rest next (count_on self.old.replayed self.old.due)) }
     {
-        if let Some(change) = self.prepared.take() {
-            let Prepared {
-                kind,
-                budget,
-                kept,
-                added,
-                told,
-                next,
-                saves,
-                replays,
-            } = change;
-            keep_and_add(&mut self.places, kept, added);
-            self.told = told;
-            keep_or_renew(&mut self.saved, kept, saves);
-            self.state.commit(next);
-            self.kind = kind;
-            self.budget = budget;
-            self.replayed = self.replayed.saturating_add(replays);
+        match self.prepared.take() {
+            Some(Prepared::Push(index, told, next)) => {
+                self.places.push_reserved(index);
+                self.told = told;
+                self.state.commit(next);
+                self.replayed = self.replayed.saturating_add(1);
+            }
+            Some(Prepared::Change(change)) => {
+                let Change {
+                    kind,
+                    budget,
+                    kept,
+                    told,
+                    next,
+                    saves,
+                    replays,
+                } = Box::into_inner(change);
+                self.places.truncate(kept);
+                self.told = told;
+                keep_or_renew(&mut self.saved, kept, saves);
+                self.state.commit(next);
+                self.kind = kind;
+                self.budget = budget;
+                self.replayed = self.replayed.saturating_add(replays);
+            }
+            None => {}
         }
     }
 
@@ -346,7 +352,8 @@ impl KeyLine {
         ensures { result ≡ self.now.due }
     {
         match &self.prepared {
-            Some(prepared) => prepared.replays,
+            Some(Prepared::Push(..)) => 1,
+            Some(Prepared::Change(change)) => change.replays,
             None => 0,
         }
     }
@@ -386,17 +393,6 @@ fn prepare(prepared: &mut Option<Prepared>, change: Prepared)
     ensures { prepared.new ≡ Some change }
 {
     *prepared = Some(change);
-}
-
-// Keeps the first so many places, and adds this one, if there is one. Takes no memory.
-fn keep_and_add(places: &mut Vec<u32>, kept: usize, added: Option<u32>)
-    requires { HasPlace (length places.old.items) (vec_capacity places.old) added }
-    ensures { places.new.items ≡ kept_and_added kept added places.old.items }
-{
-    places.truncate(kept);
-    if let Some(index) = added {
-        places.push_reserved(index);
-    }
 }
 
 // How many events have an index below n. Their indices, which are given, rise.

@@ -5,6 +5,7 @@ use Rattle.checkpoints.specs.Next.{IsNext}
 use Rattle.checkpoints.specs.Saved.{AreSaved}
 use Rattle.checkpoints.specs.Saves.{saved_by}
 use Rattle.checkpoints.specs.SoundLine.{IsBrought}
+use Rattle.checkpoints.specs.declared.key_line.Change.{Change}
 use Rattle.checkpoints.specs.declared.saving.Saves.TheVariants.{Kept}
 use Rattle.checkpoints.proofs.Soundness.{cut_brought, all_stand, lent_seen, cut_seen, next_right, IsSoundLine-prepared}
 use Rattle.checkpoints.proofs.key_line.KeyLine.prepare_cut.Goals as goal
@@ -39,11 +40,11 @@ invariant_of-self-2 c =
     let kind = c.self.inside.kind in
     let budget = c.self.inside.budget in
     let kept = c.count_below-kept.result in
-    IsSoundLine-prepared _ _ _ _ _ _ _ _ c.self.invariant _ now.stands _ refl _ now.saved_are _ _ _ c.prepare.ensures (record {
-      brings = subst (λ l. IsBrought kind budget l (take kept places) c.self.inside.state c.if-kept-len.next (saved_by kept Kept saved)) (sym c.first.ensures)
-          (cut_brought kind budget c.self.inside.told.events places c.self.inside.state saved now kept (within c) c.if-kept-len.next (stands c));
-      place = tt;
-    })
+    let brings : IsBrought kind budget c.first.result.events (take kept places) c.self.inside.state c.if-kept-len.next (saved_by kept Kept saved) =
+    subst (λ l. IsBrought kind budget l (take kept places) c.self.inside.state c.if-kept-len.next (saved_by kept Kept saved)) (sym c.first.ensures)
+    (cut_brought kind budget c.self.inside.told.events places c.self.inside.state saved now kept (within c) c.if-kept-len.next (stands c)) in
+    IsSoundLine-prepared _ _ _ _ _ _ _ _ c.self.invariant _ now.stands _ refl _ now.saved_are _ _ _ c.prepare.ensures
+    (subst (λ (d : Change). IsBrought d.kind d.budget d.told.events (take d.kept places) c.self.inside.state d.next (saved_by d.kept d.saves saved)) (sym c.in_ok-boxed.ensures.ok) brings)
 
 pub returns-clause-status : goal.returns-clause-status
 returns-clause-status c =

@@ -1,8 +1,6 @@
 use Rattle.std.proofs.Common.{◌≡◌, ℕ, [], ◌∷◌, ◌++◌, length, Some, sym, ◌∙◌, subst, arith}
 use Rattle.history.specs.declared.event.Event.{Event}
-use Rattle.checkpoints.specs.SoundLine.{kept_and_added, IsBrought}
-use Rattle.checkpoints.specs.Saves.{saved_by}
-use Rattle.checkpoints.specs.declared.saving.Saves.TheVariants.{Kept}
+use Rattle.checkpoints.specs.SoundLine.{IsBrought}
 use Rattle.checkpoints.proofs.Soundness.{history_seen, next_seen, pushed, many_places, next_right, IsSoundLine-dropped, IsSoundLine-prepared}
 use Rattle.checkpoints.proofs.key_line.KeyLine.prepare_push.Goals as goal
 
@@ -31,12 +29,12 @@ invariant_of-self-2 c =
     let saved = c.prepare_event.ensures.saved kind budget events (sym many ∙ sym all) now.stands now.saved_are in
     IsSoundLine-prepared _ _ _ _ _ _ _ _ c.self.invariant c.prepare_event.new.state
     (c.prepare_event.ensures.now kind budget events now.stands h)
-    _ c.reserve.ensures.items _ saved _ _ _ c.prepare.ensures (record {
-      brings = subst (λ l. IsBrought kind budget l (kept_and_added c.len-count.result (Some c.args.index) places) c.prepare_event.new.state c.in_ok-next.next (saved_by c.len-count.result Kept c.prepare_event.new.saved.items)) (sym c.with.ensures)
-          (pushed kind budget events places c.self.inside.state c.self.inside.saved.items now c.len-count.result (omega (arith, all)) x c.prepare_event.new.state c.in_ok-next.next c.prepare_event.new.saved.items h
-          (c.in_ok-next.ensures.next kind budget events now.stands h) saved (c.in_ok-next.ensures.more kind budget events (sym many ∙ sym all) now.stands now.saved_are));
-      place = omega (arith, c.reserve.new.self.ok.0, c.in_ok-reserve.ensures.ok);
-    })
+    _ c.reserve.ensures.items _ saved _ _ _ c.prepare.ensures (
+      subst (λ l. IsBrought kind budget l (places ++ c.args.index ∷ []) c.prepare_event.new.state c.in_ok-next.next c.prepare_event.new.saved.items) (sym c.with-told.ensures)
+          (pushed kind budget events places c.self.inside.state c.self.inside.saved.items now x c.prepare_event.new.state c.in_ok-next.next c.prepare_event.new.saved.items h
+          (c.in_ok-next.ensures.next kind budget events now.stands h) (c.in_ok-next.ensures.more kind budget events (sym many ∙ sym all) now.stands now.saved_are)),
+      omega (arith, c.reserve.new.self.ok.0, c.in_ok-reserve.ensures.ok),
+    )
 
 pub returns-clause-status : goal.returns-clause-status
 returns-clause-status c =
