@@ -1,5 +1,5 @@
 -- a key's state is saved after each 64th event that others follow
-use Rattle.std.proofs.Common.{◌≡◌, ℕ, ◌+◌, ◌-◌, ◌*◌, ◌/◌, ◌<◌, ◌≤◌, ⊎_elim, List, [], ◌∷◌, ◌++◌, length, take, drop, slice_index_or, sym, ap, ◌∙◌, subst, arith, length-append}
+use Rattle.std.proofs.Common.{◌≡◌, ℕ, ◌+◌, ◌-◌, ◌*◌, ◌/◌, ◌<◌, ◌≤◌, ⊎_elim, Result, Ok, Err, OnOk, List, [], ◌∷◌, ◌++◌, length, take, drop, slice_index_or, sym, ap, ◌∙◌, subst, arith, length-append}
 use Rattle.std.proofs.lemmas.Bool.{cases_lt}
 use Rattle.std.proofs.lemmas.List.{take_all, take-take, take-append-le, length-take, length-take-le, get_or-take, get_or_append_left, take-append-drop}
 use Rattle.std.proofs.Math.Seq.{get_or-append_seam}
@@ -10,6 +10,11 @@ use Rattle.history.specs.declared.event.Event.{Event}
 use Rattle.checkpoints.specs.declared.key_state.KeyState.{KeyState}
 use Rattle.checkpoints.specs.KeyState.{IsKeyState}
 use Rattle.checkpoints.specs.Saved.{AreSaved}
+
+-- what holds whatever came of it holds where it went well
+pub always : {T E P : Type 0} (result : Result T E) → P → OnOk result P
+always (Ok x) p = p
+always (Err e) p = tt
 
 module _ (kind : ModelKind) (budget : ℕ) where
   pub AreSaved-none : AreSaved kind budget [] []

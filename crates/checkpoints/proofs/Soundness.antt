@@ -58,6 +58,15 @@ module _ (kind : ModelKind) (budget : ℕ) (events : List (ℕ × Event)) (place
   pushed x standing next new_saved history stands are =
       record { history = history; places_are = all_and events places now.places_are x; stands = stands; saved_are = are }
 
+  -- an event is added, and the key goes on with it
+  pub gone_on : (x : ℕ × Event) (standing : KeyState) (new : List ℕ) (new_saved : List KeyState) → new ≡ places ++ x.0 ∷ [] → IsHistory (events ++ x ∷ []) → IsKeyState kind budget (events ++ x ∷ []) standing → AreSaved kind budget (events ++ x ∷ []) new_saved
+      → (told : List (ℕ × Event)) → told ≡ events ++ x ∷ [] → (room : ℕ) (left : Option Prepared) → left ≡ None → IsSoundLine kind budget told new standing new_saved room left
+  gone_on x standing new new_saved are history stands saved_are told told_is room left none =
+      subst (λ l. IsSoundLine kind budget l new standing new_saved room left) (sym told_is) (record {
+        now = record { history = history; places_are = are ∙ all_and events places now.places_are x; stands = stands; saved_are = saved_are };
+        next = λ q e. (let clash : None ≡ Some q = sym none ∙ e in cc);
+      })
+
   -- the first so many events are kept
   pub cut_brought : (k : ℕ) → k ≤ length places → (next : Next) → IsNext kind budget (take k events) state next → IsBrought kind budget (take k events) (take k places) state next (take (k / 64) saved)
   cut_brought k le next stands = record {

@@ -12,7 +12,7 @@ ghost use Rattle.checkpoints.specs.Lent.{AreLentBy, places_of};
 
 use crate::key_state::KeyState;
 use crate::next::Next;
-use crate::saving::{Saves, gone_back, judged_anew, keep_or_renew, prepare_event};
+use crate::saving::{Saves, go_on, gone_back, judged_anew, keep_or_renew, prepare_event};
 use crate::told::Told;
 use history::Event;
 use linspec::KeyStatus;
@@ -276,7 +276,8 @@ impl KeyLine {
         drop_prepared(&mut self.prepared);
     }
 
-    /// Appends this event: [`prepare_push`](Self::prepare_push) and [`commit`](Self::commit) in one.
+    /// Appends this event, as [`prepare_push`](Self::prepare_push) and [`commit`](Self::commit) do, with nothing to be kept
+    /// between the two.
     ///
     /// # Errors
     ///
@@ -287,8 +288,13 @@ impl KeyLine {
             ≡ at_rest (with_pushed index event.now self.old.now) (count_on self.old.replayed 1)) }
         ensures err { OnErr result (self.new ≡ at_rest self.old.now self.old.replayed) }
     {
-        self.prepare_push(index, event)?;
-        self.commit();
+        drop_prepared(&mut self.prepared);
+        self.places.reserve(1)?;
+        let count = self.places.len();
+        go_on(&mut self.state, &mut self.saved, count, index, event)?;
+        self.places.push_reserved(index);
+        self.told = self.told.with(&index, event);
+        self.replayed = self.replayed.saturating_add(1);
         Ok(())
     }
 

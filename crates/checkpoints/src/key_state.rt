@@ -1,5 +1,5 @@
 //! How a key stands after events, and what it needs to go on.
-ghost use Rattle.std.specs.Prelude.{◌≡◌, ℕ, List, [], ◌∷◌, ◌++◌, length, IfOk, OnOk};
+ghost use Rattle.std.specs.Prelude.{◌≡◌, ℕ, List, [], ◌∷◌, ◌++◌, length, IfOk, OnOk, MatchResult};
 ghost use Rattle.models.specs.declared.model_kind.ModelKind.{ModelKind};
 ghost use Rattle.history.specs.declared.event.Event.{Event};
 ghost use Rattle.history.specs.ProcessRule.{IsHistory};
@@ -79,16 +79,22 @@ impl KeyState {
         }
     }
 
-    /// One more event is prepared and carried out.
+    /// One more event is prepared and carried out. On `AllocError` the key stands as it stood.
     pub(crate) fn go_on(&mut self, index: u32, event: &Event) -> Result<(), AllocError>
         ensures { (kind : ModelKind) (budget : ℕ) (events : List (ℕ × Event))
             → IsKeyState kind budget events self.old
             → IsHistory (events ++ (index, event.now) ∷ [])
-            → OnOk result (IsKeyState kind budget (events ++ (index, event.now) ∷ []) self.new) }
+            → MatchResult result
+            (λ _. IsKeyState kind budget (events ++ (index, event.now) ∷ []) self.new)
+            (λ _. IsKeyState kind budget events self.new) }
     {
-        let next = self.prepare(index, event)?;
-        self.commit(next);
-        Ok(())
+        match self.prepare(index, event) {
+            Ok(next) => {
+                self.commit(next);
+                Ok(())
+            }
+            Err(no_memory) => Err(no_memory),
+        }
     }
 
     /// How the key stands with the events at these places too. Each is counted.

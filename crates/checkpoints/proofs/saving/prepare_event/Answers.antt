@@ -1,9 +1,5 @@
-use Rattle.std.proofs.Common.{Result, Ok, Err, OnOk}
+use Rattle.checkpoints.proofs.SavedStates.{always}
 use Rattle.checkpoints.proofs.saving.prepare_event.Goals as goal
-
-always : {T E P : Type 0} (result : Result T E) → P → OnOk result P
-always (Ok x) p = p
-always (Err e) p = tt
 
 pub returns-clause-more : goal.returns-clause-more
 returns-clause-more c kind budget before all stands are =
