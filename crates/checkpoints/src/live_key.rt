@@ -98,8 +98,8 @@ impl LiveKey {
     }
 }
 
-// The operation that a prepared event of the process is of, named by the index of its invocation. This is noted at once, since its process has no open
-// operation before it; what a completion closes stays noted until it is carried out.
+// The operation that a prepared event of the process is of, named by the index of its invocation. This is noted at once, since
+// its process has no open operation before it; what a completion closes stays noted until it is carried out.
 fn noted(
     invocations: &mut Invocations,
     process: u32,
