@@ -39,7 +39,7 @@ snoc_cut (b ∷ before) after (x ∷ xs) e f h =
 history-nil : (c : ℕ) → IsHistoryOf c []
 history-nil c before after e h = (let last : e ∷ after ≡ [] = no_more before (e ∷ after) (sym h) in cc)
 
-history-push : (c : ℕ) (events : List Event) (e : Event) → IsHistoryOf c events → IsWellFormed c events e → IsHistoryOf c (events ++ e ∷ [])
+pub history-push : (c : ℕ) (events : List Event) (e : Event) → IsHistoryOf c events → IsWellFormed c events e → IsHistoryOf c (events ++ e ∷ [])
 history-push c events e h well before after f cut =
     ⊎_elim
     (λ s. subst (IsWellFormed c before) (sym s.0) (subst (λ l. IsWellFormed c l e) (sym s.1) well))

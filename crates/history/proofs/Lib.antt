@@ -4,6 +4,7 @@ pub mod Keeping
 pub mod Carrying
 pub mod Kept
 pub mod Fronts
+pub mod Behind
 pub mod OpenOperations
 pub mod Refusing
 pub mod Replicas

@@ -38,9 +38,9 @@ pub within : (events : List Event) (p i : ℕ) → option_map (λ (x : ℕ × Op
 within events p i h = (let f = open_at_index events p i h in slice_get_within events i f.2 f.3)
 
 -- the event at the index is of that operation
-pub its_body : (events : List Event) (p i : ℕ) (item : Event) → option_map (λ (x : ℕ × Op). x.0) (open_of events p) ≡ Some i → item ≡ get_or events i item → (op : Op) × (open_of events p ≡ Some (i, op)) × (item.body ≡ AnOp op)
-its_body events p i item h is =
-    (let f = open_at_index events p i h in (f.0, f.1, ap (λ (e : Event). e.body) (is ∙ get_or_from_slice_get events i f.2 item f.3) ∙ f.4))
+pub its_body : (events : List Event) (p i : ℕ) (d : Event) → option_map (λ (x : ℕ × Op). x.0) (open_of events p) ≡ Some i → (op : Op) × (open_of events p ≡ Some (i, op)) × ((get_or events i d).body ≡ AnOp op)
+its_body events p i d h =
+    (let f = open_at_index events p i h in (f.0, f.1, ap (λ (e : Event). e.body) (get_or_from_slice_get events i f.2 d f.3) ∙ f.4))
 
 -- a process that is not current has none
 pub not_current : (c : ℕ) (events : List Event) (p : ℕ) → FollowMoveRule c (moves_of events) → current_of c (moves_of events) (thread_of c p) ≢ p → None ≡ option_map (λ (x : ℕ × Op). x.1) (open_of events p)

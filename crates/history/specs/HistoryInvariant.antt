@@ -10,7 +10,7 @@ use Rattle.history.specs.declared.event.Process.TheVariants.{Client, Nemesis}
 use Rattle.history.specs.declared.event.Event.{Event}
 use Rattle.history.specs.declared.history.Prepared.{Prepared}
 use Rattle.history.specs.declared.history.Prepared.TheVariants.{Push, Cut}
-use Rattle.history.specs.WellFormed.{IsConcurrency, IsHistoryOf, IsWellFormed, move_by, moves_of, open_index}
+use Rattle.history.specs.WellFormed.{IsConcurrency, IsHistoryOf, move_by, moves_of, open_index}
 
 -- what a thread has open after an event of index n of its current process
 abbrev pub open_after : ℕ → EventKind → Option ℕ
@@ -44,13 +44,15 @@ pub record IsSoundHistory (c : ℕ) (events : List Event) (threads : List Thread
   pub opens : length opened ≡ c
   pub opens_are : (t : ℕ) → t < c → slice_get opened t ≡ Some (open_index c events t)
 
--- the events that a prepared change brings
+-- the events that a prepared change brings, where the one that it appends stands behind the others
 abbrev pub brought : List Event → Prepared → List Event
-brought events (Push e) = events ++ e ∷ []
+brought events Push = events
 brought events (Cut n clients) = take n events
 
--- what is prepared may come: the event is well-formed, and there is room for it; or there are so many events, and the clients
--- are those of the first of them
-abbrev pub IsReady : ℕ → List Event → ℕ → Prepared → Type 0
-IsReady c events capacity (Push e) = IsWellFormed c events e × (length events < capacity)
-IsReady c events capacity (Cut n clients) = (n ≤ length events) × IsSoundHistory c (take n events) clients.threads clients.opened.items
+-- n events are committed, and behind them stands the one that is prepared, if one is, and nothing else. What is prepared may
+-- come: with the event too they are a history; or there are so many events, and the clients are those of the first of them
+abbrev pub IsReady : ℕ → ℕ → List Event → Option Prepared → Type 0
+IsReady c n events None = length events ≡ n
+IsReady c n events (Some Push) = (length events ≡ n + 1) × IsHistoryOf c events
+IsReady c n events (Some (Cut k clients)) =
+    (length events ≡ n) × (k ≤ n) × IsSoundHistory c (take k events) clients.value.threads clients.value.opened.items

@@ -31,21 +31,25 @@ pub const MOST_EVENTS: u32 = 1_048_576;
 #[derive(Drop)]
 pub struct History {
     concurrency: u32,
+    /// So many events are committed.
+    count: u32,
+    /// Those that are committed, and behind them the one that is prepared, if one is.
     events: Vec<Event>,
     clients: Clients,
     prepared: Option<Prepared>,
 }
 
-/// What may be committed: one more event, for which there is room; or the first so many events alone, with what they make of
-/// the clients.
+/// What may be committed.
 #[derive(Drop)]
 enum Prepared {
-    Push(Event),
-    Cut(u32, Clients),
+    /// The event that stands behind those that are committed.
+    Push,
+    /// The first so many events alone, with what they make of the clients. It is rare, so these stand apart.
+    Cut(u32, Box<Clients>),
 }
 
 impl Model for History {
-    ghost use Rattle.std.specs.Prelude.{IfSome, option_map, vec_capacity};
+    ghost use Rattle.std.specs.Prelude.{option_map, take};
     ghost use Rattle.history.specs.WellFormed.{HistoryView};
     ghost use Rattle.history.specs.HistoryInvariant.{IsSoundHistory, IsReady, brought};
 
@@ -53,13 +57,14 @@ impl Model for History {
 
     ghost view = { λ a. record {
       concurrency = a.concurrency;
-      events = a.events.items;
+      events = take a.count a.events.items;
       next = option_map (brought a.events.items) a.prepared;
     } };
 
     ghost invariant = { λ a.
-        IsSoundHistory a.concurrency a.events.items a.clients.threads a.clients.opened.items
-        × IfSome a.prepared (IsReady a.concurrency a.events.items (vec_capacity a.events)) };
+        IsSoundHistory a.concurrency (take a.count a.events.items) a.clients.threads
+        a.clients.opened.items
+        × IsReady a.concurrency a.count a.events.items a.prepared };
 }
 
 impl History {
@@ -75,13 +80,14 @@ impl History {
         let clients = Clients::new(alloc, concurrency)?;
         Ok(History {
             concurrency,
+            count: 0,
             events: Vec::new(alloc),
             clients,
             prepared: None,
         })
     }
 
-    /// Prepares to append an event: tests it and makes room for it.
+    /// Prepares to append an event: tests it, and puts it behind those that are committed.
     ///
     /// # Errors
     /// The refusal of the first test that the event does not pass, in the order [`Refusal::BadValue`],
@@ -98,10 +104,11 @@ impl History {
         ensures memory_last { IsErrOf result Refusal.NoMemory → Admits self.old event }
         ensures err { OnErr result (self.new ≡ idle self.old) }
     {
-        self.prepared = None;
+        self.drop_prepared();
         self.test(&event)?;
         self.events.reserve(1)?;
-        self.prepared = Some(Prepared::Push(event));
+        self.events.push_reserved(event);
+        self.prepared = Some(Prepared::Push);
         Ok(())
     }
 
@@ -110,10 +117,7 @@ impl History {
         ensures { (event : Event) → self.now.next ≡ Some (self.now.events ++ event ∷ [])
             → option_copied result ≡ Some event }
     {
-        match &self.prepared {
-            Some(Prepared::Push(event)) => Some(event),
-            Some(Prepared::Cut(..)) | None => None,
-        }
+        self.events.get(self.count as usize)
     }
 
     /// Prepares to keep the first `n` events alone, and the threads that they make. It takes the time of these events.
@@ -128,14 +132,15 @@ impl History {
         ensures memory_last { IsErrOf result Refusal.NoMemory → n ≤ length self.old.events }
         ensures err { OnErr result (self.new ≡ idle self.old) }
     {
-        self.prepared = None;
+        self.drop_prepared();
         if n > self.len() {
             return Err(Refusal::NoSuchIndex);
         }
         let alloc = *self.events.allocator();
-        let kept = &self.events.as_slice()[..n as usize];
+        let kept = &self.events()[..n as usize];
         let clients = Clients::after(alloc, self.concurrency, kept)?;
-        self.prepared = Some(Prepared::Cut(n, clients));
+        let boxed = Box::new(alloc, clients)?;
+        self.prepared = Some(Prepared::Cut(n, boxed));
         Ok(())
     }
 
@@ -145,15 +150,15 @@ impl History {
         ensures { IfSome self.old.next (λ events. self.new ≡ with_events events self.old) }
     {
         match self.prepared.take() {
-            Some(Prepared::Push(event)) => {
-                let place = self.events.len();
-                self.clients
-                    .move_on(place as u32, event.kind, event.process);
-                self.events.push(event).unwrap();
+            Some(Prepared::Push) => {
+                let event = &self.events[self.count as usize];
+                self.clients.move_on(self.count, event.kind, event.process);
+                self.count += 1;
             }
             Some(Prepared::Cut(n, clients)) => {
-                self.events.truncate(n as usize);
-                self.clients = clients;
+                self.count = n;
+                keep_first(&mut self.events, n);
+                self.clients = Box::into_inner(clients);
             }
             None => unreachable!(),
         }
@@ -194,6 +199,16 @@ impl History {
         Ok(())
     }
 
+    // Drops what is prepared, if anything is.
+    fn drop_prepared(&mut self)
+        ensures { self.new ≡ idle self.old }
+    {
+        if self.prepared.is_some() {
+            self.prepared = None;
+            keep_first(&mut self.events, self.count);
+        }
+    }
+
     // Tests an event, all but whether there is memory for it.
     fn test(&self, event: &Event) -> Result<(), Refusal>
         ensures ok { OnOk result (IsWellFormed self.now.concurrency self.now.events event.now) }
@@ -223,7 +238,7 @@ impl History {
             return None;
         }
         let index = self.open_at(thread)?;
-        match &self.events[index as usize].body {
+        match &self.events()[index as usize].body {
             Body::Op(op) => Some(op),
             Body::Fault(_) => None,
         }
@@ -265,21 +280,21 @@ impl History {
         ensures limit { result ≤ 2 ^ 20 }
         ensures history { IsHistoryOf self.now.concurrency self.now.events }
     {
-        self.events.len() as u32
+        self.count
     }
 
     /// Whether there is no event. Takes no memory.
     pub fn is_empty(&self) -> bool
         ensures { IsTrue result ↔ (self.now.events ≡ []) }
     {
-        self.events.is_empty()
+        self.count == 0
     }
 
     /// The events, in order. Takes no memory.
     pub fn events(&self) -> &[Event]
         ensures { result.now ≡ self.now.events }
     {
-        self.events.as_slice()
+        &self.events.as_slice()[..self.count as usize]
     }
 
     /// The events of a key, in order, each with its index, copied into memory of their own. Takes the time of all events.
@@ -291,8 +306,9 @@ impl History {
             found.items ≡ events_of_key key (indexed_from 0 self.now.events)) }
     {
         let mut found = Vec::new(*self.events.allocator());
-        for i in 0..self.events.len() {
-            let event = &self.events[i];
+        let events = self.events();
+        for i in 0..events.len() {
+            let event = &events[i];
             if event.is_of_key(key) {
                 let copy = event.copy()?;
                 found.push((i as u32, copy))?;
@@ -316,7 +332,7 @@ impl History {
         map_of_event(
             *self.events.allocator(),
             index,
-            &self.events[index as usize],
+            &self.events()[index as usize],
         )
     }
 
@@ -335,4 +351,12 @@ impl History {
     {
         self.clients.opened[thread as usize]
     }
+}
+
+// Keeps the first `n` events alone.
+#[inline(never)]
+fn keep_first(events: &mut Vec<Event>, n: u32)
+    ensures { events.new.items ≡ take n events.old.items }
+{
+    events.truncate(n as usize);
 }

@@ -1,6 +1,6 @@
-use Rattle.std.proofs.Common.{◌≡◌, length, ap, ◌∙◌, arith}
-use Rattle.processes.specs.MoveRule.{current_of}
+use Rattle.std.proofs.Common.{◌≡◌, length, take, ap, ◌∙◌, arith}
 use Rattle.history.specs.WellFormed.{HistoryView, moves_of}
+use Rattle.processes.specs.MoveRule.{current_of}
 use Rattle.history.proofs.history.History.current.Goals as goal
 
 pub current-requires : goal.current-requires
@@ -13,6 +13,7 @@ current-requires c =
 pub returns : goal.returns
 returns c =
     let inside = c.self.inside in
-    c.current.ensures.current (moves_of inside.events.items) c.self.invariant.0.stand
-    ∙ ap (λ k. current_of k (moves_of inside.events.items) c.args.thread) (c.self.invariant.0.number ∙ ap (λ (v : HistoryView). v.concurrency) c.self.view_is)
+    let moves = moves_of (take inside.count inside.events.items) in
+    c.current.ensures.current moves c.self.invariant.0.stand
+    ∙ ap (λ k. current_of k moves c.args.thread) (c.self.invariant.0.number ∙ ap (λ (v : HistoryView). v.concurrency) c.self.view_is)
     ∙ ap (λ l. current_of c.args.self.now.concurrency (moves_of l) c.args.thread) (ap (λ (v : HistoryView). v.events) c.self.view_is)
