@@ -4,6 +4,7 @@ use Rattle.std.proofs.lemmas.Option.{same_Some, get_or_from_slice_get, slice_get
 use Rattle.models.specs.declared.operation.Op.{Op}
 use Rattle.history.specs.declared.event.EventKind.{EventKind}
 use Rattle.history.specs.declared.event.EventKind.TheVariants.{Invoke, Ok, Fail, Info}
+use Rattle.history.specs.declared.event.Fault.{Fault}
 use Rattle.history.specs.declared.event.Body.{Body}
 use Rattle.history.specs.declared.event.Body.TheVariants.{Op as AnOp, Fault as AFault}
 use Rattle.history.specs.declared.event.Event.{Event}
@@ -37,10 +38,18 @@ index_of_current c events p o current is = sym (is ∙ ap (λ q. option_map (λ 
 pub within : (events : List Event) (p i : ℕ) → option_map (λ (x : ℕ × Op). x.0) (open_of events p) ≡ Some i → i < length events
 within events p i h = (let f = open_at_index events p i h in slice_get_within events i f.2 f.3)
 
--- the event at the index is of that operation
-pub its_body : (events : List Event) (p i : ℕ) (d : Event) → option_map (λ (x : ℕ × Op). x.0) (open_of events p) ≡ Some i → (op : Op) × (open_of events p ≡ Some (i, op)) × ((get_or events i d).body ≡ AnOp op)
+-- the event at the index is of that operation, and of no fault
+its_body : (events : List Event) (p i : ℕ) (d : Event) → option_map (λ (x : ℕ × Op). x.0) (open_of events p) ≡ Some i → (op : Op) × (open_of events p ≡ Some (i, op)) × ((get_or events i d).body ≡ AnOp op)
 its_body events p i d h =
     (let f = open_at_index events p i h in (f.0, f.1, ap (λ (e : Event). e.body) (get_or_from_slice_get events i f.2 d f.3) ∙ f.4))
+
+pub its_operation : (events : List Event) (p i : ℕ) (d : Event) (op : Op) → option_map (λ (x : ℕ × Op). x.0) (open_of events p) ≡ Some i → (get_or events i d).body ≡ AnOp op → Some op ≡ option_map (λ (x : ℕ × Op). x.1) (open_of events p)
+its_operation events p i d op h is =
+    (let found = its_body events p i d h in let both : AnOp op ≡ AnOp found.0 = sym is ∙ found.2 in let same : op ≡ found.0 = cc in
+    ap Some same ∙ sym (ap (option_map (λ (x : ℕ × Op). x.1)) found.1))
+
+pub no_fault : (events : List Event) (p i : ℕ) (d : Event) (fault : Fault) → option_map (λ (x : ℕ × Op). x.0) (open_of events p) ≡ Some i → (get_or events i d).body ≡ AFault fault → ⊥
+no_fault events p i d fault h is = (let found = its_body events p i d h in let both : AFault fault ≡ AnOp found.0 = sym is ∙ found.2 in cc)
 
 -- a process that is not current has none
 pub not_current : (c : ℕ) (events : List Event) (p : ℕ) → FollowMoveRule c (moves_of events) → current_of c (moves_of events) (thread_of c p) ≢ p → None ≡ option_map (λ (x : ℕ × Op). x.1) (open_of events p)

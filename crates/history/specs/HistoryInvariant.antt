@@ -9,7 +9,7 @@ use Rattle.history.specs.declared.event.Process.{Process}
 use Rattle.history.specs.declared.event.Process.TheVariants.{Client, Nemesis}
 use Rattle.history.specs.declared.event.Event.{Event}
 use Rattle.history.specs.declared.history.Prepared.{Prepared}
-use Rattle.history.specs.declared.history.Prepared.TheVariants.{Push, Cut}
+use Rattle.history.specs.declared.history.Prepared.TheVariants.{Nothing, Push, Cut}
 use Rattle.history.specs.WellFormed.{IsConcurrency, IsHistoryOf, move_by, moves_of, open_index}
 
 -- what a thread has open after an event of index n of its current process
@@ -45,14 +45,15 @@ pub record IsSoundHistory (c : ℕ) (events : List Event) (threads : List Thread
   pub opens_are : (t : ℕ) → t < c → slice_get opened t ≡ Some (open_index c events t)
 
 -- the events that a prepared change brings, where the one that it appends stands behind the others
-abbrev pub brought : List Event → Prepared → List Event
-brought events Push = events
-brought events (Cut n clients) = take n events
+abbrev pub brought : List Event → Prepared → Option (List Event)
+brought events Nothing = None
+brought events Push = Some events
+brought events (Cut n clients) = Some (take n events)
 
 -- n events are committed, and behind them stands the one that is prepared, if one is, and nothing else. What is prepared may
 -- come: with the event too they are a history; or there are so many events, and the clients are those of the first of them
-abbrev pub IsReady : ℕ → ℕ → List Event → Option Prepared → Type 0
-IsReady c n events None = length events ≡ n
-IsReady c n events (Some Push) = (length events ≡ n + 1) × IsHistoryOf c events
-IsReady c n events (Some (Cut k clients)) =
+abbrev pub IsReady : ℕ → ℕ → List Event → Prepared → Type 0
+IsReady c n events Nothing = length events ≡ n
+IsReady c n events Push = (length events ≡ n + 1) × IsHistoryOf c events
+IsReady c n events (Cut k clients) =
     (length events ≡ n) × (k ≤ n) × IsSoundHistory c (take k events) clients.value.threads clients.value.opened.items

@@ -18,6 +18,7 @@ use edn::{Edn, Refusal};
 use models::{Key, Op};
 use std::alloc::{AllocError, Global};
 use std::marker::Model;
+use std::mem::replace;
 
 /// The most events of a history.
 pub const MOST_EVENTS: u32 = 1_048_576;
@@ -36,12 +37,13 @@ pub struct History {
     /// Those that are committed, and behind them the one that is prepared, if one is.
     events: Vec<Event>,
     clients: Clients,
-    prepared: Option<Prepared>,
+    prepared: Prepared,
 }
 
 /// What may be committed.
 #[derive(Drop)]
 enum Prepared {
+    Nothing,
     /// The event that stands behind those that are committed.
     Push,
     /// The first so many events alone, with what they make of the clients. It is rare, so these stand apart.
@@ -49,7 +51,7 @@ enum Prepared {
 }
 
 impl Model for History {
-    ghost use Rattle.std.specs.Prelude.{option_map, take};
+    ghost use Rattle.std.specs.Prelude.{take};
     ghost use Rattle.history.specs.WellFormed.{HistoryView};
     ghost use Rattle.history.specs.HistoryInvariant.{IsSoundHistory, IsReady, brought};
 
@@ -58,7 +60,7 @@ impl Model for History {
     ghost view = { λ a. record {
       concurrency = a.concurrency;
       events = take a.count a.events.items;
-      next = option_map (brought a.events.items) a.prepared;
+      next = brought a.events.items a.prepared;
     } };
 
     ghost invariant = { λ a.
@@ -83,7 +85,7 @@ impl History {
             count: 0,
             events: Vec::new(alloc),
             clients,
-            prepared: None,
+            prepared: Prepared::Nothing,
         })
     }
 
@@ -108,7 +110,7 @@ impl History {
         self.test(&event)?;
         self.events.reserve(1)?;
         self.events.push_reserved(event);
-        self.prepared = Some(Prepared::Push);
+        self.prepared = Prepared::Push;
         Ok(())
     }
 
@@ -140,7 +142,7 @@ impl History {
         let kept = &self.events()[..n as usize];
         let clients = Clients::after(alloc, self.concurrency, kept)?;
         let boxed = Box::new(alloc, clients)?;
-        self.prepared = Some(Prepared::Cut(n, boxed));
+        self.prepared = Prepared::Cut(n, boxed);
         Ok(())
     }
 
@@ -149,18 +151,18 @@ impl History {
         requires { IsSome self.old.next }
         ensures { IfSome self.old.next (λ events. self.new ≡ with_events events self.old) }
     {
-        match self.prepared.take() {
-            Some(Prepared::Push) => {
+        match replace(&mut self.prepared, Prepared::Nothing) {
+            Prepared::Push => {
                 let event = &self.events[self.count as usize];
                 self.clients.move_on(self.count, event.kind, event.process);
                 self.count += 1;
             }
-            Some(Prepared::Cut(n, clients)) => {
+            Prepared::Cut(n, clients) => {
                 self.count = n;
                 keep_first(&mut self.events, n);
-                self.clients = Box::into_inner(clients);
+                put(&mut self.clients, clients);
             }
-            None => unreachable!(),
+            Prepared::Nothing => unreachable!(),
         }
     }
 
@@ -203,8 +205,8 @@ impl History {
     fn drop_prepared(&mut self)
         ensures { self.new ≡ idle self.old }
     {
-        if self.prepared.is_some() {
-            self.prepared = None;
+        if !matches!(self.prepared, Prepared::Nothing) {
+            self.prepared = Prepared::Nothing;
             keep_first(&mut self.events, self.count);
         }
     }
@@ -359,4 +361,12 @@ fn keep_first(events: &mut Vec<Event>, n: u32)
     ensures { events.new.items ≡ take n events.old.items }
 {
     events.truncate(n as usize);
+}
+
+// Puts other clients in the place of these.
+#[inline(never)]
+fn put(clients: &mut Clients, others: Box<Clients>)
+    ensures { clients.new ≡ others.value }
+{
+    *clients = Box::into_inner(others);
 }

@@ -1,8 +1,7 @@
-use Rattle.std.proofs.Common.{◌≡◌, ℕ, Some, option_map, take, ◌∙◌, sym, ap, subst}
-use Rattle.models.specs.declared.operation.Op.{Op}
+use Rattle.std.proofs.Common.{Some, take, ◌∙◌, sym, ap, subst}
 use Rattle.processes.specs.MoveRule.{FollowMoveRule}
 use Rattle.history.specs.WellFormed.{HistoryView, moves_of}
-use Rattle.history.proofs.OpenOperations.{index_of_current, within, its_body, not_current}
+use Rattle.history.proofs.OpenOperations.{index_of_current, within, its_operation, no_fault, not_current}
 use Rattle.history.proofs.history.History.open_operation.Goals as goal
 
 pub returns-then-current-process : goal.returns-then-current-process
@@ -27,9 +26,7 @@ returns-in-Op c =
     let concurrency = ap (λ (v : HistoryView). v.concurrency) c.self.view_is in
     let current = sym (rw (← c.events.ensures, ← concurrency) at c.current.ensures) ∙ c.if-current-process.false in
     let index = index_of_current inside.concurrency events c.args.process (Some c.in_ok-index.index) current (rw (← c.events.ensures, ← concurrency) at c.in_ok-index.ensures) in
-    let found = its_body events c.args.process c.in_ok-index.index c.index-events-index.result index in
-    let same : c.in-Op.op ≡ found.0 = cc (c.in-Op.is, found.2) in
-    rw (← c.events.ensures) (ap Some same ∙ sym (ap (option_map (λ (x : ℕ × Op). x.1)) found.1))
+    rw (← c.events.ensures) (its_operation events c.args.process c.in_ok-index.index c.index-events-index.result c.in-Op.op index c.in-Op.is)
 
 pub returns-in-Fault : goal.returns-in-Fault
 returns-in-Fault c =
@@ -38,5 +35,4 @@ returns-in-Fault c =
     let concurrency = ap (λ (v : HistoryView). v.concurrency) c.self.view_is in
     let current = sym (rw (← c.events.ensures, ← concurrency) at c.current.ensures) ∙ c.if-current-process.false in
     let index = index_of_current inside.concurrency events c.args.process (Some c.in_ok-index.index) current (rw (← c.events.ensures, ← concurrency) at c.in_ok-index.ensures) in
-    let found = its_body events c.args.process c.in_ok-index.index c.index-events-index.result index in
-    cc (c.in-Fault.is, found.2)
+    absurd (no_fault events c.args.process c.in_ok-index.index c.index-events-index.result _ index c.in-Fault.is)

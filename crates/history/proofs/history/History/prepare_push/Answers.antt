@@ -1,4 +1,4 @@
-use Rattle.std.proofs.Common.{◌≡◌, ◌++◌, ◌∷◌, [], None, length, option_map, ap, ◌∙◌}
+use Rattle.std.proofs.Common.{◌≡◌, ◌++◌, ◌∷◌, [], None, length, ap, ◌∙◌}
 use Rattle.std.proofs.lemmas.Result.{err_from_is_err_and}
 use Rattle.history.specs.HistoryInvariant.{brought}
 use Rattle.history.specs.WellFormed.{HistoryView}
@@ -15,7 +15,7 @@ returns-in_err-test-clause-refused c =
 pub invariant_of-self-2 : goal.invariant_of-self-2
 invariant_of-self-2 c =
     let inside = c.self.inside in
-    let nothing : option_map (brought inside.events.items) inside.prepared ≡ None = ap (λ (v : HistoryView). v.next) (c.self.view_is ∙ c.drop_prepared.ensures) in
+    let nothing : brought inside.events.items inside.prepared ≡ None = ap (λ (v : HistoryView). v.next) (c.self.view_is ∙ c.drop_prepared.ensures) in
     let len : length inside.events.items ≡ inside.count = none_behind inside.concurrency inside.count inside.events.items inside.prepared nothing c.self.invariant.1 in
     let more : c.push_reserved.new.self.items ≡ inside.events.items ++ c.args.event ∷ [] =
     c.push_reserved.ensures.items ∙ ap (λ l. l ++ c.args.event ∷ []) c.in_ok-reserve.ensures.items in
