@@ -110,6 +110,7 @@ fn repeats(kind: EventKind, invoked: &Part, op: &Op) -> bool
 }
 
 /// Whether a completion of this kind and operation completes the invoked one. Takes no memory.
+#[inline(always)]
 pub fn completes(kind: EventKind, invoked: &Op, op: &Op) -> bool
     ensures { IsTrue result ↔ Completes kind invoked.now op.now }
 {

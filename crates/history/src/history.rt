@@ -98,6 +98,7 @@ impl History {
     /// Then nothing is prepared.
     ///
     /// The time does not grow with the history, but where its memory grows.
+    #[inline(always)]
     pub fn prepare_push(&mut self, event: Event) -> Result<(), Refusal>
         ensures well_formed { OnOk result (Admits self.old event) }
         ensures prepared { OnOk result
@@ -147,6 +148,7 @@ impl History {
     }
 
     /// Carries out what is prepared. It takes no memory and cannot fail, and the time of what it takes away.
+    #[inline(always)]
     pub fn commit(&mut self)
         requires { IsSome self.old.next }
         ensures { IfSome self.old.next (λ events. self.new ≡ with_events events self.old) }
@@ -212,6 +214,7 @@ impl History {
     }
 
     // Tests an event, all but whether there is memory for it.
+    #[inline(always)]
     fn test(&self, event: &Event) -> Result<(), Refusal>
         ensures ok { OnOk result (IsWellFormed self.now.concurrency self.now.events event.now) }
         ensures refused { IfErr result (Refuses self.now.concurrency self.now.events event.now) }
@@ -232,6 +235,7 @@ impl History {
     }
 
     // The open operation of a process.
+    #[inline(always)]
     fn open_operation(&self, process: u32) -> Option<&Op>
         ensures { option_copied result ≡ option_map (λ x. x.1) (open_of self.now.events process) }
     {
@@ -247,6 +251,7 @@ impl History {
     }
 
     // Tests an event by the process rule.
+    #[inline(always)]
     fn test_rule(&self, kind: EventKind, process: u32, op: &Op) -> Result<(), Refusal>
         ensures ok { OnOk result
             (FollowsRule self.now.concurrency self.now.events kind process op.now) }
