@@ -126,7 +126,7 @@ impl History {
     /// Prepares to keep the first `n` events alone, and the threads that they make. It takes the time of these events.
     ///
     /// # Errors
-    /// [`Refusal::NoSuchIndex`] where there are fewer events; else [`Refusal::NoMemory`] where a growth was refused. Then
+    /// [`Refusal::NoSuchIndex`] where there are fewer events; else [`Refusal::NoMemory`] where memory was refused. Then
     /// nothing is prepared.
     pub fn prepare_cut(&mut self, n: u32) -> Result<(), Refusal>
         ensures within { OnOk result (n ≤ length self.old.events) }
