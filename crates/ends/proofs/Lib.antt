@@ -12,6 +12,7 @@ pub mod Leading
 pub mod Beyond
 pub mod Showing
 pub mod Telling
+pub mod Noting
 pub mod Moving
 pub mod Passing
 pub mod Settling

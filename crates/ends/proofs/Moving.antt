@@ -1,7 +1,7 @@
 -- what is known of calls in states, by numbers
-use Rattle.std.proofs.Common.{◌≡◌, ℕ, ◌+◌, ◌-◌, ◌*◌, ◌<◌, ◌≤◌, ◌⊎◌, inl, inr, ⊎_elim, Bool, Some, Ok, Err, Result, OnOk, List, [], ◌∷◌, ◌++◌, zero, suc, set, length, take, drop, append-nil, slice_get, slice_range, get_or, refl, sym, ap, ◌∙◌, subst, arith}
-use Rattle.std.proofs.lemmas.Bool.{cases_eq, cases_order}
-use Rattle.std.proofs.lemmas.List.{get_or-set_same, get_or-set_other, drop-append-le, length-append, length-drop, take-append-le, take_all}
+use Rattle.std.proofs.Common.{◌≡◌, ℕ, ◌+◌, ◌-◌, ◌*◌, ◌<◌, ◌≤◌, ◌⊎◌, inl, inr, ⊎_elim, Bool, Some, Ok, Err, Result, OnOk, List, [], ◌∷◌, ◌++◌, zero, suc, length, take, drop, append-nil, slice_get, slice_range, get_or, refl, sym, ap, ◌∙◌, subst, arith}
+use Rattle.std.proofs.lemmas.Bool.{cases_order}
+use Rattle.std.proofs.lemmas.List.{drop-append-le, length-append, length-drop, take-append-le, take_all}
 use Rattle.std.proofs.lemmas.List.Elements.{Contains-append_left, Contains-push, Contains-push_cases}
 use Rattle.std.proofs.Math.Seq.{drop-append_seam}
 use Rattle.linspec.proofs.Lists.{Contains-nil}
@@ -15,6 +15,7 @@ use Rattle.ends.specs.declared.moves.Known.{Known}
 use Rattle.ends.specs.declared.moves.Move.{Move}
 use Rattle.ends.specs.declared.moves.Move.TheVariants.{Untried, Nowhere, To, ToEach}
 use Rattle.ends.specs.Moves.{AreMoves, AreTo, IsKnown, IsTo, LeadsTo, known_at, known_from, targets_of}
+use Rattle.ends.specs.Notes.{AreUntried}
 use Rattle.ends.specs.Tables.{Widens, told_by}
 use Rattle.ends.proofs.Rows.{slot_more}
 use Rattle.interned.proofs.Lists.{get_front, one_of}
@@ -33,24 +34,9 @@ same_place n m w a b la lb e =
     (λ h. absurd (⊎_elim (λ lt. place_lt n m w a b la lt e) (λ lt. place_lt m n w b a lb lt (sym e)) h))
     (cases_order n m)
 
--- one more that is not there, and one that is put
-pub get_or_more : {X : Type 0} (xs : List X) (d : X) (p : ℕ) → get_or (xs ++ d ∷ []) p d ≡ get_or xs p d
-get_or_more [] d zero = refl
-get_or_more [] d (suc p) = refl
-get_or_more (x ∷ xs) d zero = refl
-get_or_more (x ∷ xs) d (suc p) = get_or_more xs d p
-
-pub set_there : {X : Type 0} (xs now : List X) (place : ℕ) (to d : X) → place < length xs → now ≡ set xs place to
-    → (p : ℕ) → (get_or now p d ≡ get_or xs p d) ⊎ ((p ≡ place) × (get_or now p d ≡ to))
-set_there xs now place to d lt is p =
-    ⊎_elim
-    (λ q. inr (q, ap (λ l. get_or l p d) is ∙ ap (λ k. get_or (set xs place to) k d) q ∙ get_or-set_same xs place to d lt))
-    (λ ne. inl (ap (λ l. get_or l p d) is ∙ get_or-set_other xs place p to d ne))
-    (cases_eq p place)
-
 -- what is known from a base on, where the list says nothing, at a place of the list, and where one place of it is another
-from_none : (base calls n at : ℕ) (moves : List Move) → moves ≡ [] → known_from base moves calls n at ≡ Untried
-from_none zero calls n at moves none = ap (λ l. get_or l (n * calls + at) Untried) none
+from_none : (base calls n at : ℕ) (moves : List Move) → AreUntried moves → known_from base moves calls n at ≡ Untried
+from_none zero calls n at moves none = none (n * calls + at)
 from_none (suc base) calls zero at moves none = refl
 from_none (suc base) calls (suc n) at moves none = from_none base calls n at moves none
 
@@ -162,8 +148,8 @@ module _ {S : Type 0} where
   )
 
   module _ (apply : Op → S → List (S × Found)) (calls : List PendingOp) where
-    pub moves_none : (t : Table S) (moves : Known) (targets : List (ℕ × ℕ)) → moves.list.items ≡ [] → AreMoves apply t calls moves targets
-    moves_none t moves targets none n at c here = inl (from_none moves.base (length calls) n at moves.list.items none)
+    pub moves_none : (t : Table S) (moves : Known) (targets : List (ℕ × ℕ)) → AreUntried moves.list → AreMoves apply t calls moves targets
+    moves_none t moves targets none n at c here = inl (from_none moves.base (length calls) n at moves.list none)
 
     pub moves_more : (t u : Table S) (moves : Known) (targets more new : List (ℕ × ℕ)) → Widens t u → new ≡ targets ++ more → AreMoves apply t calls moves targets → AreMoves apply u calls moves new
     moves_more t u moves targets more new w is a n at c here =

@@ -1,4 +1,5 @@
 pub mod KeptEnds
 pub mod EndSteps
 pub mod Tables
+pub mod Notes
 pub mod Moves

@@ -58,7 +58,7 @@ known_from (suc base) moves calls (suc n) at = known_from base moves calls n at
 
 -- what is known of a call in the state with this number
 abbrev pub known_at : Known → ℕ → ℕ → ℕ → Move
-known_at known calls n at = known_from known.base known.list.items calls n at
+known_at known calls n at = known_from known.base known.list calls n at
 
 -- what is known of each call in each state is so
 abbrev pub AreMoves : {S : Type 0} → (Op → S → List (S × Found)) → Table S → List PendingOp

@@ -6,6 +6,7 @@ mod copies;
 mod extend;
 mod kept_end;
 mod moves;
+mod notes;
 mod pending_op;
 mod table;
 

@@ -3,8 +3,10 @@ ghost use Rattle.std.specs.Prelude.{◌≡◌, ◌+◌, ◌-◌, ◌*◌, ◌^�
 ghost use Rattle.std.specs.Prelude.{slice_get};
 ghost use Rattle.std.specs.Prelude.{IfOk, OnOk, IfSome};
 ghost use Rattle.ends.specs.Moves.{AreAlike, AreAll, AreMoves, AreTo, IsAlike, IsKnown, IsStuck, IsTo, LeadsTo, known_at, targets_of};
+ghost use Rattle.ends.specs.Notes.{AreUntried};
 ghost use Rattle.ends.specs.Tables.{Widens, rows_of};
 
+use crate::notes::{MOST_KEPT, Notes};
 use crate::pending_op::PendingOp;
 use crate::table::{self, Table};
 use interned::founds;
@@ -17,12 +19,6 @@ const MOST: usize = 1 << 20;
 
 // So many calls are looked through for one that does the same.
 const FEW: usize = 16;
-
-// So many places more are made at once, at most.
-const MORE: usize = 64;
-
-// The memory of more moves than these is not kept.
-const MOST_KEPT: usize = 1 << 14;
 
 /// What is known of a call in a state. A target is the number of a state, and that of what is told of what was found.
 #[derive(Clone, Copy)]
@@ -41,7 +37,7 @@ pub enum Move {
 #[derive(Drop)]
 pub struct Known {
     base: usize,
-    list: Vec<Move>,
+    list: Notes,
 }
 
 /// Where a call stands that does the same as so many from some place on.
@@ -67,7 +63,7 @@ impl<S> Moves<S> {
         Moves {
             known: Known {
                 base: 0,
-                list: Vec::new(alloc),
+                list: Notes::new(alloc),
             },
             targets: Vec::new(alloc),
             outcomes: Vec::new(alloc),
@@ -91,24 +87,21 @@ fn place_of(base: usize, number: usize, at: usize, calls: usize) -> usize
 
 /// Forgets all moves, and takes this base for those to come. Keeps their memory, if it is not much. Takes no memory.
 pub fn forget<S: Drop>(alloc: Global, moves: &mut Moves<S>, base: usize)
-    ensures known { moves.new.known.list.items ≡ [] }
+    ensures known { AreUntried moves.new.known.list }
     ensures targets { moves.new.targets.items ≡ [] }
     ensures likes { moves.new.likes ≡ moves.old.likes }
 {
-    if moves.known.list.capacity() > MOST_KEPT {
-        moves.known.list = Vec::new(alloc);
-    }
+    moves.known.list.forget(alloc);
     if moves.targets.capacity() > MOST_KEPT {
         moves.targets = Vec::new(alloc);
     }
-    moves.known.list.clear();
     moves.known.base = base;
     moves.targets.clear();
 }
 
 // Forgets all moves where their targets are very many.
 fn forget_many<S: Drop>(alloc: Global, moves: &mut Moves<S>)
-    ensures moves { (moves.new ≡ moves.old) ⊎ (moves.new.known.list.items ≡ []) }
+    ensures moves { (moves.new ≡ moves.old) ⊎ AreUntried moves.new.known.list }
     ensures likes { moves.new.likes ≡ moves.old.likes }
 {
     if moves.targets.len() > MOST {
@@ -120,37 +113,7 @@ fn forget_many<S: Drop>(alloc: Global, moves: &mut Moves<S>)
 fn known_of(known: &Known, number: usize, at: usize, calls: usize) -> Move
     ensures { (result ≡ Move.Untried) ⊎ (result ≡ known_at known.now calls number at) }
 {
-    match known.list.get(place_of(known.base, number, at, calls)) {
-        Some(to) => *to,
-        None => Move::Untried,
-    }
-}
-
-// Makes the list longer, so that it has this place, and some behind it.
-#[inline(never)]
-fn lengthen(moves: &mut Vec<Move>, place: usize) -> Result<(), AllocError>
-    requires place { place < 1048576 }
-    requires new { length moves.old.items ≤ place }
-    ensures kept { (p : ℕ) → get_or moves.new.items p Move.Untried
-        ≡ get_or moves.old.items p Move.Untried }
-    ensures long { OnOk result (place < length moves.new.items) }
-{
-    moves.resize(place + 1 + place.min(MORE), Move::Untried)?;
-    Ok(())
-}
-
-// Remembers the move at this place.
-#[inline(always)]
-fn put_at(moves: &mut Vec<Move>, place: usize, to: Move) -> Result<(), AllocError>
-    requires { place < 1048576 }
-    ensures { (p : ℕ) → let now = get_or moves.new.items p Move.Untried in
-        (now ≡ get_or moves.old.items p Move.Untried) ⊎ ((p ≡ place) × (now ≡ to)) }
-{
-    if place >= moves.len() {
-        lengthen(moves, place)?;
-    }
-    moves[place] = to;
-    Ok(())
+    known.list.noted_at(place_of(known.base, number, at, calls))
 }
 
 // Remembers what the call at this place does in the state with this number.
@@ -170,7 +133,7 @@ fn remember(
     if place >= MOST {
         return Ok(());
     }
-    put_at(&mut known.list, place, to)
+    known.list.note(place, to)
 }
 
 // The target that is this outcome.

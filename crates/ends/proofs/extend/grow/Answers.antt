@@ -1,4 +1,4 @@
-use Rattle.std.proofs.Common.{Vec, Global, [], ap, rules, ◌≤◌, ◌<◌, length, sym, ◌∙◌, subst, arith}
+use Rattle.std.proofs.Common.{Vec, Global, [], rules, ◌≤◌, ◌<◌, length, sym, ◌∙◌, subst, arith}
 use Rattle.std.proofs.lemmas.Bool.{true≢false}
 use Rattle.std.proofs.lemmas.Option.{get_or_from_slice_get}
 use Rattle.models.specs.Objects.{of_table}
@@ -6,6 +6,7 @@ use Rattle.linspec.proofs.Lists.{Contains-nil}
 use Rattle.ends.specs.declared.moves.Like.{Like}
 use Rattle.ends.specs.declared.moves.Known.{Known}
 use Rattle.ends.specs.Moves.{AreAlike}
+use Rattle.ends.specs.Notes.{AreUntried}
 use Rattle.ends.specs.Tables.{rows_of}
 use Rattle.ends.proofs.Growing.{Grows-itself, cost_more}
 use Rattle.ends.proofs.Closing.{all_tried}
@@ -20,7 +21,7 @@ pub loop-at-init : goal.loop-at-init
 loop-at-init g c =
     let o = of_table g.row.M-State.Denot g.M.SeqObject.start_state g.M.SeqObject.apply_to in
     record {
-      moves = moves_none g.M.SeqObject.apply_to c.args.calls.now c.args.table.now c.note_likes.new.moves.known c.note_likes.new.moves.targets.items (ap (λ (k : Known). k.list.items) c.in_ok-note_likes.ensures.known ∙ c.forget.ensures.known);
+      moves = moves_none g.M.SeqObject.apply_to c.args.calls.now c.args.table.now c.note_likes.new.moves.known c.note_likes.new.moves.targets.items (subst (λ (k : Known). AreUntried k.list) (sym c.in_ok-note_likes.ensures.known) c.forget.ensures.known);
       alike = c.in_ok-note_likes.ensures.likes;
       widens = widens_itself c.args.table.now;
       front = IsFront-itself (rows_of c.args.table.now);
