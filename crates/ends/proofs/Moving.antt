@@ -86,6 +86,14 @@ range_new xs more new is =
     let long : length new ≡ length xs + length more = ap length is ∙ length-append xs more in
     ap (λ l. take (length new - length xs) (drop (length xs) l)) is ∙ ap (take (length new - length xs)) (drop-append_seam xs more) ∙ take_all (length new - length xs) more (omega arith)
 
+-- a move to the target that was put last
+pub to_last : (old new : List (ℕ × ℕ)) (target : ℕ × ℕ) (first : ℕ) (to : Move) → new ≡ old ++ target ∷ [] → first ≡ length old → to ≡ ToEach first (length new)
+    → IsKnown to new × (targets_of to new ≡ target ∷ [])
+to_last old new target first to longer begins is =
+    let long : length new ≡ length old + 1 = ap length longer ∙ length-append old (target ∷ []) in
+    let there : slice_range new first (length new) ≡ target ∷ [] = ap (λ k. slice_range new k (length new)) begins ∙ range_new old (target ∷ []) new longer in
+    subst (λ m. IsKnown m new × (targets_of m new ≡ target ∷ [])) (sym is) ((omega arith, omega arith), there)
+
 -- moves by a list of targets that becomes longer
 known_more : (targets more : List (ℕ × ℕ)) (m : Move) → IsKnown m targets → IsKnown m (targets ++ more)
 known_more targets more Untried h = h

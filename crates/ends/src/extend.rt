@@ -97,8 +97,15 @@ fn put_led<S: Hash + Drop>(
     ensures front { IsFront (rows_of table.old) (rows_of table.new) }
 {
     match to {
-        Move::To(number, slot) => table.rows.put_next(from, number, place, slot),
-        Move::ToEach(first, end) => put_each(table, from, place, &targets[first..end]),
+        Move::To(number, slot) => {
+            table
+                .rows
+                .put_next(from, number as usize, place, slot as usize)
+        }
+        Move::ToEach(first, end) => {
+            let targets = &targets[first as usize..end as usize];
+            put_each(table, from, place, targets)
+        }
         Move::Nowhere => Ok(()),
         Move::Untried => Ok(()),
     }

@@ -1,5 +1,5 @@
 //! What calls do in states, by numbers.
-ghost use Rattle.std.specs.Prelude.{◌≡◌, ◌+◌, ◌-◌, ◌*◌, ◌^◌, ◌<◌, ◌≤◌, ◌⊎◌, ℕ, List, [], ◌++◌, Some, IsTrue, length, get_or};
+ghost use Rattle.std.specs.Prelude.{◌≡◌, ◌+◌, ◌-◌, ◌*◌, ◌^◌, ◌<◌, ◌≤◌, ◌⊎◌, ℕ, List, [], ◌∷◌, ◌++◌, Some, IsTrue, length, get_or};
 ghost use Rattle.std.specs.Prelude.{slice_get};
 ghost use Rattle.std.specs.Prelude.{IfOk, OnOk, IfSome};
 ghost use Rattle.ends.specs.Moves.{AreAlike, AreAll, AreMoves, AreTo, IsAlike, IsKnown, IsStuck, IsTo, LeadsTo, known_at, targets_of};
@@ -20,7 +20,8 @@ const MOST: usize = 1 << 20;
 // So many calls are looked through for one that does the same.
 const FEW: usize = 16;
 
-/// What is known of a call in a state. A target is the number of a state, and that of what is told of what was found.
+/// What is known of a call in a state. A target is the number of a state, and that of what is told of what was found. The numbers
+/// take 32 bits, since many moves are remembered.
 #[derive(Clone, Copy)]
 pub enum Move {
     /// It was not tried yet.
@@ -28,9 +29,9 @@ pub enum Move {
     /// It cannot take place.
     Nowhere,
     /// It leads to this target alone.
-    To(usize, usize),
+    To(u32, u32),
     /// It leads to the targets of the list from the first place on, up to the second.
-    ToEach(usize, usize),
+    ToEach(u32, u32),
 }
 
 /// What is known of calls in the states from the base on: of those with a number below it nothing is remembered.
@@ -172,6 +173,36 @@ fn put_targets<M: SeqObject>(
     Ok(())
 }
 
+// The move to the targets of the list from this place on. `AllocError` where they are 2^32: there is no room for so many.
+fn move_to_last(targets: &[(usize, usize)], first: usize) -> Result<Move, AllocError>
+    ensures { IfOk result (λ to. to ≡ Move.ToEach first (length targets.now)) }
+{
+    if first > u32::MAX as usize || targets.len() > u32::MAX as usize {
+        return Err(AllocError);
+    }
+    Ok(Move::ToEach(first as u32, targets.len() as u32))
+}
+
+// The move to this target. Where its numbers take more than 32 bits, it is put behind the others.
+#[inline(always)]
+fn move_to_one(
+    targets: &mut Vec<(usize, usize)>,
+    number: usize,
+    slot: usize,
+) -> Result<Move, AllocError>
+    ensures one { IfOk result (λ to. IsKnown to targets.new.items
+        × (targets_of to targets.new.items ≡ (number, slot) ∷ [])) }
+    ensures more { OnOk result ((more : List (ℕ × ℕ))
+        × (targets.new.items ≡ targets.old.items ++ more)) }
+{
+    if number <= u32::MAX as usize && slot <= u32::MAX as usize {
+        return Ok(Move::To(number as u32, slot as u32));
+    }
+    let first = targets.len();
+    targets.push((number, slot))?;
+    move_to_last(targets, first)
+}
+
 // The move to these outcomes, whose targets are put behind the others.
 fn move_to_each<M: SeqObject>(
     table: &mut Table<M::State>,
@@ -187,10 +218,10 @@ fn move_to_each<M: SeqObject>(
 {
     let first = targets.len();
     put_targets::<M>(table, targets, crashed, outcomes)?;
-    Ok(Move::ToEach(first, targets.len()))
+    move_to_last(targets, first)
 }
 
-// The move to these outcomes. Where there is one, it needs no place in the list of targets.
+// The move to these outcomes. Where there is one, it mostly needs no place in the list of targets.
 fn move_to<M: SeqObject>(
     table: &mut Table<M::State>,
     targets: &mut Vec<(usize, usize)>,
@@ -209,7 +240,7 @@ fn move_to<M: SeqObject>(
     match outcomes.pop() {
         Some((state, found)) => {
             let (number, slot) = target_of::<M>(table, crashed, state, found)?;
-            Ok(Move::To(number, slot))
+            move_to_one(targets, number, slot)
         }
         None => Ok(Move::Nowhere),
     }
@@ -343,7 +374,7 @@ pub fn recalled<S>(moves: &Moves<S>, number: usize, at: usize, calls: usize) -> 
         Move::Untried => None,
         Move::Nowhere => Some(Move::Nowhere),
         Move::To(number, slot) => Some(Move::To(number, slot)),
-        Move::ToEach(first, end) if first <= end && end <= moves.targets.len() => {
+        Move::ToEach(first, end) if first <= end && end as usize <= moves.targets.len() => {
             Some(Move::ToEach(first, end))
         }
         Move::ToEach(_, _) => None,

@@ -1,19 +1,25 @@
-use Rattle.std.proofs.Common.{◌≡◌, ◌∷◌, ◌++◌, [], sym, subst, arith, append-nil}
+use Rattle.std.proofs.Common.{◌≡◌, ℕ, ◌∷◌, ◌++◌, [], sym, subst, arith, append-nil}
+use Rattle.std.proofs.lemmas.Result.{IfOk-weaker}
 use Rattle.models.specs.declared.finding.Found.{Found}
-use Rattle.ends.specs.Moves.{AreTo}
+use Rattle.ends.specs.Moves.{AreTo, IsKnown, LeadsTo, targets_of}
 use Rattle.ends.proofs.Moving.{are_to_none, are_to_with, alone}
 use Rattle.ends.proofs.moves.move_to.Goals as goal
 
 pub returns-in_ok-number-in-Some-clause-leads : goal.returns-in_ok-number-in-Some-clause-leads
 returns-in_ok-number-in-Some-clause-leads g c =
     let t = c.target_of.new.table in
+    let new = c.move_to_one.new.targets.items in
     let x : g.row.M-State.Denot × Found = (c.in-Some.state, c.in-Some.found) in
+    let target : ℕ × ℕ = (c.in_ok-number-in-Some.number, c.in_ok-number-in-Some.slot) in
     let popped : c.args.outcomes.now.items ≡ c.pop.new.self.items ++ x ∷ [] = c.in-Some.ensures.items in
     let one : c.args.outcomes.now.items ≡ x ∷ [] = alone c.args.outcomes.now.items c.pop.new.self.items x popped (omega arith) in
-    (tt, subst (λ l. AreTo t c.args.crashed l ((c.in_ok-number-in-Some.number, c.in_ok-number-in-Some.slot) ∷ [])) (sym one) (are_to_with t c.args.crashed x [] [] (c.in_ok-number-in-Some.number, c.in_ok-number-in-Some.slot) c.in_ok-number-in-Some.ensures.is (are_to_none t c.args.crashed)))
+    let are : AreTo t c.args.crashed c.args.outcomes.now.items (target ∷ []) = subst (λ l. AreTo t c.args.crashed l (target ∷ [])) (sym one) (are_to_with t c.args.crashed x [] [] target c.in_ok-number-in-Some.ensures.is (are_to_none t c.args.crashed)) in
+    IfOk-weaker c.move_to_one.result (λ to. IsKnown to new × (targets_of to new ≡ target ∷ [])) (LeadsTo t c.args.crashed c.args.outcomes.now.items new)
+    (λ to h. (h.0, subst (AreTo t c.args.crashed c.args.outcomes.now.items) (sym h.1) are))
+    c.move_to_one.ensures.one
 
 pub returns-in_ok-number-in-Some-clause-more : goal.returns-in_ok-number-in-Some-clause-more
-returns-in_ok-number-in-Some-clause-more g c = ([], sym (append-nil c.args.targets.now.items))
+returns-in_ok-number-in-Some-clause-more g c = c.move_to_one.ensures.more
 
 pub returns-in-None-clause-more : goal.returns-in-None-clause-more
 returns-in-None-clause-more g c = ([], sym (append-nil c.args.targets.now.items))
