@@ -24,14 +24,14 @@ const FEW: usize = 16;
 /// take 32 bits, since many moves are remembered.
 #[derive(Clone, Copy)]
 pub enum Move {
-    /// It was not tried yet.
-    Untried,
     /// It cannot take place.
     Nowhere,
     /// It leads to this target alone.
     To(u32, u32),
     /// It leads to the targets of the list from the first place on, up to the second.
     ToEach(u32, u32),
+    /// It was not tried yet.
+    Untried,
 }
 
 /// What is known of calls in the states from the base on: of those with a number below it nothing is remembered.

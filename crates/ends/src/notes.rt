@@ -9,7 +9,7 @@ use std::marker::Model;
 // So many places more are made at once, at most.
 const MORE: usize = 64;
 
-/// The memory of more moves than these is not kept.
+/// The memory of more moves, or of more targets, than these is not kept.
 pub const MOST_KEPT: usize = 1 << 14;
 
 // A move, and the stamp that it was noted with.
