@@ -5,8 +5,9 @@ use Rattle.std.proofs.lemmas.List.{get_or-take, length-take, map_push, take-appe
 use Rattle.std.proofs.lemmas.Grind.{get_or_default_zero}
 use Rattle.std.proofs.lemmas.List.Elements.{Contains-append_left, Contains-push_cases}
 use Rattle.rows.specs.Index.{AreApart}
+use Rattle.rows.specs.Lists.{items_of}
 use Rattle.rows.specs.RowSets.{IsPut}
-use Rattle.rows.specs.Words.{ArePacked, IsWordOf, digits, items_of, rows_in, value}
+use Rattle.rows.specs.Words.{ArePacked, IsWordOf, digits, rows_in, value}
 use Rattle.std.specs.Vec.{vec_len}
 use Rattle.std.proofs.Math.Nat.{mod-add-div, mul-div_cancel_left, mul-zero, zero-mod, zero-mul}
 use Rattle.std.proofs.lemmas.Nat.{div-add-mod', mod_below, pow_pos}
@@ -79,7 +80,7 @@ listed_more bits long ws are apart i w here row is old new put so_far =
     put
 
 -- what a set of rows shows, and its numbers below the base
-pub shows_words : (wide : Bool) (bits long : ℕ) (words : List ℕ) (lists : List (Vec ℕ Global)) → wide ≡ false → rows_in wide bits long words lists ≡ map (digits (2 ^ bits) long) words
+pub shows_words : (wide : Bool) (bits long : ℕ) (words : List ℕ) (lists : List (List ℕ)) → wide ≡ false → rows_in wide bits long words lists ≡ map (digits (2 ^ bits) long) words
 shows_words wide bits long words lists e = ap (λ b. rows_in b bits long words lists) e
 
 pub row_there : (rows : List (List ℕ)) (bits long from w : ℕ) (words : List ℕ) → map (digits (2 ^ bits) long) words ≡ rows → slice_get words from ≡ Some w → get_or rows from [] ≡ digits (2 ^ bits) long w
@@ -150,10 +151,10 @@ packed_fewer bits long n ws now is are = record {
 pub packed_same : (bits long : ℕ) (ws now : List ℕ) → now ≡ ws → ArePacked bits long ws → ArePacked bits long now
 packed_same bits long ws now is are = subst (ArePacked bits long) (sym is) are
 
-pub shows_lists : (wide : Bool) (bits long : ℕ) (words : List ℕ) (lists : List (Vec ℕ Global)) → wide ≡ true → rows_in wide bits long words lists ≡ map items_of lists
+pub shows_lists : (wide : Bool) (bits long : ℕ) (words : List ℕ) (lists : List (List ℕ)) → wide ≡ true → rows_in wide bits long words lists ≡ lists
 shows_lists wide bits long words lists e = ap (λ b. rows_in b bits long words lists) e
 
-pub copied_rows : (wide : Bool) (bits long : ℕ) (words : List ℕ) (lists : List (Vec ℕ Global)) (ws : List ℕ) (ls : List (Vec ℕ Global)) → ws ≡ words → map items_of ls ≡ map items_of lists → rows_in wide bits long ws ls ≡ rows_in wide bits long words lists
+pub copied_rows : (wide : Bool) (bits long : ℕ) (words : List ℕ) (lists : List (List ℕ)) (ws : List ℕ) (ls : List (List ℕ)) → ws ≡ words → ls ≡ lists → rows_in wide bits long ws ls ≡ rows_in wide bits long words lists
 copied_rows true bits long words lists ws ls a b = b
 copied_rows false bits long words lists ws ls a b = ap (map (digits (2 ^ bits) long)) a
 

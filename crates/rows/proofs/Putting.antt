@@ -6,8 +6,8 @@ use Rattle.std.proofs.lemmas.Bool.{true≢false}
 use Rattle.std.proofs.lemmas.List.{map_push}
 use Rattle.indexmap.specs.IndexSet.{insert_key}
 use Rattle.rows.proofs.Elements.{Contains-nil, Contains-head, Contains-tail, Contains-cons_cases}
+use Rattle.rows.specs.Lists.{items_of}
 use Rattle.rows.specs.RowSets.{IsPut}
-use Rattle.rows.specs.Words.{items_of}
 
 abbrev pub same_items : Vec ℕ Global → Vec ℕ Global → Bool
 same_items v w = pointwise nat_eq v.items w.items

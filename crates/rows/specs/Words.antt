@@ -1,6 +1,5 @@
 -- Invariant: rows of numbers as words
-use Rattle.std.specs.Prelude.{◌≡◌, ℕ, zero, suc, ◌+◌, ◌*◌, ◌^◌, ◌/◌, ◌%◌, ◌≤◌, ◌<◌, ◌-◌, Bool, true, false, List, [], ◌∷◌, map, length, Vec}
-use Rattle.std.specs.Global.{Global}
+use Rattle.std.specs.Prelude.{◌≡◌, ℕ, zero, suc, ◌+◌, ◌*◌, ◌^◌, ◌/◌, ◌%◌, ◌≤◌, ◌<◌, ◌-◌, Bool, true, false, List, [], ◌∷◌, map, length}
 use Rattle.std.specs.List.{Contains}
 
 -- so many digits of the word, the lowest first
@@ -17,12 +16,9 @@ value base (d ∷ ds) = d + base * value base ds
 abbrev pub IsWordOf : ℕ → List ℕ → ℕ → Type 0
 IsWordOf base row word = (value base row ≡ word) × (digits base (length row) word ≡ row)
 
-abbrev pub items_of : Vec ℕ Global → List ℕ
-items_of row = row.items
-
 -- the rows, which are lists if so it is told, and else words
-abbrev pub rows_in : Bool → ℕ → ℕ → List ℕ → List (Vec ℕ Global) → List (List ℕ)
-rows_in true bits long words lists = map items_of lists
+abbrev pub rows_in : Bool → ℕ → ℕ → List ℕ → List (List ℕ) → List (List ℕ)
+rows_in true bits long words lists = lists
 rows_in false bits long words lists = map (digits (2 ^ bits) long) words
 
 -- a row has room in a word, and no word has more than its row

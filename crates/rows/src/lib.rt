@@ -2,6 +2,7 @@
 #![tactic(auto)]
 
 mod index;
+mod list_set;
 mod long_row;
 mod marked;
 mod row;

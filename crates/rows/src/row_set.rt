@@ -1,14 +1,14 @@
 //! Rows of numbers, each once.
 ghost use Rattle.std.specs.Prelude.{◌≡◌, ◌↔◌, ◌<◌, ◌≤◌, ◌*◌, ◌^◌, [], ◌∷◌, ◌++◌, true, false, Some, IsTrue, map, take, length, get_or, set, slice_get, IfOk, IfSome, OnOk, OnErr};
 ghost use Rattle.std.specs.List.{remove};
-ghost use Rattle.rows.specs.Words.{ArePacked, digits, items_of};
+ghost use Rattle.rows.specs.Words.{ArePacked, digits};
 ghost use Rattle.rows.specs.RowSets.{IsPut, PutsMarked, is_marked};
 
+use crate::list_set::ListSet;
 use crate::marked::{has_mark, put_marked_words};
 use crate::row::Row;
 use crate::word_set::WordSet;
 use crate::words::{changed, number_at, packed, unpack};
-use indexmap::IndexSet;
 use std::alloc::{AllocError, Global};
 use std::marker::Model;
 use std::mem::swap;
@@ -23,7 +23,7 @@ pub struct RowSet {
     whole: bool,
     wide: bool,
     words: WordSet,
-    lists: IndexSet<Vec<usize>>,
+    lists: ListSet,
 }
 
 impl Model for RowSet {
@@ -32,7 +32,7 @@ impl Model for RowSet {
 
     ghost Value = { List (List ℕ) };
 
-    ghost view = { λ a. rows_in a.wide a.bits a.long a.words a.lists.keys };
+    ghost view = { λ a. rows_in a.wide a.bits a.long a.words a.lists };
 
     ghost invariant = { λ a. ArePacked a.bits a.long a.words };
 }
@@ -70,35 +70,31 @@ fn copied(alloc: Global, row: &[usize]) -> Result<Vec<usize>, AllocError>
     Ok(copy)
 }
 
-// Puts the list with the others, if it is not there.
-fn put_list(lists: &mut IndexSet<Vec<usize>>, list: Vec<usize>) -> Result<(), AllocError>
-    ensures put { let old = map items_of lists.old.keys in let new = map items_of lists.new.keys in
-        OnOk result (IsPut list.items old new) }
-    ensures err { OnErr result (lists.new.keys ≡ lists.old.keys) }
+// Reads the list at this place.
+#[inline(never)]
+fn look_at_list(lists: &ListSet, at: usize, row: &mut Row) -> Result<(), AllocError>
+    requires { at < length lists.now }
+    ensures { OnOk result (slice_get lists.now at ≡ Some row.new) }
 {
-    lists.insert(list)?;
-    Ok(())
+    let Some(list) = lists.get(at) else {
+        unreachable!()
+    };
+    row.set_list(list)
 }
 
 // The rows of the words, as lists.
-fn listed(
-    alloc: Global,
-    words: &WordSet,
-    bits: u32,
-    long: usize,
-) -> Result<IndexSet<Vec<usize>>, AllocError>
+fn listed(alloc: Global, words: &WordSet, bits: u32, long: usize) -> Result<ListSet, AllocError>
     requires { ArePacked bits long words.now }
-    ensures { IfOk result (λ lists.
-        map items_of lists.keys ≡ map (digits (2 ^ bits) long) words.now) }
+    ensures { IfOk result (λ lists. lists ≡ map (digits (2 ^ bits) long) words.now) }
 {
-    let mut lists = IndexSet::new(alloc);
+    let mut lists = ListSet::new();
     for at in 0..words.len() {
         let Some(word) = words.get(at) else {
             unreachable!()
         };
         let mut list = Vec::with_capacity(alloc, long)?;
         unpack(word, bits, long, &mut list)?;
-        put_list(&mut lists, list)?;
+        lists.put(alloc, list)?;
     }
     Ok(lists)
 }
@@ -133,29 +129,6 @@ fn repacked(
     Ok(Some(other))
 }
 
-// The number at this place of the list that stands here, and zero where there is none.
-fn number_in_list(lists: &IndexSet<Vec<usize>>, at: usize, place: usize) -> usize
-    ensures { result ≡ get_or (get_or (map items_of lists.now.keys) at []) place 0 }
-{
-    let Some(list) = lists.get_index(at) else {
-        return 0;
-    };
-    match list.get(place) {
-        Some(number) => *number,
-        None => 0,
-    }
-}
-
-// How many numbers the list that stands here has, and zero where there is none.
-fn long_in_lists(lists: &IndexSet<Vec<usize>>, at: usize) -> usize
-    ensures { result ≡ length (get_or (map items_of lists.now.keys) at []) }
-{
-    match lists.get_index(at) {
-        Some(list) => list.len(),
-        None => 0,
-    }
-}
-
 // The number at this place of the row of the word that stands here, and zero where there is none.
 fn number_in_word(words: &WordSet, bits: u32, long: usize, at: usize, place: usize) -> usize
     requires { ArePacked bits long words.now }
@@ -180,7 +153,7 @@ impl RowSet {
             whole: false,
             wide: false,
             words: WordSet::new(alloc),
-            lists: IndexSet::new(alloc),
+            lists: ListSet::new(),
         }
     }
 
@@ -215,7 +188,7 @@ impl RowSet {
         }
         self.words.clear();
         if self.wide {
-            self.lists = IndexSet::new(self.alloc);
+            self.lists = ListSet::new();
         }
         self.wide = false;
         self.whole = whole;
@@ -243,10 +216,7 @@ impl RowSet {
         ensures { OnOk result (slice_get self.now at ≡ Some row.new) }
     {
         if self.wide {
-            let Some(list) = self.lists.get_index(at) else {
-                unreachable!()
-            };
-            row.set_list(list)
+            look_at_list(&self.lists, at, row)
         } else {
             let Some(word) = self.words.get(at) else {
                 unreachable!()
@@ -264,7 +234,7 @@ impl RowSet {
         ensures { OnOk result (slice_get self.now at ≡ Some row.new.items) }
     {
         if self.wide {
-            let Some(list) = self.lists.get_index(at) else {
+            let Some(list) = self.lists.get(at) else {
                 unreachable!()
             };
             rewrite(row, list)
@@ -281,7 +251,7 @@ impl RowSet {
         ensures { result ≡ get_or (get_or self.now at []) place 0 }
     {
         if self.wide {
-            number_in_list(&self.lists, at, place)
+            self.lists.number(at, place)
         } else {
             number_in_word(&self.words, self.bits, self.long, at, place)
         }
@@ -293,7 +263,7 @@ impl RowSet {
         ensures { result ≡ length (get_or self.now at []) }
     {
         if self.wide {
-            return long_in_lists(&self.lists, at);
+            return self.lists.long_at(at);
         }
         self.long
     }
@@ -361,7 +331,7 @@ impl RowSet {
             self.wide = true;
             self.words = WordSet::new(self.alloc);
         }
-        put_list(&mut self.lists, list)
+        self.lists.put(self.alloc, list)
     }
 
     /// Puts the row at a place with this first number, and with this number where it has zero, if that is not there.
@@ -535,6 +505,7 @@ impl RowSet {
     }
 
     /// Leaves so many rows, the first ones. Takes no memory, and at most the time of the rows.
+    #[inline(never)]
     pub fn truncate(&mut self, len: usize)
         ensures { self.new ≡ take len self.old }
     {
@@ -550,7 +521,7 @@ impl RowSet {
         ensures { IfOk result (λ rows. rows ≡ self.now) }
     {
         let words = self.words.copied(self.alloc)?;
-        let lists = self.lists.clone()?;
+        let lists = self.lists.copied(self.alloc)?;
         Ok(RowSet {
             alloc: self.alloc,
             long: self.long,

@@ -1,8 +1,8 @@
 use Rattle.std.proofs.Common.{◌∙◌}
-use Rattle.rows.proofs.Packing.{copied_lists, copied_rows}
+use Rattle.rows.proofs.Packing.{copied_rows}
 use Rattle.rows.proofs.row_set.RowSet.copied.Goals as goal
 
 pub returns : goal.returns
 returns c =
     let i = c.self.inside in
-    copied_rows i.wide i.bits i.long i.words i.lists.keys _ _ c.in_ok-words.ensures (copied_lists i.lists.keys c.in_ok-lists.lists.keys c.in_ok-lists.ensures.cases) ∙ c.self.view_is
+    copied_rows i.wide i.bits i.long i.words i.lists _ _ c.in_ok-words.ensures c.in_ok-lists.ensures ∙ c.self.view_is

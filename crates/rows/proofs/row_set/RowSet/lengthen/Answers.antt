@@ -8,5 +8,5 @@ invariant_of-self c = packed_longer c.self.inside.bits c.self.inside.long c.self
 pub returns-clause-longer : goal.returns-clause-longer
 returns-clause-longer c _ =
     let i = c.self.inside in
-    shows_words i.wide i.bits (i.long + 1) i.words i.lists.keys c.if-self.false ∙ longer_rows i.bits i.long i.words c.self.invariant.exact
-    ∙ ap (map (λ row. row ++ 0 ∷ [])) (sym (shows_words i.wide i.bits i.long i.words i.lists.keys c.if-self.false) ∙ c.self.view_is)
+    shows_words i.wide i.bits (i.long + 1) i.words i.lists c.if-self.false ∙ longer_rows i.bits i.long i.words c.self.invariant.exact
+    ∙ ap (map (λ row. row ++ 0 ∷ [])) (sym (shows_words i.wide i.bits i.long i.words i.lists c.if-self.false) ∙ c.self.view_is)

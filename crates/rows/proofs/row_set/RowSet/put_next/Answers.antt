@@ -10,7 +10,7 @@ use Rattle.rows.proofs.row_set.RowSet.put_next.Goals as goal
 pub changed-next-requires-clause-within : goal.changed-next-requires-clause-within
 changed-next-requires-clause-within c =
     let i = c.self.inside in
-    let rows = sym (shows_words i.wide i.bits i.long i.words i.lists.keys c.if-not-self.true) ∙ c.self.view_is in
+    let rows = sym (shows_words i.wide i.bits i.long i.words i.lists c.if-not-self.true) ∙ c.self.view_is in
     let there = row_there c.args.self.now i.bits i.long c.args.from c.in-Some.word i.words rows (sym c.in-Some.ensures) in
     let long = ap length there ∙ length-digits (2 ^ i.bits) i.long c.in-Some.word in
     let within = c.requires.within in
@@ -19,7 +19,7 @@ changed-next-requires-clause-within c =
 pub changed-next-requires-clause-zero_there : goal.changed-next-requires-clause-zero_there
 changed-next-requires-clause-zero_there c =
     let i = c.self.inside in
-    let rows = sym (shows_words i.wide i.bits i.long i.words i.lists.keys c.if-not-self.true) ∙ c.self.view_is in
+    let rows = sym (shows_words i.wide i.bits i.long i.words i.lists c.if-not-self.true) ∙ c.self.view_is in
     let there = row_there c.args.self.now i.bits i.long c.args.from c.in-Some.word i.words rows (sym c.in-Some.ensures) in
     ap (λ l. get_or l c.args.at 0) (sym there) ∙ c.requires.zero_there
 
@@ -35,14 +35,14 @@ pub returns-then-slot-self-eq0-clause-put : goal.returns-then-slot-self-eq0-clau
 returns-then-slot-self-eq0-clause-put c =
     let i = c.self.inside in
     let row = digits (2 ^ i.bits) i.long c.in-Some.word in
-    let rows = sym (shows_words i.wide i.bits i.long i.words i.lists.keys c.if-not-self.true) ∙ c.self.view_is in
+    let rows = sym (shows_words i.wide i.bits i.long i.words i.lists c.if-not-self.true) ∙ c.self.view_is in
     let there = row_there c.args.self.now i.bits i.long c.args.from c.in-Some.word i.words rows (sym c.in-Some.ensures) in
-    let after = rows_in i.wide i.bits i.long c.put.new.self i.lists.keys in
+    let after = rows_in i.wide i.bits i.long c.put.new.self i.lists in
     on_ok_weaker c.put.result
     (λ (put : IsPut c.changed-next.result i.words c.put.new.self).
     subst (λ r. IsPut (set (set r 0 c.args.to) c.args.at c.args.slot) c.args.self.now after) (sym there)
     (subst (λ l. IsPut (set (set row 0 c.args.to) c.args.at c.args.slot) l after) rows
-    (subst (IsPut (set (set row 0 c.args.to) c.args.at c.args.slot) (map (digits (2 ^ i.bits) i.long) i.words)) (sym (shows_words i.wide i.bits i.long c.put.new.self i.lists.keys c.if-not-self.true))
+    (subst (IsPut (set (set row 0 c.args.to) c.args.at c.args.slot) (map (digits (2 ^ i.bits) i.long) i.words)) (sym (shows_words i.wide i.bits i.long c.put.new.self i.lists c.if-not-self.true))
     (put_word i.bits i.long (set (set row 0 c.args.to) c.args.at c.args.slot) c.changed-next.result
     (length-set (set row 0 c.args.to) c.args.at c.args.slot ∙ length-set row 0 c.args.to ∙ length-digits (2 ^ i.bits) i.long c.in-Some.word)
     c.changed-next.ensures i.words c.put.new.self c.self.invariant put))))
@@ -52,5 +52,5 @@ pub returns-then-slot-self-eq0-clause-err : goal.returns-then-slot-self-eq0-clau
 returns-then-slot-self-eq0-clause-err c =
     let i = c.self.inside in
     on_err_weaker c.put.result
-    (λ (kept : c.put.new.self ≡ i.words). ap (λ l. rows_in i.wide i.bits i.long l i.lists.keys) kept ∙ c.self.view_is)
+    (λ (kept : c.put.new.self ≡ i.words). ap (λ l. rows_in i.wide i.bits i.long l i.lists) kept ∙ c.self.view_is)
     c.put.ensures.err

@@ -1,17 +1,17 @@
 use Rattle.std.proofs.Common.{◌^◌, map, take, ap, sym, ◌∙◌}
 use Rattle.std.specs.List.{take-map}
-use Rattle.rows.specs.Words.{digits, items_of}
+use Rattle.rows.specs.Words.{digits}
 use Rattle.rows.proofs.Packing.{shows_lists, shows_words}
 use Rattle.rows.proofs.row_set.RowSet.truncate.Goals as goal
 
 pub returns-then-self : goal.returns-then-self
 returns-then-self c =
     let i = c.self.inside in
-    shows_lists i.wide i.bits i.long i.words _ c.if-self.true ∙ ap (map items_of) c.truncate.ensures.keys ∙ sym (take-map items_of c.args.len i.lists.keys)
-    ∙ ap (take c.args.len) (sym (shows_lists i.wide i.bits i.long i.words i.lists.keys c.if-self.true) ∙ c.self.view_is)
+    shows_lists i.wide i.bits i.long i.words _ c.if-self.true ∙ c.truncate.ensures
+    ∙ ap (take c.args.len) (sym (shows_lists i.wide i.bits i.long i.words i.lists c.if-self.true) ∙ c.self.view_is)
 
 pub returns-else-self : goal.returns-else-self
 returns-else-self c =
     let i = c.self.inside in
-    shows_words i.wide i.bits i.long _ i.lists.keys c.if-self.false ∙ ap (map (digits (2 ^ i.bits) i.long)) c.truncate-else-self.ensures ∙ sym (take-map (digits (2 ^ i.bits) i.long) c.args.len i.words)
-    ∙ ap (take c.args.len) (sym (shows_words i.wide i.bits i.long i.words i.lists.keys c.if-self.false) ∙ c.self.view_is)
+    shows_words i.wide i.bits i.long _ i.lists c.if-self.false ∙ ap (map (digits (2 ^ i.bits) i.long)) c.truncate-else-self.ensures ∙ sym (take-map (digits (2 ^ i.bits) i.long) c.args.len i.words)
+    ∙ ap (take c.args.len) (sym (shows_words i.wide i.bits i.long i.words i.lists c.if-self.false) ∙ c.self.view_is)

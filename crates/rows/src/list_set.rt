@@ -1,0 +1,143 @@
+//! Lists of numbers, none twice.
+ghost use Rattle.std.specs.Prelude.{◌≡◌, [], map, take, length, get_or, slice_get, option_copied, IfOk, OnOk, OnErr};
+ghost use Rattle.rows.specs.Lists.{items_of, lists_in};
+ghost use Rattle.rows.specs.RowSets.{IsPut};
+
+use indexmap::IndexSet;
+use std::alloc::{AllocError, Global};
+use std::marker::Model;
+
+/// Lists of numbers, none twice, in the order in which they were put. They stand in a box, which is made when one is put: where
+/// there are none, as where rows are words, next to no room is taken.
+#[derive(Drop)]
+pub struct ListSet {
+    kept: Option<Box<IndexSet<Vec<usize>>>>,
+}
+
+impl Model for ListSet {
+    ghost use Rattle.std.specs.Prelude.{List, ℕ};
+    ghost use Rattle.rows.specs.Lists.{lists_in};
+
+    ghost Value = { List (List ℕ) };
+
+    ghost view = { λ s. lists_in s.kept };
+}
+
+// Takes out the lists that are kept; with none, makes a box for some.
+fn take_lists(
+    alloc: Global,
+    kept: &mut Option<Box<IndexSet<Vec<usize>>>>,
+) -> Result<Box<IndexSet<Vec<usize>>>, AllocError>
+    ensures taken { IfOk result (λ lists. map items_of lists.value.keys ≡ lists_in kept.old) }
+    ensures err { OnErr result (lists_in kept.new ≡ lists_in kept.old) }
+{
+    match kept.take() {
+        Some(lists) => Ok(lists),
+        None => Ok(Box::new(alloc, IndexSet::new(alloc))?),
+    }
+}
+
+// Puts the list with the others, if it is not there.
+fn put_list(lists: &mut IndexSet<Vec<usize>>, list: Vec<usize>) -> Result<(), AllocError>
+    ensures put { let old = map items_of lists.old.keys in let new = map items_of lists.new.keys in
+        OnOk result (IsPut list.items old new) }
+    ensures err { OnErr result (lists.new.keys ≡ lists.old.keys) }
+{
+    lists.insert(list)?;
+    Ok(())
+}
+
+impl ListSet {
+    /// No lists. Takes no memory.
+    pub fn new() -> ListSet
+        ensures { result ≡ [] }
+    {
+        ListSet { kept: None }
+    }
+
+    /// How many lists there are. Takes no memory, and constant time.
+    #[inline(always)]
+    pub fn len(&self) -> usize
+        ensures { result ≡ length self.now }
+    {
+        match &self.kept {
+            Some(lists) => lists.len(),
+            None => 0,
+        }
+    }
+
+    /// The list that stands here, if one does. Takes no memory, and constant time.
+    #[inline(never)]
+    pub fn get(&self, at: usize) -> Option<&[usize]>
+        ensures { option_copied result ≡ slice_get self.now at }
+    {
+        let Some(lists) = &self.kept else {
+            return None;
+        };
+        match lists.get_index(at) {
+            Some(list) => Some(list.as_slice()),
+            None => None,
+        }
+    }
+
+    /// The number at this place of the list that stands here, and zero where there is none. Takes no memory, and constant time.
+    #[inline(never)]
+    pub fn number(&self, at: usize, place: usize) -> usize
+        ensures { result ≡ get_or (get_or self.now at []) place 0 }
+    {
+        let Some(list) = self.get(at) else {
+            return 0;
+        };
+        match list.get(place) {
+            Some(number) => *number,
+            None => 0,
+        }
+    }
+
+    /// How many numbers the list that stands here has, and zero where there is none. Takes no memory, and constant time.
+    pub fn long_at(&self, at: usize) -> usize
+        ensures { result ≡ length (get_or self.now at []) }
+    {
+        match self.get(at) {
+            Some(list) => list.len(),
+            None => 0,
+        }
+    }
+
+    /// Puts the list with the others, if it is not there. `AllocError` where memory was refused: then the lists are as they were.
+    /// Takes the time of its numbers, and looks it up by its hash.
+    #[inline(never)]
+    pub fn put(&mut self, alloc: Global, list: Vec<usize>) -> Result<(), AllocError>
+        ensures put { OnOk result (IsPut list.items self.old self.new) }
+        ensures err { OnErr result (self.new ≡ self.old) }
+    {
+        let mut lists = take_lists(alloc, &mut self.kept)?;
+        let outcome = put_list(&mut *lists, list);
+        self.kept = Some(lists);
+        outcome
+    }
+
+    /// Leaves so many lists, the first ones. Takes no memory, and at most the time of the lists.
+    #[inline(never)]
+    pub fn truncate(&mut self, len: usize)
+        ensures { self.new ≡ take len self.old }
+    {
+        let Some(mut lists) = self.kept.take() else {
+            return;
+        };
+        lists.truncate(len);
+        self.kept = Some(lists);
+    }
+
+    /// The same lists, with memory of their own; `AllocError` where there is none. Takes the time of all their numbers.
+    #[inline(never)]
+    pub fn copied(&self, alloc: Global) -> Result<ListSet, AllocError>
+        ensures { IfOk result (λ lists. lists ≡ self.now) }
+    {
+        let Some(lists) = &self.kept else {
+            return Ok(ListSet::new());
+        };
+        let copy = Box::new(alloc, (**lists).clone()?)?;
+        Ok(ListSet { kept: Some(copy) })
+    }
+}
