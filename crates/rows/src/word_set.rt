@@ -118,7 +118,7 @@ impl WordSet {
     }
 
     // The same, where all are looked through.
-    #[inline(never)]
+    #[inline(always)]
     fn put_looked_through(&mut self, word: u128) -> Result<(), AllocError>
         ensures put { OnOk result (IsPut word self.old self.new) }
         ensures err { OnErr result (self.new ≡ self.old) }
