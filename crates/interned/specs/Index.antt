@@ -23,6 +23,7 @@ pub record IsLast (bucket_of : ℕ → ℕ) (bucket : ℕ) (hashes : List ℕ) (
 -- hash that of the one before it in its bucket
 pub record IsIndex (bucket_of : ℕ → ℕ) (hashes last before : List ℕ) : Type 0 where
   pub few : length before ≤ length hashes
+  pub buckets : length last < 2 ^ 32
   pub lasts : (b : ℕ) → b < length last → IsLast bucket_of b hashes (length before) (get_or last b 0)
   pub befores : (i : ℕ) → i < length before → IsLast bucket_of (bucket_of (get_or hashes i 0)) hashes i (get_or before i 0)
 

@@ -1,5 +1,5 @@
 //! An index of hashes: where each of them stands, by buckets.
-ghost use Rattle.std.specs.Prelude.{◌≡◌, ◌≢◌, ℕ, ◌+◌, ◌<◌, [], ◌∷◌, ◌++◌, map, length, get_or, Some, None, slice_get, vec_capacity, IfSome, IsFalse, IsTrue, OnOk};
+ghost use Rattle.std.specs.Prelude.{◌≡◌, ◌≢◌, ℕ, ◌+◌, ◌<◌, ◌^◌, [], ◌∷◌, ◌++◌, map, length, get_or, Some, None, slice_get, vec_capacity, IfSome, IsFalse, IsTrue, OnOk};
 ghost use Rattle.interned.specs.Index.{IsIndex, bucket, hash_by};
 
 use models::SeqObject;
@@ -11,10 +11,13 @@ use std::hash::{FoldHasher, Hash, Hasher};
 pub struct Index {
     pub hashes: Vec<u64>,
     /// Of each bucket the place of its last hash.
-    pub last: Vec<usize>,
+    pub last: Vec<u32>,
     /// Of each hash the place of the one before it in its bucket.
-    pub before: Vec<usize>,
+    pub before: Vec<u32>,
 }
+
+// There are always fewer hashes in an index, since its places are of 32 bits.
+const MANY: usize = 1073741820;
 
 /// The hash of the value. Takes no memory, and the time of what the value feeds.
 pub fn hash_of<T: Hash>(value: &T) -> u64
@@ -39,7 +42,7 @@ fn index_hash(index: &mut Index) -> Result<(), AllocError>
     requires index { IsIndex (bucket (length index.old.last.items)) index.old.hashes.items
         index.old.last.items index.old.before.items }
     requires left { length index.old.before.items < length index.old.hashes.items }
-    requires some { 0 < length index.old.last.items }
+    requires few { length index.old.hashes.items < length index.old.last.items }
     ensures index { IsIndex (bucket (length index.new.last.items)) index.new.hashes.items
         index.new.last.items index.new.before.items }
     ensures hashes { index.new.hashes.items ≡ index.old.hashes.items }
@@ -50,27 +53,33 @@ fn index_hash(index: &mut Index) -> Result<(), AllocError>
     let at = index.before.len();
     let its = bucket_of(index.hashes[at], index.last.len());
     index.before.push(index.last[its])?;
-    index.last[its] = at + 1;
+    index.last[its] = (at + 1) as u32;
     Ok(())
 }
 
-// Takes all hashes out of the buckets, and makes so many of these that there are more.
+// Takes all hashes out of the buckets, and makes so many of these that there are more. `AllocError` also where there are too
+// many hashes for that.
 fn make_buckets(index: &mut Index) -> Result<(), AllocError>
     ensures hashes { index.new.hashes.items ≡ index.old.hashes.items }
     ensures none { index.new.before.items ≡ [] }
     ensures last { (b : ℕ) → b < length index.new.last.items
         → get_or index.new.last.items b 0 ≡ 0 }
-    ensures some { OnOk result (0 < length index.new.last.items) }
+    ensures few { OnOk result (length index.new.hashes.items < length index.new.last.items) }
+    ensures buckets { length index.new.last.items < 2 ^ 32 }
 {
-    let wanted = index.hashes.len().saturating_mul(4).saturating_add(16);
+    let many = index.hashes.len();
     index.before.clear();
     index.last.clear();
-    index.last.resize(wanted, 0)?;
+    if many >= MANY {
+        return Err(AllocError);
+    }
+    index.last.resize(4 * many + 8, 0)?;
     Ok(())
 }
 
-/// Indexes all hashes, by more buckets than there are hashes. `AllocError` where memory was refused: then the hashes are as
-/// they were. Takes the time of the hashes that are not indexed yet, and of all where new buckets are made.
+/// Indexes all hashes, by more buckets than there are hashes. `AllocError` where memory was refused, or where there are too many
+/// hashes for places of 32 bits: then the hashes are as they were. Takes the time of the hashes that are not indexed yet, and of
+/// all where new buckets are made.
 #[inline(never)]
 pub fn index_all(index: &mut Index) -> Result<(), AllocError>
     requires index { IsIndex (bucket (length index.old.last.items)) index.old.hashes.items
@@ -79,7 +88,7 @@ pub fn index_all(index: &mut Index) -> Result<(), AllocError>
         index.new.last.items index.new.before.items }
     ensures hashes { index.new.hashes.items ≡ index.old.hashes.items }
     ensures all { OnOk result (length index.new.before.items ≡ length index.new.hashes.items) }
-    ensures some { OnOk result (0 < length index.new.last.items) }
+    ensures few { OnOk result (length index.new.hashes.items < length index.new.last.items) }
 {
     if index.last.len() <= index.hashes.len() {
         make_buckets(index)?;
@@ -129,12 +138,12 @@ pub fn place_of<M: SeqObject>(
     ensures none { result ≡ None → (at : ℕ) → slice_get items.now at ≢ Some state.now }
 {
     let its = bucket_of(hash, index.last.len());
-    let mut place = index.last[its];
+    let mut place = index.last[its] as usize;
     'chain: while place > 0 {
         if stands_at::<M>(items, &index.hashes, place - 1, hash, state) {
             return Some(place - 1);
         }
-        place = index.before[place - 1];
+        place = index.before[place - 1] as usize;
     }
     None
 }
@@ -144,7 +153,7 @@ pub fn put_behind(index: &mut Index, hash: u64)
     requires index { IsIndex (bucket (length index.old.last.items)) index.old.hashes.items
         index.old.last.items index.old.before.items }
     requires all { length index.old.before.items ≡ length index.old.hashes.items }
-    requires some { 0 < length index.old.last.items }
+    requires few { length index.old.hashes.items < length index.old.last.items }
     requires room { length index.old.hashes.items < vec_capacity index.old.hashes }
     requires places { length index.old.before.items < vec_capacity index.old.before }
     ensures index { IsIndex (bucket (length index.new.last.items)) index.new.hashes.items
@@ -154,5 +163,5 @@ pub fn put_behind(index: &mut Index, hash: u64)
     let its = bucket_of(hash, index.last.len());
     index.before.push_reserved(index.last[its]);
     index.hashes.push_reserved(hash);
-    index.last[its] = index.hashes.len();
+    index.last[its] = index.hashes.len() as u32;
 }

@@ -98,7 +98,7 @@ fn numbered<M: SeqObject>(
     requires states { AreStates M.State.hash_input items.old.items
         index.old.hashes.items index.old.last.items index.old.before.items }
     requires all { length index.old.before.items ≡ length index.old.hashes.items }
-    requires some { 0 < length index.old.last.items }
+    requires few { length index.old.hashes.items < length index.old.last.items }
     ensures there { IfOk result (λ at. slice_get items.new.items at ≡ Some state) }
     ensures front { IsFront items.old.items items.new.items }
     ensures states { AreStates M.State.hash_input items.new.items
@@ -116,9 +116,9 @@ fn numbered<M: SeqObject>(
     Ok(at)
 }
 
-/// The number of the state, which is put behind the others if it is new. `AllocError` where memory was refused: then the states
-/// are as they were. Takes the time of its hash, and of comparing it with the states of the same hash; where there are as many
-/// states as buckets, all are indexed anew.
+/// The number of the state, which is put behind the others if it is new. `AllocError` where memory was refused, or where there
+/// are too many states for places of 32 bits: then the states are as they were. Takes the time of its hash, and of comparing it
+/// with the states of the same hash; where there are as many states as buckets, all are indexed anew.
 #[inline(always)]
 pub fn number_of<M: SeqObject>(
     states: &mut States<M::State>,

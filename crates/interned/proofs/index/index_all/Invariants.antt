@@ -7,7 +7,7 @@ abbrev pub invariant-hashes : goal.invariant-hashes
 invariant-hashes l = record {
   index : IsIndex (bucket (length l.index.last.items)) l.index.hashes.items l.index.last.items l.index.before.items;
   same : l.index.hashes.items ≡ l.fn.index.hashes.items;
-  some : 0 < length l.index.last.items;
+  few : length l.index.hashes.items < length l.index.last.items;
 }
 
 abbrev pub decreases-hashes : goal.decreases-hashes

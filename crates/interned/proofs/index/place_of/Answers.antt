@@ -15,9 +15,9 @@ chain-init g c =
     let within = c.bucket_of-its.ensures.within in
     let lt : its < many = omega (arith, within, all) in
     let last : IsLast (bucket many) its i.hashes.items (length i.before.items) (get_or i.last.items its 0) = c.requires.index.lasts its lt in
-    let here : c.index-place.result.now ≡ get_or i.last.items its 0 = c.index-place.ensures ∙ get_or_default i.last.items its c.index-place.result.now 0 lt in
-    begins g.M.State.Hash.hash_input c.args.items.now i.hashes.items c.requires.hashes many c.args.hash (length i.before.items) c.index-place.result.now c.args.state.now c.requires.hash c.requires.all
-    (subst (λ b. IsLast (bucket many) b i.hashes.items (length i.before.items) c.index-place.result.now) is
+    let here : c.index.result.now ≡ get_or i.last.items its 0 = c.index.ensures ∙ get_or_default i.last.items its c.index.result.now 0 lt in
+    begins g.M.State.Hash.hash_input c.args.items.now i.hashes.items c.requires.hashes many c.args.hash (length i.before.items) c.index.result.now c.args.state.now c.requires.hash c.requires.all
+    (subst (λ b. IsLast (bucket many) b i.hashes.items (length i.before.items) c.index.result.now) is
     (subst (IsLast (bucket many) its i.hashes.items (length i.before.items)) (sym here) last))
 
 pub chain-preserved : goal.chain-preserved
@@ -30,8 +30,8 @@ chain-preserved g c =
     let all = c.requires.all in
     let lt : at < length i.before.items = omega (arith, some, within, all) in
     let last : IsLast (bucket many) (bucket many (get_or i.hashes.items at 0)) i.hashes.items at (get_or i.before.items at 0) = c.requires.index.befores at lt in
-    let here : c.index-place-in-chain.result.now ≡ get_or i.before.items at 0 = c.index-place-in-chain.ensures ∙ get_or_default i.before.items at c.index-place-in-chain.result.now 0 lt in
+    let here : c.index-in-chain.result.now ≡ get_or i.before.items at 0 = c.index-in-chain.ensures ∙ get_or_default i.before.items at c.index-in-chain.result.now 0 lt in
     let next : c.chain.place ≡ at + 1 = omega (arith, some) in
-    goes_on g.M.State.Hash.hash_input c.args.items.now i.hashes.items c.requires.hashes many c.args.hash c.chain.place at c.index-place-in-chain.result.now c.args.state.now c.requires.hash next
+    goes_on g.M.State.Hash.hash_input c.args.items.now i.hashes.items c.requires.hashes many c.args.hash c.chain.place at c.index-in-chain.result.now c.args.state.now c.requires.hash next
     (c.stands_at.ensures.none c.if-stands_at.false) c.chain.invariant
     (subst (IsLast (bucket many) (bucket many (get_or i.hashes.items at 0)) i.hashes.items at) (sym here) last)
