@@ -47,7 +47,7 @@ fn bits_for(long: usize, whole: bool) -> u32
     } else if whole || long > 30 {
         128 / (long as u32 + 2).max(4)
     } else {
-        64 / (long as u32 + 2).max(8)
+        64 / (long as u32 + 2).max(6)
     }
 }
 
