@@ -2,7 +2,7 @@
 use Rattle.std.proofs.Common.{◌≡◌, ℕ, zero, suc, Option, Some, IfSome, Result, Ok, Err, IfOk, OnOk, OnErr, List, [], ◌∷◌, slice_get, sym, ap, subst, ◌∙◌}
 use Rattle.std.specs.Map.{values_of}
 use Rattle.std.proofs.lemmas.Option.{none-some, same_Some}
-use Rattle.std.proofs.lemmas.Result.{IfOk-weaker, on_ok_weaker}
+use Rattle.std.proofs.lemmas.Result.{IfOk-weaker, on_ok_weaker, on_err_weaker}
 use Rattle.indexmap.specs.Layout.{set_value_at}
 use Rattle.history.specs.declared.event.Event.{Event}
 use Rattle.linspec.specs.declared.verdict.KeyStatus.{KeyStatus}
@@ -33,6 +33,11 @@ module _ (es rows : List (ℕ × KeyLineView)) (seen : es ≡ rows) (place : ℕ
   row_at : (key : ℕ) × (slice_get rows place ≡ Some (key, line))
   row_at = subst (λ (l : List (ℕ × KeyLineView)). (key : ℕ) × (slice_get l place ≡ Some (key, line))) seen (has_key es place line at)
 
+  written_now : nows (set_value_at es place after) ≡ set_value_at (nows rows) place after.now
+  written_now =
+      ap (λ (l : List (ℕ × KeyLineView)). nows (set_value_at l place after)) seen
+      ∙ map_written (λ (l : KeyLineView). l.now) rows place after
+
   -- the line is lent its events where all are
   pub line_lent : (lent : List Event) → AreRowsLentBy lent (nows rows) → AreLentBy lent line.now.events
   line_lent lent are = subst (λ (o : Option (ℕ × KeyHistory)). IfSome o (λ row. AreLentBy lent row.1.events)) (now_read rows place row_at.0 line row_at.1) (are place)
@@ -55,10 +60,23 @@ module _ (es rows : List (ℕ × KeyLineView)) (seen : es ≡ rows) (place : ℕ
 
     pub prepared_kept : OnOk r (after ≡ with_next (change line.now) (due line.now) line) → OnErr r (after ≡ at_rest line.now line.replayed) → nows (set_value_at es place after) ≡ nows rows
     prepared_kept ok err =
-        ap (λ (l : List (ℕ × KeyLineView)). nows (set_value_at l place after)) seen
-        ∙ map_written (λ (l : KeyLineView). l.now) rows place after
+        written_now
         ∙ ap (λ (h : KeyHistory). set_value_at (nows rows) place h) (now_kept r line after (change line.now) (due line.now) ok err)
         ∙ same_written (nows rows) place row_at.0 line.now (now_read rows place row_at.0 line row_at.1)
+
+  -- the line has one event more at once, or what it had
+  module _ {E : Type 0} (r : Result KeyStatus E) (next : KeyHistory → KeyHistory) where
+    pub pushed_status : IfOk r (IsStatusOf (next line.now)) → IfOk r (λ status. IfSome (slice_get rows place) (λ row. IsStatusOf (next row.1.now) status))
+    pushed_status = prepared_status r next (λ (_ : KeyHistory). 1)
+
+    pub pushed_rows : OnOk r (after.now ≡ next line.now) → OnOk r (IfSome (slice_get rows place) (λ row. nows (set_value_at es place after) ≡ set_value_at (nows rows) place (next row.1.now)))
+    pushed_rows = on_ok_weaker r
+        (λ (e : after.now ≡ next line.now). at_row rows place row_at.0 line (λ row. nows (set_value_at es place after) ≡ set_value_at (nows rows) place (next row.1.now)) row_at.1
+        (written_now ∙ ap (set_value_at (nows rows) place) e))
+
+    pub pushed_none : OnErr r (after.now ≡ line.now) → OnErr r (nows (set_value_at es place after) ≡ nows rows)
+    pushed_none = on_err_weaker r
+        (λ (e : after.now ≡ line.now). written_now ∙ ap (set_value_at (nows rows) place) e ∙ same_written (nows rows) place row_at.0 line.now (now_read rows place row_at.0 line row_at.1))
 
   -- what was prepared is dropped
   pub dropped : after ≡ without_next line → IfSome (slice_get rows place) (λ row. set_value_at es place after ≡ set_value_at rows place (without_next row.1))
