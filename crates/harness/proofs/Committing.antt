@@ -1,6 +1,8 @@
 -- What commit brings
 use Rattle.std.proofs.Common.{◌≡◌, ℕ, zero, suc, ◌<◌, Option, Some, None, IfSome, IsSome, option_map, option_and_then, List, [], ◌∷◌, ◌++◌, length, get_or, slice_get, map, refl, sym, ap, ◌∙◌, subst, arith}
 use Rattle.std.proofs.Math.ListN.{set}
+use Rattle.std.specs.declared.boxed.Box.{Box}
+use Rattle.std.specs.Global.{Global}
 use Rattle.history.specs.declared.event.Fault.{Fault}
 use Rattle.nemesis.specs.Schedules.{after_first}
 use Rattle.generators.specs.Sources.{SourceView, upcoming, committed}
@@ -59,16 +61,16 @@ module _ (monitor monitor' : MonitorView) (source source' : SourceView) (schedul
       (λ h e. ap (λ (x : MonitorView). seen x source schedule store tickets' Nothing) (monitor_done monitor monitor' h done e)
       ∙ ap (λ (l : List Ticket). seen (monitor_at_rest h) source schedule store l Nothing) stale))
 
-  pub draw_done : (t : Ticket) → change ≡ Invoke t → IfSome monitor.next (λ (next : JudgedHistory). monitor' ≡ monitor_at_rest next) → source' ≡ committed source → tickets' ≡ tickets ++ t ∷ [] → Brings (seen monitor' source' schedule store tickets' Nothing)
+  pub draw_done : (t : Box Ticket Global) → change ≡ Invoke t → IfSome monitor.next (λ (next : JudgedHistory). monitor' ≡ monitor_at_rest next) → source' ≡ committed source → tickets' ≡ tickets ++ t.value ∷ [] → Brings (seen monitor' source' schedule store tickets' Nothing)
   draw_done t is done moved pushed = to_change (Invoke t) (seen monitor' source' schedule store tickets' Nothing) is
-      (brings monitor.next (λ h. moved_on (upcoming source) (record old { judged = h; tickets = tickets ++ t ∷ [] })) (seen monitor' source' schedule store tickets' Nothing)
+      (brings monitor.next (λ h. moved_on (upcoming source) (record old { judged = h; tickets = tickets ++ t.value ∷ [] })) (seen monitor' source' schedule store tickets' Nothing)
       (λ h e. ap (λ (x : MonitorView). seen x source' schedule store tickets' Nothing) (monitor_done monitor monitor' h done e)
       ∙ ap (λ (x : SourceView). seen (monitor_at_rest h) x schedule store tickets' Nothing) moved
       ∙ ap (λ (l : List Ticket). seen (monitor_at_rest h) (committed source) schedule store l Nothing) pushed))
 
-  pub serve_done : (number : ℕ) (outcome : Outcome) → change ≡ Serving number outcome → IfSome store.next (λ (next : Cluster). store' ≡ store_at_rest next) → tickets' ≡ with_outcome number outcome tickets → Brings (seen monitor source schedule store' tickets' Nothing)
+  pub serve_done : (number : ℕ) (outcome : Box Outcome Global) → change ≡ Serving number outcome → IfSome store.next (λ (next : Cluster). store' ≡ store_at_rest next) → tickets' ≡ with_outcome number outcome.value tickets → Brings (seen monitor source schedule store' tickets' Nothing)
   serve_done number outcome is done noted = to_change (Serving number outcome) (seen monitor source schedule store' tickets' Nothing) is
-      (brings store.next (λ after. record old { store = after; tickets = with_outcome number outcome tickets }) (seen monitor source schedule store' tickets' Nothing)
+      (brings store.next (λ after. record old { store = after; tickets = with_outcome number outcome.value tickets }) (seen monitor source schedule store' tickets' Nothing)
       (λ s e. ap (λ (x : StoreView). seen monitor source schedule x tickets' Nothing) (store_done store store' s done e)
       ∙ ap (λ (l : List Ticket). seen monitor source schedule (store_at_rest s) l Nothing) noted))
 
@@ -105,15 +107,15 @@ noted tickets number outcome t after l is served =
     ∙ ap (λ (o : Option Ticket). served_at number outcome o tickets) (sym (at_place tickets number t l is))
 
 -- the same where the change was taken out, so that nothing is prepared any more
-pub serve_brings : (monitor : MonitorView) (source : SourceView) (schedule : List (ℕ × Fault)) (store store' : StoreView) (tickets tickets' : List Ticket) (change left : Change) (number : ℕ) (outcome : Outcome) → change ≡ Serving number outcome → left ≡ Nothing
-    → IfSome store.next (λ (next : Cluster). store' ≡ store_at_rest next) → tickets' ≡ with_outcome number outcome tickets
+pub serve_brings : (monitor : MonitorView) (source : SourceView) (schedule : List (ℕ × Fault)) (store store' : StoreView) (tickets tickets' : List Ticket) (change left : Change) (number : ℕ) (outcome : Box Outcome Global) → change ≡ Serving number outcome → left ≡ Nothing
+    → IfSome store.next (λ (next : Cluster). store' ≡ store_at_rest next) → tickets' ≡ with_outcome number outcome.value tickets
     → IfSome (next_of monitor source store (machine_of monitor source schedule store tickets) change) (λ (next : Machine). seen monitor source schedule store' tickets' left ≡ at_rest next)
 serve_brings monitor source schedule store store' tickets tickets' change left number outcome is nothing done same =
     subst (λ (x : Change). IfSome (next_of monitor source store (machine_of monitor source schedule store tickets) change) (λ (next : Machine). seen monitor source schedule store' tickets' x ≡ at_rest next)) (sym nothing)
     (serve_done monitor monitor source source schedule schedule store store' tickets tickets' change number outcome is done same)
 
-pub serve_sound : (monitor : MonitorView) (source : SourceView) (schedule : List (ℕ × Fault)) (store store' : StoreView) (tickets tickets' : List Ticket) (change left : Change) (number : ℕ) (outcome : Outcome) (room : ℕ) → change ≡ Serving number outcome → left ≡ Nothing
-    → IfSome store.next (λ (next : Cluster). store' ≡ store_at_rest next) → tickets' ≡ with_outcome number outcome tickets
+pub serve_sound : (monitor : MonitorView) (source : SourceView) (schedule : List (ℕ × Fault)) (store store' : StoreView) (tickets tickets' : List Ticket) (change left : Change) (number : ℕ) (outcome : Box Outcome Global) (room : ℕ) → change ≡ Serving number outcome → left ≡ Nothing
+    → IfSome store.next (λ (next : Cluster). store' ≡ store_at_rest next) → tickets' ≡ with_outcome number outcome.value tickets
     → IsSome (next_of monitor source store (machine_of monitor source schedule store tickets) change)
     → IfSome (next_of monitor source store (machine_of monitor source schedule store tickets) change) IsSoundMachine
     → IsSoundCore (machine_of monitor source schedule store' tickets') (next_of monitor source store' (machine_of monitor source schedule store' tickets') left) room left

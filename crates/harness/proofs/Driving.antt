@@ -1,5 +1,7 @@
 -- A draw, a serve, a finish and a fault that are prepared in the parts are prepared in the whole
 use Rattle.std.proofs.Common.{◌≡◌, ℕ, zero, suc, ◌%◌, ◌^◌, ◌-◌, ◌<◌, ◌≤◌, Option, Some, None, List, [], ◌∷◌, ◌++◌, length, slice_get, inl, inr, refl, sym, ap, ◌∙◌, subst, arith}
+use Rattle.std.specs.declared.boxed.Box.{Box}
+use Rattle.std.specs.Global.{Global}
 use Rattle.models.specs.declared.operation.Op.{Op}
 use Rattle.history.specs.declared.event.Event.{Event}
 use Rattle.history.specs.declared.event.Fault.{Fault}
@@ -93,11 +95,11 @@ module _ (monitor : MonitorView) (source : SourceView) (schedule : List (ℕ × 
         kept = given history (Thread thread) Done to shows gives
 
   -- a draw that is answered by an operation
-  pub drawn : (monitor' : MonitorView) (source' : SourceView) (tickets' : List Ticket) (history : HistoryView) (thread number index : ℕ) (op : Op) (t : Ticket) (v : Verdict)
+  pub drawn : (monitor' : MonitorView) (source' : SourceView) (tickets' : List Ticket) (history : HistoryView) (thread number index : ℕ) (op : Op) (t : Box Ticket Global) (v : Verdict)
       → IsSoundMachine m → source' ≡ record source { next = source'.next } → tickets' ≡ tickets → Shows monitor history → ThreadMayDraw m thread
       → GivesBy source history (Thread thread) (Gets (AnOp op)) (upcoming source')
       → number ≡ length tickets → index ≡ length monitor.now.events
-      → t ≡ fresh_ticket thread (current_process m thread) op monitor.now.events
+      → t.value ≡ fresh_ticket thread (current_process m thread) op monitor.now.events
       → monitor' ≡ monitor_with_next (with_event (invocation (current_process m thread) op) monitor.now) monitor
       → IsVerdictOn (with_event (invocation (current_process m thread) op) monitor.now) v
       → IsPrepared m (Draw thread) (HasDrawn number index, v) (seen monitor' source' schedule store tickets' (Invoke t))
@@ -107,7 +109,10 @@ module _ (monitor : MonitorView) (source : SourceView) (schedule : List (ℕ × 
     true,
     ap (λ (x : MonitorView). seen x source' schedule store tickets' (Invoke t)) brought
         ∙ ap (λ (l : List Ticket). seen with_it source' schedule store l (Invoke t)) same
-        ∙ ap (λ (u : Ticket). seen with_it source' schedule store tickets (Invoke u)) t_is
+        ∙ ap (λ (u : Ticket). let r : CoreView = record {
+          machine = machine_of with_it source' schedule store tickets;
+          next = Some (moved_on (upcoming source') (record (machine_of with_it source' schedule store tickets) { judged = with_event e monitor.now; tickets = tickets ++ u ∷ [] }));
+        } in r) t_is
         ∙ ap (λ (x : SourceView). let r : CoreView = record {
           machine = machine_of monitor x schedule store tickets;
           next = Some (moved_on (upcoming source') (record (machine_of monitor x schedule store tickets) { judged = with_event e monitor.now; tickets = tickets ++ fresh_ticket thread (current_process m thread) op monitor.now.events ∷ [] }));
@@ -121,18 +126,18 @@ module _ (monitor : MonitorView) (source : SourceView) (schedule : List (ℕ × 
       with_it = monitor_with_next (with_event e monitor.now) monitor
 
   -- a serve
-  pub served : (store' : StoreView) (number : ℕ) (t : Ticket) (outcome : Outcome) (v : Verdict) → HasTicket tickets number t → t.outcome ≡ None → IsStillOpen monitor.now.events t
-      → (next : Cluster) × MayServe store.now (t.thread % store.now.replicas) t.op outcome next × (store' ≡ record { now = store.now; next = Some next })
+  pub served : (store' : StoreView) (number : ℕ) (t : Ticket) (outcome : Box Outcome Global) (v : Verdict) → HasTicket tickets number t → t.outcome ≡ None → IsStillOpen monitor.now.events t
+      → (next : Cluster) × MayServe store.now (t.thread % store.now.replicas) t.op outcome.value next × (store' ≡ record { now = store.now; next = Some next })
       → IsVerdictOn monitor.now v
-      → IsPrepared m (Serve number) (Served outcome, v) (seen monitor source schedule store' tickets (Serving number outcome))
+      → IsPrepared m (Serve number) (Served outcome.value, v) (seen monitor source schedule store' tickets (Serving number outcome))
   served store' number t outcome v has none open_ may true = (
-    with_served number t outcome may.0 m,
+    with_served number t outcome.value may.0 m,
     (t, has, (none, open_, (may.0, may.1, refl))),
     true,
     ap (λ (x : StoreView). seen monitor source schedule x tickets (Serving number outcome)) may.2
         ∙ ap (λ (o : Option Ticket). let r : CoreView = record {
           machine = m;
-          next = Some (record m { store = may.0; tickets = served_at number outcome o tickets });
+          next = Some (record m { store = may.0; tickets = served_at number outcome.value o tickets });
         } in r) has.0,
   )
 
@@ -207,6 +212,13 @@ serves_here events shown tickets given number t same also h =
 pub finishes_here : (events shown : List Event) (tickets given : List Ticket) (number : ℕ) (event : Event) → shown ≡ events → given ≡ tickets → MayFinish shown given number event → MayFinish events tickets number event
 finishes_here events shown tickets given number event same also h =
     subst (λ (l : List Event). MayFinish l tickets number event) same (subst (λ (l : List Ticket). MayFinish shown l number event) also h)
+
+-- what a serve comes to, in a box
+pub in_box : (st st' : StoreView) (entry : ℕ) (op : Op) (outcome : Outcome) (boxed : Box Outcome Global) → boxed.value ≡ outcome
+    → (next : Cluster) × MayServe st.now entry op outcome next × (st' ≡ record { now = st.now; next = Some next })
+    → (next : Cluster) × MayServe st.now entry op boxed.value next × (st' ≡ record { now = st.now; next = Some next })
+in_box st st' entry op outcome boxed is h =
+    subst (λ (o : Outcome). (next : Cluster) × MayServe st.now entry op o next × (st' ≡ record { now = st.now; next = Some next })) (sym is) h
 
 -- the entry of a ticket's thread
 pub at_entry : (st st' : StoreView) (t : Ticket) (outcome : Outcome) (entry replicas : ℕ) → entry ≡ t.thread % replicas → replicas ≡ st.now.replicas

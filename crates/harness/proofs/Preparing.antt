@@ -14,6 +14,7 @@ use Rattle.test_store.specs.Store.{StoreView}
 use Rattle.trials.specs.declared.ticket.Ticket.{Ticket}
 use Rattle.linspec.specs.JudgedHistory.{JudgedHistory, IsVerdictOn, IsBudget, with_event, rewound, with_kind, with_budget}
 use Rattle.monitor.specs.Monitors.{MonitorView, Admits}
+use Rattle.monitor.specs.Monitors.{at_rest as monitor_at_rest}
 use Rattle.monitor.specs.Monitors.{with_next as monitor_with_next}
 use Rattle.machine.specs.declared.command.Command.{Command}
 use Rattle.machine.specs.declared.command.Command.TheVariants.{Append, Rewind, SetModel, SetBudget, Verdict as Ask}
@@ -47,6 +48,10 @@ readied m new command answer cap change s p ready = record {
   ready = ready;
 }
 
+-- a command that is carried out at once leads to a sound machine, with nothing prepared
+pub stepped : (m new : Machine) (command : Command) (reply : Reply) (cap : ℕ) → IsSoundMachine m → MayStep m command (Ok reply) new → IsSoundCore new None cap Nothing
+stepped m new command reply cap s step = record { now = sound_step m new command (Ok reply) step s; then = tt; ready = tt }
+
 -- why a command is refused
 pub declined : (m : Machine) (command : Command) (why : Refusal) → MayDecline m command why → (why ≡ NoMemory → ⊥) → Refuses m command why
 declined m command NoMemory h not = absurd (not refl)
@@ -64,6 +69,15 @@ module _ (monitor monitor' : MonitorView) (source : SourceView) (schedule : List
   pub appended : (event : Event) (v : Verdict) → Admits monitor.now event → monitor' ≡ monitor_with_next (with_event event monitor.now) monitor → IsVerdictOn (with_event event monitor.now) v
       → IsPrepared m (Append event) (Says v, v) (seen monitor' source schedule store tickets Judged)
   appended event v may is true = judged (with_event event monitor.now) (Append event) v (may, refl, true) true is
+
+  -- the same at once
+  pub appended_at_once : (event : Event) (v : Verdict) → Admits monitor.now event → monitor' ≡ monitor_at_rest (with_event event monitor.now) → IsVerdictOn (with_event event monitor.now) v
+      → MayStep m (Append event) (Ok (Says v)) (machine_of monitor' source schedule store tickets)
+  appended_at_once event v may is true = (
+    may,
+    ap (λ (x : MonitorView). machine_of x source schedule store tickets) is,
+    subst (λ (x : MonitorView). IsVerdictOn x.now v) (sym is) true,
+  )
 
   pub kind_set : (key : ℕ) (kind : ModelKind) (v : Verdict) → monitor' ≡ monitor_with_next (with_kind key kind monitor.now) monitor → IsVerdictOn (with_kind key kind monitor.now) v
       → IsPrepared m (SetModel key kind) (Says v, v) (seen monitor' source schedule store tickets Judged)

@@ -1,6 +1,6 @@
 -- A step of the whole is a step of the relation, and raises no false alarm
 use Rattle.std.proofs.Common.{◌≡◌, ◌≢◌, ◌∙◌, Bool, true, false, true≢false, Option, IfSome, Result, Ok, Err, IfOk, IfErr, List, [], ◌∷◌, ◌++◌, refl, sym, ap, subst}
-use Rattle.std.specs.Prelude.{IsErrOf}
+use Rattle.std.specs.Prelude.{IsErrOf, OnErr}
 use Rattle.edn.specs.declared.refusal.Refusal.{Refusal}
 use Rattle.edn.specs.declared.refusal.Refusal.TheVariants.{NoMemory}
 use Rattle.history.specs.Events.{marks}
@@ -26,6 +26,18 @@ arm_refused (Err why) m command arm is h = λ not. subst (λ (c : Command). MayS
 pub arm_memory : {T : Type 0} (r : Result T Refusal) (m : Machine) (command arm : Command) → command ≡ arm → IfErr r (MayDecline m arm) → IsErrOf r NoMemory → MayWantMemory m command
 arm_memory (Ok x) m command arm is h e = cc
 arm_memory (Err why) m command arm is h e = (let q : why ≡ NoMemory = cc in subst (MayWantMemory m) (sym is) (subst (MayDecline m arm) q h))
+
+-- a command that is carried out as its arm says
+pub arm_steps : (r : Outcome) (m new : Machine) (command arm : Command) → command ≡ arm → IfOk r (λ (reply : Reply). MayStep m arm (Ok reply) new) → IfErr r (MayDecline m arm) → OnErr r (new ≡ m) → r ≢ Err NoMemory
+    → MayStep m command r new
+arm_steps (Ok reply) m new command arm is ok refused err not = subst (λ (c : Command). MayStep m c (Ok reply) new) (sym is) ok
+arm_steps (Err why) m new command arm is ok refused err not =
+    subst (λ (c : Command). MayStep m c (Err why) new) (sym is)
+    (declined m arm why refused (λ same. not (ap (λ (w : Refusal). let x : Outcome = Err w in x) same)), err)
+
+pub arm_stays : (r : Outcome) (m new : Machine) → OnErr r (new ≡ m) → r ≡ Err NoMemory → new ≡ m
+arm_stays (Ok reply) m new err is = absurd (cc is)
+arm_stays (Err why) m new err is = err
 
 runs_on : (m mid end : Machine) (run : List (Command × Outcome)) (x : Command × Outcome) → Runs m run mid → MayStep mid x.0 x.1 end → Runs m (run ++ x ∷ []) end
 runs_on m mid end [] x is step = (end, subst (λ (s : Machine). MayStep s x.0 x.1 end) (sym is) step, refl)

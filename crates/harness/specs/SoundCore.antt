@@ -57,12 +57,12 @@ next_of monitor source store m (Rewind n) =
     option_map (λ h. record m { judged = h; tickets = map (stale_from n) m.tickets }) monitor.next
 next_of monitor source store m (Draw t) =
     option_map
-    (λ h. moved_on (upcoming source) (record m { judged = h; tickets = m.tickets ++ t ∷ [] }))
+    (λ h. moved_on (upcoming source) (record m { judged = h; tickets = m.tickets ++ t.value ∷ [] }))
     monitor.next
 next_of monitor source store m (Serve number outcome) =
     option_map (λ after. record m {
       store = after;
-      tickets = with_outcome number outcome m.tickets;
+      tickets = with_outcome number outcome.value m.tickets;
     }) store.next
 next_of monitor source store m StrikeDue =
     option_and_then

@@ -25,7 +25,8 @@ use std::marker::Model;
 /// schedule of faults, a replicated store in the process, and a ticket for each operation that was drawn. Linearizability is
 /// that of Herlihy and Wing (1990).
 ///
-/// Each command is prepared, which may be refused and changes nothing but what is prepared, and then committed.
+/// Each command is prepared, which may be refused and changes nothing but what is prepared, and then committed;
+/// [`step`](Core::step) does both in one call.
 #[derive(Drop)]
 pub struct Core {
     // In a box, so that whoever drops a core calls one function for it.
@@ -107,8 +108,8 @@ impl Core {
         self.inner.commit();
     }
 
-    /// Carries out a command, and gives its reply: [`prepare`](Core::prepare) and [`commit`](Core::commit) in one, with the
-    /// time of both.
+    /// Carries out a command, and gives its reply, as [`prepare`](Core::prepare) and [`commit`](Core::commit) do, in the time
+    /// of both. An event is appended with nothing to be kept between the two.
     ///
     /// # Errors
     /// Those of [`prepare`](Core::prepare); the machine then stays as it was.
@@ -131,9 +132,7 @@ impl Core {
             (marks (entries_in self.new.machine.judged)) }
     {
         no_false_alarm();
-        let (reply, _) = self.prepare(command)?;
-        self.commit();
-        Ok(reply)
+        self.inner.step(command)
     }
 
     /// The verdict on the history as it stands. Takes no memory, and constant time.

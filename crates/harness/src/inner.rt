@@ -39,10 +39,10 @@ enum Change {
     Judged,
     /// A cut of the history at this length.
     Rewind(u32),
-    /// An invocation, and its ticket.
-    Draw(Ticket),
-    /// The serve of the ticket with this number, and what it comes to.
-    Serve(usize, Outcome),
+    /// An invocation, and its ticket. It is large, so it stands apart.
+    Draw(Box<Ticket>),
+    /// The serve of the ticket with this number, and what it comes to, which stands apart too.
+    Serve(usize, Box<Outcome>),
     /// The fault that is due.
     StrikeDue,
     /// A fault that the generator gave.
@@ -52,6 +52,7 @@ enum Change {
 /// The parts of the one-thread object, and what is prepared in them.
 #[derive(Drop)]
 pub(crate) struct Inner {
+    alloc: Global,
     monitor: Monitor,
     source: Source,
     schedule: Schedule,
@@ -94,6 +95,7 @@ impl Inner {
         let monitor = Monitor::new(alloc, config.concurrency, config.kind, config.budget)?;
         let store = Store::new(alloc, config.replicas, config.mode, config.kind)?;
         Ok(Inner {
+            alloc,
             monitor,
             source: Source::new(alloc, config.generator, config.seed),
             schedule: config.schedule,
@@ -145,11 +147,11 @@ impl Inner {
             Change::Draw(ticket) => {
                 self.monitor.commit();
                 self.source.commit();
-                self.tickets.push_reserved(ticket);
+                self.tickets.push_reserved(Box::into_inner(ticket));
             }
             Change::Serve(number, outcome) => {
                 self.store.commit();
-                come_to(&mut self.tickets[number], outcome);
+                come_to(&mut self.tickets[number], Box::into_inner(outcome));
             }
             Change::StrikeDue => {
                 self.monitor.commit();
@@ -161,6 +163,24 @@ impl Inner {
                 self.store.commit();
                 self.source.commit();
             }
+        }
+    }
+
+    /// Carries out a command: an event at once, and each other command by `prepare` and `commit`. See `Core::step`.
+    pub fn step(&mut self, command: Command) -> Result<Reply, Refusal>
+        ensures steps { result ≢ Err Refusal.NoMemory →
+            MayStep self.old.machine command result self.new.machine }
+        ensures no_memory { result ≡ Err Refusal.NoMemory → self.new.machine ≡ self.old.machine }
+        ensures rests { self.new ≡ at_rest self.new.machine }
+        // The verdict takes no memory and is never refused.
+        ensures asked { command ≡ Command.Verdict → IsOk result }
+        // Want of memory is answered last.
+        ensures memory_last { IsErrOf result Refusal.NoMemory →
+            MayWantMemory self.old.machine command }
+    {
+        match command {
+            Command::Append(event) => self.append(event),
+            other => self.prepare_and_commit(other),
         }
     }
 
@@ -176,6 +196,34 @@ impl Inner {
         ensures { result.now.now ≡ self.now.machine.judged }
     {
         &self.monitor
+    }
+
+    // Carries out a command, by both halves.
+    fn prepare_and_commit(&mut self, command: Command) -> Result<Reply, Refusal>
+        ensures steps { result ≢ Err Refusal.NoMemory →
+            MayStep self.old.machine command result self.new.machine }
+        ensures no_memory { result ≡ Err Refusal.NoMemory → self.new.machine ≡ self.old.machine }
+        ensures rests { self.new ≡ at_rest self.new.machine }
+        ensures asked { command ≡ Command.Verdict → IsOk result }
+        ensures memory_last { IsErrOf result Refusal.NoMemory →
+            MayWantMemory self.old.machine command }
+    {
+        let (reply, _) = self.prepare(command)?;
+        self.commit();
+        Ok(reply)
+    }
+
+    // Appends an event, with nothing to be kept between the halves.
+    fn append(&mut self, event: Event) -> Result<Reply, Refusal>
+        ensures answered { IfOk result (λ reply.
+            MayStep self.old.machine (Command.Append event) (Ok reply) self.new.machine) }
+        ensures refused { IfErr result (MayDecline self.old.machine (Command.Append event)) }
+        ensures err { OnErr result (self.new.machine ≡ self.old.machine) }
+        ensures rests { self.new ≡ at_rest self.new.machine }
+    {
+        self.change = Change::Nothing;
+        let verdict = self.monitor.append(event)?;
+        Ok(Reply::Verdict(verdict))
     }
 
     // Prepares that an event comes next.
@@ -253,7 +301,8 @@ impl Inner {
                 let number = self.tickets.len() as u32;
                 let index = self.monitor.history().len();
                 let (ticket, verdict) = invoke(&mut self.monitor, &mut self.tickets, thread, op)?;
-                self.change = Change::Draw(ticket);
+                let boxed = Box::new(self.alloc, ticket)?;
+                self.change = Change::Draw(boxed);
                 Ok((
                     Reply::Drawn {
                         ticket: number,
@@ -285,7 +334,8 @@ impl Inner {
         let entry = entry_of(ticket.thread, self.store.replicas());
         let outcome = self.store.prepare_serve(entry, &ticket.op)?;
         let copy = outcome.copy()?;
-        self.change = Change::Serve(number as usize, outcome);
+        let boxed = Box::new(self.alloc, outcome)?;
+        self.change = Change::Serve(number as usize, boxed);
         Ok((Reply::Served(copy), self.monitor.verdict()))
     }
 

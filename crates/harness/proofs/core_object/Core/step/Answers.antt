@@ -1,20 +1,16 @@
-use Rattle.std.proofs.Common.{Err, ap, ◌∙◌}
-use Rattle.std.proofs.lemmas.Result.{err_from_is_err_and}
-use Rattle.edn.specs.declared.refusal.Refusal.{Refusal}
-use Rattle.harness.specs.CoreView.{CoreView}
-use Rattle.harness.proofs.Stepping.{Outcome, refused_alarm, answered_alarm, committed_as}
+use Rattle.std.proofs.Common.{ap, subst, ◌∙◌}
+use Rattle.machine.specs.Machine.{MayStep}
+use Rattle.harness.specs.CoreView.{CoreView, MayWantMemory}
+use Rattle.harness.proofs.Stepping.{no_alarm}
 use Rattle.harness.proofs.core_object.Core.step.Goals as goal
 
-pub returns-in_err-reply-clause-no_alarm : goal.returns-in_err-reply-clause-no_alarm
-returns-in_err-reply-clause-no_alarm c =
-    let r = c.from_residual.result in
-    let told = c.in_err-reply.ensures in
-    let (e, same, from) = err_from_is_err_and r c.from_residual.ensures.1 in
-    refused_alarm c.no_false_alarm.ensures.linearizable c.args.self.now.machine c.prepare.new.self.machine c.args.command r c.in_err-reply.field-0.0
-    (same ∙ ap (λ (w : Refusal). let x : Outcome = Err w in x) from) told.refused (ap (λ (v : CoreView). v.machine) told.err)
+pub returns-clause-memory_last : goal.returns-clause-memory_last
+returns-clause-memory_last c no_memory =
+    subst (λ (s : CoreView). MayWantMemory s.machine c.args.command) (c.deref_mut.ensures.value ∙ c.self.view_is) (c.step.ensures.memory_last no_memory)
 
 pub returns-clause-no_alarm : goal.returns-clause-no_alarm
 returns-clause-no_alarm c =
-    let a = c.in_ok-reply.ensures.answered in
-    answered_alarm c.no_false_alarm.ensures.linearizable c.args.self.now.machine c.commit.new.self.machine c.args.command c.in_ok-reply.reply a.0 a.1
-    (committed_as c.prepare.new.self c.commit.new.self c.args.self.now.machine a.0 a.3 c.commit.ensures)
+    let is = c.deref_mut.ensures.value ∙ c.self.view_is in
+    no_alarm c.no_false_alarm.ensures.linearizable c.args.self.now.machine c.step.new.self.machine c.args.command c.step.result
+    (λ not. subst (λ (s : CoreView). MayStep s.machine c.args.command c.step.result c.step.new.self.machine) is (c.step.ensures.steps not))
+    (λ no_memory. c.step.ensures.no_memory no_memory ∙ ap (λ (s : CoreView). s.machine) is)

@@ -63,16 +63,17 @@ invariant_of-self-in-Op c =
     let is_op : c.in_ok-op.field-0 ≡ DrewOp op = c.in-Op.is in
     let gives = subst (λ (d : Drew). MayGiveOp a.source idle c.args.thread d to) is_op c.in_ok-op.ensures.answer in
     let v = c.in_ok-ticket-in-Op.verdict in
-    let t = c.in_ok-ticket-in-Op.ticket in
+    let t = c.in_ok-boxed-in-Op.boxed in
+    let t_is = c.in_ok-boxed-in-Op.ensures.ok ∙ c.in_ok-ticket-in-Op.ensures.ticket in
     let told = c.in_ok-ticket-in-Op.ensures in
     let index : c.len-index.result ≡ length a.monitor.now.events = c.len-index.ensures.value ∙ ap (λ (l : List Event). length l) c.history-in-Op.ensures.events in
     let number : c.len-number.result ≡ length a.tickets.items = omega (arith, c.len-number.ensures) in
     let p = drawn a.monitor a.source a.schedule a.store a.tickets.items c.invoke.new.monitor c.draw_op.new.source c.invoke.new.tickets.items shown c.args.thread c.len-number.result c.len-index.result op t v
-    c.self.invariant.now c.draw_op.ensures.kept told.tickets shows may gives number index told.ticket told.prepared told.verdict in
+    c.self.invariant.now c.draw_op.ensures.kept told.tickets shows may gives number index t_is told.prepared told.verdict in
     readied m (seen c.invoke.new.monitor c.draw_op.new.source a.schedule a.store c.invoke.new.tickets.items (Invoke t)) (Draw c.args.thread) (HasDrawn c.len-number.result c.len-index.result, v) (vec_capacity c.invoke.new.tickets) (Invoke t) c.self.invariant.now p (omega (arith, told.room))
 
-pub returns-in_ok-ticket-in-Op-clause-answered : goal.returns-in_ok-ticket-in-Op-clause-answered
-returns-in_ok-ticket-in-Op-clause-answered c =
+pub returns-in_ok-boxed-in-Op-clause-answered : goal.returns-in_ok-boxed-in-Op-clause-answered
+returns-in_ok-boxed-in-Op-clause-answered c =
     let a = c.self.inside in
     let m = machine_of a.monitor a.source a.schedule a.store a.tickets.items in
     let here = is_of a.monitor a.source a.schedule a.store a.tickets.items c.as_slice.result.now c.history.result.now (c.history.ensures.concurrency, c.history.ensures.events) c.as_slice.ensures.value in
@@ -85,12 +86,13 @@ returns-in_ok-ticket-in-Op-clause-answered c =
     let is_op : c.in_ok-op.field-0 ≡ DrewOp op = c.in-Op.is in
     let gives = subst (λ (d : Drew). MayGiveOp a.source idle c.args.thread d to) is_op c.in_ok-op.ensures.answer in
     let v = c.in_ok-ticket-in-Op.verdict in
-    let t = c.in_ok-ticket-in-Op.ticket in
+    let t = c.in_ok-boxed-in-Op.boxed in
+    let t_is = c.in_ok-boxed-in-Op.ensures.ok ∙ c.in_ok-ticket-in-Op.ensures.ticket in
     let told = c.in_ok-ticket-in-Op.ensures in
     let index : c.len-index.result ≡ length a.monitor.now.events = c.len-index.ensures.value ∙ ap (λ (l : List Event). length l) c.history-in-Op.ensures.events in
     let number : c.len-number.result ≡ length a.tickets.items = omega (arith, c.len-number.ensures) in
     let p = drawn a.monitor a.source a.schedule a.store a.tickets.items c.invoke.new.monitor c.draw_op.new.source c.invoke.new.tickets.items shown c.args.thread c.len-number.result c.len-index.result op t v
-    c.self.invariant.now c.draw_op.ensures.kept told.tickets shows may gives number index told.ticket told.prepared told.verdict in
+    c.self.invariant.now c.draw_op.ensures.kept told.tickets shows may gives number index t_is told.prepared told.verdict in
     subst (λ (s : CoreView). IsPrepared s.machine (Draw c.args.thread) (HasDrawn c.len-number.result c.len-index.result, v) (seen c.invoke.new.monitor c.draw_op.new.source a.schedule a.store c.invoke.new.tickets.items (Invoke t))) c.self.view_is p
 
 pub returns-in-Pending-clause-answered : goal.returns-in-Pending-clause-answered
@@ -150,4 +152,20 @@ returns-in_err-ticket-in-Op-clause-refused c =
     let is_op : c.in_ok-op.field-0 ≡ DrewOp op = c.in-Op.is in
     let gives = subst (λ (d : Drew). MayGiveOp a.source idle c.args.thread d to) is_op c.in_ok-op.ensures.answer in
     wants_at c.from_residual-in_err-ticket-in-Op.result _ c.args.self.now (Draw c.args.thread) c.from_residual-in_err-ticket-in-Op.ensures.1 c.self.view_is
+    (may, has_operation a.monitor a.source a.schedule a.store a.tickets.items shown c.args.thread shows (op, to, gives))
+
+pub returns-in_err-boxed-in-Op-clause-refused : goal.returns-in_err-boxed-in-Op-clause-refused
+returns-in_err-boxed-in-Op-clause-refused c =
+    let a = c.self.inside in
+    let m = machine_of a.monitor a.source a.schedule a.store a.tickets.items in
+    let here = is_of a.monitor a.source a.schedule a.store a.tickets.items c.as_slice.result.now c.history.result.now (c.history.ensures.concurrency, c.history.ensures.events) c.as_slice.ensures.value in
+    let may : ThreadMayDraw m c.args.thread = c.in_ok-test_draw.ensures.ok m here in
+    let shown = c.history-2.result.now in
+    let shows : Shows a.monitor shown = (c.history-2.ensures.concurrency, c.history-2.ensures.events) in
+    let to = upcoming c.draw_op.new.source in
+    let idle = idle_from shown.concurrency shown.events 0 shown.concurrency in
+    let op = c.in-Op.op in
+    let is_op : c.in_ok-op.field-0 ≡ DrewOp op = c.in-Op.is in
+    let gives = subst (λ (d : Drew). MayGiveOp a.source idle c.args.thread d to) is_op c.in_ok-op.ensures.answer in
+    wants_at c.from_residual-in_err-boxed-in-Op.result _ c.args.self.now (Draw c.args.thread) c.from_residual-in_err-boxed-in-Op.ensures.1 c.self.view_is
     (may, has_operation a.monitor a.source a.schedule a.store a.tickets.items shown c.args.thread shows (op, to, gives))

@@ -1,4 +1,4 @@
-use Rattle.std.proofs.Common.{sym, subst}
+use Rattle.std.proofs.Common.{sym, subst, ◌∙◌}
 use Rattle.std.specs.Vec.{vec_capacity}
 use Rattle.std.proofs.lemmas.Result.{err_from_is_err_and}
 use Rattle.machine.specs.declared.command.Command.TheVariants.{Serve}
@@ -11,7 +11,7 @@ use Rattle.harness.specs.CoreView.{CoreView, IsPrepared}
 use Rattle.harness.specs.SoundCore.{machine_of}
 use Rattle.harness.specs.Tickets.{MayServe as MayBeServed}
 use Rattle.harness.proofs.Preparing.{seen, readied, is_of, declines_at}
-use Rattle.harness.proofs.Driving.{served, versions_fit, number_below, serves_here, at_entry}
+use Rattle.harness.proofs.Driving.{served, versions_fit, number_below, serves_here, in_box, at_entry}
 use Rattle.harness.proofs.inner.Inner.prepare_serve.Goals as goal
 
 pub returns-in_err-ticket-clause-refused : goal.returns-in_err-ticket-clause-refused
@@ -34,12 +34,13 @@ invariant_of-self-2 c =
     let a = c.self.inside in
     let t : Ticket = c.in_ok-ticket.ticket.now in
     let st : StoreView = a.store in
-    let outcome : Outcome = c.in_ok-outcome.outcome in
+    let outcome = c.in_ok-boxed.boxed in
     let v = c.verdict.result in
     let ok : MayBeServed a.monitor.now.events a.tickets.items c.args.number t = serves_here _ _ _ _ c.args.number t c.history.ensures.events c.as_slice.ensures.value c.in_ok-ticket.ensures.ok in
-    let may = at_entry st c.prepare_serve.new.self t outcome c.entry_of-entry.result c.replicas.result c.entry_of-entry.ensures.entry c.replicas.ensures.value c.in_ok-outcome.ensures.served in
+    let may = at_entry st c.prepare_serve.new.self t outcome.value c.entry_of-entry.result c.replicas.result c.entry_of-entry.ensures.entry c.replicas.ensures.value
+    (in_box st c.prepare_serve.new.self c.entry_of-entry.result t.op c.in_ok-outcome.outcome outcome c.in_ok-boxed.ensures.ok c.in_ok-outcome.ensures.served) in
     let p = served a.monitor a.source a.schedule st a.tickets.items c.prepare_serve.new.self c.args.number t outcome v ok.0 ok.1 ok.2 may c.verdict.ensures in
-    readied (machine_of a.monitor a.source a.schedule st a.tickets.items) (seen a.monitor a.source a.schedule c.prepare_serve.new.self a.tickets.items (Serving c.args.number outcome)) (Serve c.args.number) (Served outcome, v) (vec_capacity a.tickets) (Serving c.args.number outcome) c.self.invariant.now p
+    readied (machine_of a.monitor a.source a.schedule st a.tickets.items) (seen a.monitor a.source a.schedule c.prepare_serve.new.self a.tickets.items (Serving c.args.number outcome)) (Serve c.args.number) (Served outcome.value, v) (vec_capacity a.tickets) (Serving c.args.number outcome) c.self.invariant.now p
     (number_below a.tickets.items c.args.number t ok.0.0)
 
 pub returns-clause-answered : goal.returns-clause-answered
@@ -47,10 +48,11 @@ returns-clause-answered c =
     let a = c.self.inside in
     let t : Ticket = c.in_ok-ticket.ticket.now in
     let st : StoreView = a.store in
-    let outcome : Outcome = c.in_ok-outcome.outcome in
+    let outcome = c.in_ok-boxed.boxed in
     let v = c.verdict.result in
     let ok : MayBeServed a.monitor.now.events a.tickets.items c.args.number t = serves_here _ _ _ _ c.args.number t c.history.ensures.events c.as_slice.ensures.value c.in_ok-ticket.ensures.ok in
-    let may = at_entry st c.prepare_serve.new.self t outcome c.entry_of-entry.result c.replicas.result c.entry_of-entry.ensures.entry c.replicas.ensures.value c.in_ok-outcome.ensures.served in
+    let may = at_entry st c.prepare_serve.new.self t outcome.value c.entry_of-entry.result c.replicas.result c.entry_of-entry.ensures.entry c.replicas.ensures.value
+    (in_box st c.prepare_serve.new.self c.entry_of-entry.result t.op c.in_ok-outcome.outcome outcome c.in_ok-boxed.ensures.ok c.in_ok-outcome.ensures.served) in
     let p = served a.monitor a.source a.schedule st a.tickets.items c.prepare_serve.new.self c.args.number t outcome v ok.0 ok.1 ok.2 may c.verdict.ensures in
-    subst (λ (o : Outcome). IsPrepared c.args.self.now.machine (Serve c.args.number) (Served o, v) (seen a.monitor a.source a.schedule c.prepare_serve.new.self a.tickets.items (Serving c.args.number outcome))) (sym c.in_ok-copy.ensures)
-    (subst (λ (s : CoreView). IsPrepared s.machine (Serve c.args.number) (Served outcome, v) (seen a.monitor a.source a.schedule c.prepare_serve.new.self a.tickets.items (Serving c.args.number outcome))) c.self.view_is p)
+    subst (λ (o : Outcome). IsPrepared c.args.self.now.machine (Serve c.args.number) (Served o, v) (seen a.monitor a.source a.schedule c.prepare_serve.new.self a.tickets.items (Serving c.args.number outcome))) (c.in_ok-boxed.ensures.ok ∙ sym c.in_ok-copy.ensures)
+    (subst (λ (s : CoreView). IsPrepared s.machine (Serve c.args.number) (Served outcome.value, v) (seen a.monitor a.source a.schedule c.prepare_serve.new.self a.tickets.items (Serving c.args.number outcome))) c.self.view_is p)

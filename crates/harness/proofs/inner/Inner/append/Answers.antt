@@ -1,0 +1,29 @@
+use Rattle.std.proofs.Common.{subst}
+use Rattle.std.specs.Vec.{vec_capacity}
+use Rattle.std.specs.Prelude.{Ok}
+use Rattle.machine.specs.declared.command.Command.TheVariants.{Append}
+use Rattle.machine.specs.declared.command.Reply.TheVariants.{Verdict as Says}
+use Rattle.machine.specs.Machine.{MayStep}
+use Rattle.harness.specs.CoreView.{CoreView}
+use Rattle.harness.specs.SoundCore.{machine_of}
+use Rattle.harness.proofs.Preparing.{stepped, appended_at_once}
+use Rattle.harness.proofs.inner.Inner.append.Goals as goal
+
+pub invariant_of-self-2 : goal.invariant_of-self-2
+invariant_of-self-2 c =
+    let a = c.self.inside in
+    let v = c.in_ok-verdict.verdict in
+    let told = c.in_ok-verdict.ensures in
+    let monitor = c.append.new.self in
+    stepped (machine_of a.monitor a.source a.schedule a.store a.tickets.items) (machine_of monitor a.source a.schedule a.store a.tickets.items)
+    (Append c.args.event) (Says v) (vec_capacity a.tickets) c.self.invariant.now
+    (appended_at_once a.monitor monitor a.source a.schedule a.store a.tickets.items c.args.event v told.well_formed told.appended told.verdict)
+
+pub returns-clause-answered : goal.returns-clause-answered
+returns-clause-answered c =
+    let a = c.self.inside in
+    let v = c.in_ok-verdict.verdict in
+    let told = c.in_ok-verdict.ensures in
+    let monitor = c.append.new.self in
+    subst (λ (s : CoreView). MayStep s.machine (Append c.args.event) (Ok (Says v)) (machine_of monitor a.source a.schedule a.store a.tickets.items)) c.self.view_is
+    (appended_at_once a.monitor monitor a.source a.schedule a.store a.tickets.items c.args.event v told.well_formed told.appended told.verdict)
