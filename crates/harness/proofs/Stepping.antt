@@ -1,10 +1,9 @@
 -- A step of the whole is a step of the relation, and raises no false alarm
-use Rattle.std.proofs.Common.{◌≡◌, ◌≢◌, ◌∙◌, Bool, true, false, true≢false, Option, IfSome, Result, Ok, Err, IfOk, IfErr, List, [], ◌∷◌, ◌++◌, refl, sym, ap, subst}
+use Rattle.std.proofs.Common.{◌≡◌, ◌≢◌, ◌∙◌, Bool, true, false, true≢false, Result, Ok, Err, IfOk, IfErr, List, [], ◌∷◌, ◌++◌, refl, sym, ap, subst}
 use Rattle.std.specs.Prelude.{IsErrOf, OnErr}
 use Rattle.edn.specs.declared.refusal.Refusal.{Refusal}
 use Rattle.edn.specs.declared.refusal.Refusal.TheVariants.{NoMemory}
 use Rattle.history.specs.Events.{marks}
-use Rattle.linspec.specs.declared.verdict.Verdict.{Verdict}
 use Rattle.linspec.specs.Orders.{IsLinearizable, product}
 use Rattle.test_store.specs.declared.outcome.Mode.TheVariants.{Strict}
 use Rattle.test_store.specs.Store.{IsCount}
@@ -12,17 +11,13 @@ use Rattle.linspec.specs.JudgedHistory.{kind_of, entries_in}
 use Rattle.machine.specs.declared.command.Command.{Command}
 use Rattle.machine.specs.declared.command.Reply.{Reply}
 use Rattle.machine.specs.Machine.{Machine, Setup, opening, MayStep, Runs, AreOfTrial}
-use Rattle.harness.specs.CoreView.{CoreView, at_rest, with_next, IsPrepared, MayWantMemory, MayDecline}
+use Rattle.harness.specs.CoreView.{MayWantMemory, MayDecline}
 use Rattle.harness.proofs.Preparing.{declined}
 
 abbrev pub Outcome : Type 0
 Outcome = Result Reply Refusal
 
--- a command that may be refused for this is refused so by the relation, or memory ran out after all tests
-pub arm_refused : {T : Type 0} (r : Result T Refusal) (m : Machine) (command arm : Command) → command ≡ arm → IfErr r (MayDecline m arm) → IfErr r (λ (why : Refusal). why ≢ NoMemory → MayStep m command (Err why) m)
-arm_refused (Ok x) m command arm is h = tt
-arm_refused (Err why) m command arm is h = λ not. subst (λ (c : Command). MayStep m c (Err why) m) (sym is) (declined m arm why h not, refl)
-
+-- a command that may be refused for want of memory may want it
 pub arm_memory : {T : Type 0} (r : Result T Refusal) (m : Machine) (command arm : Command) → command ≡ arm → IfErr r (MayDecline m arm) → IsErrOf r NoMemory → MayWantMemory m command
 arm_memory (Ok x) m command arm is h e = cc
 arm_memory (Err why) m command arm is h e = (let q : why ≡ NoMemory = cc in subst (MayWantMemory m) (sym is) (subst (MayDecline m arm) q h))
@@ -79,26 +74,3 @@ no_alarm law old new command result steps stays setup run strict count ok runs =
     by_result : (r : Outcome) → result ≡ r → NoAlarm new
     by_result (Ok reply) is = stepped (steps (λ same. (let q : ◌≡◌ {A = Outcome} (Ok reply) (Err NoMemory) = sym is ∙ same in cc)))
     by_result (Err why) is = by_why why (is_memory why) refl is
-
--- a command that is answered as its arm says
-pub arm_answered : (r : Result (Reply × Verdict) Refusal) (m : Machine) (command arm : Command) (new : CoreView) → command ≡ arm → IfOk r (λ (a : Reply × Verdict). IsPrepared m arm a new) → IfOk r (λ (a : Reply × Verdict). IsPrepared m command a new)
-arm_answered r m command arm new is h = subst (λ (c : Command). IfOk r (λ (a : Reply × Verdict). IsPrepared m c a new)) (sym is) h
-
--- the same where the command was refused, and where it was answered
-module _ (law : Law) (old new : Machine) (command : Command) where
-  pub refused_alarm : (result : Outcome) (why : Refusal) → result ≡ Err why → (why ≢ NoMemory → MayStep old command (Err why) old) → new ≡ old
-      → (setup : Setup) (run : List (Command × Outcome)) → setup.mode ≡ Strict → IsCount setup.replicas → AreOfTrial (run ++ (command, result) ∷ []) → Runs (opening setup) run old → NoAlarm new
-  refused_alarm result why is may same = no_alarm law old new command result
-      (λ not. subst (λ (r : Outcome). MayStep old command r new) (sym is) (subst (λ (m : Machine). MayStep old command (Err why) m) (sym same) (may (λ q. not (is ∙ ap (λ (w : Refusal). let r : Outcome = Err w in r) q)))))
-      (λ _. same)
-
-  pub answered_alarm : (reply : Reply) (next : Machine) → MayStep old command (Ok reply) next → new ≡ next
-      → (setup : Setup) (run : List (Command × Outcome)) → setup.mode ≡ Strict → IsCount setup.replicas → AreOfTrial (run ++ (command, Ok reply) ∷ []) → Runs (opening setup) run old → NoAlarm new
-  answered_alarm reply next step same = no_alarm law old new command (Ok reply)
-      (λ _. subst (λ (m : Machine). MayStep old command (Ok reply) m) (sym same) step)
-      (λ q. absurd (cc q))
-
--- what was committed is what was prepared
-pub committed_as : (prepared new : CoreView) (m next : Machine) → prepared ≡ with_next m next → IfSome prepared.next (λ (n : Machine). new ≡ at_rest n) → new.machine ≡ next
-committed_as prepared new m next is done =
-    ap (λ (v : CoreView). v.machine) (subst (λ (o : Option Machine). IfSome o (λ (n : Machine). new ≡ at_rest n)) (ap (λ (v : CoreView). v.next) is) done)
