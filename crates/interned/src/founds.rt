@@ -13,9 +13,9 @@ use std::collections::BTreeMap;
 use std::marker::Model;
 
 // So many are compared in turn, which is fastest where there are no more; the others are looked up.
-const FIRST: usize = 8;
+const FIRST: usize = 16;
 
-/// Different things that were found, each with a number, which is one more than its place. The first eight are compared in
+/// Different things that were found, each with a number, which is one more than its place. The first sixteen are compared in
 /// turn, and the others are found by the order of their keys.
 #[derive(Drop)]
 pub struct Founds {
@@ -69,12 +69,18 @@ impl Founds {
     }
 }
 
-// Where it stands among the first.
+// Where it stands among the first. It is compared with the very first, which most often is that nothing is told, and then with
+// those that came last, since these are found again most often.
 fn place_in_first(items: &[Found], found: &Found) -> Option<usize>
     ensures there { IfSome result (λ at. slice_get items.now at ≡ Some found.now) }
-    ensures none { result ≡ None → (at : ℕ) → at < 8 → slice_get items.now at ≢ Some found.now }
+    ensures none { result ≡ None → (at : ℕ) → at < 16 → slice_get items.now at ≢ Some found.now }
 {
-    for at in 0..items.len().min(FIRST) {
+    let few = items.len().min(FIRST);
+    if few > 0 && items[0].same(found) {
+        return Some(0);
+    }
+    for behind in 0..few {
+        let at = few - 1 - behind;
         if items[at].same(found) {
             return Some(at);
         }
@@ -111,7 +117,7 @@ fn put(founds: &mut Founds, found: Found) -> Result<(), AllocError>
 
 /// The number of what was found: one more than where it stands. It is put behind the others if it is new. `AllocError` where
 /// there is no memory for it, or where as many share the members of a set as can be counted: then nothing is put. It is
-/// compared with the first eight, and else looked up: the time grows with the logarithm of their number.
+/// compared with the first sixteen, and else looked up: the time grows with the logarithm of their number.
 #[inline(always)]
 pub fn slot_at(founds: &mut Founds, found: Found) -> Result<usize, AllocError>
     ensures slot { IfOk result (λ slot. IsSlot founds.new slot (Some found)) }
@@ -127,7 +133,7 @@ pub fn slot_at(founds: &mut Founds, found: Found) -> Result<usize, AllocError>
 // The same, of what does not stand among the first.
 #[inline(never)]
 fn slot_behind(founds: &mut Founds, found: Found) -> Result<usize, AllocError>
-    requires { (at : ℕ) → at < 8 → slice_get founds.old at ≢ Some found }
+    requires { (at : ℕ) → at < 16 → slice_get founds.old at ≢ Some found }
     ensures slot { IfOk result (λ slot. IsSlot founds.new slot (Some found)) }
     ensures front { IsFront founds.old founds.new }
     ensures once { IsOnceIn founds.old → IsOnceIn founds.new }
