@@ -31,7 +31,9 @@ pub enum Change<S: Hash + Drop> {
 pub fn drop_change<S: Hash + Drop>(change: &mut Change<S>)
     ensures { change.new ≡ Change.Nothing }
 {
-    *change = Change::Nothing;
+    if !matches!(change, Change::Nothing) {
+        *change = Change::Nothing;
+    }
 }
 
 /// The same operation, if there is one, which shares the members of a set. Takes constant time, and no memory; `AllocError`

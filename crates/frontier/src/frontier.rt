@@ -257,9 +257,9 @@ impl<M: SeqObject> Frontier<M> {
         }
     }
 
-    // Whether most states of the table are no longer those of a row.
+    // Whether seven of eight states of the table, or more, are no longer those of a row.
     fn is_crowded(&self) -> bool {
-        self.table.states.len() / 4 > self.table.rows.len().saturating_add(8)
+        self.table.states.len() / 8 > self.table.rows.len().saturating_add(8)
     }
 
     // The same as `list_fresh`, with another table, in the memory of the one before.
