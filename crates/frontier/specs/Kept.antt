@@ -1,6 +1,6 @@
 -- Invariant: how a frontier keeps the ends of the histories of one key that it stands for. No layer above cites how:
 -- public clauses cite `StandsFor`, `WillStandFor`, `budget_of` and `applied_of` alone
-use Rattle.std.specs.Prelude.{◌≡◌, ◌↔◌, ℕ, ◌≤◌, Option, Some, None, List, [], ◌∷◌, ◌++◌, length, take}
+use Rattle.std.specs.Prelude.{◌≡◌, ◌≢◌, ◌↔◌, ℕ, ◌-◌, ◌≤◌, Option, Some, None, List, [], ◌∷◌, ◌++◌, length, take}
 use Rattle.std.specs.List.{filter}
 use Rattle.models.specs.Objects.{Object}
 use Rattle.history.specs.Events.{Mark}
@@ -13,6 +13,8 @@ use Rattle.frontier.specs.declared.change.Fresh.{Fresh}
 use Rattle.frontier.specs.declared.change.Change.{Change}
 use Rattle.frontier.specs.declared.change.Change.TheVariants.{Nothing, Anew, Done, Invoked as ToInvoked}
 use Rattle.frontier.specs.declared.frontier.Frontier.{Frontier}
+use Rattle.frontier.specs.declared.frontier.Step.{Step}
+use Rattle.frontier.specs.declared.frontier.Step.TheVariants.{Alive, Dead, Over}
 use Rattle.ends.specs.KeptEnds.{IsWellKept}
 use Rattle.ends.specs.Tables.{AreShown, with_rows}
 use Rattle.ends.specs.EndSteps.{AreClosed, IsReached, is_other}
@@ -70,6 +72,17 @@ Makes (Anew calls table tried) f g = IsOf g table.value calls.items tried f.fres
 pub record WillStandFor {M : Type 0} (o : Object) (f : Frontier M o.State) (marks : List Mark)
     : Type 0 where
   pub will : (g : Frontier M o.State) → Makes f.next f g → StandsFor o g marks
+
+-- with the rows of the room in place of its own, and without the operation among its calls, the frontier will stand for the history
+abbrev pub WillBeWithout : {M : Type 0} → ℕ → (o : Object) → Frontier M o.State → List Mark → Type 0
+WillBeWithout {M} id o f marks =
+    (g : Frontier M o.State) → Makes (Done id (length f.calls.items - 1)) f g → StandsFor o g marks
+
+-- the step where so many ends are left: Alive where there are some, else Dead
+pub record IsStepOf (ends : ℕ) (step : Step) : Type 0 where
+  pub alive : (step ≡ Alive) ↔ (ends ≢ 0)
+  pub dead : (step ≡ Dead) ↔ (ends ≡ 0)
+  pub never_over : step ≢ Over
 
 -- the frontier stands for the history, and nothing is prepared
 pub record IsIdle {M : Type 0} (o : Object) (f : Frontier M o.State) (marks : List Mark)

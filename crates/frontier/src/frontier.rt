@@ -1,9 +1,12 @@
 //! Frontiers, and what each event does to one.
-ghost use Rattle.std.specs.Prelude.{◌≡◌, ◌≢◌, ◌↔◌, List, [], IfOk, OnOk, OnErr, MatchResult};
+ghost use Rattle.std.specs.Prelude.{◌≡◌, ◌↔◌, List, [], true, false, length, IfOk, OnOk, OnErr, MatchResult};
+ghost use Rattle.std.specs.List.{filter};
 ghost use Rattle.models.specs.Objects.{of_table};
 ghost use Rattle.history.specs.Events.{Mark};
 ghost use Rattle.history.specs.Events.Mark.{Invoked, Returned, Failed, Crashed};
-ghost use Rattle.frontier.specs.Kept.{StandsFor, WillStandFor, IsListed, IsIdle};
+ghost use Rattle.ends.specs.EndSteps.{is_other};
+ghost use Rattle.ends.specs.Tables.{with_rows};
+ghost use Rattle.frontier.specs.Kept.{StandsFor, WillStandFor, WillBeWithout, IsListed, IsIdle, IsStepOf};
 ghost use Rattle.frontier.specs.Meaning.{Answers, Keeps, Takes, TakesUnlessOver};
 ghost use Rattle.frontier.specs.Kept.{IsOf, applied_of, budget_of};
 ghost use Rattle.frontier.specs.Meaning.{CostsAtMost, mark_by};
@@ -50,9 +53,7 @@ pub struct Frontier<M: SeqObject> {
 
 // Alive where some end is left, else Dead.
 fn step_of(ends: usize) -> Step
-    ensures alive { (result ≡ Step.Alive) ↔ (ends ≢ 0) }
-    ensures dead { (result ≡ Step.Dead) ↔ (ends ≡ 0) }
-    ensures never_over { result ≢ Step.Over }
+    ensures { IsStepOf ends result }
 {
     if ends == 0 { Step::Dead } else { Step::Alive }
 }
@@ -105,7 +106,7 @@ impl<M: SeqObject> Frontier<M> {
     /// answer. An invocation and an info are answered Alive, since they kill nothing. Over where the event is an ok and more
     /// ends than the budget stand just before it: then, and on `AllocError`, the frontier stands for what it stood for; the
     /// steps that were made stay counted, and the call that was noted last may have its place in the rows. It is
-    /// [`prepare`](Self::prepare) and [`commit`](Self::commit) in one.
+    /// [`prepare`](Self::prepare) and [`commit`](Self::commit) in one, with nothing kept between the two.
     pub fn observe(&mut self, id: u32, kind: EventKind, op: &Op) -> Result<Step, AllocError>
         ensures step { let object = of_table M.State M.start_state M.apply_to in
             let old = StandsFor object self.old in
@@ -120,9 +121,21 @@ impl<M: SeqObject> Frontier<M> {
             CostsAtMost (budget_of self.old) old (mark_by id kind op.now)
             (applied_of self.old) (applied_of self.new) }
     {
-        let step = self.prepare(id, kind, op)?;
-        self.commit();
-        Ok(step)
+        match kind {
+            EventKind::Invoke => {
+                self.invoke(id, op.copy()?)?;
+                Ok(Step::Alive)
+            }
+            EventKind::Ok => {
+                let answer = Answer::of_part(op.part.copy()?);
+                self.ok(id, &answer)
+            }
+            EventKind::Fail => self.fail(id),
+            EventKind::Info => {
+                self.crash(id)?;
+                Ok(Step::Alive)
+            }
+        }
     }
 
     /// Prepares any event of an operation, and gives its answer, as [`observe`](Self::observe) does, at the same cost. The
@@ -170,13 +183,23 @@ impl<M: SeqObject> Frontier<M> {
         match replace(&mut self.next, Change::Nothing) {
             Change::Nothing => {}
             Change::Invoked(fresh) => self.fresh = Some(fresh),
-            Change::Done(id, tried) => {
-                self.table.rows.trade(&mut self.room.rows);
-                ends::drop_call(&mut self.calls, id);
-                self.tried = tried;
-            }
+            Change::Done(id, tried) => self.take_left(id, tried),
             Change::Anew(calls, table, tried) => self.take_anew(calls, table, tried),
         }
+    }
+
+    // The rows of the room take the place of the others, the operation is among the calls no longer, and so many of them count as
+    // tried.
+    #[inline(always)]
+    fn take_left(&mut self, id: u32, tried: usize)
+        ensures is { IsOf self.new (with_rows self.old.table self.old.room.rows)
+            (filter (is_other id) self.old.calls.items) tried self.old.fresh }
+        ensures budget { budget_of self.new ≡ budget_of self.old }
+        ensures cost { applied_of self.new ≡ applied_of self.old }
+    {
+        self.table.rows.trade(&mut self.room.rows);
+        ends::drop_call(&mut self.calls, id);
+        self.tried = tried;
     }
 
     // These calls and this table take the place of the others, and so many of the calls count as tried.
@@ -201,8 +224,8 @@ impl<M: SeqObject> Frontier<M> {
         ensures budget { budget_of self.new ≡ budget_of self.old }
         ensures cost { applied_of self.new ≡ applied_of self.old }
     {
-        self.prepare_invoke(id, op)?;
-        self.commit();
+        self.list_fresh()?;
+        self.fresh = Some(Fresh { id, op });
         Ok(())
     }
 
@@ -311,21 +334,33 @@ impl<M: SeqObject> Frontier<M> {
             CostsAtMost (budget_of self.old) old (Returned id answer.now)
             (applied_of self.old) (applied_of self.new) }
     {
-        let step = self.prepare_ok(id, answer)?;
-        self.commit();
-        Ok(step)
+        if self.find_left(id, answer)? {
+            let step = step_of(self.room.rows.len());
+            let tried = self.calls.len().saturating_sub(1);
+            self.take_left(id, tried);
+            Ok(step)
+        } else {
+            Ok(Step::Over)
+        }
     }
 
-    // The first half of `ok`: the rows that are left are put into the room, and take the others' place at `commit`.
-    fn prepare_ok(&mut self, id: u32, answer: &Answer) -> Result<Step, AllocError>
-        ensures step { let object = of_table M.State M.start_state M.apply_to in
-            let old = StandsFor object self.old in
-            IfOk result (Answers object (budget_of self.old) old (Returned id answer.now)) }
+    // Finds all ends there are just before an ok, and puts the rows that are left after it into the room. False where there are more
+    // ends than the budget. What was prepared is dropped, and the frontier stands for what it stood for.
+    fn find_left(&mut self, id: u32, answer: &Answer) -> Result<bool, AllocError>
         ensures now { let object = of_table M.State M.start_state M.apply_to in
             Keeps (StandsFor object self.old) (StandsFor object self.new) }
-        ensures next { let object = of_table M.State M.start_state M.apply_to in
-            let old = StandsFor object self.old in let next = WillStandFor object self.new in
-            IfOk result (TakesUnlessOver old next (Returned id answer.now)) }
+        ensures idle { let object = of_table M.State M.start_state M.apply_to in
+            OnOk result (Keeps (StandsFor object self.old) (IsIdle object self.new)) }
+        ensures over { let object = of_table M.State M.start_state M.apply_to in
+            let old = StandsFor object self.old in IfOk result (λ all. all ≡ false →
+            Answers object (budget_of self.old) old (Returned id answer.now) Step.Over) }
+        ensures step { let object = of_table M.State M.start_state M.apply_to in
+            let old = StandsFor object self.old in IfOk result (λ all. all ≡ true →
+            (s : Step) → IsStepOf (length self.new.room.rows) s →
+            Answers object (budget_of self.old) old (Returned id answer.now) s) }
+        ensures left { let object = of_table M.State M.start_state M.apply_to in
+            let old = StandsFor object self.old in IfOk result (λ all. all ≡ true →
+            Takes old (WillBeWithout id object self.new) (Returned id answer.now)) }
         ensures budget { budget_of self.new ≡ budget_of self.old }
         ensures cost { let object = of_table M.State M.start_state M.apply_to in
             let old = StandsFor object self.old in
@@ -344,7 +379,26 @@ impl<M: SeqObject> Frontier<M> {
             id,
             answer,
         )?;
-        if !all {
+        Ok(all)
+    }
+
+    // The first half of `ok`: the rows that are left are put into the room, and take the others' place at `commit`.
+    fn prepare_ok(&mut self, id: u32, answer: &Answer) -> Result<Step, AllocError>
+        ensures step { let object = of_table M.State M.start_state M.apply_to in
+            let old = StandsFor object self.old in
+            IfOk result (Answers object (budget_of self.old) old (Returned id answer.now)) }
+        ensures now { let object = of_table M.State M.start_state M.apply_to in
+            Keeps (StandsFor object self.old) (StandsFor object self.new) }
+        ensures next { let object = of_table M.State M.start_state M.apply_to in
+            let old = StandsFor object self.old in let next = WillStandFor object self.new in
+            IfOk result (TakesUnlessOver old next (Returned id answer.now)) }
+        ensures budget { budget_of self.new ≡ budget_of self.old }
+        ensures cost { let object = of_table M.State M.start_state M.apply_to in
+            let old = StandsFor object self.old in
+            CostsAtMost (budget_of self.old) old (Returned id answer.now)
+            (applied_of self.old) (applied_of self.new) }
+    {
+        if !self.find_left(id, answer)? {
             return Ok(Step::Over);
         }
         let tried = self.calls.len().saturating_sub(1);

@@ -17,9 +17,7 @@ returns-in-Invoked-clause-stands g c marks =
 pub returns-in-Done-clause-stands : goal.returns-in-Done-clause-stands
 returns-in-Done-clause-stands g c marks =
     let o = of_table g.row.M-State.Denot g.M.SeqObject.start_state g.M.SeqObject.apply_to in
-    let f = c.args.self.now in
-    made_by o f _ marks (Done c.in-Done.id c.in-Done.tried) c.in-Done.ensures.value
-    ((λ i. record { states = f.table.states; founds = f.table.founds; rows = c.trade.ensures.mine i }), c.drop_call.ensures, refl, refl)
+    made_by o c.args.self.now _ marks (Done c.in-Done.id c.in-Done.tried) c.in-Done.ensures.value c.take_left.ensures.is
 
 pub returns-in-Anew-clause-stands : goal.returns-in-Anew-clause-stands
 returns-in-Anew-clause-stands g c marks =

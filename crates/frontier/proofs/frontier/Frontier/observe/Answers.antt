@@ -1,11 +1,4 @@
-use Rattle.std.proofs.Common.{sym, subst}
-use Rattle.models.specs.Objects.{of_table}
-use Rattle.frontier.specs.Kept.{StandsFor}
-use Rattle.frontier.specs.Meaning.{CostsAtMost, mark_by}
 use Rattle.frontier.proofs.frontier.Frontier.observe.Goals as goal
 
-pub returns-clause-cost : goal.returns-clause-cost
-returns-clause-cost g c =
-    let o = of_table g.row.M-State.Denot g.M.SeqObject.start_state g.M.SeqObject.apply_to in
-    let f = c.args.self.now in
-    subst (λ a. CostsAtMost f.budget (StandsFor o f) (mark_by c.args.id c.args.kind c.args.op.now) f.applied a) (sym c.commit.ensures.cost) c.in_ok-step.ensures.cost
+pub returns-in_ok-copy-in-Ok-clause-cost : goal.returns-in_ok-copy-in-Ok-clause-cost
+returns-in_ok-copy-in-Ok-clause-cost g c = rw c.in-Ok.is c.ok.ensures.cost

@@ -5,8 +5,8 @@ use Rattle.frontier.specs.Kept.{StandsFor}
 use Rattle.frontier.specs.Meaning.{CostsAtMost}
 use Rattle.frontier.proofs.frontier.Frontier.ok.Goals as goal
 
-pub returns-clause-cost : goal.returns-clause-cost
-returns-clause-cost g c =
+pub returns-then-branch-clause-cost : goal.returns-then-branch-clause-cost
+returns-then-branch-clause-cost g c =
     let o = of_table g.row.M-State.Denot g.M.SeqObject.start_state g.M.SeqObject.apply_to in
     let f = c.args.self.now in
-    subst (λ a. CostsAtMost f.budget (StandsFor o f) (Returned c.args.id c.args.answer.now) f.applied a) (sym c.commit.ensures.cost) c.in_ok-step.ensures.cost
+    subst (λ a. CostsAtMost f.budget (StandsFor o f) (Returned c.args.id c.args.answer.now) f.applied a) (sym c.take_left.ensures.cost) c.find_left.ensures.cost
