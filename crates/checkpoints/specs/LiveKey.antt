@@ -48,6 +48,10 @@ pub record WillBeLive (kind : ModelKind) (budget : ℕ) (events : List (ℕ × E
   pub knows : KnowsOpen events live
   pub closed : (p : ℕ) → live.closes ≡ Some p → busy_of events p ≡ None
 
+-- the process that is to be closed has no open operation
+abbrev pub ClosesDone : List (ℕ × Event) → LiveKey → Type 0
+ClosesDone events live = (p : ℕ) → live.closes ≡ Some p → busy_of events p ≡ None
+
 -- the operation that an event is of, where this one was open
 abbrev pub id_by : ℕ → EventKind → Option ℕ → Option ℕ
 id_by index Invoke was = Some index

@@ -10,6 +10,7 @@ ghost use Rattle.checkpoints.specs.Next.{IsNext};
 
 use crate::live_key::LiveKey;
 use crate::next::Next;
+use frontier::Step;
 use history::Event;
 use linspec::KeyStatus;
 use models::ModelKind;
@@ -88,13 +89,16 @@ impl KeyState {
             (λ _. IsKeyState kind budget (events ++ (index, event.now) ∷ []) self.new)
             (λ _. IsKeyState kind budget events self.new) }
     {
-        match self.prepare(index, event) {
-            Ok(next) => {
-                self.commit(next);
-                Ok(())
-            }
-            Err(no_memory) => Err(no_memory),
+        let step = match self {
+            KeyState::Alive(live) => live.go_on(index, event)?,
+            KeyState::Dead(_) | KeyState::Over(_) => return Ok(()),
+        };
+        match step {
+            Step::Alive => {}
+            Step::Dead => *self = KeyState::Dead(index),
+            Step::Over => *self = KeyState::Over(index),
         }
+        Ok(())
     }
 
     /// How the key stands with the events at these places too. Each is counted.

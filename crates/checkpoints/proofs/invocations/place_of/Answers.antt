@@ -1,6 +1,6 @@
-use Rattle.std.proofs.Common.{◌≡◌, ℕ, suc, ◌+◌, None, Some, take, get_or, sym, ap, ◌∙◌, subst, arith}
+use Rattle.std.proofs.Common.{◌≡◌, ℕ, suc, ◌+◌, None, Some, take, get_or, ap, ◌∙◌, subst, arith}
 use Rattle.std.proofs.lemmas.Option.{slice_get-get_or}
-use Rattle.checkpoints.specs.Noted.{IsNotedAt, noted_of}
+use Rattle.checkpoints.specs.Noted.{noted_of}
 use Rattle.checkpoints.proofs.Noted.{passed_over}
 use Rattle.checkpoints.proofs.invocations.place_of.Goals as goal
 

@@ -1,5 +1,4 @@
-use Rattle.std.proofs.Common.{◌≡◌, ◌≢◌, ℕ, List, Some, slice_get, sym, ap, ◌∙◌, subst}
-use Rattle.std.specs.List.{remove}
+use Rattle.std.proofs.Common.{ℕ, List, ap, ◌∙◌, subst}
 use Rattle.checkpoints.specs.Noted.{IsNotedAt, noted_of}
 use Rattle.checkpoints.proofs.Noted.{noted_others}
 use Rattle.checkpoints.proofs.invocations.Invocations.forget.Goals as goal

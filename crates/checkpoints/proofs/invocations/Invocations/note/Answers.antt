@@ -1,4 +1,4 @@
-use Rattle.std.proofs.Common.{◌≡◌, ℕ, cond, nat_eq, List, Some, None, refl, sym, ap, ◌∙◌, subst}
+use Rattle.std.proofs.Common.{◌≡◌, ℕ, cond, nat_eq, List, Some, None, refl, ap, ◌∙◌, subst}
 use Rattle.checkpoints.specs.Noted.{IsNotedAt, noted_of}
 use Rattle.checkpoints.proofs.Noted.{noted_set, noted_more}
 use Rattle.checkpoints.proofs.invocations.Invocations.note.Goals as goal

@@ -1,4 +1,4 @@
-use Rattle.std.proofs.Common.{◌≡◌, Some, ap, ◌∙◌, sym, arith}
+use Rattle.std.proofs.Common.{Some, ap, ◌∙◌, sym, arith}
 use Rattle.checkpoints.proofs.Soundness.{has_place, IsSoundLine-pushed, IsSoundLine-changed}
 use Rattle.checkpoints.proofs.key_line.KeyLine.commit.Goals as goal
 
