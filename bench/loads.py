@@ -2,7 +2,7 @@
 """Times the built program on histories of one key with many operations open at once: `loads.py [RUNS]`.
 
 Prints processor time of `script` and of `check`, the least of several runs, the peak memory of `script`, and of its replies
-through two pipes the median and the slowest.
+through two pipes the median and the slowest; beside them the median that the two pipes take by themselves, which is that of `cat`.
 """
 import os
 import pathlib
@@ -61,8 +61,8 @@ def replies(text, call):
 
 def main():
     runs = int(sys.argv[1]) if len(sys.argv) > 1 else 3
-    print("| Kind, clients, budget | Events | Exit status | `script` | Events a second | Peak memory | `check` | A reply, median | Slowest |")
-    print("|---|---|---|---|---|---|---|---|---|")
+    print("| Kind, clients, budget | Events | Exit status | `script` | Events a second | Peak memory | `check` | A reply, median | Of it the pipes | Slowest |")
+    print("|---|---|---|---|---|---|---|---|---|---|")
     for load, model, clients, budget, events in LOADS:
         text = pathlib.Path(f"/tmp/jepmon-load-{load}-{clients}-{budget}.edn")
         text.write_text("".join(line + "\n" for line in lines(events, clients, 1, load)))
@@ -70,8 +70,9 @@ def main():
         seconds, peak, status = min(whole(script, text) for _ in range(runs))
         recorded, _, _ = min(whole([*words("check", model, clients, budget), str(text)], "/dev/null") for _ in range(runs))
         median, slowest = min((replies(text, script) for _ in range(runs)), key=lambda pair: pair[1])
+        pipes = min(replies(text, ["cat"])[0] for _ in range(runs))
         print(f"| {load}, {clients}, {budget:,} | {events:,} | {status} | {seconds:.3f} s | {events / max(seconds, 0.001):,.0f} | {peak:.0f} MiB "
-              f"| {recorded:.3f} s | {median * 1e3:.0f} us | {slowest:.1f} ms |", flush=True)
+              f"| {recorded:.3f} s | {median * 1e3:.1f} us | {pipes * 1e3:.1f} us | {slowest:.1f} ms |", flush=True)
         text.unlink()
 
 
