@@ -6,9 +6,9 @@ use Rattle.interned.specs.declared.found_key.FoundKey.{FoundKey}
 use Rattle.interned.specs.contracts.found_key.FoundKeyOrd.TheImpl.{cmp-value}
 use Rattle.interned.specs.FoundKeys.{found_of}
 
--- what stands behind the first sixteen is found by its key, and what a key finds is the number of what it is the key of
+-- what stands behind the first thirty-two is found by its key, and what a key finds is the number of what it is the key of
 pub record AreSlots (slots : BTreeMap FoundKey ℕ) (founds : List Found) : Type 0 where
-  pub has : (n : ℕ) (key : FoundKey) → 16 ≤ n → slice_get founds n ≡ Some (found_of key) →
+  pub has : (n : ℕ) (key : FoundKey) → 32 ≤ n → slice_get founds n ≡ Some (found_of key) →
       get cmp-value.it slots key ≢ None
   pub stands : (key : FoundKey) (slot : ℕ) → get cmp-value.it slots key ≡ Some slot →
       (at : ℕ) × (slot ≡ at + 1) × (slice_get founds at ≡ Some (found_of key))

@@ -1,6 +1,6 @@
 //! What was found, by number.
-ghost use Rattle.std.specs.Prelude.{◌≡◌, ◌≢◌, ◌≤◌, ◌<◌, ◌++◌, ◌∷◌, [], ℕ, List, Some, None};
-ghost use Rattle.std.specs.Prelude.{length, slice_get, option_copied, IfOk, OnOk, OnErr, IfSome};
+ghost use Rattle.std.specs.Prelude.{◌≡◌, ◌≢◌, ◌↔◌, ◌≤◌, ◌<◌, ◌++◌, ◌∷◌, [], ℕ, List, Some, None};
+ghost use Rattle.std.specs.Prelude.{length, IsTrue, slice_get, option_copied, IfOk, OnOk, OnErr, IfSome};
 ghost use Rattle.history.specs.Events.{IsFront};
 ghost use Rattle.interned.specs.FoundKeys.{found_of};
 ghost use Rattle.interned.specs.Founds.{AreSlots};
@@ -13,9 +13,9 @@ use std::collections::BTreeMap;
 use std::marker::Model;
 
 // So many are compared in turn, which is fastest where there are no more; the others are looked up.
-const FIRST: usize = 16;
+const FIRST: usize = 32;
 
-/// Different things that were found, each with a number, which is one more than its place. The first sixteen are compared in
+/// Different things that were found, each with a number, which is one more than its place. The first thirty-two are compared in
 /// turn, and the others are found by the order of their keys.
 #[derive(Drop)]
 pub struct Founds {
@@ -69,11 +69,51 @@ impl Founds {
     }
 }
 
-// Where it stands among the first. It is compared with the very first, which most often is that nothing is told, and then with
-// those that came last, since these are found again most often.
-fn place_in_first(items: &[Found], found: &Found) -> Option<usize>
+// Where nothing to tell stands among the first, which is most often near their front.
+fn place_of_unit(items: &[Found]) -> Option<usize>
+    ensures there { IfSome result (λ at. slice_get items.now at ≡ Some Found.Unit) }
+    ensures none { result ≡ None → (at : ℕ) → at < 32 → slice_get items.now at ≢ Some Found.Unit }
+{
+    let few = items.len().min(FIRST);
+    for at in 0..few {
+        if matches!(items[at], Found::Unit) {
+            return Some(at);
+        }
+    }
+    None
+}
+
+// Where this front of a queue stands among the first. It is compared with those that came last, and then with those before, since
+// the last are found again most often.
+fn place_of_item(items: &[Found], value: i64) -> Option<usize>
+    ensures there { IfSome result (λ at. slice_get items.now at ≡ Some (Found.Item value)) }
+    ensures none { result ≡ None → (at : ℕ) → at < 32
+        → slice_get items.now at ≢ Some (Found.Item value) }
+{
+    let few = items.len().min(FIRST);
+    for behind in 0..few {
+        let at = few - 1 - behind;
+        if is_item(&items[at], value) {
+            return Some(at);
+        }
+    }
+    None
+}
+
+// Whether it is this front of a queue.
+fn is_item(found: &Found, value: i64) -> bool
+    ensures { IsTrue result ↔ (found.now ≡ Found.Item value) }
+{
+    match found {
+        Found::Item(other) => *other == value,
+        _ => false,
+    }
+}
+
+// The same, of anything. It is compared with the very first too before it is with the last.
+fn place_of_any(items: &[Found], found: &Found) -> Option<usize>
     ensures there { IfSome result (λ at. slice_get items.now at ≡ Some found.now) }
-    ensures none { result ≡ None → (at : ℕ) → at < 16 → slice_get items.now at ≢ Some found.now }
+    ensures none { result ≡ None → (at : ℕ) → at < 32 → slice_get items.now at ≢ Some found.now }
 {
     let few = items.len().min(FIRST);
     if few > 0 && items[0].same(found) {
@@ -86,6 +126,19 @@ fn place_in_first(items: &[Found], found: &Found) -> Option<usize>
         }
     }
     None
+}
+
+// Where it stands among the first. What most calls of a queue find has a loop of its own, which is shorter.
+#[inline(always)]
+fn place_in_first(items: &[Found], found: &Found) -> Option<usize>
+    ensures there { IfSome result (λ at. slice_get items.now at ≡ Some found.now) }
+    ensures none { result ≡ None → (at : ℕ) → at < 32 → slice_get items.now at ≢ Some found.now }
+{
+    match found {
+        Found::Unit => place_of_unit(items),
+        Found::Item(value) => place_of_item(items, *value),
+        _ => place_of_any(items, found),
+    }
 }
 
 // Puts what this is the key of behind the others.
@@ -117,7 +170,7 @@ fn put(founds: &mut Founds, found: Found) -> Result<(), AllocError>
 
 /// The number of what was found: one more than where it stands. It is put behind the others if it is new. `AllocError` where
 /// there is no memory for it, or where as many share the members of a set as can be counted: then nothing is put. It is
-/// compared with the first sixteen, and else looked up: the time grows with the logarithm of their number.
+/// compared with the first thirty-two, and else looked up: the time grows with the logarithm of their number.
 #[inline(always)]
 pub fn slot_at(founds: &mut Founds, found: Found) -> Result<usize, AllocError>
     ensures slot { IfOk result (λ slot. IsSlot founds.new slot (Some found)) }
@@ -133,7 +186,7 @@ pub fn slot_at(founds: &mut Founds, found: Found) -> Result<usize, AllocError>
 // The same, of what does not stand among the first.
 #[inline(never)]
 fn slot_behind(founds: &mut Founds, found: Found) -> Result<usize, AllocError>
-    requires { (at : ℕ) → at < 16 → slice_get founds.old at ≢ Some found }
+    requires { (at : ℕ) → at < 32 → slice_get founds.old at ≢ Some found }
     ensures slot { IfOk result (λ slot. IsSlot founds.new slot (Some found)) }
     ensures front { IsFront founds.old founds.new }
     ensures once { IsOnceIn founds.old → IsOnceIn founds.new }
