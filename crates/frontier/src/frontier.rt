@@ -280,9 +280,9 @@ impl<M: SeqObject> Frontier<M> {
         }
     }
 
-    // Whether seven of eight states of the table, or more, are no longer those of a row.
+    // Whether nine of ten states of the table, or more, are no longer those of a row.
     fn is_crowded(&self) -> bool {
-        self.table.states.len() / 8 > self.table.rows.len().saturating_add(8)
+        self.table.states.len() / 10 > self.table.rows.len().saturating_add(8)
     }
 
     // The same as `list_fresh`, with another table, in the memory of the one before.
