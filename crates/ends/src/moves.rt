@@ -73,6 +73,24 @@ impl<S> Moves<S> {
     }
 }
 
+impl<S: Drop> Moves<S> {
+    /// Nothing is known yet, and there is room for the calls of two clients and for one outcome of a step, since most keys need no
+    /// more. `AllocError` where there is no memory for it.
+    pub fn with_room(alloc: Global) -> Result<Moves<S>, AllocError> {
+        let likes = Vec::with_capacity(alloc, 2)?;
+        let outcomes = Vec::with_capacity(alloc, 1)?;
+        Ok(Moves {
+            known: Known {
+                base: 0,
+                list: Notes::new(alloc),
+            },
+            targets: Vec::new(alloc),
+            outcomes,
+            likes,
+        })
+    }
+}
+
 // Where the call at this place stands in the state with this number, among so many calls, where the places begin with those of
 // the base; or behind all places that a list has.
 #[inline(always)]

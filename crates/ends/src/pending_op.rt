@@ -20,7 +20,7 @@ pub struct PendingOp {
 pub fn copy_calls(alloc: Global, calls: &[PendingOp]) -> Result<Vec<PendingOp>, AllocError>
     ensures { IfOk result (λ copies. copies.items ≡ calls.now) }
 {
-    let mut copies = Vec::new(alloc);
+    let mut copies = Vec::with_capacity(alloc, calls.len())?;
     for call in calls {
         let op = call.op.copy()?;
         copies.push(PendingOp {

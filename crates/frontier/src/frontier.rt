@@ -19,6 +19,9 @@ use std::alloc::{AllocError, Global};
 use std::hash::Hash;
 use std::mem::{replace, swap};
 
+// Two clients of a key have no more calls.
+const FEW_CALLS: usize = 2;
+
 /// What an event leaves.
 #[derive(Clone, Copy, Debug, PartialEq, Eq)]
 pub enum Step {
@@ -85,7 +88,7 @@ impl<M: SeqObject> Frontier<M> {
             pending: Vec::new(alloc),
             crashed: Vec::new(alloc),
         })?;
-        let calls = Vec::new(alloc);
+        let calls = Vec::with_capacity(alloc, FEW_CALLS)?;
         let table = ends::of_ends::<M>(alloc, &ends, &calls)?;
         Ok(Frontier {
             alloc,
@@ -96,7 +99,7 @@ impl<M: SeqObject> Frontier<M> {
             tried: 0,
             table,
             spare: None,
-            room: Room::new(alloc),
+            room: Room::for_two(alloc)?,
             next: Change::Nothing,
         })
     }

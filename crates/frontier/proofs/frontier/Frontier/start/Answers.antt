@@ -19,6 +19,6 @@ returns-clause-stands g c =
     let included = included_of_start [] c.push.new.self.items k items c.new.ensures.items c.new-2.ensures.items in
     let tried : 0 ≤ 0 = omega arith in
     listed_stands o _ [] refl
-    (stands_shown o _ [] (map end_kept c.push.new.self.items) [] c.new-calls.ensures.items
-    (shown_of c.in_ok-table.table c.deref-2.result.now [] c.deref.result.now c.push.new.self.items (c.deref-2.ensures.value ∙ c.new-calls.ensures.items) c.deref.ensures.value c.in_ok-table.ensures included)
+    (stands_shown o _ [] (map end_kept c.push.new.self.items) [] c.in_ok-calls.ensures.items
+    (shown_of c.in_ok-table.table c.deref-2.result.now [] c.deref.result.now c.push.new.self.items (c.deref-2.ensures.value ∙ c.in_ok-calls.ensures.items) c.deref.ensures.value c.in_ok-table.ensures included)
     (generates_all o _ [] are) calls_at_start tt included tried (closed_none o (map end_kept c.push.new.self.items)))
