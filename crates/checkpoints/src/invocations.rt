@@ -61,6 +61,8 @@ impl Invocations {
         match place_of(&self.noted, process) {
             Some(at) => self.noted[at] = (process, index),
             None => {
+                // With no room for others, since there may be many keys.
+                self.noted.reserve_exact(1)?;
                 self.noted.push((process, index))?;
             }
         }
