@@ -1,0 +1,78 @@
+use Rattle.std.proofs.Common.{◌≡◌, ◌+◌, ℕ, List, [], ◌∷◌, ◌++◌, Some, length, slice_get, refl, sym, ap, ◌∙◌, subst, arith}
+use Rattle.std.proofs.lemmas.List.{length-append}
+use Rattle.std.proofs.lemmas.Option.{slice_get_read}
+use Rattle.std.proofs.lemmas.Result.{on_ok_weaker}
+use Rattle.std.specs.Global.{Vec}
+use Rattle.history.specs.Events.{IsFront}
+use Rattle.ends.proofs.Adding.{IsFront-push, IsFront-trans}
+use Rattle.ends.proofs.Showing.{widens_on}
+use Rattle.product_ends.specs.declared.deeds.Deed.{Deed}
+use Rattle.product_ends.specs.declared.deeds.Deeds.{Deeds}
+use Rattle.product_ends.specs.Deeds.{AreTriedTo, IsOrderWith}
+use Rattle.product_ends.proofs.Trying.{deeds_with, tried_more, within_with}
+use Rattle.product_ends.proofs.deeds.try_each.Goals as goal
+
+pub returns-in_err-deed-clause-widens : goal.returns-in_err-deed-clause-widens
+returns-in_err-deed-clause-widens g c = widens_on c.args.table.now c.loop-call.table c.tried.new.table c.loop-call.invariant.widens c.tried.ensures.widens
+
+pub returns-in_err-push-clause-widens : goal.returns-in_err-push-clause-widens
+returns-in_err-push-clause-widens g c = widens_on c.args.table.now c.loop-call.table c.tried.new.table c.loop-call.invariant.widens c.tried.ensures.widens
+
+pub loop-call-preserved : goal.loop-call-preserved
+loop-call-preserved g c =
+    let i = c.loop-call.invariant in
+    let calls = c.args.calls.now in
+    let old = c.args.deeds.now.deeds.items in
+    let mid = c.loop-call.deeds.deeds.items in
+    let n = c.loop-call.call-index in
+    let here : slice_get calls n ≡ Some c.call-item.result = slice_get_read calls (length calls) n c.call-item.result refl c.loop-call-test.true c.call-item.is in
+    let pushed : c.push.new.self.items ≡ mid ++ c.in_ok-deed.deed ∷ [] = c.in_ok-push.ensures.items in
+    let more = length-append mid (c.in_ok-deed.deed ∷ []) in
+    let length_is = ap (λ (l : List Deed). length l) pushed in
+    record {
+      order = i.order;
+      long = omega arith;
+      front = IsFront-trans old mid c.push.new.self.items i.front (subst (IsFront mid) (sym pushed) (IsFront-push mid c.in_ok-deed.deed));
+      tried = subst (λ l. AreTriedTo g.M.SeqObject.apply_to c.tried.new.table calls c.args.number l (length old) (n + 1)) (sym pushed)
+          (tried_more g.M.SeqObject.apply_to calls c.loop-call.table c.tried.new.table c.args.number (length old) n mid c.call-item.result c.in_ok-deed.deed c.tried.ensures.widens i.long here c.in_ok-deed.ensures.deed i.tried);
+      widens = widens_on c.args.table.now c.loop-call.table c.tried.new.table i.widens c.tried.ensures.widens;
+      rows = c.tried.ensures.rows ∙ i.rows;
+      cost = (let cost = c.tried.ensures.cost in omega arith);
+    }
+
+pub returns-clause-deeds : goal.returns-clause-deeds
+returns-clause-deeds g c are within =
+    let apply = g.M.SeqObject.apply_to in
+    let i = c.loop-call.invariant in
+    let calls = c.args.calls.now in
+    let old = c.args.deeds.now in
+    let new : Deeds g.row.M-State.Denot = record {
+      order = c.tell.new.order;
+      deeds = c.loop-call.deeds.deeds;
+      outcomes = c.loop-call.deeds.outcomes;
+    } in
+    let end : c.loop-call.call-index ≡ length calls = omega arith in
+    let before : c.len-before.result ≡ length old.deeds.items = omega arith in
+    on_ok_weaker c.tell.result
+    (λ h. deeds_with apply calls c.args.table.now c.loop-call.table old new c.args.number i.widens i.front
+    (subst (λ k. IsOrderWith old.order.items new.order.items c.args.number k) before (subst (λ l. IsOrderWith l new.order.items c.args.number c.len-before.result) (ap (λ (v : Vec ℕ). v.items) i.order) h))
+    (subst (AreTriedTo apply c.loop-call.table calls c.args.number new.deeds.items (length old.deeds.items)) end i.tried) within are)
+    c.tell.ensures
+
+pub returns-clause-within : goal.returns-clause-within
+returns-clause-within g c within =
+    let i = c.loop-call.invariant in
+    let calls = c.args.calls.now in
+    let old = c.args.deeds.now in
+    let new : Deeds g.row.M-State.Denot = record {
+      order = c.tell.new.order;
+      deeds = c.loop-call.deeds.deeds;
+      outcomes = c.loop-call.deeds.outcomes;
+    } in
+    let before : c.len-before.result ≡ length old.deeds.items = omega arith in
+    let long : length new.deeds.items ≡ length old.deeds.items + length calls = omega arith in
+    on_ok_weaker c.tell.result
+    (λ h. within_with old new c.args.number (length calls) long
+    (subst (λ k. IsOrderWith old.order.items new.order.items c.args.number k) before (subst (λ l. IsOrderWith l new.order.items c.args.number c.len-before.result) (ap (λ (v : Vec ℕ). v.items) i.order) h))
+    within)
+    c.tell.ensures
