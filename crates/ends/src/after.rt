@@ -24,7 +24,7 @@ fn is_open(call: &PendingOp, id: u32) -> bool
 }
 
 // Where the open operation stands among the calls.
-pub fn place_of_open(calls: &[PendingOp], id: u32) -> Option<usize>
+fn place_of_open(calls: &[PendingOp], id: u32) -> Option<usize>
     ensures there { IfSome result (λ at. IsOpenAt calls.now at id) }
     ensures within { IfSome result (λ at. at < length calls.now) }
     ensures none { result ≡ None → (at : ℕ) → ¬ IsOpenAt calls.now at id }
@@ -49,7 +49,7 @@ fn lengthen(marks: &mut Vec<bool>, long: usize) -> Result<(), AllocError>
 
 // Writes the marks of the numbers that a row may have at the place of an open operation: it has one where what the number stands
 // for fits the answer, and none where the operation is not in.
-pub fn mark_fitting(founds: &Founds, answer: &Answer, marks: &mut Vec<bool>) -> Result<(), AllocError>
+fn mark_fitting(founds: &Founds, answer: &Answer, marks: &mut Vec<bool>) -> Result<(), AllocError>
     ensures { OnOk result (AreMarksOf answer.now founds.now marks.new.items) }
 {
     if marks.len() <= founds.len() {

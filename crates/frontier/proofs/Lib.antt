@@ -4,8 +4,5 @@ pub mod Generating
 pub mod Pending
 pub mod Including
 pub mod Standing
-pub mod Reordering
-pub mod Lengthening
-pub mod Placing
 pub mod Preparing
 pub mod Judging

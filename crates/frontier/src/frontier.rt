@@ -1,25 +1,20 @@
 //! Frontiers, and what each event does to one.
-ghost use Rattle.std.specs.Prelude.{◌≡◌, ◌≢◌, ◌↔◌, ◌<◌, ◌≤◌, ◌+◌, ◌*◌, ◌++◌, ◌∷◌, ℕ, List, Some, None, [], true, false, length, take, IfOk, IsSome, OnOk, OnErr, MatchResult};
-ghost use Rattle.std.specs.Vec.{vec_capacity, vec_len};
+ghost use Rattle.std.specs.Prelude.{◌≡◌, ◌↔◌, List, [], true, false, length, IfOk, OnOk, OnErr, MatchResult};
 ghost use Rattle.std.specs.List.{filter};
 ghost use Rattle.models.specs.Objects.{of_table};
 ghost use Rattle.history.specs.Events.{Mark};
 ghost use Rattle.history.specs.Events.Mark.{Invoked, Returned, Failed, Crashed};
-ghost use Rattle.linspec.specs.Ends.{End};
-ghost use Rattle.linspec.specs.Orders.{Pairwise};
-ghost use Rattle.ends.specs.EndSteps.{Along, AreClosed, Fails, ReachesMoreThan, is_other};
-ghost use Rattle.ends.specs.Tables.{AreShown, HasEachOnce, IsAdvanced, IsOpenAt, ShowTheSame, ShownWith, Widens, rows_of, with_rows};
+ghost use Rattle.ends.specs.EndSteps.{is_other};
+ghost use Rattle.ends.specs.Tables.{with_rows};
 ghost use Rattle.frontier.specs.Kept.{StandsFor, WillStandFor, WillBeWithout, IsListed, IsIdle, IsStepOf};
 ghost use Rattle.frontier.specs.Meaning.{Answers, Keeps, Takes, TakesUnlessOver};
-ghost use Rattle.frontier.specs.Kept.{IsAlike, IsOf, applied_of, budget_of, call_of, left_of, rows_by, table_of};
+ghost use Rattle.frontier.specs.Kept.{IsOf, applied_of, budget_of};
 ghost use Rattle.frontier.specs.Meaning.{CostsAtMost, mark_by};
 
-use crate::as_products::{self, AsProducts};
 use crate::change::{self, Change, Fresh};
 use ends::{KeptEnd, PendingOp, Room, Table};
 use history::EventKind;
 use models::{Answer, Op, SeqObject};
-use rows::RowSet;
 use std::alloc::{AllocError, Global};
 use std::hash::Hash;
 use std::mem::{replace, swap};
@@ -56,7 +51,6 @@ pub struct Frontier<M: SeqObject> {
     table: Table<M::State>,
     spare: Option<Box<Table<M::State>>>,
     room: Room<M::State>,
-    as_products: Option<Box<AsProducts<M::State>>>,
     next: Change<M::State>,
 }
 
@@ -106,7 +100,6 @@ impl<M: SeqObject> Frontier<M> {
             table,
             spare: None,
             room: Room::for_two(alloc)?,
-            as_products: None,
             next: Change::Nothing,
         })
     }
@@ -198,32 +191,18 @@ impl<M: SeqObject> Frontier<M> {
         }
     }
 
-    // The rows or products that are left take the place of the others, the operation is among the calls no longer, and so many of
-    // them count as tried.
+    // The rows of the room take the place of the others, the operation is among the calls no longer, and so many of them count as
+    // tried.
     #[inline(always)]
     fn take_left(&mut self, id: u32, tried: usize)
-        ensures is { IsOf self.new (with_rows (table_of self.old) (left_of self.old))
+        ensures is { IsOf self.new (with_rows self.old.table self.old.room.rows)
             (filter (is_other id) self.old.calls.items) tried self.old.fresh }
         ensures budget { budget_of self.new ≡ budget_of self.old }
         ensures cost { applied_of self.new ≡ applied_of self.old }
     {
-        self.trade_left();
+        self.table.rows.trade(&mut self.room.rows);
         ends::drop_call(&mut self.calls, id);
         self.tried = tried;
-    }
-
-    // The rows or products that are left take the place of the others.
-    #[inline(always)]
-    fn trade_left(&mut self)
-        ensures is { IsOf self.new (with_rows (table_of self.old) (left_of self.old))
-            self.old.calls.items self.old.tried self.old.fresh }
-        ensures budget { budget_of self.new ≡ budget_of self.old }
-        ensures cost { applied_of self.new ≡ applied_of self.old }
-    {
-        match &mut self.as_products {
-            Some(those) => as_products::take_left(those),
-            None => self.table.rows.trade(&mut self.room.rows),
-        }
     }
 
     // These calls and this table take the place of the others, and so many of the calls count as tried.
@@ -235,7 +214,6 @@ impl<M: SeqObject> Frontier<M> {
     {
         self.calls = calls;
         self.table = Box::into_inner(table);
-        self.as_products = None;
         self.tried = tried;
     }
 
@@ -282,26 +260,6 @@ impl<M: SeqObject> Frontier<M> {
         if self.fresh.is_none() {
             return Ok(());
         }
-        self.choose_form()?;
-        self.place_fresh()
-    }
-
-    // The same, where nothing is prepared, and the rows or products have the form in which they get the place.
-    fn place_fresh(&mut self) -> Result<(), AllocError>
-        requires fresh { IsSome self.old.fresh }
-        ensures listed { let object = of_table M.State M.start_state M.apply_to in
-            OnOk result (Keeps (IsIdle object self.old) (IsListed object self.new)) }
-        ensures nothing { let object = of_table M.State M.start_state M.apply_to in
-            OnErr result (Keeps (IsIdle object self.old) (IsIdle object self.new)) }
-        ensures budget { budget_of self.new ≡ budget_of self.old }
-        ensures cost { applied_of self.new ≡ applied_of self.old }
-    {
-        if let Some(those) = &mut self.as_products {
-            self.calls.reserve(1)?;
-            as_products::lengthen(those)?;
-            self.push_fresh();
-            return Ok(());
-        }
         if self.is_crowded() {
             return self.list_anew();
         }
@@ -309,19 +267,6 @@ impl<M: SeqObject> Frontier<M> {
         if !self.table.rows.lengthen() {
             return self.list_anew();
         }
-        self.push_fresh();
-        Ok(())
-    }
-
-    // The fresh operation is the last of the calls, for which there is room.
-    fn push_fresh(&mut self)
-        requires room { vec_len self.old.calls < vec_capacity self.old.calls }
-        ensures is { (fresh : Fresh) → self.old.fresh ≡ Some fresh → IsOf self.new (table_of self.old)
-            (self.old.calls.items ++ call_of fresh ∷ []) self.old.tried None }
-        ensures next { self.new.next ≡ self.old.next }
-        ensures budget { budget_of self.new ≡ budget_of self.old }
-        ensures cost { applied_of self.new ≡ applied_of self.old }
-    {
         match self.fresh.take() {
             Some(Fresh { id, op }) => {
                 let call = PendingOp {
@@ -330,87 +275,12 @@ impl<M: SeqObject> Frontier<M> {
                     crashed: false,
                 };
                 match self.calls.push(call) {
-                    Ok(_) => {}
+                    Ok(_) => Ok(()),
                     Err(_full) => unreachable!(),
                 }
             }
-            None => {}
-        }
-    }
-
-    // Ends whose reads double them are kept as products, while these are not many; and products are numbered anew where many of
-    // their numbers are no longer used. On `AllocError` the frontier stands for what it stood for.
-    fn choose_form(&mut self) -> Result<(), AllocError>
-        ensures keeps { let object = of_table M.State M.start_state M.apply_to in
-            Keeps (IsIdle object self.old) (IsIdle object self.new) }
-        ensures fresh { self.new.fresh ≡ self.old.fresh }
-        ensures budget { budget_of self.new ≡ budget_of self.old }
-        ensures cost { applied_of self.new ≡ applied_of self.old }
-    {
-        match &self.as_products {
-            Some(those) if as_products::are_many(those) => self.make_rows(),
-            Some(those) if as_products::is_crowded(those, &self.table) => self.renumber(),
-            Some(_) => Ok(()),
-            None if as_products::may_be_few(&self.table, &self.calls) && M::has_scalar_states() => {
-                self.make_products()
-            }
             None => Ok(()),
         }
-    }
-
-    // The rows become products, if they can. On `AllocError` the frontier stands for what it stood for.
-    #[inline(never)]
-    fn make_products(&mut self) -> Result<(), AllocError>
-        requires rows { self.old.as_products ≡ None }
-        ensures keeps { let object = of_table M.State M.start_state M.apply_to in
-            Keeps (IsIdle object self.old) (IsIdle object self.new) }
-        ensures fresh { self.new.fresh ≡ self.old.fresh }
-        ensures budget { budget_of self.new ≡ budget_of self.old }
-        ensures cost { applied_of self.new ≡ applied_of self.old }
-    {
-        let made = product_ends::as_products(self.alloc, &self.table, self.calls.len())?;
-        if let Some(kept) = made {
-            self.as_products = Some(as_products::of_kept(self.alloc, kept)?);
-            self.table.rows = RowSet::new(self.alloc, 0);
-        }
-        Ok(())
-    }
-
-    // The products become rows, if there are any. On `AllocError` the frontier stands for what it stood for.
-    #[inline(never)]
-    fn make_rows(&mut self) -> Result<(), AllocError>
-        ensures keeps { let object = of_table M.State M.start_state M.apply_to in
-            Keeps (IsIdle object self.old) (IsIdle object self.new) }
-        ensures rows { OnOk result (self.new.as_products ≡ None) }
-        ensures fresh { self.new.fresh ≡ self.old.fresh }
-        ensures budget { budget_of self.new ≡ budget_of self.old }
-        ensures cost { applied_of self.new ≡ applied_of self.old }
-    {
-        if let Some(those) = &self.as_products {
-            self.table.rows = product_ends::as_rows(self.alloc, &those.kept)?;
-            self.as_products = None;
-        }
-        Ok(())
-    }
-
-    // The products get new numbers of states and of what was found, those that they use alone. On `AllocError` the frontier stands
-    // for what it stood for.
-    #[inline(never)]
-    fn renumber(&mut self) -> Result<(), AllocError>
-        ensures keeps { let object = of_table M.State M.start_state M.apply_to in
-            Keeps (IsIdle object self.old) (IsIdle object self.new) }
-        ensures fresh { self.new.fresh ≡ self.old.fresh }
-        ensures budget { budget_of self.new ≡ budget_of self.old }
-        ensures cost { applied_of self.new ≡ applied_of self.old }
-    {
-        if let Some(those) = &mut self.as_products {
-            let other = product_ends::renumbered::<M>(self.alloc, &self.table, &those.kept)?;
-            if let Some((table, kept)) = other {
-                self.table = table;
-                those.kept = kept;
-            }
-        }
-        Ok(())
     }
 
     // Whether nine of ten states of the table, or more, are no longer those of a row.
@@ -421,7 +291,6 @@ impl<M: SeqObject> Frontier<M> {
     // The same as `list_fresh`, with another table, in the memory of the one before.
     #[inline(never)]
     fn list_anew(&mut self) -> Result<(), AllocError>
-        requires rows { self.old.as_products ≡ None }
         ensures listed { let object = of_table M.State M.start_state M.apply_to in
             OnOk result (Keeps (IsIdle object self.old) (IsListed object self.new)) }
         ensures nothing { let object = of_table M.State M.start_state M.apply_to in
@@ -469,7 +338,7 @@ impl<M: SeqObject> Frontier<M> {
             (applied_of self.old) (applied_of self.new) }
     {
         if self.find_left(id, answer)? {
-            let step = step_of(self.left());
+            let step = step_of(self.room.rows.len());
             let tried = self.calls.len().saturating_sub(1);
             self.take_left(id, tried);
             Ok(step)
@@ -490,7 +359,7 @@ impl<M: SeqObject> Frontier<M> {
             Answers object (budget_of self.old) old (Returned id answer.now) Step.Over) }
         ensures step { let object = of_table M.State M.start_state M.apply_to in
             let old = StandsFor object self.old in IfOk result (λ all. all ≡ true →
-            (s : Step) → IsStepOf (length (left_of self.new)) s →
+            (s : Step) → IsStepOf (length self.new.room.rows) s →
             Answers object (budget_of self.old) old (Returned id answer.now) s) }
         ensures left { let object = of_table M.State M.start_state M.apply_to in
             let old = StandsFor object self.old in IfOk result (λ all. all ≡ true →
@@ -502,90 +371,18 @@ impl<M: SeqObject> Frontier<M> {
             (applied_of self.old) (applied_of self.new) }
     {
         self.list_fresh()?;
-        self.suit_outcomes()?;
-        let all = self.advance(id, answer)?;
+        let all = ends::advance::<M>(
+            self.alloc,
+            &mut self.table,
+            &mut self.room,
+            &self.calls,
+            self.tried,
+            self.budget,
+            &mut self.applied,
+            id,
+            answer,
+        )?;
         Ok(all)
-    }
-
-    // Products become rows where an operation may have several outcomes. On `AllocError` the frontier stands for what it stood
-    // for.
-    fn suit_outcomes(&mut self) -> Result<(), AllocError>
-        ensures keeps { let object = of_table M.State M.start_state M.apply_to in
-            Keeps (IsListed object self.old) (IsListed object self.new) }
-        ensures single { OnOk result (self.new.as_products ≢ None →
-            (op : Op) (state : M.State) → length (M.apply_to op state) ≤ 1) }
-        ensures budget { budget_of self.new ≡ budget_of self.old }
-        ensures cost { applied_of self.new ≡ applied_of self.old }
-    {
-        if M::has_scalar_states() {
-            Ok(())
-        } else {
-            self.make_rows()
-        }
-    }
-
-    // Puts what is left of all ends after the ok into the room. False where there are more ends than the budget.
-    #[inline(always)]
-    fn advance(&mut self, id: u32, answer: &Answer) -> Result<bool, AllocError>
-        requires single { self.old.as_products ≢ None →
-            (op : Op) (state : M.State) → length (M.apply_to op state) ≤ 1 }
-        ensures all { let object = of_table M.State M.start_state M.apply_to in
-            let calls = self.old.calls.items in
-            HasEachOnce calls → (ends : List (End M.State)) → AreShown (table_of self.old) calls ends
-            → AreClosed object (take self.old.tried calls) ends
-            → IfOk result (λ all. all ≡ true → IsAdvanced object
-            (with_rows (table_of self.new) (left_of self.new)) calls ends (budget_of self.old) id answer.now) }
-        ensures over { let object = of_table M.State M.start_state M.apply_to in
-            let calls = self.old.calls.items in
-            HasEachOnce calls → (ends : List (End M.State)) → Pairwise (λ d e. d ≢ e) ends
-            → AreShown (table_of self.old) calls ends → AreClosed object (take self.old.tried calls) ends
-            → IfOk result (λ all. all ≡ false → ReachesMoreThan object calls ends (budget_of self.old)) }
-        ensures is { IsOf self.new (table_of self.new) self.old.calls.items self.old.tried self.old.fresh }
-        ensures widens { Widens (table_of self.old) (table_of self.new) }
-        ensures rows { rows_of (table_of self.new) ≡ rows_of (table_of self.old) }
-        ensures next { self.new.next ≡ self.old.next }
-        ensures budget { budget_of self.new ≡ budget_of self.old }
-        ensures cost { applied_of self.new
-            ≤ applied_of self.old + (budget_of self.old + 1) * length self.old.calls.items }
-    {
-        let budget = self.budget;
-        match &mut self.as_products {
-            Some(those) => {
-                let those = &mut **those;
-                product_ends::advance::<M>(
-                    self.alloc,
-                    &mut self.table,
-                    &those.kept,
-                    &mut those.room,
-                    &self.calls,
-                    budget,
-                    &mut self.applied,
-                    id,
-                    answer,
-                )
-            }
-            None => ends::advance::<M>(
-                self.alloc,
-                &mut self.table,
-                &mut self.room,
-                &self.calls,
-                self.tried,
-                budget,
-                &mut self.applied,
-                id,
-                answer,
-            ),
-        }
-    }
-
-    // How many rows are left, or some number of them where they are products: zero where there are none.
-    fn left(&self) -> usize
-        ensures { (result ≡ 0) ↔ (length (left_of self.now) ≡ 0) }
-    {
-        match &self.as_products {
-            Some(those) => as_products::left(those),
-            None => self.room.rows.len(),
-        }
     }
 
     // The first half of `ok`: the rows that are left are put into the room, and take the others' place at `commit`.
@@ -609,7 +406,7 @@ impl<M: SeqObject> Frontier<M> {
         }
         let tried = self.calls.len().saturating_sub(1);
         self.next = Change::Done(id, tried);
-        Ok(step_of(self.left()))
+        Ok(step_of(self.room.rows.len()))
     }
 
     /// How many steps were made so far: how often an operation was tried in a state, also in an ok that was answered Over or
@@ -652,27 +449,9 @@ impl<M: SeqObject> Frontier<M> {
         ensures cost { applied_of self.new ≡ applied_of self.old }
     {
         self.list_fresh()?;
-        self.find_failed(id)?;
+        ends::failed(&self.table, &self.calls, id, &mut self.room.rows)?;
         self.next = Change::Done(id, self.tried.saturating_sub(1));
-        Ok(step_of(self.left()))
-    }
-
-    // Puts what is left of the ends after the fail into the room.
-    fn find_failed(&mut self, id: u32) -> Result<(), AllocError>
-        ensures failed { let calls = self.old.calls.items in
-            HasEachOnce calls → (at : ℕ) → IsOpenAt calls at id → (ends : List (End M.State))
-            → AreShown (table_of self.old) calls ends → OnOk result
-            (ShownWith (with_rows (table_of self.old) (left_of self.new)) (filter (is_other id) calls) []
-            (Along (Fails id) ends)) }
-        ensures alike { IsAlike self.old self.new }
-    {
-        match &mut self.as_products {
-            Some(those) => {
-                let those = &mut **those;
-                product_ends::failed(&self.table, &those.kept, &mut those.room, &self.calls, id)
-            }
-            None => ends::failed(&self.table, &self.calls, id, &mut self.room.rows),
-        }
+        Ok(step_of(self.room.rows.len()))
     }
 
     /// An open operation has crashed: it may take place at any later moment, or never. A read is set aside, since it decides
@@ -701,7 +480,7 @@ impl<M: SeqObject> Frontier<M> {
         ensures budget { budget_of self.new ≡ budget_of self.old }
         ensures cost { applied_of self.new ≡ applied_of self.old }
     {
-        self.list_as_rows()?;
+        self.list_fresh()?;
         let counts = !ends::is_read(&self.calls, id);
         let ends = ends::ends_of::<M>(self.alloc, &self.table, &self.calls)?;
         let after = ends::crashed_ends::<M>(self.alloc, &ends, id, counts)?;
@@ -711,20 +490,6 @@ impl<M: SeqObject> Frontier<M> {
         let boxed = Box::new(self.alloc, table)?;
         self.next = Change::Anew(calls, boxed, 0);
         Ok(())
-    }
-
-    // The same as `list_fresh`, and products become rows.
-    fn list_as_rows(&mut self) -> Result<(), AllocError>
-        ensures listed { let object = of_table M.State M.start_state M.apply_to in
-            OnOk result (Keeps (StandsFor object self.old) (IsListed object self.new)) }
-        ensures nothing { let object = of_table M.State M.start_state M.apply_to in
-            OnErr result (Keeps (StandsFor object self.old) (IsIdle object self.new)) }
-        ensures rows { OnOk result (self.new.as_products ≡ None) }
-        ensures budget { budget_of self.new ≡ budget_of self.old }
-        ensures cost { applied_of self.new ≡ applied_of self.old }
-    {
-        self.list_fresh()?;
-        self.make_rows()
     }
 
     /// Where its memory comes from.
@@ -741,7 +506,6 @@ impl<M: SeqObject> Frontier<M> {
         ensures budget { IfOk result (λ f. budget_of f ≡ budget_of self.now) }
         ensures applied { IfOk result (λ f. applied_of f ≡ applied_of self.now) }
     {
-        let (table, as_products) = self.copied_form()?;
         Ok(Frontier {
             alloc: self.alloc,
             budget: self.budget,
@@ -749,31 +513,10 @@ impl<M: SeqObject> Frontier<M> {
             calls: ends::copy_calls(self.alloc, &self.calls)?,
             fresh: change::copied_fresh(&self.fresh)?,
             tried: self.tried,
-            table,
+            table: ends::copied::<M>(self.alloc, &self.table, &self.calls)?,
             spare: None,
             room: Room::new(self.alloc),
-            as_products,
             next: Change::Nothing,
         })
-    }
-
-    // The table and the products, with memory of their own; of a table without products those states alone that its rows have.
-    fn copied_form(
-        &self,
-    ) -> Result<(Table<M::State>, Option<Box<AsProducts<M::State>>>), AllocError>
-        ensures { IfOk result (λ copy. ShowTheSame (table_of self.now)
-            (with_rows copy.0 (rows_by copy.1 (rows_of copy.0)))) }
-    {
-        match &self.as_products {
-            Some(those) => {
-                let table = ends::copied_whole::<M>(self.alloc, &self.table)?;
-                let copy = as_products::copied(self.alloc, those)?;
-                Ok((table, Some(copy)))
-            }
-            None => {
-                let table = ends::copied::<M>(self.alloc, &self.table, &self.calls)?;
-                Ok((table, None))
-            }
-        }
     }
 }

@@ -2,7 +2,6 @@
 #![tactic(auto)]
 
 pub mod any_frontier;
-mod as_products;
 mod change;
 pub mod frontier;
 

@@ -36,10 +36,6 @@ impl SeqObject for CasRegister {
         false
     }
 
-    fn has_scalar_states() -> bool {
-        true
-    }
-
     fn append_outcomes(
         alloc: Global,
         state: &Option<i64>,

@@ -34,10 +34,6 @@ impl SeqObject for Register {
         false
     }
 
-    fn has_scalar_states() -> bool {
-        true
-    }
-
     fn append_outcomes(
         _alloc: Global,
         state: &Option<i64>,

@@ -1,4 +1,0 @@
-pub mod Conversion
-pub mod Deeds
-pub mod Growing
-pub mod Widening

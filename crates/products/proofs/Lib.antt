@@ -1,6 +1,0 @@
-pub mod Families
-pub mod Leaving
-pub mod Lists
-pub mod Numbers
-pub mod Putting
-pub mod Sets
