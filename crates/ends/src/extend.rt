@@ -45,12 +45,9 @@ impl<S> Room<S> {
 impl<S: Drop> Room<S> {
     /// Some for the oks of two clients, which grows where there are more. `AllocError` where there is no memory for it.
     pub fn for_two(alloc: Global) -> Result<Room<S>, AllocError> {
-        Ok(Room {
-            moves: Moves::with_room(alloc)?,
-            row: Row::new(alloc),
-            marks: Vec::new(alloc),
-            rows: RowSet::new(alloc, 0),
-        })
+        let mut room = Room::new(alloc);
+        room.moves = Moves::with_room(alloc)?;
+        Ok(room)
     }
 }
 

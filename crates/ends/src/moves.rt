@@ -77,17 +77,10 @@ impl<S: Drop> Moves<S> {
     /// Nothing is known yet, and there is room for the calls of two clients and for one outcome of a step, since most keys need no
     /// more. `AllocError` where there is no memory for it.
     pub fn with_room(alloc: Global) -> Result<Moves<S>, AllocError> {
-        let likes = Vec::with_capacity(alloc, 2)?;
-        let outcomes = Vec::with_capacity(alloc, 1)?;
-        Ok(Moves {
-            known: Known {
-                base: 0,
-                list: Notes::new(alloc),
-            },
-            targets: Vec::new(alloc),
-            outcomes,
-            likes,
-        })
+        let mut moves = Moves::new(alloc);
+        moves.likes = Vec::with_capacity(alloc, 2)?;
+        moves.outcomes = Vec::with_capacity(alloc, 1)?;
+        Ok(moves)
     }
 }
 
