@@ -22,7 +22,8 @@ import run as cases
 # Cases of tests/cases, each with the least number of allocations that are refused.
 SCRIPTS = {
     "set_members": 100, "set_members_by_model": 100, "model_changes": 100, "five_ends": 100, "illegal_beside_blown": 100,
-    "rewind_brings_processes_back": 100, "refusals_in_order": 100, "unreadable_places": 20,
+    "rewind_brings_processes_back": 100, "refusals_in_order": 100, "unreadable_places": 20, "open_reads_within_their_ends": 150,
+    "products_of_large_numbers": 200,
 }
 CHECKS = {"check_finds_a_stale_read": 50, "check_of_failed_and_crashed": 50}
 

@@ -23,8 +23,8 @@ fn is_open(call: &PendingOp, id: u32) -> bool
     call.id == id && !call.crashed
 }
 
-// Where the open operation stands among the calls.
-fn place_of_open(calls: &[PendingOp], id: u32) -> Option<usize>
+/// Where the open operation stands among the calls; none where it is not open. Takes no memory, and the time of the calls.
+pub fn place_of_open(calls: &[PendingOp], id: u32) -> Option<usize>
     ensures there { IfSome result (λ at. IsOpenAt calls.now at id) }
     ensures within { IfSome result (λ at. at < length calls.now) }
     ensures none { result ≡ None → (at : ℕ) → ¬ IsOpenAt calls.now at id }
@@ -47,9 +47,14 @@ fn lengthen(marks: &mut Vec<bool>, long: usize) -> Result<(), AllocError>
     Ok(())
 }
 
-// Writes the marks of the numbers that a row may have at the place of an open operation: it has one where what the number stands
-// for fits the answer, and none where the operation is not in.
-fn mark_fitting(founds: &Founds, answer: &Answer, marks: &mut Vec<bool>) -> Result<(), AllocError>
+/// Writes the marks of the numbers that a row may have at the place of an open operation: a number has one where what it stands for
+/// fits the answer, and zero, where the operation is not in, has none. Marks behind these stay as they were. `AllocError` where there
+/// is no memory for them: then there may be more of them. Takes the time of what was found.
+pub fn mark_fitting(
+    founds: &Founds,
+    answer: &Answer,
+    marks: &mut Vec<bool>,
+) -> Result<(), AllocError>
     ensures { OnOk result (AreMarksOf answer.now founds.now marks.new.items) }
 {
     if marks.len() <= founds.len() {

@@ -9,8 +9,9 @@ use models::SeqObject;
 use rows::RowSet;
 use std::alloc::{AllocError, Global};
 
-// The same table, with memory of its own.
-fn copied_whole<M: SeqObject>(
+/// The same table, with memory of its own. `AllocError` where there is none. Takes the time of the rows, the states and what was
+/// found.
+pub fn copied_whole<M: SeqObject>(
     alloc: Global,
     table: &Table<M::State>,
 ) -> Result<Table<M::State>, AllocError>

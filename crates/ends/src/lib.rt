@@ -10,9 +10,9 @@ mod notes;
 mod pending_op;
 mod table;
 
-pub use after::{crashed_ends, failed};
-pub use copies::copied;
+pub use after::{crashed_ends, failed, mark_fitting, place_of_open};
+pub use copies::{copied, copied_whole};
 pub use extend::{Room, advance};
 pub use kept_end::KeptEnd;
 pub use pending_op::{PendingOp, copy_calls, crash_call, drop_call, is_read};
-pub use table::{Table, clear, empty, ends_of, of_ends, refill};
+pub use table::{Table, clear, empty, ends_of, of_ends, refill, step, told_by};

@@ -15,7 +15,7 @@ use Rattle.ends.specs.declared.table.Table.{Table}
 use Rattle.ends.specs.declared.kept_end.KeptEnd.{KeptEnd}
 use Rattle.ends.specs.KeptEnds.{AreIncluded, ArePending, end_kept}
 use Rattle.ends.specs.EndSteps.{Along, AreClosed, Fails, ReachesMoreThan, is_other}
-use Rattle.frontier.specs.Kept.{Lists}
+use Rattle.frontier.specs.Kept.{Lists, table_of}
 use Rattle.ends.specs.Tables.{AreShown, HasEachOnce, IsAdvanced, IsOpenAt, ShownWith}
 use Rattle.frontier.proofs.AfterEvents.{ends_after_ok}
 use Rattle.ends.proofs.Closing.{among_front, closed_after_fail, closed_after_ok, closed_fewer, one_fewer}
@@ -48,10 +48,10 @@ module _ {M : Type 0} (o : Object) (f : Frontier M o.State) (marks : List Mark) 
     pub generates_left : Generates o found.left.more (marks ++ Returned id answer ∷ [])
     generates_left = generates_all o found.left.more (marks ++ Returned id answer ∷ []) after
 
-    pub stands_after : (g : Frontier M o.State) → g.table ≡ t → g.calls.items ≡ filter (is_other id) f.calls.items → g.tried ≡ length f.calls.items - 1 → Lists o g (marks ++ Returned id answer ∷ [])
+    pub stands_after : (g : Frontier M o.State) → (table_of g) ≡ t → g.calls.items ≡ filter (is_other id) f.calls.items → g.tried ≡ length f.calls.items - 1 → Lists o g (marks ++ Returned id answer ∷ [])
     stands_after g table calls_are tried =
         stands_by o g (marks ++ Returned id answer ∷ []) found.left.more
-        (subst (λ l. AreShown g.table l found.left.more) (sym calls_are) (subst (λ u. AreShown u (filter (is_other id) f.calls.items) found.left.more) (sym table) found.left.shown))
+        (subst (λ l. AreShown (table_of g) l found.left.more) (sym calls_are) (subst (λ u. AreShown u (filter (is_other id) f.calls.items) found.left.more) (sym table) found.left.shown))
         generates_left after.once
         (subst (λ l. ArePending l (marks ++ Returned id answer ∷ [])) (sym calls_are) (calls_after_ok f.calls.items marks stands.well_kept.pending id answer))
         (subst AreOnce (sym calls_are) (once_without f.calls.items id stands.well_kept.calls_once))
@@ -69,12 +69,12 @@ module _ {M : Type 0} (o : Object) (f : Frontier M o.State) (marks : List Mark) 
   pub generates_failed : Generates o failed.more (marks ++ Failed id ∷ [])
   generates_failed = generates_after_fail o stands.kept marks id is_open (generates_of o f marks stands) failed.more failed.adds
 
-  pub stands_failed : (g : Frontier M o.State) → g.table ≡ t → g.calls.items ≡ filter (is_other id) f.calls.items → g.tried ≡ f.tried - 1 → Lists o g (marks ++ Failed id ∷ [])
+  pub stands_failed : (g : Frontier M o.State) → (table_of g) ≡ t → g.calls.items ≡ filter (is_other id) f.calls.items → g.tried ≡ f.tried - 1 → Lists o g (marks ++ Failed id ∷ [])
   stands_failed g table calls_are tried =
       let left = filter (is_other id) f.calls.items in
       let once = stands.well_kept.calls_once in
       stands_by o g (marks ++ Failed id ∷ []) failed.more
-      (subst (λ l. AreShown g.table l failed.more) (sym calls_are) (subst (λ u. AreShown u left failed.more) (sym table) failed.shown))
+      (subst (λ l. AreShown (table_of g) l failed.more) (sym calls_are) (subst (λ u. AreShown u left failed.more) (sym table) failed.shown))
       generates_failed (failed.adds.once tt)
       (subst (λ l. ArePending l (marks ++ Failed id ∷ [])) (sym calls_are) (calls_after_fail f.calls.items marks stands.well_kept.pending id))
       (subst AreOnce (sym calls_are) (once_without f.calls.items id once))
@@ -88,25 +88,25 @@ module _ {M : Type 0} (o : Object) (f : Frontier M o.State) (marks : List Mark) 
   calls_once : HasEachOnce calls
   calls_once = subst HasEachOnce (sym same) stands.well_kept.calls_once
 
-  its_rows : AreShown f.table calls stands.kept
-  its_rows = subst (λ l. AreShown f.table l stands.kept) (sym same) stands.shown
+  its_rows : AreShown (table_of f) calls stands.kept
+  its_rows = subst (λ l. AreShown (table_of f) l stands.kept) (sym same) stands.shown
 
   its_tried : AreClosed o (take f.tried calls) stands.kept
   its_tried = subst (λ l. AreClosed o (take f.tried l) stands.kept) (sym same) stands.closed
 
-  pub advanced : (t : Table o.State) (budget id : ℕ) (answer : Answer) → (HasEachOnce calls → (ends : List (End o.State)) → AreShown f.table calls ends → AreClosed o (take f.tried calls) ends → IsAdvanced o t calls ends budget id answer) → IsAdvanced o t f.calls.items stands.kept budget id answer
+  pub advanced : (t : Table o.State) (budget id : ℕ) (answer : Answer) → (HasEachOnce calls → (ends : List (End o.State)) → AreShown (table_of f) calls ends → AreClosed o (take f.tried calls) ends → IsAdvanced o t calls ends budget id answer) → IsAdvanced o t f.calls.items stands.kept budget id answer
   advanced t budget id answer h = subst (λ l. IsAdvanced o t l stands.kept budget id answer) same (h calls_once stands.kept its_rows its_tried)
 
-  pub too_many_by : (budget : ℕ) → (HasEachOnce calls → (ends : List (End o.State)) → Pairwise (λ d e. d ≢ e) ends → AreShown f.table calls ends → AreClosed o (take f.tried calls) ends → ReachesMoreThan o calls ends budget) → HasMoreThan o marks budget
+  pub too_many_by : (budget : ℕ) → (HasEachOnce calls → (ends : List (End o.State)) → Pairwise (λ d e. d ≢ e) ends → AreShown (table_of f) calls ends → AreClosed o (take f.tried calls) ends → ReachesMoreThan o calls ends budget) → HasMoreThan o marks budget
   too_many_by budget h = too_many o f marks stands budget (subst (λ l. ReachesMoreThan o l stands.kept budget) same (h calls_once stands.kept stands.well_kept.once its_rows its_tried))
 
   pub failed_by : (t : Table o.State) (id : ℕ) → IsOpen marks id
-      → (HasEachOnce calls → (at : ℕ) → IsOpenAt calls at id → (ends : List (End o.State)) → AreShown f.table calls ends → ShownWith t (filter (is_other id) calls) [] (Along (Fails id) ends))
+      → (HasEachOnce calls → (at : ℕ) → IsOpenAt calls at id → (ends : List (End o.State)) → AreShown (table_of f) calls ends → ShownWith t (filter (is_other id) calls) [] (Along (Fails id) ends))
       → ShownWith t (filter (is_other id) f.calls.items) [] (Along (Fails id) stands.kept)
   failed_by t id is_open h =
       let p = open_at f.calls.items marks stands.well_kept.pending stands.well_kept.calls_once id is_open in
       subst (λ l. ShownWith t (filter (is_other id) l) [] (Along (Fails id) stands.kept)) same
       (h calls_once p.0 (subst (λ l. IsOpenAt l p.0 id) (sym same) p.1) stands.kept its_rows)
 
-  pub kept_ends : (items : List (KeptEnd o.State)) → (HasEachOnce calls → (ends : List (End o.State)) → AreShown f.table calls ends → map end_kept items ≡ ends) → map end_kept items ≡ stands.kept
+  pub kept_ends : (items : List (KeptEnd o.State)) → (HasEachOnce calls → (ends : List (End o.State)) → AreShown (table_of f) calls ends → map end_kept items ≡ ends) → map end_kept items ≡ stands.kept
   kept_ends items h = h calls_once stands.kept its_rows

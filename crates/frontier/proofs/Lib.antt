@@ -4,5 +4,8 @@ pub mod Generating
 pub mod Pending
 pub mod Including
 pub mod Standing
+pub mod Reordering
+pub mod Lengthening
+pub mod Placing
 pub mod Preparing
 pub mod Judging

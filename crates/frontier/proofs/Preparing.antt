@@ -12,19 +12,19 @@ use Rattle.frontier.specs.declared.frontier.Frontier.{Frontier}
 use Rattle.ends.specs.declared.pending_op.PendingOp.{PendingOp}
 use Rattle.ends.specs.declared.table.Table.{Table}
 use Rattle.frontier.specs.Meaning.{Keeps}
-use Rattle.frontier.specs.Kept.{IsIdle, IsOf, Lists, ListsBut, Makes, StandsFor, StandsWith, WillStandFor}
+use Rattle.frontier.specs.Kept.{IsIdle, IsListed, IsOf, Lists, ListsBut, Makes, StandsFor, StandsWith, WillStandFor, table_of}
 use Rattle.ends.specs.Tables.{AreShown, Widens, rows_of}
 use Rattle.ends.proofs.Showing.{shown_more}
 use Rattle.frontier.proofs.Standing.{stands_too}
 
 module _ {M : Type 0} (o : Object) (f g : Frontier M o.State) where
   -- the same rows, calls and tried calls
-  pub lists_like : g.table ≡ f.table → g.calls.items ≡ f.calls.items → g.tried ≡ f.tried → (marks : List Mark) → Lists o f marks → Lists o g marks
+  pub lists_like : (table_of g) ≡ (table_of f) → g.calls.items ≡ f.calls.items → g.tried ≡ f.tried → (marks : List Mark) → Lists o f marks → Lists o g marks
   lists_like table calls tried marks l = stands_too o f marks g calls tried l (subst (λ t. AreShown t f.calls.items l.kept) (sym table) l.shown)
 
   -- more stands in the table, but no more rows
-  pub lists_more : g.calls.items ≡ f.calls.items → g.tried ≡ f.tried → Widens f.table g.table → rows_of g.table ≡ rows_of f.table → (marks : List Mark) → Lists o f marks → Lists o g marks
-  lists_more calls tried widens rows marks l = stands_too o f marks g calls tried l (shown_more f.calls.items f.table g.table l.kept widens rows l.shown)
+  pub lists_more : g.calls.items ≡ f.calls.items → g.tried ≡ f.tried → Widens (table_of f) (table_of g) → rows_of (table_of g) ≡ rows_of (table_of f) → (marks : List Mark) → Lists o f marks → Lists o g marks
+  lists_more calls tried widens rows marks l = stands_too o f marks g calls tried l (shown_more f.calls.items (table_of f) (table_of g) l.kept widens rows l.shown)
 
   -- the operation has no place in the rows yet
   pub lists_but : (fresh : Fresh) (marks : List Mark) → ((before : List Mark) → Lists o f before → Lists o g before) → ListsBut o f fresh marks → ListsBut o g fresh marks
@@ -37,12 +37,15 @@ module _ {M : Type 0} (o : Object) (f g : Frontier M o.State) where
   pub stands_to : ((before : List Mark) → Lists o f before → Lists o g before) → g.fresh ≡ f.fresh → (marks : List Mark) → StandsFor o f marks → StandsFor o g marks
   stands_to to same marks s = record { stands = subst (λ x. StandsWith o g x marks) (sym same) (stands_with to f.fresh marks s.stands) }
 
-  pub stands_like : IsOf g f.table f.calls.items f.tried f.fresh → (marks : List Mark) → StandsFor o f marks → StandsFor o g marks
+  pub stands_like : IsOf g (table_of f) f.calls.items f.tried f.fresh → (marks : List Mark) → StandsFor o f marks → StandsFor o g marks
   stands_like is marks s = stands_to (lists_like is.0 is.1 is.2) is.3 marks s
 
   -- nothing is prepared
-  pub idle_like : IsOf g f.table f.calls.items f.tried f.fresh → g.next ≡ Nothing → (marks : List Mark) → StandsFor o f marks → IsIdle o g marks
+  pub idle_like : IsOf g (table_of f) f.calls.items f.tried f.fresh → g.next ≡ Nothing → (marks : List Mark) → StandsFor o f marks → IsIdle o g marks
   idle_like is nothing marks s = record { nothing = nothing; stands = stands_like is marks s }
+
+  pub idle_still : IsOf g (table_of f) f.calls.items f.tried f.fresh → g.next ≡ f.next → (marks : List Mark) → IsIdle o f marks → IsIdle o g marks
+  idle_still is next marks idle = idle_like is (next ∙ idle.nothing) marks idle.stands
 
 module _ {M : Type 0} (o : Object) (f : Frontier M o.State) (marks : List Mark) where
   pub listed_stands : f.fresh ≡ None → Lists o f marks → StandsFor o f marks
@@ -50,6 +53,13 @@ module _ {M : Type 0} (o : Object) (f : Frontier M o.State) (marks : List Mark) 
 
   pub but_of : (fresh : Fresh) → f.fresh ≡ Some fresh → StandsFor o f marks → ListsBut o f fresh marks
   but_of fresh some s = subst (λ x. StandsWith o f x marks) some s.stands
+
+  -- what is listed is idle without a fresh operation
+  pub idle_of : IsListed o f marks → IsIdle o f marks
+  idle_of l = record { nothing = l.nothing; stands = listed_stands l.none l.lists }
+
+  pub listed_of : IsIdle o f marks → f.fresh ≡ None → IsListed o f marks
+  listed_of idle none = record { nothing = idle.nothing; none = none; lists = subst (λ x. StandsWith o f x marks) none idle.stands.stands }
 
   pub idle_will : IsIdle o f marks → WillStandFor o f marks
   idle_will idle = record { will = λ g makes. stands_like o f g (subst (λ n. Makes n f g) idle.nothing makes) marks idle.stands }
@@ -66,12 +76,16 @@ module _ {M : Type 0} (o : Object) (f : Frontier M o.State) (marks : List Mark) 
 
   -- another event is
   pub will_by : (next : Change o.State) → f.next ≡ next → f.fresh ≡ None → (table : Table o.State) (calls : List PendingOp) (tried : ℕ) → ((g : Frontier M o.State) → Makes next f g → IsOf g table calls tried f.fresh)
-      → ((g : Frontier M o.State) → g.table ≡ table → g.calls.items ≡ calls → g.tried ≡ tried → Lists o g marks) → WillStandFor o f marks
+      → ((g : Frontier M o.State) → (table_of g) ≡ table → g.calls.items ≡ calls → g.tried ≡ tried → Lists o g marks) → WillStandFor o f marks
   will_by next is none table calls tried made lists = record {
     will = λ g makes.
         let m = made g (subst (λ n. Makes n f g) is makes) in
         record { stands = subst (λ x. StandsWith o g x marks) (sym (m.3 ∙ none)) (lists g m.0 m.1 m.2) };
   }
+
+-- where what is idle stays so
+pub listed_again : {M : Type 0} (o : Object) (f g : Frontier M o.State) (marks : List Mark) → Keeps (IsIdle o f) (IsIdle o g) → g.fresh ≡ f.fresh → IsListed o f marks → IsListed o g marks
+listed_again o f g marks keeps fresh l = listed_of o g marks (keeps marks (idle_of o f marks l)) (fresh ∙ l.none)
 
 pub lists_is : {M : Type 0} (o : Object) (f : Frontier M o.State) (marks before : List Mark) → marks ≡ before → Lists o f before → Lists o f marks
 lists_is o f marks before is l = subst (Lists o f) (sym is) l

@@ -24,7 +24,7 @@ use Rattle.linspec.specs.MarkRule.{IsNew}
 use Rattle.linspec.specs.Ends.{End, IsEnd}
 use Rattle.ends.proofs.Starting.{back, to}
 use Rattle.ends.proofs.Closing.{closed_again}
-use Rattle.frontier.specs.Kept.{Lists}
+use Rattle.frontier.specs.Kept.{IsStepOf, Lists, table_of}
 use Rattle.frontier.specs.Meaning.{Blows, IsStep}
 use Rattle.ends.specs.EndSteps.{Adds, Along, AreClosed, IsReached}
 use Rattle.frontier.proofs.Including.{included_more}
@@ -34,7 +34,7 @@ module _ {M : Type 0} (o : Object) (f : Frontier M o.State) (marks : List Mark) 
   pub generates_of : (stands : Lists o f marks) → Generates o stands.kept marks
   generates_of stands = generates_by o stands.kept f.calls.items marks stands.well_kept.pending stands.ends
 
-  pub stands_by : (kept : List (End o.State)) → AreShown f.table f.calls.items kept → Generates o kept marks → Pairwise (λ d e. d ≢ e) kept → ArePending f.calls.items marks → Pairwise (λ (c d : PendingOp). c.id ≢ d.id) f.calls.items
+  pub stands_by : (kept : List (End o.State)) → AreShown (table_of f) f.calls.items kept → Generates o kept marks → Pairwise (λ d e. d ≢ e) kept → ArePending f.calls.items marks → Pairwise (λ (c d : PendingOp). c.id ≢ d.id) f.calls.items
       → AreIncluded f.calls.items kept → f.tried ≤ length f.calls.items → AreClosed o (take f.tried f.calls.items) kept → Lists o f marks
   stands_by kept shown gen once pending calls_once included tried closed = record {
     kept = kept;
@@ -46,10 +46,10 @@ module _ {M : Type 0} (o : Object) (f : Frontier M o.State) (marks : List Mark) 
   }
 
   -- one that shows the same ends, of the same calls, stands for the same
-  pub stands_too : (g : Frontier M o.State) → g.calls.items ≡ f.calls.items → g.tried ≡ f.tried → (stands : Lists o f marks) → AreShown g.table f.calls.items stands.kept → Lists o g marks
+  pub stands_too : (g : Frontier M o.State) → g.calls.items ≡ f.calls.items → g.tried ≡ f.tried → (stands : Lists o f marks) → AreShown (table_of g) f.calls.items stands.kept → Lists o g marks
   stands_too g same tried stands shown = record {
     kept = stands.kept;
-    shown = subst (λ l. AreShown g.table l stands.kept) (sym same) shown;
+    shown = subst (λ l. AreShown (table_of g) l stands.kept) (sym same) shown;
     ends = λ e. subst (λ l. IsReached o l stands.kept e ↔ IsEnd o marks e) (sym same) (stands.ends e);
     well_kept = subst (λ l. IsWellKept l stands.kept marks) (sym same) stands.well_kept;
     tried = subst (λ n. n ≤ length g.calls.items) (sym tried) (subst (λ l. f.tried ≤ length l) (sym same) stands.tried);
@@ -69,10 +69,10 @@ module _ (o : Object) (ends first : List (End o.State)) (adds : Adds (Along IsTh
 
 module _ {M : Type 0} (o : Object) where
   -- one whose rows say ends in some order
-  pub stands_shown : (g : Frontier M o.State) (marks : List Mark) (ends : List (End o.State)) (calls : List PendingOp) → g.calls.items ≡ calls → ShownWith g.table calls [] (Along IsThat ends) → Generates o ends marks → ArePending calls marks
+  pub stands_shown : (g : Frontier M o.State) (marks : List Mark) (ends : List (End o.State)) (calls : List PendingOp) → g.calls.items ≡ calls → ShownWith (table_of g) calls [] (Along IsThat ends) → Generates o ends marks → ArePending calls marks
       → Pairwise (λ (c d : PendingOp). c.id ≢ d.id) calls → AreIncluded calls ends → g.tried ≤ length calls → AreClosed o (take g.tried calls) ends → Lists o g marks
   stands_shown g marks ends calls is s gen pending once included tried closed =
-      stands_by o g marks s.more (subst (λ l. AreShown g.table l s.more) (sym is) s.shown) (generates_again o ends s.more s.adds marks gen) (s.adds.once tt)
+      stands_by o g marks s.more (subst (λ l. AreShown (table_of g) l s.more) (sym is) s.shown) (generates_again o ends s.more s.adds marks gen) (s.adds.once tt)
       (subst (λ l. ArePending l marks) (sym is) pending) (subst (Pairwise (λ (c d : PendingOp). c.id ≢ d.id)) (sym is) once)
       (subst (λ l. AreIncluded l s.more) (sym is) (included_again o ends s.more s.adds calls included))
       (subst (λ l. g.tried ≤ length l) (sym is) tried) (subst (λ l. AreClosed o (take g.tried l) s.more) (sym is) (closed_again o (take g.tried calls) ends s.more s.adds closed))
@@ -137,3 +137,11 @@ module _ (o : Object) (ends : List (End o.State)) (n : ℕ) (long : n ≡ length
   step_by budget none Alive alive dead not_over = (none, some_left o ends (marks ++ mark ∷ []) gen (λ e. alive.0 refl (long ∙ e)))
   step_by budget none Dead alive dead not_over = (none, none_left o ends (marks ++ mark ∷ []) gen (sym long ∙ dead.0 refl))
   step_by budget none Over alive dead not_over = absurd (not_over refl)
+
+-- the step by another number that is zero just where this one is
+pub same_step : (m n : ℕ) (step : Step) → ((m ≡ 0) ↔ (n ≡ 0)) → IsStepOf m step → IsStepOf n step
+same_step m n step same is = record {
+  alive = (λ a e. (is.alive.0 a) (same.1 e), λ some. is.alive.1 (λ e. some (same.0 e)));
+  dead = (λ d. same.0 (is.dead.0 d), λ e. is.dead.1 (same.1 e));
+  never_over = is.never_over;
+}

@@ -1,6 +1,6 @@
 -- Invariant: how a frontier keeps the ends of the histories of one key that it stands for. No layer above cites how:
 -- public clauses cite `StandsFor`, `WillStandFor`, `budget_of` and `applied_of` alone
-use Rattle.std.specs.Prelude.{◌≡◌, ◌≢◌, ◌↔◌, ℕ, ◌-◌, ◌≤◌, Option, Some, None, List, [], ◌∷◌, ◌++◌, length, take}
+use Rattle.std.specs.Prelude.{◌≡◌, ◌≢◌, ◌↔◌, ℕ, ◌-◌, ◌≤◌, false, Option, Some, None, List, [], ◌∷◌, ◌++◌, length, take}
 use Rattle.std.specs.List.{filter}
 use Rattle.models.specs.Objects.{Object}
 use Rattle.history.specs.Events.{Mark}
@@ -16,8 +16,29 @@ use Rattle.frontier.specs.declared.frontier.Frontier.{Frontier}
 use Rattle.frontier.specs.declared.frontier.Step.{Step}
 use Rattle.frontier.specs.declared.frontier.Step.TheVariants.{Alive, Dead, Over}
 use Rattle.ends.specs.KeptEnds.{IsWellKept}
-use Rattle.ends.specs.Tables.{AreShown, with_rows}
+use Rattle.ends.specs.Tables.{AreShown, rows_of, with_rows}
+use Rattle.products.specs.Products.{rows_in}
+use Rattle.std.specs.Global.{Box}
+use Rattle.frontier.specs.declared.as_products.AsProducts.{AsProducts}
 use Rattle.ends.specs.EndSteps.{AreClosed, IsReached, is_other}
+
+-- the rows of the kept products, where there are any, else these
+abbrev pub rows_by : {S : Type 0} → Option (Box (AsProducts S)) → List (List ℕ) → List (List ℕ)
+rows_by None rows = rows
+rows_by (Some those) rows = rows_in those.value.kept.1
+
+-- the rows of the products that are left after what is prepared, where products are kept, else these
+abbrev pub left_by : {S : Type 0} → Option (Box (AsProducts S)) → List (List ℕ) → List (List ℕ)
+left_by None rows = rows
+left_by (Some those) rows = rows_in those.value.room.left.1
+
+-- the table with the rows in force
+abbrev pub table_of : {M S : Type 0} → Frontier M S → Table S
+table_of f = with_rows f.table (rows_by f.as_products (rows_of f.table))
+
+-- the rows that are left
+abbrev pub left_of : {M S : Type 0} → Frontier M S → List (List ℕ)
+left_of f = left_by f.as_products f.room.rows
 
 -- a frontier that keeps these ends represents the end: operations that may still take place lead to
 -- it, one after another, from an end that is kept (Lowe 2017)
@@ -30,7 +51,7 @@ Represents o f kept e = IsReached o f.calls.items kept e
 pub record Lists {M : Type 0} (o : Object) (f : Frontier M o.State) (marks : List Mark)
     : Type 0 where
   pub kept : List (End o.State)
-  pub shown : AreShown f.table f.calls.items kept
+  pub shown : AreShown (table_of f) f.calls.items kept
   pub ends : (e : End o.State) → Represents o f kept e ↔ IsEnd o marks e
   pub well_kept : IsWellKept f.calls.items kept marks
   pub tried : f.tried ≤ length f.calls.items
@@ -58,14 +79,25 @@ pub record StandsFor {M : Type 0} (o : Object) (f : Frontier M o.State) (marks :
 abbrev pub IsOf : {M S : Type 0} → Frontier M S → Table S → List PendingOp → ℕ → Option Fresh
     → Type 0
 IsOf g table calls tried fresh =
-    (g.table ≡ table) × (g.calls.items ≡ calls) × (g.tried ≡ tried) × (g.fresh ≡ fresh)
+    (table_of g ≡ table) × (g.calls.items ≡ calls) × (g.tried ≡ tried) × (g.fresh ≡ fresh)
+
+-- the frontier is this one but for what is worked in
+pub record IsAlike {M S : Type 0} (f g : Frontier M S) : Type 0 where
+  pub same : IsOf g (table_of f) f.calls.items f.tried f.fresh
+  pub next : g.next ≡ f.next
+  pub budget : g.budget ≡ f.budget
+  pub applied : g.applied ≡ f.applied
+
+-- the fresh operation as a call
+abbrev pub call_of : Fresh → PendingOp
+call_of fresh = record { id = fresh.id; op = fresh.op; crashed = false }
 
 -- the change makes the other frontier of this one
 abbrev pub Makes : {M S : Type 0} → Change S → Frontier M S → Frontier M S → Type 0
-Makes Nothing f g = IsOf g f.table f.calls.items f.tried f.fresh
-Makes (ToInvoked fresh) f g = IsOf g f.table f.calls.items f.tried (Some fresh)
+Makes Nothing f g = IsOf g (table_of f) f.calls.items f.tried f.fresh
+Makes (ToInvoked fresh) f g = IsOf g (table_of f) f.calls.items f.tried (Some fresh)
 Makes (Done id tried) f g =
-    IsOf g (with_rows f.table f.room.rows) (filter (is_other id) f.calls.items) tried f.fresh
+    IsOf g (with_rows (table_of f) (left_of f)) (filter (is_other id) f.calls.items) tried f.fresh
 Makes (Anew calls table tried) f g = IsOf g table.value calls.items tried f.fresh
 
 -- with what is prepared the frontier will stand for the history
@@ -73,7 +105,7 @@ pub record WillStandFor {M : Type 0} (o : Object) (f : Frontier M o.State) (mark
     : Type 0 where
   pub will : (g : Frontier M o.State) → Makes f.next f g → StandsFor o g marks
 
--- with the rows of the room in place of its own, and without the operation among its calls, the frontier will stand for the history
+-- with the rows that are left in place of its own, and without the operation among its calls, the frontier will stand for the history
 abbrev pub WillBeWithout : {M : Type 0} → ℕ → (o : Object) → Frontier M o.State → List Mark → Type 0
 WillBeWithout {M} id o f marks =
     (g : Frontier M o.State) → Makes (Done id (length f.calls.items - 1)) f g → StandsFor o g marks

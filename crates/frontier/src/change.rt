@@ -20,8 +20,8 @@ pub enum Change<S: Hash + Drop> {
     Nothing,
     /// This operation is invoked.
     Invoked(Fresh),
-    /// The operation with this id has returned or failed: it is among the calls no longer, the rows in the room take the place
-    /// of the others, and so many of the calls that are left count as tried.
+    /// The operation with this id has returned or failed: it is among the calls no longer, the rows or products that are left
+    /// take the place of the others, and so many of the calls that are left count as tried.
     Done(u32, usize),
     /// These calls and this table take the place of the others, and so many of the calls count as tried.
     Anew(Vec<PendingOp>, Box<Table<S>>, usize),

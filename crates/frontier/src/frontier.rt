@@ -1,20 +1,25 @@
 //! Frontiers, and what each event does to one.
-ghost use Rattle.std.specs.Prelude.{◌≡◌, ◌↔◌, List, [], true, false, length, IfOk, OnOk, OnErr, MatchResult};
+ghost use Rattle.std.specs.Prelude.{◌≡◌, ◌≢◌, ◌↔◌, ◌<◌, ◌≤◌, ◌+◌, ◌*◌, ◌++◌, ◌∷◌, ℕ, List, Some, None, [], true, false, length, take, IfOk, IsSome, OnOk, OnErr, MatchResult};
+ghost use Rattle.std.specs.Vec.{vec_capacity, vec_len};
 ghost use Rattle.std.specs.List.{filter};
 ghost use Rattle.models.specs.Objects.{of_table};
 ghost use Rattle.history.specs.Events.{Mark};
 ghost use Rattle.history.specs.Events.Mark.{Invoked, Returned, Failed, Crashed};
-ghost use Rattle.ends.specs.EndSteps.{is_other};
-ghost use Rattle.ends.specs.Tables.{with_rows};
+ghost use Rattle.linspec.specs.Ends.{End};
+ghost use Rattle.linspec.specs.Orders.{Pairwise};
+ghost use Rattle.ends.specs.EndSteps.{Along, AreClosed, Fails, ReachesMoreThan, is_other};
+ghost use Rattle.ends.specs.Tables.{AreShown, HasEachOnce, IsAdvanced, IsOpenAt, ShowTheSame, ShownWith, Widens, rows_of, with_rows};
 ghost use Rattle.frontier.specs.Kept.{StandsFor, WillStandFor, WillBeWithout, IsListed, IsIdle, IsStepOf};
 ghost use Rattle.frontier.specs.Meaning.{Answers, Keeps, Takes, TakesUnlessOver};
-ghost use Rattle.frontier.specs.Kept.{IsOf, applied_of, budget_of};
+ghost use Rattle.frontier.specs.Kept.{IsAlike, IsOf, applied_of, budget_of, call_of, left_of, rows_by, table_of};
 ghost use Rattle.frontier.specs.Meaning.{CostsAtMost, mark_by};
 
+use crate::as_products::{self, AsProducts};
 use crate::change::{self, Change, Fresh};
 use ends::{KeptEnd, PendingOp, Room, Table};
 use history::EventKind;
 use models::{Answer, Op, SeqObject};
+use rows::RowSet;
 use std::alloc::{AllocError, Global};
 use std::hash::Hash;
 use std::mem::{replace, swap};
@@ -51,6 +56,7 @@ pub struct Frontier<M: SeqObject> {
     table: Table<M::State>,
     spare: Option<Box<Table<M::State>>>,
     room: Room<M::State>,
+    as_products: Option<Box<AsProducts<M::State>>>,
     next: Change<M::State>,
 }
 
@@ -100,6 +106,7 @@ impl<M: SeqObject> Frontier<M> {
             table,
             spare: None,
             room: Room::for_two(alloc)?,
+            as_products: None,
             next: Change::Nothing,
         })
     }
@@ -108,8 +115,9 @@ impl<M: SeqObject> Frontier<M> {
     /// the kind of the event, at its cost. The id is the index of the operation's invocation, and the part of an ok is the
     /// answer. An invocation and an info are answered Alive, since they kill nothing. Over where the event is an ok and more
     /// ends than the budget stand just before it: then, and on `AllocError`, the frontier stands for what it stood for; the
-    /// steps that were made stay counted, and the call that was noted last may have its place in the rows. It is
-    /// [`prepare`](Self::prepare) and [`commit`](Self::commit) in one, with nothing kept between the two.
+    /// steps that were made stay counted, the call that was noted last may have its place in the rows, and rows may have become
+    /// products, or products rows. It is [`prepare`](Self::prepare) and [`commit`](Self::commit) in one, with nothing kept between
+    /// the two.
     pub fn observe(&mut self, id: u32, kind: EventKind, op: &Op) -> Result<Step, AllocError>
         ensures step { let object = of_table M.State M.start_state M.apply_to in
             let old = StandsFor object self.old in
@@ -191,18 +199,32 @@ impl<M: SeqObject> Frontier<M> {
         }
     }
 
-    // The rows of the room take the place of the others, the operation is among the calls no longer, and so many of them count as
-    // tried.
+    // The rows or products that are left take the place of the others, the operation is among the calls no longer, and so many of
+    // them count as tried.
     #[inline(always)]
     fn take_left(&mut self, id: u32, tried: usize)
-        ensures is { IsOf self.new (with_rows self.old.table self.old.room.rows)
+        ensures is { IsOf self.new (with_rows (table_of self.old) (left_of self.old))
             (filter (is_other id) self.old.calls.items) tried self.old.fresh }
         ensures budget { budget_of self.new ≡ budget_of self.old }
         ensures cost { applied_of self.new ≡ applied_of self.old }
     {
-        self.table.rows.trade(&mut self.room.rows);
+        self.trade_left();
         ends::drop_call(&mut self.calls, id);
         self.tried = tried;
+    }
+
+    // The rows or products that are left take the place of the others.
+    #[inline(always)]
+    fn trade_left(&mut self)
+        ensures is { IsOf self.new (with_rows (table_of self.old) (left_of self.old))
+            self.old.calls.items self.old.tried self.old.fresh }
+        ensures budget { budget_of self.new ≡ budget_of self.old }
+        ensures cost { applied_of self.new ≡ applied_of self.old }
+    {
+        match &mut self.as_products {
+            Some(those) => as_products::take_left(those),
+            None => self.table.rows.trade(&mut self.room.rows),
+        }
     }
 
     // These calls and this table take the place of the others, and so many of the calls count as tried.
@@ -214,12 +236,15 @@ impl<M: SeqObject> Frontier<M> {
     {
         self.calls = calls;
         self.table = Box::into_inner(table);
+        self.as_products = None;
         self.tried = tried;
     }
 
     /// An operation is invoked, whose id (the index of its invocation) no event before it has. On `AllocError` the frontier
     /// stands for what it stood for. Tries nothing: it notes the call, and gives the one that was noted before its place in the
-    /// rows, which are made anew where they have no room for it.
+    /// rows, which are made anew where they have no room for it, or in the products. Before that rows may become products, or
+    /// products rows, or products get new numbers. Takes the time of the rows or of a copy of the products; where products are made
+    /// or get new numbers, at most the square of how many there are.
     pub fn invoke(&mut self, id: u32, op: Op) -> Result<(), AllocError>
         ensures kept { let object = of_table M.State M.start_state M.apply_to in
             let old = StandsFor object self.old in let new = StandsFor object self.new in
@@ -260,6 +285,26 @@ impl<M: SeqObject> Frontier<M> {
         if self.fresh.is_none() {
             return Ok(());
         }
+        self.choose_form()?;
+        self.place_fresh()
+    }
+
+    // The same, where nothing is prepared, and the rows or products have the form in which they get the place.
+    fn place_fresh(&mut self) -> Result<(), AllocError>
+        requires fresh { IsSome self.old.fresh }
+        ensures listed { let object = of_table M.State M.start_state M.apply_to in
+            OnOk result (Keeps (IsIdle object self.old) (IsListed object self.new)) }
+        ensures nothing { let object = of_table M.State M.start_state M.apply_to in
+            OnErr result (Keeps (IsIdle object self.old) (IsIdle object self.new)) }
+        ensures budget { budget_of self.new ≡ budget_of self.old }
+        ensures cost { applied_of self.new ≡ applied_of self.old }
+    {
+        if let Some(those) = &mut self.as_products {
+            self.calls.reserve(1)?;
+            as_products::lengthen(self.alloc, those)?;
+            self.push_fresh();
+            return Ok(());
+        }
         if self.is_crowded() {
             return self.list_anew();
         }
@@ -267,6 +312,19 @@ impl<M: SeqObject> Frontier<M> {
         if !self.table.rows.lengthen() {
             return self.list_anew();
         }
+        self.push_fresh();
+        Ok(())
+    }
+
+    // The fresh operation is the last of the calls, for which there is room.
+    fn push_fresh(&mut self)
+        requires room { vec_len self.old.calls < vec_capacity self.old.calls }
+        ensures is { (fresh : Fresh) → self.old.fresh ≡ Some fresh → IsOf self.new (table_of self.old)
+            (self.old.calls.items ++ call_of fresh ∷ []) self.old.tried None }
+        ensures next { self.new.next ≡ self.old.next }
+        ensures budget { budget_of self.new ≡ budget_of self.old }
+        ensures cost { applied_of self.new ≡ applied_of self.old }
+    {
         match self.fresh.take() {
             Some(Fresh { id, op }) => {
                 let call = PendingOp {
@@ -275,12 +333,93 @@ impl<M: SeqObject> Frontier<M> {
                     crashed: false,
                 };
                 match self.calls.push(call) {
-                    Ok(_) => Ok(()),
+                    Ok(_) => {}
                     Err(_full) => unreachable!(),
                 }
             }
+            None => {}
+        }
+    }
+
+    // Ends whose reads double them are kept as products, while these are not many; and products are numbered anew where many of
+    // their numbers are no longer used. On `AllocError` the frontier stands for what it stood for.
+    fn choose_form(&mut self) -> Result<(), AllocError>
+        ensures keeps { let object = of_table M.State M.start_state M.apply_to in
+            Keeps (IsIdle object self.old) (IsIdle object self.new) }
+        ensures fresh { self.new.fresh ≡ self.old.fresh }
+        ensures budget { budget_of self.new ≡ budget_of self.old }
+        ensures cost { applied_of self.new ≡ applied_of self.old }
+    {
+        match &self.as_products {
+            Some(those) if as_products::are_many(those) => self.make_rows(),
+            Some(those) if as_products::is_crowded(those, &self.table) => self.renumber(),
+            Some(_) => Ok(()),
+            None if as_products::may_be_few(&self.table, &self.calls) && M::has_scalar_states() => {
+                self.make_products()
+            }
             None => Ok(()),
         }
+    }
+
+    // The rows become products, if they can. On `AllocError` the frontier stands for what it stood for.
+    #[inline(never)]
+    fn make_products(&mut self) -> Result<(), AllocError>
+        requires rows { self.old.as_products ≡ None }
+        ensures keeps { let object = of_table M.State M.start_state M.apply_to in
+            Keeps (IsIdle object self.old) (IsIdle object self.new) }
+        ensures fresh { self.new.fresh ≡ self.old.fresh }
+        ensures budget { budget_of self.new ≡ budget_of self.old }
+        ensures cost { applied_of self.new ≡ applied_of self.old }
+    {
+        let made = product_ends::as_products(self.alloc, &self.table, self.calls.len())?;
+        if let Some(kept) = made {
+            self.as_products = Some(as_products::of_kept(self.alloc, kept)?);
+            self.table.rows = RowSet::new(self.alloc, 0);
+        }
+        Ok(())
+    }
+
+    // The products become rows, if there are any. On `AllocError` the frontier stands for what it stood for.
+    #[inline(never)]
+    fn make_rows(&mut self) -> Result<(), AllocError>
+        ensures keeps { let object = of_table M.State M.start_state M.apply_to in
+            Keeps (IsIdle object self.old) (IsIdle object self.new) }
+        ensures rows { OnOk result (self.new.as_products ≡ None) }
+        ensures fresh { self.new.fresh ≡ self.old.fresh }
+        ensures budget { budget_of self.new ≡ budget_of self.old }
+        ensures cost { applied_of self.new ≡ applied_of self.old }
+    {
+        if let Some(those) = &self.as_products {
+            self.table.rows = product_ends::as_rows(self.alloc, &those.kept)?;
+            self.as_products = None;
+        }
+        Ok(())
+    }
+
+    // The products get new numbers of states and of what was found, those that they use alone. On `AllocError` the frontier stands
+    // for what it stood for.
+    #[inline(never)]
+    fn renumber(&mut self) -> Result<(), AllocError>
+        ensures keeps { let object = of_table M.State M.start_state M.apply_to in
+            Keeps (IsIdle object self.old) (IsIdle object self.new) }
+        ensures fresh { self.new.fresh ≡ self.old.fresh }
+        ensures budget { budget_of self.new ≡ budget_of self.old }
+        ensures cost { applied_of self.new ≡ applied_of self.old }
+    {
+        if let Some(those) = &mut self.as_products {
+            let other = product_ends::renumbered::<M>(self.alloc, &self.table, &those.kept)?;
+            let (most_found, most_states) = match &other {
+                Some((table, _)) => as_products::to_come(table),
+                None => as_products::to_come(&self.table),
+            };
+            those.most_found = most_found;
+            those.most_states = most_states;
+            if let Some((table, kept)) = other {
+                self.table = table;
+                those.kept = kept;
+            }
+        }
+        Ok(())
     }
 
     // Whether nine of ten states of the table, or more, are no longer those of a row.
@@ -291,6 +430,7 @@ impl<M: SeqObject> Frontier<M> {
     // The same as `list_fresh`, with another table, in the memory of the one before.
     #[inline(never)]
     fn list_anew(&mut self) -> Result<(), AllocError>
+        requires rows { self.old.as_products ≡ None }
         ensures listed { let object = of_table M.State M.start_state M.apply_to in
             OnOk result (Keeps (IsIdle object self.old) (IsListed object self.new)) }
         ensures nothing { let object = of_table M.State M.start_state M.apply_to in
@@ -319,10 +459,11 @@ impl<M: SeqObject> Frontier<M> {
     }
 
     /// An open operation has returned with this answer. Over where more ends than the budget stand just before it: then, and on
-    /// `AllocError`, the frontier stands for what it stood for; the steps that were made stay counted. Tries each operation
-    /// that may still take place at most once on each end, and as a rule once in each state of an end, and on the ends that the
-    /// last ok left only the operations invoked since; looks what comes of it up in a hash set; goes on with no end once these
-    /// are more than the budget.
+    /// `AllocError`, the frontier stands for what it stood for; the steps that were made stay counted. Where the ends are rows,
+    /// tries each operation that may still take place at most once on each end, as a rule once in each state of an end, and on the
+    /// ends that the last ok left only the operations invoked since; looks what comes of it up in an index. Where they are
+    /// products, tries each operation once in each state that is met, and compares each product that comes of it with the others.
+    /// Goes on with no end once these are more than the budget.
     pub fn ok(&mut self, id: u32, answer: &Answer) -> Result<Step, AllocError>
         ensures step { let object = of_table M.State M.start_state M.apply_to in
             let old = StandsFor object self.old in
@@ -338,7 +479,7 @@ impl<M: SeqObject> Frontier<M> {
             (applied_of self.old) (applied_of self.new) }
     {
         if self.find_left(id, answer)? {
-            let step = step_of(self.room.rows.len());
+            let step = step_of(self.left());
             let tried = self.calls.len().saturating_sub(1);
             self.take_left(id, tried);
             Ok(step)
@@ -359,7 +500,7 @@ impl<M: SeqObject> Frontier<M> {
             Answers object (budget_of self.old) old (Returned id answer.now) Step.Over) }
         ensures step { let object = of_table M.State M.start_state M.apply_to in
             let old = StandsFor object self.old in IfOk result (λ all. all ≡ true →
-            (s : Step) → IsStepOf (length self.new.room.rows) s →
+            (s : Step) → IsStepOf (length (left_of self.new)) s →
             Answers object (budget_of self.old) old (Returned id answer.now) s) }
         ensures left { let object = of_table M.State M.start_state M.apply_to in
             let old = StandsFor object self.old in IfOk result (λ all. all ≡ true →
@@ -371,18 +512,90 @@ impl<M: SeqObject> Frontier<M> {
             (applied_of self.old) (applied_of self.new) }
     {
         self.list_fresh()?;
-        let all = ends::advance::<M>(
-            self.alloc,
-            &mut self.table,
-            &mut self.room,
-            &self.calls,
-            self.tried,
-            self.budget,
-            &mut self.applied,
-            id,
-            answer,
-        )?;
+        self.suit_outcomes()?;
+        let all = self.advance(id, answer)?;
         Ok(all)
+    }
+
+    // Products become rows where an operation may have several outcomes. On `AllocError` the frontier stands for what it stood
+    // for.
+    fn suit_outcomes(&mut self) -> Result<(), AllocError>
+        ensures keeps { let object = of_table M.State M.start_state M.apply_to in
+            Keeps (IsListed object self.old) (IsListed object self.new) }
+        ensures single { OnOk result (self.new.as_products ≢ None →
+            (op : Op) (state : M.State) → length (M.apply_to op state) ≤ 1) }
+        ensures budget { budget_of self.new ≡ budget_of self.old }
+        ensures cost { applied_of self.new ≡ applied_of self.old }
+    {
+        if M::has_scalar_states() {
+            Ok(())
+        } else {
+            self.make_rows()
+        }
+    }
+
+    // Puts what is left of all ends after the ok into the room. False where there are more ends than the budget.
+    #[inline(always)]
+    fn advance(&mut self, id: u32, answer: &Answer) -> Result<bool, AllocError>
+        requires single { self.old.as_products ≢ None →
+            (op : Op) (state : M.State) → length (M.apply_to op state) ≤ 1 }
+        ensures all { let object = of_table M.State M.start_state M.apply_to in
+            let calls = self.old.calls.items in
+            HasEachOnce calls → (ends : List (End M.State)) → AreShown (table_of self.old) calls ends
+            → AreClosed object (take self.old.tried calls) ends
+            → IfOk result (λ all. all ≡ true → IsAdvanced object
+            (with_rows (table_of self.new) (left_of self.new)) calls ends (budget_of self.old) id answer.now) }
+        ensures over { let object = of_table M.State M.start_state M.apply_to in
+            let calls = self.old.calls.items in
+            HasEachOnce calls → (ends : List (End M.State)) → Pairwise (λ d e. d ≢ e) ends
+            → AreShown (table_of self.old) calls ends → AreClosed object (take self.old.tried calls) ends
+            → IfOk result (λ all. all ≡ false → ReachesMoreThan object calls ends (budget_of self.old)) }
+        ensures is { IsOf self.new (table_of self.new) self.old.calls.items self.old.tried self.old.fresh }
+        ensures widens { Widens (table_of self.old) (table_of self.new) }
+        ensures rows { rows_of (table_of self.new) ≡ rows_of (table_of self.old) }
+        ensures next { self.new.next ≡ self.old.next }
+        ensures budget { budget_of self.new ≡ budget_of self.old }
+        ensures cost { applied_of self.new
+            ≤ applied_of self.old + (budget_of self.old + 1) * length self.old.calls.items }
+    {
+        let budget = self.budget;
+        match &mut self.as_products {
+            Some(those) => {
+                let those = &mut **those;
+                product_ends::advance::<M>(
+                    self.alloc,
+                    &mut self.table,
+                    &those.kept,
+                    &mut those.room,
+                    &self.calls,
+                    budget,
+                    &mut self.applied,
+                    id,
+                    answer,
+                )
+            }
+            None => ends::advance::<M>(
+                self.alloc,
+                &mut self.table,
+                &mut self.room,
+                &self.calls,
+                self.tried,
+                budget,
+                &mut self.applied,
+                id,
+                answer,
+            ),
+        }
+    }
+
+    // How many rows are left, or some number of them where they are products: zero where there are none.
+    fn left(&self) -> usize
+        ensures { (result ≡ 0) ↔ (length (left_of self.now) ≡ 0) }
+    {
+        match &self.as_products {
+            Some(those) => as_products::left(those),
+            None => self.room.rows.len(),
+        }
     }
 
     // The first half of `ok`: the rows that are left are put into the room, and take the others' place at `commit`.
@@ -406,7 +619,7 @@ impl<M: SeqObject> Frontier<M> {
         }
         let tried = self.calls.len().saturating_sub(1);
         self.next = Change::Done(id, tried);
-        Ok(step_of(self.room.rows.len()))
+        Ok(step_of(self.left()))
     }
 
     /// How many steps were made so far: how often an operation was tried in a state, also in an ok that was answered Over or
@@ -418,8 +631,8 @@ impl<M: SeqObject> Frontier<M> {
     }
 
     /// An open operation did not take place. Never Over. On `AllocError` the frontier stands for what it stood for. Leaves the
-    /// ends that do not include the operation: looks at one number of each row, and puts each row that is left, without that
-    /// number, into a hash set.
+    /// ends that do not include the operation: looks at one number of each row, or one set of each product, and puts what is left,
+    /// without it, with the others.
     pub fn fail(&mut self, id: u32) -> Result<Step, AllocError>
         ensures step { let object = of_table M.State M.start_state M.apply_to in
             let old = StandsFor object self.old in
@@ -449,14 +662,39 @@ impl<M: SeqObject> Frontier<M> {
         ensures cost { applied_of self.new ≡ applied_of self.old }
     {
         self.list_fresh()?;
-        ends::failed(&self.table, &self.calls, id, &mut self.room.rows)?;
+        self.find_failed(id)?;
         self.next = Change::Done(id, self.tried.saturating_sub(1));
-        Ok(step_of(self.room.rows.len()))
+        Ok(step_of(self.left()))
+    }
+
+    // Puts what is left of the ends after the fail into the room.
+    fn find_failed(&mut self, id: u32) -> Result<(), AllocError>
+        ensures failed { let calls = self.old.calls.items in
+            HasEachOnce calls → (at : ℕ) → IsOpenAt calls at id → (ends : List (End M.State))
+            → AreShown (table_of self.old) calls ends → OnOk result
+            (ShownWith (with_rows (table_of self.old) (left_of self.new)) (filter (is_other id) calls) []
+            (Along (Fails id) ends)) }
+        ensures alike { IsAlike self.old self.new }
+    {
+        match &mut self.as_products {
+            Some(those) => {
+                let those = &mut **those;
+                product_ends::failed(
+                    self.alloc,
+                    &self.table,
+                    &those.kept,
+                    &mut those.room,
+                    &self.calls,
+                    id,
+                )
+            }
+            None => ends::failed(&self.table, &self.calls, id, &mut self.room.rows),
+        }
     }
 
     /// An open operation has crashed: it may take place at any later moment, or never. A read is set aside, since it decides
     /// nothing any more: ends that differed by it alone are one then. On `AllocError` the frontier stands for what it stood
-    /// for. Makes its rows anew.
+    /// for. Makes its rows anew; products become rows before that, one for each kept end.
     pub fn crash(&mut self, id: u32) -> Result<(), AllocError>
         ensures kept { let object = of_table M.State M.start_state M.apply_to in
             let old = StandsFor object self.old in let new = StandsFor object self.new in
@@ -480,7 +718,7 @@ impl<M: SeqObject> Frontier<M> {
         ensures budget { budget_of self.new ≡ budget_of self.old }
         ensures cost { applied_of self.new ≡ applied_of self.old }
     {
-        self.list_fresh()?;
+        self.list_as_rows()?;
         let counts = !ends::is_read(&self.calls, id);
         let ends = ends::ends_of::<M>(self.alloc, &self.table, &self.calls)?;
         let after = ends::crashed_ends::<M>(self.alloc, &ends, id, counts)?;
@@ -492,13 +730,28 @@ impl<M: SeqObject> Frontier<M> {
         Ok(())
     }
 
+    // The same as `list_fresh`, and products become rows.
+    fn list_as_rows(&mut self) -> Result<(), AllocError>
+        ensures listed { let object = of_table M.State M.start_state M.apply_to in
+            OnOk result (Keeps (StandsFor object self.old) (IsListed object self.new)) }
+        ensures nothing { let object = of_table M.State M.start_state M.apply_to in
+            OnErr result (Keeps (StandsFor object self.old) (IsIdle object self.new)) }
+        ensures rows { OnOk result (self.new.as_products ≡ None) }
+        ensures budget { budget_of self.new ≡ budget_of self.old }
+        ensures cost { applied_of self.new ≡ applied_of self.old }
+    {
+        self.list_fresh()?;
+        self.make_rows()
+    }
+
     /// Where its memory comes from.
     pub(crate) fn allocator(&self) -> Global {
         self.alloc
     }
 
     /// An equal frontier, which shares the items of queues and the members that were found; nothing is prepared of it.
-    /// `AllocError` where there is no memory for it. Takes the time of the calls, the rows, the states and what was found.
+    /// `AllocError` where there is no memory for it. Takes the time of the calls, the rows or products, the states and what was
+    /// found.
     pub fn copy(&self) -> Result<Self, AllocError>
         ensures same { let object = of_table M.State M.start_state M.apply_to in
             IfOk result (λ f. (marks : List Mark)
@@ -506,6 +759,7 @@ impl<M: SeqObject> Frontier<M> {
         ensures budget { IfOk result (λ f. budget_of f ≡ budget_of self.now) }
         ensures applied { IfOk result (λ f. applied_of f ≡ applied_of self.now) }
     {
+        let (table, as_products) = self.copied_form()?;
         Ok(Frontier {
             alloc: self.alloc,
             budget: self.budget,
@@ -513,10 +767,31 @@ impl<M: SeqObject> Frontier<M> {
             calls: ends::copy_calls(self.alloc, &self.calls)?,
             fresh: change::copied_fresh(&self.fresh)?,
             tried: self.tried,
-            table: ends::copied::<M>(self.alloc, &self.table, &self.calls)?,
+            table,
             spare: None,
             room: Room::new(self.alloc),
+            as_products,
             next: Change::Nothing,
         })
+    }
+
+    // The table and the products, with memory of their own; of a table without products those states alone that its rows have.
+    fn copied_form(
+        &self,
+    ) -> Result<(Table<M::State>, Option<Box<AsProducts<M::State>>>), AllocError>
+        ensures { IfOk result (λ copy. ShowTheSame (table_of self.now)
+            (with_rows copy.0 (rows_by copy.1 (rows_of copy.0)))) }
+    {
+        match &self.as_products {
+            Some(those) => {
+                let table = ends::copied_whole::<M>(self.alloc, &self.table)?;
+                let copy = as_products::copied(self.alloc, those)?;
+                Ok((table, Some(copy)))
+            }
+            None => {
+                let table = ends::copied::<M>(self.alloc, &self.table, &self.calls)?;
+                Ok((table, None))
+            }
+        }
     }
 }

@@ -2,6 +2,7 @@
 #![tactic(auto)]
 
 pub mod any_frontier;
+mod as_products;
 mod change;
 pub mod frontier;
 

@@ -36,6 +36,10 @@ impl SeqObject for CasRegister {
         false
     }
 
+    fn has_scalar_states() -> bool {
+        true
+    }
+
     fn append_outcomes(
         alloc: Global,
         state: &Option<i64>,

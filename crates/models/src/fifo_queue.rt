@@ -35,6 +35,10 @@ impl SeqObject for FifoQueue {
         false
     }
 
+    fn has_scalar_states() -> bool {
+        false
+    }
+
     fn append_outcomes(
         _alloc: Global,
         state: &Items,

@@ -35,6 +35,10 @@ impl SeqObject for Mutex {
         false
     }
 
+    fn has_scalar_states() -> bool {
+        true
+    }
+
     fn append_outcomes(
         _alloc: Global,
         state: &bool,

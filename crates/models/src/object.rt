@@ -38,6 +38,11 @@ pub trait SeqObject {
         ensures more { IsTrue result ↔ (most < length (apply_to op.now state.now)) }
         ensures apart { AreApart (apply_to op.now state.now) };
 
+    /// Whether a state is one value without memory of its own, and each operation has at most one outcome in it, so that what
+    /// each operation does in a state is told at little cost. Takes no memory, and constant time.
+    fn has_scalar_states() -> bool
+        ensures { IsTrue result → (op : Op) (state : Self.State) → length (apply_to op state) ≤ 1 };
+
     /// Puts the outcomes of the operation in the state behind those in the list, so that a caller who keeps the list has no
     /// list made for each step; `AllocError` where there is no memory for a new state or for the list, which is then as before.
     /// Leaves the state as it was. Takes at most the time of the items, values or spans for each outcome; a read of a set, that

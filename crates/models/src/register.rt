@@ -34,6 +34,10 @@ impl SeqObject for Register {
         false
     }
 
+    fn has_scalar_states() -> bool {
+        true
+    }
+
     fn append_outcomes(
         _alloc: Global,
         state: &Option<i64>,

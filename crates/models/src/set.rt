@@ -34,6 +34,10 @@ impl SeqObject for Set {
         false
     }
 
+    fn has_scalar_states() -> bool {
+        false
+    }
+
     fn append_outcomes(
         _alloc: Global,
         state: &Spans,

@@ -130,6 +130,10 @@ impl SeqObject for UnorderedQueue {
         }
     }
 
+    fn has_scalar_states() -> bool {
+        false
+    }
+
     fn append_outcomes(
         _alloc: Global,
         state: &Multiset,

@@ -10,7 +10,7 @@ returns-clause-same g c marks =
     let f = c.args.self.now in
     let calls = c.in_ok-copy_calls.ensures ∙ c.deref.ensures.value in
     let fresh = c.in_ok-copied_fresh.ensures in
-    let same = c.in_ok-copied.ensures in (
+    let same = c.in_ok-table.ensures in (
       stands_to o _ f (λ before stands. stands_too o _ before f (sym calls) refl stands ((same _ stands.kept).1 stands.shown)) (sym fresh) marks,
       stands_to o f _ (λ before stands. stands_too o f before _ calls refl stands ((same f.calls.items stands.kept).0 stands.shown)) fresh marks,
     )

@@ -1,4 +1,4 @@
-use Rattle.std.proofs.Common.{◌↔◌, ◌≤◌, ◌∷◌, ◌++◌, [], IsTrue, not, ap, map, length, refl, ◌∙◌, subst, arith}
+use Rattle.std.proofs.Common.{◌↔◌, ◌≤◌, ◌∷◌, ◌++◌, [], None, IsTrue, not, ap, map, length, refl, ◌∙◌, subst, arith}
 use Rattle.models.specs.Objects.{of_table}
 use Rattle.history.specs.Events.Mark.{Crashed}
 use Rattle.linspec.specs.Ends.{End}
@@ -13,27 +13,29 @@ use Rattle.frontier.proofs.Generating.{crash_each, generates_after_crash}
 use Rattle.frontier.proofs.Including.{included_after_crash}
 use Rattle.frontier.proofs.Pending.{pending_after_crash, once_after_crash, tells_counted}
 use Rattle.frontier.proofs.Preparing.{lists_like, listed_stands, stands_like, will_by}
+use Rattle.frontier.proofs.Reordering.{shown_rows}
 use Rattle.frontier.proofs.frontier.Frontier.prepare_crash.Goals as goal
 
 pub returns-clause-now : goal.returns-clause-now
 returns-clause-now g c marks given =
     let o = of_table g.row.M-State.Denot g.M.SeqObject.start_state g.M.SeqObject.apply_to in
-    let f = c.list_fresh.new.self in
-    let l = c.in_ok-list_fresh.ensures.listed marks given in
+    let f = c.list_as_rows.new.self in
+    let l = c.in_ok-list_as_rows.ensures.listed marks given in
     stands_like o f _ (refl, refl, refl, refl) marks (listed_stands o f marks l.none l.lists)
 
 pub returns-clause-next : goal.returns-clause-next
 returns-clause-next g c marks given is_open =
     let o = of_table g.row.M-State.Denot g.M.SeqObject.start_state g.M.SeqObject.apply_to in
-    let f = c.list_fresh.new.self in
+    let f = c.list_as_rows.new.self in
     let id = c.args.id in
-    let l = c.in_ok-list_fresh.ensures.listed marks given in
+    let l = c.in_ok-list_as_rows.ensures.listed marks given in
     let stands = l.lists in
     let counted = not c.is_read-counts.result in
     let tells = tells_counted f.calls.items marks stands.well_kept.pending stands.well_kept.calls_once id is_open c.is_read-counts.result
     (subst (λ l. IsTrue c.is_read-counts.result ↔ HasRead l id) c.deref.ensures.value c.is_read-counts.ensures) in
     let calls = c.crash_call.ensures ∙ ap (calls_after_crash counted id) (c.in_ok-calls.ensures ∙ c.deref-4.ensures.value) in
-    let are = kept_ends o f marks stands c.deref-2.result.now c.deref-2.ensures.value c.in_ok-ends.ends.items c.in_ok-ends.ensures in
+    let are = kept_ends o f marks stands c.deref-2.result.now c.deref-2.ensures.value c.in_ok-ends.ends.items
+    (λ once ends shown. c.in_ok-ends.ensures once ends (shown_rows f.table f.as_products c.in_ok-list_as_rows.ensures.rows c.deref-2.result.now ends shown)) in
     let each = crash_each o counted stands.kept id (map end_kept c.in_ok-after.after.items) (c.in_ok-after.ensures ∙ ap (map (λ (e : End g.row.M-State.Denot). after_crash counted e id)) (ap (map end_kept) c.deref-3.ensures.value ∙ are)) in
     let included = included_after_crash f.calls.items marks stands.well_kept.pending id is_open counted stands.kept (map end_kept c.in_ok-after.after.items) stands.well_kept.included each in
     let none : 0 ≤ length (calls_after_crash counted id f.calls.items) = omega arith in
@@ -47,6 +49,7 @@ returns-clause-next g c marks given is_open =
       table = c.in_ok-table.table;
       spare = f.spare;
       room = f.room;
+      as_products = None;
       next = f.next;
     } in
     let lists =
@@ -61,6 +64,6 @@ returns-clause-next g c marks given is_open =
 pub returns-in_err-boxed-clause-now : goal.returns-in_err-boxed-clause-now
 returns-in_err-boxed-clause-now g c marks given =
     let o = of_table g.row.M-State.Denot g.M.SeqObject.start_state g.M.SeqObject.apply_to in
-    let f = c.list_fresh.new.self in
-    let l = c.in_ok-list_fresh.ensures.listed marks given in
+    let f = c.list_as_rows.new.self in
+    let l = c.in_ok-list_as_rows.ensures.listed marks given in
     listed_stands o f marks l.none l.lists

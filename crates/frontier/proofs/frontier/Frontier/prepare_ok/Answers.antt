@@ -2,7 +2,8 @@ use Rattle.std.proofs.Common.{◌≡◌, ◌-◌, length, ap, refl, ◌∙◌, s
 use Rattle.std.specs.Vec.{vec_len}
 use Rattle.models.specs.Objects.{of_table}
 use Rattle.frontier.specs.declared.change.Change.TheVariants.{Done}
-use Rattle.frontier.specs.Kept.{IsStepOf, Makes}
+use Rattle.frontier.specs.Kept.{Makes, left_of}
+use Rattle.frontier.proofs.Standing.{same_step}
 use Rattle.frontier.proofs.Preparing.{idle_will, stands_like}
 use Rattle.frontier.proofs.frontier.Frontier.prepare_ok.Goals as goal
 
@@ -15,7 +16,8 @@ returns-then-not-branch-clause-next g c =
     }
 
 pub returns-clause-step : goal.returns-clause-step
-returns-clause-step g c = c.in_ok-find_left.ensures.step c.if-not-branch.false c.step_of.result (subst (λ n. IsStepOf n c.step_of.result) c.len-2.ensures c.step_of.ensures)
+returns-clause-step g c = c.in_ok-find_left.ensures.step c.if-not-branch.false c.step_of.result
+    (same_step c.left.result (length (left_of c.find_left.new.self)) c.step_of.result c.left.ensures c.step_of.ensures)
 
 pub returns-clause-now : goal.returns-clause-now
 returns-clause-now g c marks given =

@@ -1,0 +1,33 @@
+use Rattle.std.proofs.Common.{◌≡◌, ◌≢◌, true, false, List, take, sym, subst}
+use Rattle.std.specs.Prelude.{IfOk}
+use Rattle.models.specs.Objects.{of_table}
+use Rattle.linspec.specs.Ends.{End}
+use Rattle.linspec.specs.Orders.{Pairwise}
+use Rattle.ends.specs.EndSteps.{AreClosed, ReachesMoreThan}
+use Rattle.ends.specs.Tables.{AreShown, HasEachOnce, IsAdvanced, rows_of, with_rows}
+use Rattle.frontier.specs.Kept.{left_by, rows_by, table_of}
+use Rattle.frontier.proofs.frontier.Frontier.advance.Goals as goal
+
+pub returns-in-None-clause-all : goal.returns-in-None-clause-all
+returns-in-None-clause-all g c =
+    let o = of_table g.row.M-State.Denot g.M.SeqObject.start_state g.M.SeqObject.apply_to in
+    let f = c.args.self.now in
+    let u = c.advance-in-None.new.table in
+    let left = c.advance-in-None.new.room.rows in
+    let result = c.advance-in-None.result in
+    subst (λ l. HasEachOnce l → (ends : List (End g.row.M-State.Denot)) → AreShown (table_of f) l ends → AreClosed o (take f.tried l) ends
+    → IfOk result (λ all. all ≡ true → IsAdvanced o (with_rows u (left_by f.as_products left)) l ends f.budget c.args.id c.args.answer.now)) c.deref-in-None.ensures.value
+    (subst (λ p. HasEachOnce c.deref-in-None.result.now → (ends : List (End g.row.M-State.Denot)) → AreShown (with_rows f.table (rows_by p (rows_of f.table))) c.deref-in-None.result.now ends → AreClosed o (take f.tried c.deref-in-None.result.now) ends
+    → IfOk result (λ all. all ≡ true → IsAdvanced o (with_rows u (left_by p left)) c.deref-in-None.result.now ends f.budget c.args.id c.args.answer.now)) (sym c.in-None.is)
+    c.advance-in-None.ensures.all)
+
+pub returns-in-None-clause-over : goal.returns-in-None-clause-over
+returns-in-None-clause-over g c =
+    let o = of_table g.row.M-State.Denot g.M.SeqObject.start_state g.M.SeqObject.apply_to in
+    let f = c.args.self.now in
+    let result = c.advance-in-None.result in
+    subst (λ l. HasEachOnce l → (ends : List (End g.row.M-State.Denot)) → Pairwise (λ d e. d ≢ e) ends → AreShown (table_of f) l ends → AreClosed o (take f.tried l) ends
+    → IfOk result (λ all. all ≡ false → ReachesMoreThan o l ends f.budget)) c.deref-in-None.ensures.value
+    (subst (λ p. HasEachOnce c.deref-in-None.result.now → (ends : List (End g.row.M-State.Denot)) → Pairwise (λ d e. d ≢ e) ends → AreShown (with_rows f.table (rows_by p (rows_of f.table))) c.deref-in-None.result.now ends → AreClosed o (take f.tried c.deref-in-None.result.now) ends
+    → IfOk result (λ all. all ≡ false → ReachesMoreThan o c.deref-in-None.result.now ends f.budget)) (sym c.in-None.is)
+    c.advance-in-None.ensures.over)

@@ -1,0 +1,121 @@
+//! Ends that are kept as products.
+ghost use Rattle.std.specs.Prelude.{◌≡◌, ◌+◌, ◌↔◌, ◌++◌, ◌∷◌, [], IfOk, OnErr, OnOk, length, map};
+ghost use Rattle.products.specs.Products.{rows_in};
+
+use ends::{PendingOp, Table};
+use models::Name;
+use product_ends::Room;
+use products::Products;
+use std::alloc::{AllocError, Global};
+use std::hash::Hash;
+
+// So many rows or fewer stay rows, which are the faster ones then.
+const FEW: usize = 8;
+
+// More rows than these stay rows, which are found by an index. No more products than these become rows.
+const SOME: usize = 32;
+
+// More products than these become rows, and so do those above [`SOME`] that have fewer than four rows each.
+const MOST: usize = 128;
+
+// So many things found, and so many states, do not ask for other numbers.
+const FEW_FOUND: usize = 24;
+
+const FEW_STATES: usize = 64;
+
+/// The products, memory that events work in, and how many things found and states there may be before the products get new
+/// numbers.
+#[derive(Drop)]
+pub struct AsProducts<S> {
+    pub kept: Products,
+    pub room: Room<S>,
+    pub most_found: usize,
+    pub most_states: usize,
+}
+
+/// These products, with memory to work in. `AllocError` where there is none. Takes constant time.
+pub fn of_kept<S: Drop>(alloc: Global, kept: Products) -> Result<Box<AsProducts<S>>, AllocError>
+    ensures { IfOk result (λ those. those.value.kept ≡ kept) }
+{
+    let those = AsProducts {
+        kept,
+        room: Room::new(alloc),
+        most_found: FEW_FOUND,
+        most_states: FEW_STATES,
+    };
+    Ok(Box::new(alloc, those)?)
+}
+
+/// Whether products become rows: there are more than 128 of them, or more than 32 that have fewer than four rows each on the
+/// average. Takes no memory, and constant time.
+pub fn are_many<S>(those: &AsProducts<S>) -> bool {
+    let products = those.kept.len();
+    products > MOST || products > SOME && products as u64 > those.kept.rows() / 4
+}
+
+/// Whether there are more things found, or more states, than may be before the products get new numbers. Takes no memory, and
+/// constant time.
+pub fn is_crowded<S: Hash + Drop>(those: &AsProducts<S>, table: &Table<S>) -> bool {
+    table.founds.len() > those.most_found || table.states.len() > those.most_states
+}
+
+/// How many things found and how many states there may be before products with the numbers of this table get new ones: twice as many
+/// as it has, and no fewer than 24 and 64. Takes no memory, and constant time.
+pub fn to_come<S: Hash + Drop>(table: &Table<S>) -> (usize, usize) {
+    (
+        table.founds.len().saturating_mul(2).max(FEW_FOUND),
+        table.states.len().saturating_mul(2).max(FEW_STATES),
+    )
+}
+
+// Whether a read is among the calls.
+fn has_read(calls: &[PendingOp]) -> bool {
+    for call in calls {
+        if call.op.name == Name::Read {
+            return true;
+        }
+    }
+    false
+}
+
+/// Whether rows become products: there are 9 to 32 of them, and a read is among the calls, which may have found the state in each
+/// order of what changes it. Takes no memory, and the time of the calls.
+pub fn may_be_few<S: Hash + Drop>(table: &Table<S>, calls: &[PendingOp]) -> bool {
+    let rows = table.rows.len();
+    rows > FEW && rows <= SOME && has_read(calls)
+}
+
+/// The products that are left take the place of the others. Takes no memory, and constant time.
+pub fn take_left<S>(those: &mut AsProducts<S>)
+    ensures { those.new.kept ≡ those.old.room.left }
+{
+    those.kept.trade(&mut those.room.left);
+}
+
+/// Each row gets a zero behind it. `AllocError` where there is no memory for it: then they are as they were.
+pub fn lengthen<S>(alloc: Global, those: &mut AsProducts<S>) -> Result<(), AllocError>
+    ensures longer { OnOk result (those.new.kept ≡ (
+      those.old.kept.0 + 1,
+      map (λ product. (product.0, product.1 ++ 1 ∷ [])) those.old.kept.1,
+    )) }
+    ensures same { OnErr result (those.new.kept ≡ those.old.kept) }
+{
+    those.kept.lengthen(alloc)
+}
+
+/// The same products, with memory of their own. `AllocError` where there is none. Takes the time of the products.
+pub fn copied<S: Drop>(
+    alloc: Global,
+    those: &AsProducts<S>,
+) -> Result<Box<AsProducts<S>>, AllocError>
+    ensures { IfOk result (λ copy. copy.value.kept ≡ those.now.kept) }
+{
+    of_kept(alloc, those.kept.copied(alloc)?)
+}
+
+/// Zero where no rows are left, and else another number. Takes no memory, and constant time.
+pub fn left<S>(those: &AsProducts<S>) -> usize
+    ensures { (result ≡ 0) ↔ (length (rows_in those.now.room.left.1) ≡ 0) }
+{
+    if those.room.left.rows() == 0 { 0 } else { 1 }
+}

@@ -1,0 +1,29 @@
+use Rattle.std.proofs.Common.{◌+◌, List, ℕ, get_or, refl, sym, subst}
+use Rattle.std.specs.Option.{IfSome}
+use Rattle.ends.proofs.Adding.{IsFront-itself, IsFront-trans}
+use Rattle.product_ends.specs.Conversion.{AreRenumbered, IsRenumbered}
+use Rattle.product_ends.proofs.Renumbering.{sets_more, sets_none}
+use Rattle.product_ends.proofs.conversion.renumber_sets.Goals as goal
+
+pub loop-set-init : goal.loop-set-init
+loop-set-init c = record {
+  front = IsFront-itself c.args.new.now;
+  once = λ once. once;
+  sets = sets_none c.args.old.now c.args.new.now c.args.sets.now c.clear.new.self.items c.clear.ensures.items;
+}
+
+pub loop-set-preserved : goal.loop-set-preserved
+loop-set-preserved c =
+    let old = c.args.old.now in
+    let mid = c.loop-set.new in
+    let new = c.renumbered_set.new.new in
+    let sets = c.args.sets.now in
+    let n = c.loop-set.set-index in
+    let front = c.in_ok-set.ensures.front in
+    let one : IsRenumbered old new (get_or sets n 0) c.in-Some.set = subst (λ found. IfSome found (IsRenumbered old new (get_or sets n 0))) c.in-Some.is c.in_ok-set.ensures.set in
+    record {
+      front = IsFront-trans c.args.new.now mid new c.loop-set.invariant.front front;
+      once = λ once. c.in_ok-set.ensures.once (c.loop-set.invariant.once once);
+      sets = subst (λ l. AreRenumbered old new sets l (n + 1)) (sym {A = List ℕ} c.in_ok-push-in-Some.ensures.items)
+          (sets_more old mid new sets c.loop-set.other.items n (get_or sets n 0) c.in-Some.set front refl c.loop-set.invariant.sets one);
+    }

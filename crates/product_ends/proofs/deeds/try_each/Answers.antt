@@ -1,0 +1,117 @@
+use Rattle.std.proofs.Common.{◌≡◌, ◌+◌, ℕ, List, [], ◌∷◌, ◌++◌, Some, length, slice_get, refl, sym, ap, ◌∙◌, subst, arith}
+use Rattle.std.proofs.lemmas.List.{length-append}
+use Rattle.std.proofs.lemmas.Option.{slice_get_read}
+use Rattle.std.proofs.lemmas.Result.{on_ok_weaker}
+use Rattle.std.specs.Global.{Vec}
+use Rattle.history.specs.Events.{IsFront}
+use Rattle.ends.proofs.Adding.{IsFront-push, IsFront-trans}
+use Rattle.ends.proofs.Showing.{widens_on}
+use Rattle.product_ends.specs.declared.deeds.Deed.{Deed}
+use Rattle.product_ends.specs.declared.deeds.Deeds.{Deeds}
+use Rattle.product_ends.specs.Deeds.{AreStaysTo, AreTriedTo, IsOrderWith}
+use Rattle.product_ends.proofs.Trying.{deeds_with, stays_more, stays_with, tried_more, within_with}
+use Rattle.product_ends.proofs.deeds.try_each.Goals as goal
+
+pub returns-in_err-deed-clause-widens : goal.returns-in_err-deed-clause-widens
+returns-in_err-deed-clause-widens g c = widens_on c.args.table.now c.loop-call.table c.tried.new.table c.loop-call.invariant.widens c.tried.ensures.widens
+
+pub returns-in_err-push-clause-widens : goal.returns-in_err-push-clause-widens
+returns-in_err-push-clause-widens g c = widens_on c.args.table.now c.loop-call.table c.tried.new.table c.loop-call.invariant.widens c.tried.ensures.widens
+
+pub returns-in_err-push-2-clause-widens : goal.returns-in_err-push-2-clause-widens
+returns-in_err-push-2-clause-widens g c = widens_on c.args.table.now c.loop-call.table c.tried.new.table c.loop-call.invariant.widens c.tried.ensures.widens
+
+pub loop-call-preserved : goal.loop-call-preserved
+loop-call-preserved g c =
+    let i = c.loop-call.invariant in
+    let calls = c.args.calls.now in
+    let old = c.args.deeds.now.deeds.items in
+    let mid = c.loop-call.deeds.deeds.items in
+    let n = c.loop-call.call-index in
+    let here : slice_get calls n ≡ Some c.call-item.result = slice_get_read calls (length calls) n c.call-item.result refl c.loop-call-test.true c.call-item.is in
+    let pushed : c.push.new.self.items ≡ mid ++ c.in_ok-deed.deed ∷ [] = c.in_ok-push.ensures.items in
+    let more = length-append mid (c.in_ok-deed.deed ∷ []) in
+    let length_is = ap (λ (l : List Deed). length l) pushed in
+    let stays = c.loop-call.deeds.stays.items in
+    let stays_pushed : c.push-in-loop-call.new.self.items ≡ stays ++ c.stay.result ∷ [] = c.in_ok-push-2.ensures.items in
+    let one_more = length-append stays (c.stay.result ∷ []) in
+    let as_many_is = ap (λ (l : List ℕ). length l) stays_pushed in
+    record {
+      order = i.order;
+      long = omega arith;
+      front = IsFront-trans old mid c.push.new.self.items i.front (subst (IsFront mid) (sym pushed) (IsFront-push mid c.in_ok-deed.deed));
+      tried = subst (λ l. AreTriedTo g.M.SeqObject.apply_to c.tried.new.table calls c.args.number l (length old) (n + 1)) (sym pushed)
+          (tried_more g.M.SeqObject.apply_to calls c.loop-call.table c.tried.new.table c.args.number (length old) n mid c.call-item.result c.in_ok-deed.deed c.tried.ensures.widens i.long here c.in_ok-deed.ensures.deed i.tried);
+      as_many = omega arith;
+      stays_front = IsFront-trans c.args.deeds.now.stays.items stays c.push-in-loop-call.new.self.items i.stays_front (subst (IsFront stays) (sym stays_pushed) (IsFront-push stays c.stay.result));
+      stays = λ same.
+          let long = i.long in
+          let as_many = i.as_many in
+          subst (λ l. AreStaysTo c.args.number c.push.new.self.items l (length old) (n + 1)) (sym stays_pushed)
+          (subst (λ l. AreStaysTo c.args.number l (stays ++ c.stay.result ∷ []) (length old) (n + 1)) (sym pushed)
+          (stays_more c.args.number (length old) n c.stay.result mid stays c.in_ok-deed.deed long (omega (arith, as_many, same)) c.stay.ensures (i.stays same)));
+      widens = widens_on c.args.table.now c.loop-call.table c.tried.new.table i.widens c.tried.ensures.widens;
+      rows = c.tried.ensures.rows ∙ i.rows;
+      cost = (let cost = c.tried.ensures.cost in omega arith);
+    }
+
+pub returns-clause-deeds : goal.returns-clause-deeds
+returns-clause-deeds g c are within =
+    let apply = g.M.SeqObject.apply_to in
+    let i = c.loop-call.invariant in
+    let calls = c.args.calls.now in
+    let old = c.args.deeds.now in
+    let new : Deeds g.row.M-State.Denot = record {
+      order = c.tell.new.order;
+      deeds = c.loop-call.deeds.deeds;
+      stays = c.loop-call.deeds.stays;
+      outcomes = c.loop-call.deeds.outcomes;
+    } in
+    let end : c.loop-call.call-index ≡ length calls = omega arith in
+    let before : c.len-before.result ≡ length old.deeds.items = omega arith in
+    on_ok_weaker c.tell.result
+    (λ h. deeds_with apply calls c.args.table.now c.loop-call.table old new c.args.number i.widens i.front
+    (subst (λ k. IsOrderWith old.order.items new.order.items c.args.number k) before (subst (λ l. IsOrderWith l new.order.items c.args.number c.len-before.result) (ap (λ (v : Vec ℕ). v.items) i.order) h))
+    (subst (AreTriedTo apply c.loop-call.table calls c.args.number new.deeds.items (length old.deeds.items)) end i.tried) within are)
+    c.tell.ensures
+
+pub returns-clause-within : goal.returns-clause-within
+returns-clause-within g c within =
+    let i = c.loop-call.invariant in
+    let calls = c.args.calls.now in
+    let old = c.args.deeds.now in
+    let new : Deeds g.row.M-State.Denot = record {
+      order = c.tell.new.order;
+      deeds = c.loop-call.deeds.deeds;
+      stays = c.loop-call.deeds.stays;
+      outcomes = c.loop-call.deeds.outcomes;
+    } in
+    let before : c.len-before.result ≡ length old.deeds.items = omega arith in
+    let long : length new.deeds.items ≡ length old.deeds.items + length calls = omega arith in
+    on_ok_weaker c.tell.result
+    (λ h. within_with old new c.args.number (length calls) long
+    (subst (λ k. IsOrderWith old.order.items new.order.items c.args.number k) before (subst (λ l. IsOrderWith l new.order.items c.args.number c.len-before.result) (ap (λ (v : Vec ℕ). v.items) i.order) h))
+    within)
+    c.tell.ensures
+
+pub returns-clause-stays : goal.returns-clause-stays
+returns-clause-stays g c are within =
+    let i = c.loop-call.invariant in
+    let calls = c.args.calls.now in
+    let old = c.args.deeds.now in
+    let new : Deeds g.row.M-State.Denot = record {
+      order = c.tell.new.order;
+      deeds = c.loop-call.deeds.deeds;
+      stays = c.loop-call.deeds.stays;
+      outcomes = c.loop-call.deeds.outcomes;
+    } in
+    let end : c.loop-call.call-index ≡ length calls = omega arith in
+    let before : c.len-before.result ≡ length old.deeds.items = omega arith in
+    let same : length old.stays.items ≡ length old.deeds.items = are.long in
+    let long = i.long in
+    let as_many = i.as_many in
+    on_ok_weaker c.tell.result
+    (λ h. stays_with old new c.args.number (length calls) i.front i.stays_front (omega (arith, long, as_many, same))
+    (subst (λ k. IsOrderWith old.order.items new.order.items c.args.number k) before (subst (λ l. IsOrderWith l new.order.items c.args.number c.len-before.result) (ap (λ (v : Vec ℕ). v.items) i.order) h))
+    (subst (AreStaysTo c.args.number new.deeds.items new.stays.items (length old.deeds.items)) end (i.stays same)) within are)
+    c.tell.ensures

@@ -1,0 +1,20 @@
+use Rattle.std.proofs.Common.{◌≡◌, ◌+◌, ◌≤◌, length}
+use Rattle.history.specs.Events.{IsFront}
+use Rattle.ends.specs.Tables.{Widens, rows_of}
+use Rattle.product_ends.specs.Deeds.{AreStaysTo, AreTriedTo}
+use Rattle.product_ends.proofs.deeds.try_each.Given as goal
+
+abbrev pub invariant-loop-call : goal.invariant-loop-call
+invariant-loop-call g l = record {
+  order : l.deeds.order ≡ l.fn.deeds.order;
+  long : length l.deeds.deeds.items ≡ length l.fn.deeds.deeds.items + l.call-index;
+  front : IsFront l.fn.deeds.deeds.items l.deeds.deeds.items;
+  as_many : length l.deeds.stays.items ≡ length l.fn.deeds.stays.items + l.call-index;
+  stays_front : IsFront l.fn.deeds.stays.items l.deeds.stays.items;
+  stays : length l.fn.deeds.stays.items ≡ length l.fn.deeds.deeds.items
+      → AreStaysTo l.number l.deeds.deeds.items l.deeds.stays.items (length l.fn.deeds.deeds.items) l.call-index;
+  tried : AreTriedTo g.M.SeqObject.apply_to l.table l.calls l.number l.deeds.deeds.items (length l.fn.deeds.deeds.items) l.call-index;
+  widens : Widens l.fn.table l.table;
+  rows : rows_of l.table ≡ rows_of l.fn.table;
+  cost : l.applied ≤ l.fn.applied + l.call-index;
+}

@@ -1,0 +1,76 @@
+-- Invariant: what each call does in the states that were tried, by numbers
+use Rattle.std.specs.Prelude.{◌≡◌, ◌≢◌, ◌↔◌, ◌<◌, ◌≤◌, ◌+◌, ℕ, Option, Some, List, [], ◌∷◌, length, slice_get, get_or}
+use Rattle.models.specs.declared.operation.Op.{Op}
+use Rattle.models.specs.declared.finding.Found.{Found}
+use Rattle.interned.specs.Numbers.{IsSlot}
+use Rattle.ends.specs.declared.pending_op.PendingOp.{PendingOp}
+use Rattle.ends.specs.declared.table.Table.{Table}
+use Rattle.ends.specs.Tables.{told_by}
+use Rattle.products.specs.Products.{Has}
+use Rattle.product_ends.specs.declared.deeds.Deed.{Deed}
+use Rattle.product_ends.specs.declared.deeds.Deed.TheVariants.{Nowhere, To}
+use Rattle.product_ends.specs.declared.deeds.Deeds.{Deeds}
+
+-- the set has this number alone
+abbrev pub IsAlone : ℕ → ℕ → Type 0
+IsAlone set number = (n : ℕ) → Has set n ↔ (n ≡ number)
+
+-- the deed is what these outcomes are, of which there is at most one
+abbrev pub IsDeed : {S : Type 0} → Table S → PendingOp → List (S × Found) → Deed → Type 0
+IsDeed t c outcomes Nowhere = outcomes ≡ []
+IsDeed {S} t c outcomes (To to set) =
+    (outcome : S × Found) × (outcomes ≡ outcome ∷ []) × (slice_get t.states to ≡ Some outcome.0)
+    × (slot : ℕ) × IsSlot t.founds slot (Some (told_by c.crashed outcome.1)) × IsAlone set slot
+
+-- where the deeds in the state with this number stand, one more than that; zero where the calls were not tried there
+abbrev pub order_in : {S : Type 0} → Deeds S → ℕ → ℕ
+order_in d number = get_or d.order.items number 0
+
+-- the calls were tried in the state with this number
+abbrev pub IsTried : {S : Type 0} → Deeds S → ℕ → Type 0
+IsTried d number = 0 < order_in d number
+
+-- what the call at this place does in the state with this number
+abbrev pub deed_at : {S : Type 0} → Deeds S → ℕ → ℕ → Option Deed
+deed_at d order at = slice_get d.deeds.items (order + at)
+
+-- the deeds of a state that was tried are there
+abbrev pub AreWithin : {S : Type 0} → Deeds S → ℕ → Type 0
+AreWithin d calls = (number order : ℕ) → order_in d number ≡ order + 1
+    → order + calls ≤ length d.deeds.items
+
+-- each deed is what its call does in its state
+abbrev pub AreDeeds : {S : Type 0} → (Op → S → List (S × Found)) → Table S → List PendingOp → Deeds S → Type 0
+AreDeeds {S} apply t calls d = (number order at : ℕ) (c : PendingOp) (deed : Deed)
+    → order_in d number ≡ order + 1 → slice_get calls at ≡ Some c → deed_at d order at ≡ Some deed
+    → (s : S) × (slice_get t.states number ≡ Some s) × IsDeed t c (apply c.op s) deed
+
+-- the set is what the deed finds, which stays in the state with this number; or it has no number
+abbrev pub IsStay : ℕ → ℕ → Deed → Type 0
+IsStay number stay deed = (slot : ℕ) → Has stay slot → deed ≡ To number stay
+
+-- what the call at this place finds where it stays in the state
+abbrev pub stay_at : {S : Type 0} → Deeds S → ℕ → ℕ → ℕ
+stay_at d order at = get_or d.stays.items (order + at) 0
+
+-- it is told for each deed
+pub record AreStays {S : Type 0} (d : Deeds S) (calls : ℕ) : Type 0 where
+  pub long : length d.stays.items ≡ length d.deeds.items
+  pub each : (number order at slot : ℕ) → order_in d number ≡ order + 1 → at < calls
+      → Has (stay_at d order at) slot → deed_at d order at ≡ Some (To number (stay_at d order at))
+
+-- for the first n deeds from this place on, in the state with this number
+abbrev pub AreStaysTo : ℕ → List Deed → List ℕ → ℕ → ℕ → Type 0
+AreStaysTo number deeds stays from n = (at slot : ℕ) → at < n
+    → Has (get_or stays (from + at) 0) slot → slice_get deeds (from + at) ≡ Some (To number (get_or stays (from + at) 0))
+
+-- the deeds from this place on are what the first n calls do in the state with this number
+abbrev pub AreTriedTo : {S : Type 0} → (Op → S → List (S × Found)) → Table S → List PendingOp → ℕ → List Deed → ℕ → ℕ → Type 0
+AreTriedTo {S} apply t calls number deeds from n = (at : ℕ) (c : PendingOp) (deed : Deed)
+    → at < n → slice_get calls at ≡ Some c → slice_get deeds (from + at) ≡ Some deed
+    → (s : S) × (slice_get t.states number ≡ Some s) × IsDeed t c (apply c.op s) deed
+
+-- the place of the deeds of one state is told, and those of all others stay
+pub record IsOrderWith (old new : List ℕ) (number order : ℕ) : Type 0 where
+  pub told : get_or new number 0 ≡ order + 1
+  pub others : (n : ℕ) → n ≢ number → get_or new n 0 ≡ get_or old n 0

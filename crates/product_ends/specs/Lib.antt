@@ -1,0 +1,4 @@
+pub mod Conversion
+pub mod Deeds
+pub mod Growing
+pub mod Widening

@@ -1,0 +1,36 @@
+-- Invariant: sets of a product with what calls find that stay in its state
+use Rattle.std.specs.Prelude.{◌≡◌, ◌↔◌, ◌<◌, ◌+◌, ◌⊎◌, ℕ, zero, suc, List, length, set, get_or}
+use Rattle.products.specs.Products.{Has}
+
+-- the new set is the old one, or this has zero, and the new one has besides what the call finds
+abbrev pub IsWidened : ℕ → ℕ → ℕ → Type 0
+IsWidened stay old new = (new ≡ old) ⊎ (Has old 0 × ((n : ℕ) → Has new n ↔ (Has old n ⊎ Has stay n)))
+
+-- each set is, by what the call at its place finds
+pub record AreWidened (stays old new : List ℕ) : Type 0 where
+  pub long : length new ≡ length old
+  pub each : (at : ℕ) → at < length old → IsWidened (get_or stays at 0) (get_or old at 0) (get_or new at 0)
+
+-- the new numbers are the old ones, but for one place: there was zero, and is a number that the call at that place finds
+pub record TakesOneIn (stays old new : List ℕ) : Type 0 where
+  pub at : ℕ
+  pub slot : ℕ
+  pub within : at < length old
+  pub zero_there : get_or old at 0 ≡ 0
+  pub has : Has (get_or stays at 0) slot
+  pub made : new ≡ set old at slot
+
+-- the same of a row, whose first number is that of the state and whose other numbers stand one place behind the calls
+pub record TakesOne (number : ℕ) (stays old new : List ℕ) : Type 0 where
+  pub at : ℕ
+  pub slot : ℕ
+  pub within : at + 1 < length old
+  pub first : get_or old 0 0 ≡ number
+  pub zero_there : get_or old (at + 1) 0 ≡ 0
+  pub has : Has (get_or stays at 0) slot
+  pub made : new ≡ set old (at + 1) slot
+
+-- so many times, one after another
+abbrev pub TakesIn : (List ℕ → List ℕ → Type 0) → ℕ → List ℕ → List ℕ → Type 0
+TakesIn One zero old new = old ≡ new
+TakesIn One (suc n) old new = (mid : List ℕ) × TakesIn One n old mid × One mid new

@@ -1,0 +1,225 @@
+//! Rows as products, and products as rows.
+ghost use Rattle.std.specs.Prelude.{◌≡◌, ◌≢◌, ◌↔◌, ◌<◌, ◌+◌, ◌∷◌, ◌++◌, true, ℕ, List, [], IfOk, IfSome, OnOk, length, get_or};
+ghost use Rattle.std.specs.List.{Contains};
+ghost use Rattle.history.specs.Events.{IsFront};
+ghost use Rattle.interned.specs.Numbers.{IsOnceIn};
+ghost use Rattle.linspec.specs.Ends.{End};
+ghost use Rattle.linspec.specs.Orders.{Pairwise};
+ghost use Rattle.ends.specs.EndSteps.{Along};
+ghost use Rattle.ends.specs.Tables.{AreShown, IsThat, ShownWith, with_rows};
+ghost use Rattle.products.specs.Products.{IsIn, IsInOne, rows_in};
+ghost use Rattle.product_ends.specs.Conversion.{AreRenumbered, GoesOn, HasMore, IsRenumbered, IsSameFound};
+ghost use Rattle.product_ends.specs.Deeds.{IsAlone};
+
+use ends::{PendingOp, Table};
+use interned::{Founds, States, founds, states};
+use models::SeqObject;
+use products::Products;
+use products::number_set::{HIGH, alone, has, joined};
+use rows::RowSet;
+use std::alloc::{AllocError, Global};
+use std::hash::Hash;
+
+// Writes the sets of a row: each has the row's number alone.
+fn set_alone(row: &[usize], sets: &mut Vec<u64>) -> Result<(), AllocError>
+    requires { 0 < length row.now }
+    ensures long { OnOk result (length sets.new.items + 1 ≡ length row.now) }
+    ensures alone { OnOk result ((other : List ℕ)
+        → IsIn (get_or row.now 0 0, sets.new.items) other ↔ (other ≡ row.now)) }
+{
+    sets.clear();
+    for place in 1..row.len() {
+        sets.push(alone(row[place])?)?;
+    }
+    Ok(())
+}
+
+/// The rows of the table, each as a product of its own, with so many sets. None where a row has another length. `AllocError` where
+/// there is no memory for them, or a number has more than 63 bits. Takes the square of how many rows there are.
+pub fn as_products<S: Hash + Drop>(
+    alloc: Global,
+    table: &Table<S>,
+    places: usize,
+) -> Result<Option<Products>, AllocError>
+    ensures { (calls : List PendingOp) (ends : List (End S)) → AreShown table.now calls ends
+        → IfOk result (λ found. IfSome found (λ products.
+        ShownWith (with_rows table.now (rows_in products.1)) calls [] (Along IsThat ends))) }
+{
+    let mut products = Products::new(alloc, places);
+    let mut row = Vec::new(alloc);
+    let mut sets = Vec::new(alloc);
+    let mut stack = Vec::new(alloc);
+    for at in 0..table.rows.len() {
+        table.rows.read(at, &mut row)?;
+        if row.is_empty() || row.len() - 1 != places {
+            return Ok(None);
+        }
+        set_alone(&row, &mut sets)?;
+        products.put(0, row[0], &sets, &mut stack)?;
+    }
+    // It says that no row is in two of them.
+    let _rows = products.rows();
+    Ok(Some(products))
+}
+
+// Puts each row with these first numbers and one number of each set from this place on.
+#[cycle(unfolding)]
+fn put_rows(
+    rows: &mut RowSet,
+    sets: &[u64],
+    place: usize,
+    row: &mut Vec<usize>,
+) -> Result<(), AllocError>
+    ensures rows { OnOk result (HasMore (GoesOn sets.now place row.old.items) rows.old rows.new) }
+    ensures once { OnOk result (IsOnceIn rows.old → IsOnceIn rows.new) }
+    ensures row { OnOk result (row.new.items ≡ row.old.items) }
+{
+    if place >= sets.len() {
+        return rows.put(row);
+    }
+    let set = sets[place];
+    if set >= HIGH {
+        return put_rows_with(rows, sets, place, (set - HIGH) as usize, row);
+    }
+    for number in 0..63 {
+        if has(set, number) {
+            put_rows_with(rows, sets, place, number, row)?;
+        }
+    }
+    Ok(())
+}
+
+// The same, with this number at the place.
+#[cycle(unfolding)]
+fn put_rows_with(
+    rows: &mut RowSet,
+    sets: &[u64],
+    place: usize,
+    number: usize,
+    row: &mut Vec<usize>,
+) -> Result<(), AllocError>
+    requires { place < length sets.now }
+    ensures rows { OnOk result
+        (HasMore (GoesOn sets.now (place + 1) (row.old.items ++ number ∷ [])) rows.old rows.new) }
+    ensures once { OnOk result (IsOnceIn rows.old → IsOnceIn rows.new) }
+    ensures row { OnOk result (row.new.items ≡ row.old.items) }
+{
+    row.push(number)?;
+    put_rows(rows, sets, place + 1, row)?;
+    let _number = row.pop();
+    Ok(())
+}
+
+/// The rows of the products. `AllocError` where there is no memory for them. Takes the time of [`RowSet::put`] for each row.
+pub fn as_rows(alloc: Global, products: &Products) -> Result<RowSet, AllocError>
+    ensures rows { IfOk result (λ rows. (row : List ℕ) → Contains rows row ↔ IsInOne products.now.1 row) }
+    ensures once { IfOk result (λ rows. Pairwise (λ one other. one ≢ other) rows) }
+{
+    let mut rows = RowSet::new(alloc, products.places().saturating_add(1));
+    let mut row = Vec::new(alloc);
+    for at in 0..products.len() {
+        row.clear();
+        row.push(products.first(at))?;
+        put_rows(&mut rows, products.sets(at), 0, &mut row)?;
+    }
+    Ok(rows)
+}
+
+// The set that has the new number of what stands at the old one.
+fn renumbered_one(old: &Founds, new: &mut Founds, number: usize) -> Result<Option<u64>, AllocError>
+    ensures set { IfOk result (λ found. IfSome found (λ set.
+        (other : ℕ) × IsAlone set other × IsSameFound old.now new.new number other)) }
+    ensures front { IsFront new.old new.new }
+    ensures once { IsOnceIn new.old → IsOnceIn new.new }
+{
+    if number == 0 {
+        return Ok(Some(alone(0)?));
+    }
+    match old.get(number - 1) {
+        Some(found) => Ok(Some(alone(founds::slot_at(new, found.copy()?)?)?)),
+        None => Ok(None),
+    }
+}
+
+// The set with the new numbers of what stands at the old ones; none where one has no place among bits.
+fn renumbered_set(old: &Founds, new: &mut Founds, set: u64) -> Result<Option<u64>, AllocError>
+    ensures set { IfOk result (λ found. IfSome found (IsRenumbered old.now new.new set)) }
+    ensures front { IsFront new.old new.new }
+    ensures once { IsOnceIn new.old → IsOnceIn new.new }
+{
+    if set >= HIGH {
+        return renumbered_one(old, new, (set - HIGH) as usize);
+    }
+    let mut other = 0u64;
+    for number in 0..63 {
+        if has(set, number) {
+            let Some(one) = renumbered_one(old, new, number)? else {
+                return Ok(None);
+            };
+            let Some(both) = joined(other, one) else {
+                return Ok(None);
+            };
+            other = both;
+        }
+    }
+    Ok(Some(other))
+}
+
+// Writes the sets with new numbers; false where one has none.
+fn renumber_sets(
+    old: &Founds,
+    new: &mut Founds,
+    sets: &[u64],
+    other: &mut Vec<u64>,
+) -> Result<bool, AllocError>
+    ensures sets { IfOk result (λ all. all ≡ true
+        → AreRenumbered old.now new.new sets.now other.new.items (length sets.now)) }
+    ensures front { IsFront new.old new.new }
+    ensures once { IsOnceIn new.old → IsOnceIn new.new }
+{
+    other.clear();
+    for set in sets {
+        match renumbered_set(old, new, *set)? {
+            Some(set) => other.push(set)?,
+            None => return Ok(false),
+        };
+    }
+    Ok(true)
+}
+
+/// A table with the states of these products and with what was found in them alone, and without rows, and the products by its
+/// numbers. None where a state, or what was found, is not in the table, or where a set of several numbers would get one above 62.
+/// `AllocError` where there is no memory for them. Takes the time of a copy of each product's state, of its numbers, and of
+/// [`Products::put`] for each product.
+pub fn renumbered<M: SeqObject>(
+    alloc: Global,
+    table: &Table<M::State>,
+    kept: &Products,
+) -> Result<Option<(Table<M::State>, Products)>, AllocError>
+    ensures { (calls : List PendingOp) (ends : List (End M.State))
+        → AreShown (with_rows table.now (rows_in kept.now.1)) calls ends
+        → IfOk result (λ found. IfSome found (λ other.
+        ShownWith (with_rows other.0 (rows_in other.1.1)) calls [] (Along IsThat ends))) }
+{
+    let mut other = Table {
+        states: States::new(alloc),
+        founds: Founds::new(alloc),
+        rows: RowSet::new(alloc, 0),
+    };
+    let mut products = Products::new(alloc, kept.places());
+    let mut sets = Vec::new(alloc);
+    let mut stack = Vec::new(alloc);
+    for at in 0..kept.len() {
+        let Some(state) = table.states.get(kept.first(at)) else {
+            return Ok(None);
+        };
+        let number = states::number_of::<M>(&mut other.states, M::copy(alloc, state)?)?;
+        if !renumber_sets(&table.founds, &mut other.founds, kept.sets(at), &mut sets)? {
+            return Ok(None);
+        }
+        products.put(0, number, &sets, &mut stack)?;
+    }
+    // It says that no row is in two of them.
+    let _rows = products.rows();
+    Ok(Some((other, products)))
+}

@@ -1,0 +1,184 @@
+//! What each call does in the states that were tried.
+ghost use Rattle.std.specs.Prelude.{◌≡◌, ◌<◌, ◌≤◌, ◌+◌, ◌^◌, ◌⊎◌, ℕ, List, [], IfOk, IfSome, IsSome, OnOk, Some, length, get_or, slice_get, slice_range};
+ghost use Rattle.models.specs.declared.finding.Found.{Found};
+ghost use Rattle.models.specs.declared.operation.Op.{Op};
+ghost use Rattle.ends.specs.Tables.{Widens, rows_of};
+ghost use Rattle.product_ends.specs.Deeds.{AreDeeds, AreStays, AreWithin, IsDeed, IsOrderWith, IsStay, IsTried, order_in};
+
+use ends::{PendingOp, Table, step, told_by};
+use interned::founds::slot_at;
+use interned::states::number_of;
+use models::{Found, SeqObject};
+use products::number_set::alone;
+use std::alloc::{AllocError, Global};
+
+/// What a call does in a state.
+#[derive(Clone, Copy)]
+pub enum Deed {
+    /// It cannot take place.
+    Nowhere,
+    /// It leads to the state with this number, and the number of what is told of what it found is alone in this set.
+    To(usize, u64),
+}
+
+/// What each call does in the states that were tried. The order of a state is one more than where its first deed stands, and zero
+/// where the calls were not tried in it. At the place of each deed stands, in a list of its own, what the call finds where it stays
+/// in the state, else no number.
+#[derive(Drop)]
+pub struct Deeds<S> {
+    order: Vec<usize>,
+    deeds: Vec<Deed>,
+    stays: Vec<u64>,
+    outcomes: Vec<(S, Found)>,
+}
+
+impl<S> Deeds<S> {
+    /// None. Takes no memory.
+    pub fn new(alloc: Global) -> Deeds<S> {
+        Deeds {
+            order: Vec::new(alloc),
+            deeds: Vec::new(alloc),
+            stays: Vec::new(alloc),
+            outcomes: Vec::new(alloc),
+        }
+    }
+}
+
+/// Forgets all, and keeps the memory. Takes no memory, and constant time.
+pub fn forget<S: Drop>(deeds: &mut Deeds<S>)
+    ensures none { (number : ℕ) → order_in deeds.new number ≡ 0 }
+    ensures stays { (calls : ℕ) → AreStays deeds.new calls }
+{
+    deeds.order.clear();
+    deeds.deeds.clear();
+    deeds.stays.clear();
+}
+
+// The part of the list that the order of the state with this number tells: so many, from one place before it on.
+#[inline(always)]
+fn part_in<'a, T>(order: &[usize], all: &'a [T], number: usize, calls: usize) -> Option<&'a [T]>
+    requires { length all.now < 2 ^ 64 }
+    ensures some { IfSome result (λ those. (first : ℕ) × (get_or order.now number 0 ≡ first + 1)
+        × (those.now ≡ slice_range all.now first (first + calls)) × (length those.now ≡ calls)) }
+    ensures within { 0 < get_or order.now number 0 → get_or order.now number 0 + calls ≤ length all.now + 1 → IsSome result }
+{
+    match order.get(number) {
+        // A sum that wraps is before the first place, and then there are none.
+        Some(order) if *order > 0 => {
+            let first = *order - 1;
+            all.get(first..first.wrapping_add(calls))
+        }
+        _ => None,
+    }
+}
+
+/// What the calls, of which there are so many, do in the state with this number, if they were tried there. Takes no memory, and
+/// constant time.
+#[inline(always)]
+pub fn deeds_in<S>(deeds: &Deeds<S>, number: usize, calls: usize) -> Option<&[Deed]>
+    ensures some { IfSome result (λ those. (order : ℕ) × (order_in deeds.now number ≡ order + 1)
+        × (those.now ≡ slice_range deeds.now.deeds.items order (order + calls)) × (length those.now ≡ calls)) }
+    ensures tried { AreWithin deeds.now calls → IsTried deeds.now number → IsSome result }
+{
+    part_in(&deeds.order, &deeds.deeds, number, calls)
+}
+
+/// What the calls, of which there are so many, find where they stay in the state with this number, each a set, if they were tried
+/// there: no number where the call cannot take place, or leads to another state. Takes no memory, and constant time.
+#[inline(always)]
+pub fn stays_in<S>(deeds: &Deeds<S>, number: usize, calls: usize) -> Option<&[u64]>
+    ensures some { IfSome result (λ those. (order : ℕ) × (order_in deeds.now number ≡ order + 1)
+        × (those.now ≡ slice_range deeds.now.stays.items order (order + calls)) × (length those.now ≡ calls)) }
+    ensures tried { AreStays deeds.now calls → AreWithin deeds.now calls → IsTried deeds.now number → IsSome result }
+{
+    part_in(&deeds.order, &deeds.stays, number, calls)
+}
+
+// What the call does in the state with this number: one step.
+fn tried<M: SeqObject>(
+    alloc: Global,
+    table: &mut Table<M::State>,
+    outcomes: &mut Vec<(M::State, Found)>,
+    number: usize,
+    call: &PendingOp,
+    applied: &mut u64,
+) -> Result<Deed, AllocError>
+    requires single { (op : Op) (s : M.State) → length (M.apply_to op s) ≤ 1 }
+    ensures deed { IfOk result (λ deed. (s : M.State) × (slice_get table.new.states number ≡ Some s)
+        × IsDeed table.new call.now (M.apply_to call.now.op s) deed) }
+    ensures widens { Widens table.old table.new }
+    ensures rows { rows_of table.new ≡ rows_of table.old }
+    ensures cost { applied.new ≤ applied.old + 1 }
+{
+    let Some(state) = table.states.get(number) else {
+        return Err(AllocError);
+    };
+    step::<M>(alloc, state, &call.op, outcomes, applied)?;
+    match outcomes.pop() {
+        Some((state, found)) => {
+            let to = number_of::<M>(&mut table.states, state)?;
+            let slot = slot_at(&mut table.founds, told_by(call.crashed, found))?;
+            Ok(Deed::To(to, alone(slot)?))
+        }
+        None => Ok(Deed::Nowhere),
+    }
+}
+
+// What the deed finds, if it stays in the state with this number, in which it is done; else no number.
+#[inline(always)]
+fn stay(deed: Deed, number: usize) -> u64
+    ensures { IsStay number result deed }
+{
+    match deed {
+        Deed::To(to, found) if to == number => found,
+        _ => 0,
+    }
+}
+
+// Tells where the deeds in the state with this number stand: from this place on.
+#[inline(always)]
+fn tell(order: &mut Vec<usize>, number: usize, first: usize) -> Result<(), AllocError>
+    requires few { first < 2 ^ 63 }
+    ensures { OnOk result (IsOrderWith order.old.items order.new.items number first) }
+{
+    if order.len() <= number {
+        order.resize(number.saturating_add(1), 0)?;
+    }
+    if number < order.len() {
+        order[number] = first + 1;
+    }
+    Ok(())
+}
+
+/// Tries each call in the state with this number, and remembers what it does. `AllocError` where there is no memory for it, or no
+/// such state. Takes one step for each call.
+#[inline(never)]
+pub fn try_each<M: SeqObject>(
+    alloc: Global,
+    table: &mut Table<M::State>,
+    deeds: &mut Deeds<M::State>,
+    number: usize,
+    calls: &[PendingOp],
+    applied: &mut u64,
+) -> Result<(), AllocError>
+    requires single { (op : Op) (s : M.State) → length (M.apply_to op s) ≤ 1 }
+    ensures deeds { AreDeeds M.apply_to table.old calls.now deeds.old → AreWithin deeds.old (length calls.now)
+        → OnOk result (AreDeeds M.apply_to table.new calls.now deeds.new) }
+    ensures within { AreWithin deeds.old (length calls.now) → OnOk result (AreWithin deeds.new (length calls.now)) }
+    ensures stays { AreStays deeds.old (length calls.now) → AreWithin deeds.old (length calls.now)
+        → OnOk result (AreStays deeds.new (length calls.now)) }
+    ensures known { OnOk result (IsTried deeds.new number) }
+    ensures kept { (n : ℕ) → IsTried deeds.old n → OnOk result (IsTried deeds.new n) }
+    ensures others { (n : ℕ) → OnOk result (IsTried deeds.new n → (n ≡ number) ⊎ IsTried deeds.old n) }
+    ensures widens { Widens table.old table.new }
+    ensures rows { rows_of table.new ≡ rows_of table.old }
+    ensures cost { applied.new ≤ applied.old + length calls.now }
+{
+    let before = deeds.deeds.len();
+    for call in calls {
+        let deed = tried::<M>(alloc, table, &mut deeds.outcomes, number, call, applied)?;
+        deeds.deeds.push(deed)?;
+        deeds.stays.push(stay(deed, number))?;
+    }
+    tell(&mut deeds.order, number, before)
+}

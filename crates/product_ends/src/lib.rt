@@ -1,0 +1,10 @@
+//! Ends as products of sets of small numbers, and what operations and answers make of them.
+#![tactic(auto)]
+
+mod after;
+mod conversion;
+mod deeds;
+mod growth;
+
+pub use conversion::{as_products, as_rows, renumbered};
+pub use growth::{Room, advance, failed};

@@ -1,0 +1,6 @@
+pub mod Families
+pub mod Leaving
+pub mod Lists
+pub mod Numbers
+pub mod Putting
+pub mod Sets

@@ -1,0 +1,18 @@
+//! Lists of sets.
+ghost use Rattle.std.specs.Prelude.{◌≡◌, ◌++◌, OnErr, OnOk};
+
+use std::alloc::AllocError;
+
+/// Puts the sets, which are few, behind those of the list. `AllocError` where there is no memory for them: then the list is as it
+/// was. Takes the time of the sets.
+#[inline(always)]
+pub fn append(list: &mut Vec<u64>, sets: &[u64]) -> Result<(), AllocError>
+    ensures items { OnOk result (list.new.items ≡ list.old.items ++ sets.now) }
+    ensures same { OnErr result (list.new.items ≡ list.old.items) }
+{
+    list.reserve(sets.len())?;
+    for set in sets {
+        list.push_reserved(*set);
+    }
+    Ok(())
+}

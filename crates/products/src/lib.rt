@@ -1,0 +1,11 @@
+//! Products of sets of numbers, each of which stands for many rows.
+#![tactic(auto)]
+
+pub mod appending;
+pub mod number_set;
+mod product;
+mod products;
+mod taking;
+
+pub use products::Products;
+pub use taking::take_marked;

@@ -1,0 +1,78 @@
+//! Products of sets, by two.
+
+ghost use Rattle.std.specs.Prelude.{◌≡◌, ◌↔◌, ◌⊎◌, ◌<◌, ◌+◌, ◌-◌, ◌^◌, ℕ, List, IfSome, get_or, length, min, set};
+ghost use Rattle.products.specs.Products.{AreIn, Has, rows_of_sets};
+
+use crate::number_set::{common, joined, size};
+
+/// How the rows of a product lie to those of another one with the same first number.
+#[derive(Clone, Copy)]
+pub enum Lies {
+    /// No row is in both.
+    Apart,
+    /// Each of its rows is in the other one.
+    Inside,
+    /// Neither, or it is not told.
+    Across,
+}
+
+/// How the product of these sets lies to that of the others.
+#[inline(always)]
+pub fn lies_to(sets: &[u64], others: &[u64]) -> Lies
+    requires long { length sets.now ≡ length others.now }
+    ensures apart { result ≡ Lies.Apart → (row : List ℕ) → AreIn sets.now row → ¬ AreIn others.now row }
+    ensures inside { result ≡ Lies.Inside → (row : List ℕ) → AreIn sets.now row → AreIn others.now row }
+{
+    let mut inside = true;
+    for place in 0..sets.len() {
+        let both = common(sets[place], others[place]);
+        if both == 0 {
+            return Lies::Apart;
+        }
+        inside = inside && both == sets[place];
+    }
+    if inside { Lies::Inside } else { Lies::Across }
+}
+
+/// Where these sets differ from the others, if that is at one place, and what one of both has there.
+#[inline(always)]
+pub fn joined_at(sets: &[u64], others: &[u64]) -> Option<(usize, u64)>
+    requires long { length sets.now ≡ length others.now }
+    ensures within { IfSome result (λ to. to.0 < length others.now) }
+    ensures joined { IfSome result (λ to. (row : List ℕ) → AreIn (set others.now to.0 to.1) row
+        ↔ (AreIn others.now row ⊎ AreIn sets.now row)) }
+    ensures both { IfSome result (λ to. (number : ℕ) → Has to.1 number
+        ↔ (Has (get_or sets.now to.0 0) number ⊎ Has (get_or others.now to.0 0) number)) }
+    ensures rows { IfSome result (λ to. ((row : List ℕ) → AreIn sets.now row → ¬ AreIn others.now row)
+        → length (rows_of_sets (set others.now to.0 to.1))
+        ≡ length (rows_of_sets others.now) + length (rows_of_sets sets.now)) }
+{
+    let mut at = sets.len();
+    for place in 0..sets.len() {
+        if sets[place] != others[place] {
+            if at < sets.len() {
+                return None;
+            }
+            at = place;
+        }
+    }
+    if at >= sets.len() {
+        return None;
+    }
+    match joined(sets[at], others[at]) {
+        Some(set) => Some((at, set)),
+        None => None,
+    }
+}
+
+/// How many rows the product has, or the greatest u64 where it has more.
+#[inline(always)]
+pub fn rows_of(sets: &[u64]) -> u64
+    ensures { result ≡ min (length (rows_of_sets sets.now)) (2 ^ 64 - 1) }
+{
+    let mut rows = 1u64;
+    for place in 0..sets.len() {
+        rows = rows.saturating_mul(size(sets[place]));
+    }
+    rows
+}
