@@ -1,15 +1,17 @@
 //! Frontiers of any kind of object.
 ghost use Rattle.std.specs.Prelude.{◌≡◌, ◌↔◌, List, [], IfOk, MatchResult};
-ghost use Rattle.models.specs.Objects.{object_of};
+ghost use Rattle.models.specs.Objects.{object_of, of_table};
 ghost use Rattle.history.specs.Events.{Mark};
 ghost use Rattle.frontier.specs.Meaning.{Answers, CostsAtMost, Keeps, TakesUnlessOver, mark_by};
 ghost use Rattle.frontier.specs.AnyFrontier.{AnyStandsFor, AnyWillStandFor, any_applied_of, any_budget_of};
 ghost use Rattle.frontier.specs.AnyFrontier.{kind_of_frontier};
+ghost use Rattle.frontier.specs.Kept.{StandsFor, applied_of, budget_of};
 
 use crate::frontier::{Frontier, Step};
 use history::EventKind;
 use models::{
-    CasRegister, FifoQueue, ModelKind, Mutex, Op, Register, Set, UnorderedQueue, each_kind,
+    CasRegister, FifoQueue, ModelKind, Mutex, Op, Register, SeqObject, Set, UnorderedQueue,
+    each_kind,
 };
 use std::alloc::{AllocError, Global};
 
@@ -35,7 +37,7 @@ pub enum AnyFrontier {
 macro_rules! start_of {
     ($kind:expr, $alloc:expr, $budget:expr; $($K:ident $name:literal),*) => {
         match $kind {
-            $(ModelKind::$K => Ok(AnyFrontier::$K(Box::new($alloc, Frontier::<$K>::start($alloc, $budget)?)?)),)*
+            $(ModelKind::$K => Ok(AnyFrontier::$K(started::<$K>($alloc, $budget)?)),)*
         }
     };
 }
@@ -43,7 +45,7 @@ macro_rules! start_of {
 macro_rules! copy_of {
     ($any:expr; $($K:ident $name:literal),*) => {
         match $any {
-            $(AnyFrontier::$K(frontier) => Ok(AnyFrontier::$K(Box::new(frontier.allocator(), frontier.copy()?)?)),)*
+            $(AnyFrontier::$K(frontier) => Ok(AnyFrontier::$K(copied(frontier)?)),)*
         }
     };
 }
@@ -78,6 +80,29 @@ macro_rules! commit_of {
             $(AnyFrontier::$K(frontier) => frontier.commit(),)*
         }
     };
+}
+
+// A frontier of one kind at its start; apart, so that no place is laid out for those of the other kinds.
+#[inline(never)]
+fn started<M: SeqObject>(alloc: Global, budget: u32) -> Result<Box<Frontier<M>>, AllocError>
+    ensures stands { let object = of_table M.State M.start_state M.apply_to in
+        IfOk result (λ f. StandsFor object f.value []) }
+    ensures budget { IfOk result (λ f. budget_of f.value ≡ budget) }
+    ensures applied { IfOk result (λ f. applied_of f.value ≡ 0) }
+{
+    Ok(Box::new(alloc, Frontier::<M>::start(alloc, budget)?)?)
+}
+
+// A copy of a frontier of one kind, likewise.
+#[inline(never)]
+fn copied<M: SeqObject>(frontier: &Frontier<M>) -> Result<Box<Frontier<M>>, AllocError>
+    ensures same { let object = of_table M.State M.start_state M.apply_to in
+        IfOk result (λ f. (marks : List Mark)
+        → StandsFor object f.value marks ↔ StandsFor object frontier.now marks) }
+    ensures budget { IfOk result (λ f. budget_of f.value ≡ budget_of frontier.now) }
+    ensures applied { IfOk result (λ f. applied_of f.value ≡ applied_of frontier.now) }
+{
+    Ok(Box::new(frontier.allocator(), frontier.copy()?)?)
 }
 
 impl AnyFrontier {
