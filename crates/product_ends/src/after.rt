@@ -23,7 +23,6 @@ pub fn settled<S: Hash + Drop>(
     id: u32,
     answer: &Answer,
     marks: &mut Vec<bool>,
-    apart: &mut Products,
     next: &mut Vec<u64>,
     stack: &mut Vec<u64>,
 ) -> Result<(), AllocError>
@@ -35,7 +34,7 @@ pub fn settled<S: Hash + Drop>(
     match place_of_open(calls, id) {
         Some(call) if call < all.places() => {
             mark_fitting(&table.founds, answer, marks)?;
-            take_marked(left, all, call + 1, marks, apart, next, stack)?;
+            take_marked(left, all, call + 1, marks, next, stack)?;
             // It says that no row is in two of them.
             let _rows = left.rows();
             Ok(())
@@ -58,7 +57,6 @@ pub fn failed<S: Hash + Drop>(
     left: &mut Products,
     calls: &[PendingOp],
     id: u32,
-    apart: &mut Products,
     next: &mut Vec<u64>,
     stack: &mut Vec<u64>,
 ) -> Result<(), AllocError>
@@ -69,7 +67,7 @@ pub fn failed<S: Hash + Drop>(
 {
     match place_of_open(calls, id) {
         Some(call) if call < kept.places() => {
-            take_marked(left, kept, call + 1, &[true], apart, next, stack)?;
+            take_marked(left, kept, call + 1, &[true], next, stack)?;
             // It says that no row is in two of them.
             let _rows = left.rows();
             Ok(())

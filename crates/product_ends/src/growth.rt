@@ -36,7 +36,6 @@ struct Work<S> {
     next: Vec<u64>,
     stack: Vec<u64>,
     marks: Vec<bool>,
-    apart: Products,
 }
 
 /// Memory that oks and fails work in, which the first of them makes, and the products that are left after one. An ok that met more
@@ -67,7 +66,6 @@ fn make<S: Drop>(alloc: Global, work: &mut Option<Box<Work<S>>>) -> Result<(), A
             next: Vec::new(alloc),
             stack: Vec::new(alloc),
             marks: Vec::new(alloc),
-            apart: Products::new(alloc, 0),
         };
         *work = Some(Box::new(alloc, none)?);
     }
@@ -492,7 +490,6 @@ pub fn advance<M: SeqObject>(
         id,
         answer,
         &mut work.marks,
-        &mut work.apart,
         &mut work.next,
         &mut work.stack,
     )?;
@@ -526,7 +523,6 @@ pub fn failed<S: Hash + Drop>(
         &mut room.left,
         calls,
         id,
-        &mut work.apart,
         &mut work.next,
         &mut work.stack,
     )

@@ -83,9 +83,6 @@ module _ (products : List Product) (at first : ℕ) (sets : List ℕ) (here : sl
   in_it : (row : List ℕ) → IsInAt products at row → IsIn (first, sets) row
   in_it row is = subst (λ product. IsIn product row) (same_Some is.0 (first, sets) (sym is.1 ∙ here)) is.2
 
-  pub just_in : (row : List ℕ) → IsIn (first, sets) row ↔ IsInAt products at row
-  just_in row = ((λ is. ((first, sets), here, is)), in_it row)
-
   there_before : (P : ℕ → Type 0) (place : ℕ) → place < length sets → (number : ℕ) → Has (get_or sets place 0) number → P number → (row : List ℕ) → IsIn (first, remove sets place) row → IsLeftAt P products (suc place) at row
   there_before P place within number has p [] is = absurd is
   there_before P place within number has p (n ∷ numbers) is =
@@ -154,15 +151,7 @@ module _ (Q : ℕ → List ℕ → Type 0) (n : ℕ) where
   )
 
 module _ (others : List Product) (apart : AreApart others) (old : List Product) (at : ℕ) where
-  -- the rows of one more of the others are not there
-  pub one_apart : AreSoFar old (IsInAt others) at → (product : Product) → slice_get others at ≡ Some product → (row : List ℕ) → IsIn product row → ¬ IsInOne old row
-  one_apart so product here row is has =
-      let {- one before -} b = (so row).0 has in
-      let lt = b.1 in
-      let same : b.0 ≡ at = apart b.0 at row b.2 (product, here, is) in
-      absurd (omega (arith, lt, same))
-
-  -- and what is left of one more is not, where one number alone is left out
+  -- what is left of one more is not there, where one number alone is left out
   pub left_apart : (place number : ℕ) → AreSoFar old (IsLeftAt (λ n. n ≡ number) others place) at → (row : List ℕ) → IsLeftAt (λ n. n ≡ number) others place at row → ¬ IsInOne old row
   left_apart place number so row is has =
       let {- what is left of one before -} b = (so row).0 has in
@@ -173,10 +162,6 @@ module _ (others : List Product) (apart : AreApart others) (old : List Product) 
 
 -- all of them
 module _ (others products : List Product) where
-  pub all_joined : AreSoFar products (IsInAt others) (length others) → (row : List ℕ) → IsInOne products row ↔ IsInOne others row
-  all_joined so row =
-      ((λ is. let {- where it is -} b = (so row).0 is in (b.0, b.2)), (λ is. (so row).1 (is.0, slice_get_within others is.0 is.1.0 is.1.1, is.1)))
-
   pub all_left_of : (place number : ℕ) → AreSoFar products (IsLeftAt (λ n. n ≡ number) others place) (length others) → (row : List ℕ) → IsInOne products row ↔ IsLeftOf others place number row
   all_left_of place number so row = (
     (λ is. let {- where it is -} b = (so row).0 is in (b.2.0, (b.0, b.2.1), b.2.2.1 ∙ ap Some b.2.2.2, b.2.3)),

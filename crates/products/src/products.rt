@@ -169,7 +169,7 @@ impl Products {
     /// put behind all; those before the place stay as they are. The stack is memory to work in. `AllocError` where there is no
     /// memory for it: then some of the rows may be there. Compares it with all products. Where it has rows of one of them and
     /// others besides, it is cut into at most one piece for each set, and each piece is compared with those behind and may be cut
-    /// again.
+    /// again. What comes of it joins a product from the place on from which it differs at one place alone, or is put behind all.
     pub fn put(
         &mut self,
         from: usize,
@@ -182,22 +182,9 @@ impl Products {
         ensures puts { OnOk result (Puts (first, sets.now) from self.old.1 self.new.1) }
     {
         let len = self.firsts.len();
-        let mut across = len;
-        for at in 0..len {
-            if self.firsts[at] == first {
-                match lies_to(sets, self.sets(at)) {
-                    Lies::Apart => {}
-                    Lies::Inside => return Ok(()),
-                    Lies::Across => across = across.min(at),
-                }
-            }
-        }
-        if across == len {
-            return self.push(first, sets);
-        }
         stack.clear();
         append(stack, sets)?;
-        self.put_rest(across, len, from, first, stack, 0)
+        self.put_rest(0, len, from, first, stack, 0)
     }
 
     // Puts the rows of the product on top of the stack that are in none of the products from the first to the last place.

@@ -11,15 +11,14 @@ use std::alloc::AllocError;
 
 /// Puts each row of the other products whose number at this place is marked, without that number, in place of the rows that were
 /// there. The place is that in the row, whose first number is at 0: so place 1 is that of the first set. The marks are those of the
-/// numbers, from 0 on; a number beyond them has none. What is apart, the list of what is left and the stack are memory to work in.
-/// `AllocError` where there is no memory for it: then some of the rows may be there. Compares each product that has a marked number
-/// with those that are left so far; where several numbers are marked, or one stands alone in its set, as [`Products::put`] does too.
+/// numbers, from 0 on; a number beyond them has none. The list of what is left and the stack are memory to work in. `AllocError`
+/// where there is no memory for it: then some of the rows may be there. Compares each product that has a marked number with those
+/// that are left so far; where several numbers are marked, or one stands alone in its set, as [`Products::put`] does.
 pub fn take_marked(
     products: &mut Products,
     other: &Products,
     place: usize,
     marks: &[bool],
-    apart: &mut Products,
     left: &mut Vec<u64>,
     stack: &mut Vec<u64>,
 ) -> Result<(), AllocError>
@@ -31,11 +30,7 @@ pub fn take_marked(
     products.restart(other.places() - 1);
     match one_marked(other, place, marks) {
         Some(number) => join_marked(products, other, place, number, left),
-        None => {
-            apart.restart(other.places() - 1);
-            put_marked(apart, other, place, marks, left, stack)?;
-            join_each(products, apart)
-        }
+        None => put_marked(products, other, place, marks, left, stack),
     }
 }
 
@@ -93,7 +88,7 @@ fn join_marked(
 
 // Puts each row whose number at the place is marked, without it, where it is not there.
 fn put_marked(
-    apart: &mut Products,
+    products: &mut Products,
     other: &Products,
     place: usize,
     marks: &[bool],
@@ -102,32 +97,17 @@ fn put_marked(
 ) -> Result<(), AllocError>
     requires after { 0 < place }
     requires within { place ≤ other.now.0 }
-    requires places { apart.old.0 ≡ other.now.0 - 1 }
-    requires none { apart.old.1 ≡ [] }
-    ensures places { apart.new.0 ≡ other.now.0 - 1 }
-    ensures left { OnOk result ((row : List ℕ) → IsInOne apart.new.1 row ↔ IsLeft other.now.1 place marks.now row) }
+    requires places { products.old.0 ≡ other.now.0 - 1 }
+    requires none { products.old.1 ≡ [] }
+    ensures places { products.new.0 ≡ other.now.0 - 1 }
+    ensures left { OnOk result ((row : List ℕ) → IsInOne products.new.1 row ↔ IsLeft other.now.1 place marks.now row) }
 {
     for at in 0..other.len() {
         let sets = other.sets(at);
         if has_marked(sets[place - 1], marks) {
             rewrite_without(left, sets, place - 1)?;
-            apart.put(0, other.first(at), left, stack)?;
+            products.put(0, other.first(at), left, stack)?;
         }
-    }
-    Ok(())
-}
-
-// Joins each of the other products.
-fn join_each(products: &mut Products, other: &Products) -> Result<(), AllocError>
-    requires places { products.old.0 ≡ other.now.0 }
-    requires none { products.old.1 ≡ [] }
-    ensures places { products.new.0 ≡ other.now.0 }
-    ensures same { OnOk result ((row : List ℕ) → IsInOne products.new.1 row ↔ IsInOne other.now.1 row) }
-{
-    // It says that no row is in two of them.
-    let _rows = other.rows();
-    for at in 0..other.len() {
-        products.join(other.first(at), other.sets(at))?;
     }
     Ok(())
 }

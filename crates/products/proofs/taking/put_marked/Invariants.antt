@@ -5,6 +5,6 @@ use Rattle.products.proofs.taking.put_marked.Given as goal
 
 abbrev pub invariant-loop-at : goal.invariant-loop-at
 invariant-loop-at l = record {
-  places : l.apart.0 ≡ l.other.0 - 1;
-  rows : AreSoFar l.apart.1 (IsLeftAt (λ n. get_or l.marks n false ≡ true) l.other.1 l.place) l.at;
+  places : l.products.0 ≡ l.other.0 - 1;
+  rows : AreSoFar l.products.1 (IsLeftAt (λ n. get_or l.marks n false ≡ true) l.other.1 l.place) l.at;
 }

@@ -9,14 +9,3 @@ returns-in-Some-clause-left c =
     on_ok c.join_marked.result ((row : List ℕ) → IsInOne c.join_marked.new.products.1 row ↔ IsLeftOf c.args.other.now.1 c.args.place c.in-Some.number row)
     ((row : List ℕ) → IsInOne c.join_marked.new.products.1 row ↔ IsLeft c.args.other.now.1 c.args.place c.args.marks.now row)
     (one_left c.args.other.now.1 c.join_marked.new.products.1 c.args.place c.args.marks.now c.in-Some.number c.requires.after c.in-Some.ensures) c.join_marked.ensures.left
-
-pub returns-in_ok-put_marked-in-None-clause-left :
-    goal.returns-in_ok-put_marked-in-None-clause-left
-returns-in_ok-put_marked-in-None-clause-left c =
-    on_ok c.join_each.result ((row : List ℕ) → IsInOne c.join_each.new.products.1 row ↔ IsInOne c.put_marked.new.apart.1 row)
-    ((row : List ℕ) → IsInOne c.join_each.new.products.1 row ↔ IsLeft c.args.other.now.1 c.args.place c.args.marks.now row)
-    (λ same row. (
-      (λ is. (c.in_ok-put_marked-in-None.ensures.left row).0 ((same row).0 is)),
-      (λ left. (same row).1 ((c.in_ok-put_marked-in-None.ensures.left row).1 left)),
-    ))
-    c.join_each.ensures.same
