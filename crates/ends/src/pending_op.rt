@@ -10,8 +10,8 @@ use std::alloc::{AllocError, Global};
 /// An operation that may still take place and change something: it is open, or it has crashed and is no read.
 #[derive(Drop)]
 pub struct PendingOp {
-    pub id: u32,
     pub op: Op,
+    pub id: u32,
     pub crashed: bool,
 }
 
