@@ -9,10 +9,11 @@ use products::Products;
 use std::alloc::{AllocError, Global};
 use std::hash::Hash;
 
-// So many rows or fewer stay rows, which are the faster ones then.
+// As few rows as these stay rows: they are faster then than products.
 const FEW: usize = 8;
 
-// More rows than these stay rows, which are found by an index. No more products than these become rows.
+// More rows than these stay rows too, since a row is found by an index and a product is not. As few products as these stay
+// products, whatever they stand for.
 const SOME: usize = 32;
 
 // More products than these become rows, and so do those above [`SOME`] that have fewer than four rows each.

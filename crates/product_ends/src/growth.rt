@@ -38,8 +38,8 @@ struct Work<S> {
     marks: Vec<bool>,
 }
 
-/// Memory that oks and fails work in, which the first of them makes, and the products that are left after one. An ok that met more
-/// than 1,024 products gives the memory back.
+/// Memory that oks and fails work in, which the first of them makes, and the products that are left after one. An ok that came to
+/// its end and met more than 1,024 products gives the memory back.
 #[derive(Drop)]
 pub struct Room<S> {
     work: Option<Box<Work<S>>>,
