@@ -169,7 +169,8 @@ impl Products {
     /// put behind all; those before the place stay as they are. The stack is memory to work in. `AllocError` where there is no
     /// memory for it: then some of the rows may be there. Compares it with all products. Where it has rows of one of them and
     /// others besides, it is cut into at most one piece for each set, and each piece is compared with those behind and may be cut
-    /// again. What comes of it joins a product from the place on from which it differs at one place alone, or is put behind all.
+    /// again. Where a piece, or the product itself, differs from one of those that may get rows in one set alone, that one gets its
+    /// rows; else it is put behind all.
     pub fn put(
         &mut self,
         from: usize,
