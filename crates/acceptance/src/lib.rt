@@ -11,10 +11,6 @@ mod joins;
 #[cfg(test)]
 mod key_lines;
 #[cfg(test)]
-mod monitors;
-#[cfg(test)]
 mod one_thread;
 #[cfg(test)]
 mod plain;
-#[cfg(test)]
-mod reports;
