@@ -4,7 +4,7 @@
 A fenced block `console` is a session: a line that begins with `$ ` is a command, lines after it that begin with `> ` continue it,
 and what follows is what it prints, on standard output and standard error together, where a line `...` stands for any lines.
 The commands of a block run one after the other in one shell, in a folder of their own in which the repository's files and
-folders stand, with `jepmon` on the path. A block `python` must be Python; where it begins with a comment `# NAME.py`, it is a
+folders stand, with `jepmon` and the tools' commands on the path, as if they were installed. A block `python` must be Python; where it begins with a comment `# NAME.py`, it is a
 file of that name for the sessions after it, and else listed as not run. So is each other block, and each command within a line
 that no session has. A command in an indented block is a fault.
 """
@@ -17,8 +17,9 @@ import sys
 import tempfile
 
 TOP = pathlib.Path(__file__).resolve().parent.parent
-PROGRAM = TOP / "crates" / "jepmon" / "out" / "jepmon"
+from program import PROGRAM  # noqa: E402
 DOCUMENTS = ["README.md", "docs/GUIDE.md", "docs/FORMATS.md", "docs/ADDING.md"]
+TOOLS = ["judge", "explain", "from-jepsen", "from-json"]
 MARK = "\x1e"
 COMMAND = re.compile(r"(\$ |\./|jepmon |examples/\S+ |python3 )")
 
@@ -68,6 +69,9 @@ def run(commands, files):
         for name, text in files.items():
             (room / name).write_text(text)
         (tools / "jepmon").symlink_to(PROGRAM)
+        for name in TOOLS:
+            (tools / f"jepmon-{name}").write_text(f'#!/bin/sh\nPYTHONPATH={TOP}/python exec python3 -m jepmon {name} "$@"\n')
+            (tools / f"jepmon-{name}").chmod(0o755)
         ran = subprocess.run(["bash", "-c", script], cwd=room, stdin=subprocess.DEVNULL, stdout=subprocess.PIPE, timeout=120,
                              env={**os.environ, "PATH": f"{tools}:{os.environ['PATH']}", "LC_ALL": "C.UTF-8",
                                   "PYTHONDONTWRITEBYTECODE": "1"})

@@ -51,6 +51,13 @@ def run_missing_file() -> List[str]:
     return differing("what came", (ran.stdout, ran.stderr, ran.returncode), want)
 
 
+def run_closed_input() -> List[str]:
+    ran = subprocess.run(["sh", "-c", 'exec "$@" <&-', "sh", sys.executable, str(EXPLAIN), "-"], stdout=subprocess.PIPE,
+                         stderr=subprocess.PIPE, timeout=LIMIT)
+    want = (b"", b"explain: standard input is closed: name a file, or give the history there\n", 3)
+    return differing("what came", (ran.stdout, ran.stderr, ran.returncode), want)
+
+
 def run_faults_of_words() -> List[str]:
     """What jepmon check says of an option comes through, with its status."""
     ran = explained(["-", "--concurrency", "65"])
@@ -80,6 +87,7 @@ def run_no_program() -> List[str]:
         alone = pathlib.Path(folder, "examples", "explain")
         alone.parent.mkdir()
         shutil.copy(str(EXPLAIN), str(alone))
+        shutil.copytree(str(TOP / "python"), str(pathlib.Path(folder, "python")), ignore=shutil.ignore_patterns("__pycache__"))
         environment = {name: value for name, value in os.environ.items() if name != "JEPMON"}
         ran = subprocess.run([sys.executable, str(alone), str(CASES / "stale_read" / "history.edn")], stdout=subprocess.PIPE,
                              stderr=subprocess.PIPE, timeout=LIMIT, env=dict(environment, PATH=folder))
@@ -99,8 +107,9 @@ def run_full_device() -> List[str]:
 def all_cases() -> List[Case]:
     """Each case by its name."""
     cases = [(case.name, functools.partial(run_case, case)) for case in sorted(CASES.iterdir()) if case.is_dir()]
-    return cases + [("a_file", run_file), ("a_missing_file", run_missing_file), ("faults_of_words", run_faults_of_words),
-                    ("no_verdict", run_no_verdict), ("no_program", run_no_program), ("a_full_device", run_full_device)]
+    return cases + [("a_file", run_file), ("a_missing_file", run_missing_file), ("closed_input", run_closed_input),
+                    ("faults_of_words", run_faults_of_words), ("no_verdict", run_no_verdict), ("no_program", run_no_program),
+                    ("a_full_device", run_full_device)]
 
 
 if __name__ == "__main__":

@@ -87,6 +87,14 @@ def run_words() -> List[str]:
             + refused([example, "--key", "65536"]) + refused([example, "--unknown"]) + refused([example, "another"]))
 
 
+def run_closed_input() -> List[str]:
+    """Where there is no standard input at all it is said, as that of a file that can't be read."""
+    ran = subprocess.run(["sh", "-c", 'exec "$@" <&-', "sh", sys.executable, str(FILTER)], stdout=subprocess.PIPE,
+                         stderr=subprocess.PIPE, timeout=LIMIT)
+    want = b"from-jepsen: refused: it can't be read: standard input is closed: name a file, or give the history there\n"
+    return differing("what came", (ran.returncode, ran.stderr, verdict(ran)), (3, want, b"refused 11 Unreadable 0"))
+
+
 def run_full_device() -> List[str]:
     """An output that can't be written: status 3."""
     with open("/dev/full", "wb") as full:
@@ -107,7 +115,7 @@ def run_many_events() -> List[str]:
 def all_cases() -> List[Case]:
     """Each case by its name."""
     cases = [(case.name, functools.partial(run_case, case)) for case in sorted(CASES.iterdir()) if case.is_dir()]
-    return cases + [("the_example", run_example), ("standard_input", run_standard_input), ("faults_of_words", run_words),
+    return cases + [("the_example", run_example), ("standard_input", run_standard_input), ("faults_of_words", run_words), ("closed_input", run_closed_input),
                     ("a_full_device", run_full_device), ("many_events", run_many_events)]
 
 

@@ -26,7 +26,7 @@ import time
 from case_loop import read, run_cases
 
 TOP = pathlib.Path(__file__).resolve().parent.parent
-PROGRAM = TOP / "crates" / "jepmon" / "out" / "jepmon"
+from program import PROGRAM  # noqa: E402
 
 
 def words(case):
@@ -445,14 +445,18 @@ def run_under_faults():
 
 def run_is_struck():
     """With a budget of 2 a run of one client on a queue in order is legal, as one operation is open at a time, and unknown once a
-    reply was lost: so the fault of 60 struck. How many operations that takes the threads decide; of 3,000 it is sure by far."""
+    reply was lost: so the fault of 60 struck. How many operations that takes the threads decide, and on a busy machine all may be
+    over before: so one of twenty runs must be struck, and none without faults."""
     words = "--replicas 1 --concurrency 1 --budget 2 --ops 3000 --model fifo-queue --faults"
-    faults = []
-    for has_faults, want in (("off", 0), ("on", 2)):
+    faults, struck = [], False
+    for has_faults in ("off", *["on"] * 20):
         lines, status, errors = run_of(f"{words} {has_faults}")
-        if (len(lines), status, errors) != (2, want, b"") or "budget 2" not in lines[0]:
+        if len(lines) != 2 or errors or "budget 2" not in lines[0] or status not in ((0,) if has_faults == "off" else (0, 2)):
             faults.append(f"with faults {has_faults}: {(lines, status, errors)!r}")
-    return faults
+        struck = status == 2
+        if struck or faults:
+            break
+    return faults + ([] if struck or faults else ["no run was struck"])
 
 
 def told_of_run(lines, kind, events):

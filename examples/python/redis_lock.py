@@ -8,33 +8,38 @@ It starts a redis-server of its own on this machine, and stops it. Status: 0 leg
 2 unknown, 3 where it could not judge, as without Redis.
 """
 import argparse
+import importlib.util
+import pathlib
 import random
 import sys
 import time
 import uuid
 
-from jepmon import Monitor, NotLegal
-from redis_server import Client, Server, status_of
+if importlib.util.find_spec("jepmon") is None:  # it is not installed: the one of this repository
+    sys.path.insert(0, str(pathlib.Path(__file__).resolve().parents[2] / "python"))
+
+from jepmon import Keys, Monitor, NotLegal  # noqa: E402
+from redis_server import Client, RedisError, Server, status_of  # noqa: E402
 
 CLIENTS = 4
 RELEASE = "if redis.call('get', KEYS[1]) == ARGV[1] then return redis.call('del', KEYS[1]) else return 0 end"
 
 
-def client(monitor: Monitor, number: int, port: int, lease: int, work: int, end: float) -> None:
+def client(monitor: Monitor, keys: Keys, number: int, port: int, lease: int, work: int, end: float) -> None:
     """Takes the lock, works, and gives it back, until the time is up, or until what came is not legal."""
     draws = random.Random(number)
     redis = Client(port)
     while time.monotonic() < end:
-        token = uuid.uuid4().hex
-        with monitor.acquire() as op:
-            if redis.call("SET", "lock", token, "NX", "PX", lease) is None:
+        key, token = keys.write_key(draws), uuid.uuid4().hex
+        with monitor.acquire(key) as op:
+            if redis.call("SET", f"lock{key}", token, "NX", "PX", lease) is None:
                 op.fail()
         if op.outcome != "ok":
             time.sleep(0.002)
             continue
         time.sleep(draws.random() * work / 1000)
-        with monitor.release() as op:
-            if redis.call("EVAL", RELEASE, 1, "lock", token) == 0:
+        with monitor.release(key) as op:
+            if redis.call("EVAL", RELEASE, 1, f"lock{key}", token) == 0:
                 op.fail()  # the lease had run out: there was nothing to give back
 
 
@@ -43,17 +48,18 @@ def words() -> argparse.Namespace:
     parser.add_argument("--lease", type=int, default=20, help="milliseconds")
     parser.add_argument("--work", type=int, default=40, help="milliseconds at most")
     parser.add_argument("--seconds", type=float, default=5.0)
-    parser.add_argument("--jepmon", metavar="PROGRAM", help="its path, where it is not built in this repository")
+    parser.add_argument("--jepmon", metavar="PROGRAM", help="its path, where it is not that of this repository")
     return parser.parse_args()
 
 
 def main() -> int:
     given = words()
     end = time.monotonic() + given.seconds
-    monitor = Monitor(given.jepmon, model="mutex", expected=(OSError,))
+    monitor = Monitor(given.jepmon, model="mutex", failed=(ConnectionRefusedError, RedisError), expected=(OSError,))
+    keys = monitor.keys(limit=8, most=12)  # a lock that was held while a request timed out has to be tried again: leave it late
     try:
         with monitor, Server() as server:
-            monitor.run(lambda number: client(monitor, number, server.port, given.lease, given.work, end), CLIENTS)
+            monitor.run(lambda number: client(monitor, keys, number, server.port, given.lease, given.work, end), CLIENTS)
     except NotLegal as found:
         print(f"{monitor.length} events: {found}")
         return found.status

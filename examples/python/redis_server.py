@@ -28,7 +28,8 @@ class RedisError(Exception):
 
 
 class Client:
-    """A connection. After a timeout it is made anew, so that a late answer is not taken for the next one."""
+    """A connection. After a timeout it is made anew, so that a late answer is not taken for the next one. It tries nothing again,
+    so that a ConnectionRefusedError says that nothing was sent."""
 
     def __init__(self, port: int, timeout: float = 0.5) -> None:
         self.port, self.timeout = port, timeout
@@ -78,20 +79,29 @@ def request(words: Any) -> bytes:
 
 
 class Server:
-    """A redis-server that keeps nothing on the disk, a replica where another one is named. It ends with its block."""
+    """A redis-server, a replica where another one is named. It keeps nothing on the disk, unless it is to keep each command there
+    before it answers. It ends with its block, and may be killed and started again in it."""
 
-    def __init__(self, primary: Optional["Server"] = None) -> None:
+    def __init__(self, primary: Optional["Server"] = None, keep: bool = False) -> None:
         if shutil.which("redis-server") is None:
             raise NotInstalled("redis-server is not installed")
         self.port = free_port()
         self.folder = tempfile.TemporaryDirectory()
-        words = ["redis-server", "--port", str(self.port), "--bind", ADDRESS, "--save", "", "--appendonly", "no",
-                 "--dir", self.folder.name, "--repl-diskless-sync-delay", "0"]
+        self.words = ["redis-server", "--port", str(self.port), "--bind", ADDRESS, "--save", "", "--dir", self.folder.name,
+                      "--appendonly", "yes" if keep else "no", "--appendfsync", "always", "--repl-diskless-sync-delay", "0"]
         if primary is not None:
-            words += ["--replicaof", ADDRESS, str(primary.port)]
-        self.process = subprocess.Popen(words, stdout=subprocess.DEVNULL, start_new_session=True)
+            self.words += ["--replicaof", ADDRESS, str(primary.port)]
         self.wanted = b"role:master" if primary is None else b"master_link_status:up"
+        self.start()
+
+    def start(self) -> None:
+        self.process = subprocess.Popen(self.words, stdout=subprocess.DEVNULL, start_new_session=True)
         self.wait_until_ready()
+
+    def kill(self) -> None:
+        """By SIGKILL, so that it can't write anything down any more."""
+        self.process.kill()
+        self.process.wait()
 
     def wait_until_ready(self) -> None:
         """Until it answers, and where it is a replica has what its primary has."""

@@ -2,12 +2,17 @@
 """A test that catches a stale read, for pytest or by itself. It fails, as it should: the store that it tests is at fault.
 
 By itself it ends with 1 where the store is at fault, 2 where jepmon does not know, and 3 where nothing was judged."""
+import importlib.util
+import pathlib
 import sys
 import threading
 import traceback
 from typing import Dict, Optional
 
-from jepmon import Monitor
+if importlib.util.find_spec("jepmon") is None:  # it is not installed: the one of this repository
+    sys.path.insert(0, str(pathlib.Path(__file__).resolve().parents[2] / "python"))
+
+from jepmon import Monitor  # noqa: E402
 
 
 class Store:

@@ -1,0 +1,36 @@
+"""jepmon: judges histories of clients of a database, a lock, a queue or a set, and says why one is not linearizable.
+
+The verdict is always that of the program `jepmon`, which is proved. What this package adds around it (other forms of histories,
+the live Monitor, causes in words, pages) is tested, and not proved.
+"""
+from __future__ import annotations
+
+from typing import TYPE_CHECKING
+
+if TYPE_CHECKING:
+    from .keys import Keys
+    from .kinds import ABSENT
+    from .monitor import Monitor
+    from .operation import Operation
+    from .verdicts import Failed, Illegal, NotLegal, Refused, Unknown
+
+__version__ = "1.1.0"
+__all__ = ["ABSENT", "Failed", "Illegal", "Keys", "Monitor", "NotLegal", "Operation", "Refused", "Unknown"]
+
+# Where each name is; its module is loaded at first use, so that the tools begin fast.
+_MODULES = {"ABSENT": "kinds", "Keys": "keys", "Monitor": "monitor", "Operation": "operation", "Failed": "verdicts",
+            "Illegal": "verdicts", "NotLegal": "verdicts", "Refused": "verdicts", "Unknown": "verdicts"}
+
+
+def __getattr__(name: str) -> object:
+    if name not in _MODULES:
+        raise AttributeError(f"module 'jepmon' has no attribute {name!r}")
+    import importlib
+
+    found: object = getattr(importlib.import_module(f"jepmon.{_MODULES[name]}"), name)
+    globals()[name] = found
+    return found
+
+
+def __dir__() -> "list[str]":
+    return sorted([*globals(), *_MODULES])

@@ -1,0 +1,41 @@
+"""The tools by one name: python3 -m jepmon judge|explain|from-jepsen|from-json WORD.."""
+from __future__ import annotations
+
+import importlib
+import sys
+from typing import List
+
+TOOLS = {
+    "judge": "judges a recorded history, and says why it is illegal",
+    "explain": "runs a check, and shows the file's own events beside its last line",
+    "from-jepsen": "turns a recorded Jepsen history into one that jepmon reads",
+    "from-json": "turns JSON lines into a history that jepmon reads",
+}
+
+
+def usage() -> str:
+    lines = (f"  {name:<12} {what}" for name, what in TOOLS.items())
+    return "\n".join(["usage: python3 -m jepmon TOOL WORD..", "", *lines, "", "python3 -m jepmon TOOL --help says more of one", ""])
+
+
+def main(words: List[str]) -> int:
+    if words[:1] in (["-h"], ["--help"], ["help"]):
+        sys.stdout.write(usage())
+        return 0
+    if words[:1] == ["--version"]:
+        from . import __version__
+
+        sys.stdout.write(f"jepmon (Python) {__version__}\n")
+        return 0
+    if not words or words[0] not in TOOLS:
+        named = f"there is no tool {words[0]!r}" if words else "no tool is named"
+        sys.stderr.write(f"jepmon: {named}; there are {', '.join(TOOLS)}\n")
+        return 3
+    sys.argv = [sys.argv[0], *words[1:]]
+    module = importlib.import_module("jepmon." + words[0].replace("-", "_"))
+    status: int = module.main()
+    return status
+
+
+if __name__ == "__main__":
+    sys.exit(main(sys.argv[1:]))

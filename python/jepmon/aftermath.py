@@ -1,0 +1,94 @@
+"""The cause and the page of a key that is illegal or unknown in a live test, from the history in the folder of its run."""
+from __future__ import annotations
+
+import pathlib
+import re
+import sys
+from typing import List, NamedTuple, Tuple
+
+from .history import Event, read_history
+from .notes import Fault, faults_of
+from .program import STATUSES, KeyLine, ProgramError, Report
+from .run_folder import HISTORY, RunFolder
+
+SECONDS = 10.0  # for the smallest illegal part
+PLAIN = re.compile(r"\{:type :([a-z]+), :process ([0-9]+), :f :([a-z]+), :value \[([0-9]+) (nil|-?[0-9]+)\], :time ([0-9]+)\}")
+
+
+class Bad(NamedTuple):
+    """A key that is not legal."""
+
+    reply: str
+    key: int
+    at: int  # the event
+    model: str
+    budget: int
+
+
+class Told(NamedTuple):
+    """What there is to say of it; empty where a fault of this package was in the way, which is said on standard error."""
+
+    cause: List[str]
+    page: str
+
+
+def told(folder: RunFolder, bad: Bad) -> Told:
+    """The verdict stands whatever comes of this, so that nothing is raised."""
+    try:
+        return _told(folder, bad)
+    except (ProgramError, OSError) as fault:
+        say(f"{folder.name} has no cause and no page: {fault}")
+    except Exception as fault:
+        say(f"{folder.name} has no cause and no page, by a fault of jepmon itself: {fault!r}")
+    return Told([], "")
+
+
+def _told(folder: RunFolder, bad: Bad) -> Told:
+    from . import cause, page, walk  # here, since no test that is legal needs them
+
+    events, faults = read(folder.path / HISTORY, bad.key)
+    report = report_of(bad, len(events))
+    found = cause.explain(events, report, folder.options, program=folder.program, seconds=SECONDS)
+    walked = page.walked(walk.walk(events, bad.model, bad.budget), {})
+    drawn = page.render(page.PageInput(
+        verdict=bad.reply, key=bad.key, events=events, model=bad.model, concurrency=folder.options.concurrency, budget=bad.budget,
+        report=report.text.split("\n")[0], file=f"{folder.name}/{HISTORY}", walked=walked, faults=faults, again=f"jepmon {folder.again}",
+        headline=found.headline if found is not None else "", sentences=found.sentences if found is not None else (),
+        smallest=found.part.events if found is not None and found.part is not None else ()))
+    return Told(cause.lines(found) if found is not None else [], drawn)
+
+
+def read(history: pathlib.Path, key: int) -> Tuple[List[Event], List[Fault]]:
+    """The events of the key, with their places in the whole history, and the faults that the history notes. The history is one that
+    was written here: an event a line."""
+    with open(history, encoding="utf-8", newline="\n") as file:
+        lines = file.read().split("\n")
+    events: List[Event] = []
+    index, wanted = -1, f":value [{key} "
+    for number, line in enumerate(lines, 1):
+        if line.startswith("{"):
+            index += 1
+            if wanted in line:
+                events.append(event_of(line, index, number))
+    return events, faults_of(lines)
+
+
+def event_of(line: str, index: int, number: int) -> Event:
+    """The event of a line that was written here, fast: a key may have a hundred thousand."""
+    found = PLAIN.fullmatch(line)
+    if found is None:  # a cas, or the answer of a set
+        return read_history(line)[0]._replace(index=index, line=number)
+    kind, process, name, key, part, time = found.groups()
+    return Event(index, kind, int(process), name, int(key), None if part == "nil" else int(part), number, line, {"time": int(time)})
+
+
+def report_of(bad: Bad, events: int) -> Report:
+    """What `jepmon check` says of this key, as far as the reply has it."""
+    word = bad.reply.split(" ")[0]
+    line = KeyLine(bad.key, bad.model, bad.budget, events, "dead" if word == "illegal" else "over", bad.at)
+    text = f"key {line.key} model {line.model} budget {line.budget} events {line.events} status {line.status} {line.index}"
+    return Report(f"{text}\n{bad.reply}\n", [line], bad.reply, word, bad.key, bad.at, STATUSES[word], "")
+
+
+def say(text: str) -> None:
+    print(f"jepmon: {text}", file=sys.stderr)

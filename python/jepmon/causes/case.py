@@ -1,0 +1,181 @@
+"""What is found out about one illegal key: by the walk, and by questions to the program."""
+from __future__ import annotations
+
+import time
+from typing import Any, Callable, Iterable, List, Mapping, NamedTuple, Optional, Sequence
+
+from ..history import Event, Operation
+from ..objects import State
+from ..program import Options, ProgramError, check
+from ..shrinking.part import text_of
+from ..walk import UNBOUNDED, WORK, GaveUp, Stop, Walk, Walker
+from .names import Names
+
+ASKED = 4  # other answers that the program is asked about
+
+
+class Mention(NamedTuple):
+    """An event that the sentences speak of, and what it is to them in a few words, or none."""
+
+    event: Event
+    note: str
+
+
+class Found(NamedTuple):
+    """What a sort of object has to say."""
+
+    headline: str
+    sentences: List[str]
+    mentions: List[Mention]
+
+
+class Last(NamedTuple):
+    """When something was last possible: until just before this event, an ok or a :fail, and never after it."""
+
+    known: bool  # False: there was too much to try
+    event: Optional[Event]  # None, where it is known: it never was
+
+
+class Case(NamedTuple):
+    """An illegal key: the events of the key up to the fatal one, and the walk through them."""
+
+    model: str
+    key: int
+    front: List[Event]
+    operations: List[Operation]  # of these events
+    fatal: Operation  # completed by the last of them
+    later: List[Event]  # of the key, after the fatal one
+    walked: Walk
+    options: Options
+    names: Names
+    program: Optional[str]
+    until: float  # when the program is not asked any more
+
+    @property
+    def object(self) -> str:
+        return self.names.object(self.model, self.key)
+
+    @property
+    def answer(self) -> Any:
+        """What the fatal operation has answered."""
+        return self.front[-1].value
+
+    @property
+    def while_open(self) -> str:
+        return f"while it was open (events {self.fatal.invocation.index} to {self.front[-1].index})"
+
+    def others(self, name: str, test: Callable[[Operation], bool] = lambda operation: True) -> List[Operation]:
+        """The other operations of this name that pass the test."""
+        return [operation for operation in self.operations
+                if operation.invocation.name == name and operation is not self.fatal and test(operation)]
+
+    def held(self) -> Optional[List[Any]]:
+        """The states that were possible while the fatal operation was open; None where they can't be told."""
+        states = self.walked.while_open(self.fatal.invocation.index)
+        return None if states is None else sorted(states, key=_by_size)
+
+    def findings(self) -> List[Any]:
+        """What the fatal operation may have found, so far as it can have taken place."""
+        found = {end.taken[self.fatal.invocation.index] for end in self.walked.ends()
+                 if self.fatal.invocation.index in end.taken}
+        return sorted(found, key=_by_size)
+
+    def last_possible(self, test: Callable[[Any], bool]) -> Last:
+        """When the object can last have had a state that passes the test, as the fatal operation needs it, or that operation can have
+        taken place: looked for from behind, stop by stop."""
+        until = len(self.front) - 1
+        try:
+            for stop in reversed(self.walked.stops):
+                last = self._last_between(stop, until, test)
+                if last is not None:
+                    return Last(last is not self.front[-1], last if last is not self.front[-1] else None)
+                until = stop.steps
+        except GaveUp:
+            return Last(False, None)
+        return Last(True, None)
+
+    def _last_between(self, stop: Stop, until: int, test: Callable[[Any], bool]) -> Optional[Event]:
+        """The last event from the stop up to such a place just before which the test was passed."""
+        last: Optional[Event] = None
+        walker, fatal = stop.walker.copy(UNBOUNDED), self.fatal.invocation.index
+        for event in self.front[stop.steps:until + 1]:
+            if event.kind in ("ok", "fail"):
+                walker.complete()
+                last = event if walker.can_have(fatal, test) else last
+            if event is not self.front[-1]:
+                walker.take(event)
+        return last
+
+    def forced_by(self) -> Optional[Event]:
+        """The event from which on the fatal operation has taken place in each end. None where it can't be told."""
+        walker = Walker(self.model, UNBOUNDED, WORK, self.walked.walker.until)
+        try:
+            for event in self.front[:-1]:
+                walker.take(event)
+                if walker.is_forced(self.fatal.invocation.index):
+                    return event
+        except GaveUp:
+            pass
+        return None
+
+    def operation_of(self, event: Event) -> Operation:
+        """The operation that the event is of."""
+        return next(operation for operation in self.operations if event in (operation.invocation, operation.completion))
+
+    def legal_with(self, completions: Iterable[Event]) -> List[Event]:
+        """Those of these completions with which, in place of the fatal event, the program calls the key's events legal. It is not
+        asked when time is up."""
+        return [completion for completion in completions if self._is_legal(completion)]
+
+    def _is_legal(self, completion: Event) -> bool:
+        left = self.until - time.monotonic()
+        if left <= 0:
+            return False
+        text = text_of(self.front[:-1] + [completion], self.options.concurrency)
+        try:
+            return check(text.encode(), self.options, self.program, timeout=left).word == "legal"
+        except ProgramError:
+            if time.monotonic() >= self.until:
+                return False
+            raise
+
+    def with_answers(self, answers: Sequence[Any]) -> List[Any]:
+        """Those of these answers that the program calls legal in place of the one that was given."""
+        return [event.value for event in self.legal_with(self.front[-1]._replace(kind="ok", value=answer) for answer in answers)]
+
+    def as_a_failure(self) -> str:
+        """What the program says of a :fail in place of the :ok."""
+        failed = self.front[-1]._replace(kind="fail", value=self.fatal.invocation.value)
+        return "Asked of jepmon: a :fail would have been legal." if self.legal_with([failed]) else ""
+
+    def with_asked(self, said: str, answers: Sequence[Any]) -> str:
+        """The sentence about what was possible, with what the program says of these answers."""
+        asked = answers[:ASKED]
+        legal = self.with_answers(asked)
+        if not legal:
+            return f"{said}. {self.as_a_failure()}".strip()
+        if len(legal) < len(asked):
+            return f"{said}."
+        if len(answers) == len(legal) > 1:
+            return f"{said}. Asked of jepmon: each of these answers would have been legal."
+        some = f" (the first {len(legal)} of {len(answers)})" if len(answers) > len(legal) else ""
+        return f"{said}. Asked of jepmon: the answer {self.names.any_of(legal)}{some} would have been legal."
+
+
+def _by_size(state: State) -> Any:
+    """An order of any states of one model."""
+    if isinstance(state, (tuple, frozenset)):
+        return (1, len(state), sorted(state))
+    return (0, 0, [-UNBOUNDED if state is None else state])
+
+
+def mentions(operations: Iterable[Operation], notes: Mapping[int, str] = {}) -> List[Mention]:
+    """Both events of each operation, with its note, by the index of its invocation, at the last of them."""
+    found: List[Mention] = []
+    for operation in operations:
+        note = notes.get(operation.invocation.index, "")
+        if operation.completion is None:
+            found.append(Mention(operation.invocation, note))
+        else:
+            found += [Mention(operation.invocation, ""), Mention(operation.completion, note)]
+    return found

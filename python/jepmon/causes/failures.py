@@ -1,0 +1,38 @@
+"""What needs no model: a :fail of what has certainly taken place, and an operation that the object does not have."""
+from __future__ import annotations
+
+from typing import List
+
+from ..kinds import MODELS
+from .case import Case, Found, Mention, mentions
+from .names import capital, client, listed
+
+
+def of_failure(case: Case) -> Found:
+    """Of an operation that was told as failed, though what others found shows that it took place."""
+    forced = case.forced_by()
+    told: List[Mention] = mentions([case.fatal])
+    shown = case.names.operation(case.fatal)
+    headline = (f"{capital(client(case.fatal))}'s {shown} on {case.object} was told as failed (event {case.front[-1].index}), but it "
+                "must have taken place.")
+    sentences: List[str] = []
+    if forced is not None:
+        by = case.operation_of(forced)
+        told += mentions([by])
+        sentences.append(f"Without it no order of the operations is possible from event {forced.index} on, the :{forced.kind} of "
+                         f"{case.names.owned(by)}.")
+    if case.legal_with([case.front[-1]._replace(kind="info")]):
+        sentences.append("Asked of jepmon: an :info would have been legal. Only what certainly did not take place may be told as "
+                         ":fail.")
+    return Found(headline, sentences, told)
+
+
+def of_another_model(case: Case) -> Found:
+    """Of an operation that the object does not have."""
+    names = {event.name for event in case.front}
+    meant = [model for model, operations in MODELS.items() if names <= operations]
+    name = case.fatal.invocation.name
+    hint = f"Was --model {listed(meant)} meant?" if meant else f"No model has {listed(sorted(names), 'and')} together."
+    key = case.names.keys.get(case.key, str(case.key))
+    return Found(f"Key {key} is judged by the model {case.model}, which has no {name}: it can take place nowhere.", [hint],
+                 mentions([case.fatal]))

@@ -1,0 +1,59 @@
+"""Locks: who held it, or who had released it."""
+from __future__ import annotations
+
+from typing import List
+
+from ..history import Operation
+from ..objects import BY_OPERATION
+from ..shrinking.units import begin, end
+from ..walk import UNBOUNDED, GaveUp, walk
+from .case import Case, Found, mentions
+from .names import capital, client, listed, span
+
+
+def of_mutex(case: Case) -> Found:
+    """Of an acquire while the lock was held, or a release while it was free."""
+    last = last_operations(case)
+    told = mentions([case.fatal] + last)
+    who = capital(client(case.fatal))
+    if case.fatal.invocation.name == "acquire":
+        holders = listed(sorted({client(operation) for operation in last}))
+        which = f"{holders} had acquired and not released" if last else "was held"
+        return Found(f"{who} acquired {case.object}, which {which}.", [of_held(case, last), case.as_a_failure()], told)
+    return Found(f"{who} released {case.object}, which nobody held.", [of_free(case, last), case.as_a_failure()], told)
+
+
+def of_held(case: Case, last: List[Operation]) -> str:
+    if not last:
+        return ""
+    if len(last) > 1:
+        by = listed([f"{client(operation)} ({span(operation)})" for operation in last])
+        return f"When it returned, at event {case.front[-1].index}, the lock was held in every order of the operations: by {by}."
+    acquire, who = last[0], capital(client(last[0]))
+    said = f"{who} had acquired it ({span(acquire)})"
+    if acquire.outcome != "ok":
+        said = f"{who}'s acquire ({span(acquire)}) must have taken place: without it no order of the operations is possible"
+    if any(release.outcome != "fail" and end(release) > begin(acquire) for release in case.others("release")):
+        return f"{said}, and in no order of the operations had it been released since."
+    return f"{said}, and no release had begun since."
+
+
+def of_free(case: Case, last: List[Operation]) -> str:
+    if not case.others("acquire", lambda operation: operation.outcome != "fail"):
+        return "Nobody had acquired it before."
+    if not last:
+        return ""
+    by = listed([f"{client(operation)} ({span(operation)})" for operation in last])
+    return f"It had been released last by {by}, and nobody can have acquired it since."
+
+
+def last_operations(case: Case) -> List[Operation]:
+    """Those of which one has taken place last, in each order that is possible just before the fatal event: acquires before an
+    acquire, releases before a release. None where none has taken place, or that can't be told."""
+    events = [event._replace(value=event.index) for event in case.front[:-1]]
+    walked = walk(events, BY_OPERATION, UNBOUNDED, until=case.walked.walker.until)
+    try:
+        ids = {abs(left.state) - 1 for left in walked.ends() if isinstance(left.state, int)}
+    except GaveUp:
+        return []
+    return [operation for operation in case.operations if operation.invocation.index in ids]

@@ -1,0 +1,157 @@
+"""Why a key is over its budget: how the possible outcomes grew, which operations did it, and what may be done."""
+from __future__ import annotations
+
+import time
+from typing import Dict, List, NamedTuple, Optional, Tuple
+
+from ..history import Event, Operation, operations
+from ..kinds import BUDGETS
+from ..program import Options, ProgramError, check
+from ..shrinking.part import text_of
+from ..walk import GaveUp, TooMany, Walker
+from .case import Found, Mention
+from .names import NOUNS, Names, client, listed
+
+SHOWN = 8  # steps of the growth
+TOLD = 12  # operations whose invocations are mentioned
+COUNTED = 100_000  # ends that are counted beyond the budget
+GREATEST = BUDGETS[-1]
+CERTAIN = float("inf")  # it has taken place in each outcome
+
+
+class Over(NamedTuple):
+    """A key over its budget: its events up to the ok at which it is, and all of them."""
+
+    model: str
+    key: int
+    front: List[Event]
+    whole: List[Event]
+    options: Options
+    names: Names
+    program: Optional[str]
+    until: float
+
+
+class Growth(NamedTuple):
+    """How the outcomes grew to the event at which they are too many."""
+
+    steps: List[Tuple[int, int]]  # events, and the outcomes just before them, where these were more than ever before
+    factors: Dict[int, float]  # by how much each operation multiplies them at the end; empty where they are too many to count
+
+
+def of_unknown(over: Over) -> Found:
+    index, named = over.front[-1].index, over.names.object(over.model, over.key)
+    headline = (f"At event {index} more than {over.options.budget:,} outcomes were possible for {named}, which is its budget: from "
+                "there on jepmon does not judge it.")
+    made = operations(over.front, over.options.concurrency)
+    pending = [operation for operation in made if may_still_take_place(operation, index)]
+    asked = with_greatest_budget(over)
+    grown = growth_of(over, pending)
+    if grown is None:
+        return Found(headline, [asked, *of_pending(over, pending, {}), advice(over, pending)], told_of(over, pending, {}))
+    factors = grown.factors
+    pending = sorted((operation for operation in pending if factors.get(operation.invocation.index) != CERTAIN),
+                     key=lambda operation: -factors.get(operation.invocation.index, 0.0))
+    shown = ", ".join([f"{count:,} at event {event}" for event, count in grown.steps[-SHOWN:]]
+                      + [f"more than {over.options.budget:,} at event {index}"])
+    sentences = [asked, f"Possible outcomes just before an ok: {shown}.", *of_pending(over, pending, factors),
+                 advice(over, pending)]
+    return Found(headline, sentences, told_of(over, pending, factors))
+
+
+def told_of(over: Over, pending: List[Operation], factors: Dict[int, float]) -> List[Mention]:
+    return ([Mention(operation.invocation, note_of(operation, factors)) for operation in pending[:TOLD]]
+            + [Mention(over.front[-1], "more outcomes than the budget")])
+
+
+def note_of(operation: Operation, factors: Dict[int, float]) -> str:
+    how = "timed out" if operation.outcome == "info" else "open"
+    factor = factors.get(operation.invocation.index)
+    return f"{how}, ×{factor:.1f}" if factor else how
+
+
+def may_still_take_place(operation: Operation, index: int) -> bool:
+    """Whether it is open, or has timed out and is no read, just before this event."""
+    if operation.completion is None or operation.completion.index == index:
+        return True
+    return operation.outcome == "info" and operation.invocation.name != "read"
+
+
+def growth_of(over: Over, pending: List[Operation]) -> Optional[Growth]:
+    """None where there are too many to try, or the walk says another event than the program."""
+    walker = Walker(over.model, COUNTED, until=over.until)
+    steps: List[Tuple[int, int]] = []
+    most = 1
+    try:
+        for event in over.front[:-1]:
+            count = walker.take(event) or 0
+            if count > over.options.budget:
+                return None
+            if count > most:
+                steps.append((event.index, count))
+                most = count
+    except (TooMany, GaveUp):
+        return None
+    try:
+        total = len(walker.complete(COUNTED))
+    except (TooMany, GaveUp):
+        return Growth(steps, {})
+    if total <= over.options.budget:
+        return None
+    without = {operation.invocation.index: walker.count_without(operation.invocation.index) for operation in pending}
+    return Growth(steps, {id: total / count if count else CERTAIN for id, count in without.items()})
+
+
+def of_pending(over: Over, pending: List[Operation], factors: Dict[int, float]) -> List[str]:
+    """The operations that make the outcomes many: those that timed out, and those that were open."""
+    later = ", and may take place at any later moment" if factors else ""
+    said: List[str] = []
+    for timed_out in (True, False):
+        some = [operation for operation in pending if (operation.outcome == "info") == timed_out]
+        if some:
+            number, verb = ("1 operation", "was") if len(some) == 1 else (f"{len(some)} operations", "were")
+            how = f"had timed out{later}" if timed_out else f"{verb} open at once" if len(some) > 1 else "was open"
+            said.append(f"{number} {how}: {listed([shown_with(over, operation, factors) for operation in some], 'and')}.")
+    if factors and said:
+        said.append("× says how many times as many outcomes there are as without the operation.")
+    return said
+
+
+def shown_with(over: Over, operation: Operation, factors: Dict[int, float]) -> str:
+    factor = factors.get(operation.invocation.index)
+    name = operation.invocation.name if operation.invocation.name in ("read", "dequeue") else over.names.operation(operation)
+    return f"{client(operation)}'s {name} (event {operation.invocation.index}{f', ×{factor:.1f}' if factor else ''})"
+
+
+def advice(over: Over, pending: List[Operation]) -> str:
+    """What may be done in the next test."""
+    noun, timed_out = NOUNS[over.model], sum(operation.outcome == "info" for operation in pending)
+    hints: List[str] = []
+    if noun == "queue":
+        hints.append("let consumers keep up with the queue, and fewer clients wait on it at once, or take several queues")
+    elif len(pending) - timed_out > 4 or timed_out < 2:
+        hints.append(f"let fewer clients use one {noun} at once{': five at most' if len(pending) - timed_out > 5 else ''}")
+    if timed_out > 1:
+        rest = {"key": " for writes, and let reads stay on the old one", "set": " for adds, and let reads stay on the old one"}
+        hints.append(f"after two or three timeouts go on with a new {noun}{rest.get(noun, '')}")
+    return f"In the next test {'; '.join(hints)}."
+
+
+def with_greatest_budget(over: Over) -> str:
+    """What the program says of the key with the greatest budget."""
+    began = time.monotonic()
+    limit = (over.until - began) / 3
+    if over.options.budget >= GREATEST or limit < 0.2:
+        return ""
+    try:
+        text = text_of(over.whole, over.options.concurrency)
+        report = check(text.encode(), over.options._replace(budget=GREATEST), over.program, timeout=limit)
+    except ProgramError:
+        if time.monotonic() - began < limit:
+            raise
+        return f"A check of this key with --budget {GREATEST} was not done in {limit:.1f} seconds."
+    asked = f"Asked of jepmon: with --budget {GREATEST} this key"
+    if report.word == "legal" or report.index is None:
+        return f"{asked} is legal to its end." if report.word == "legal" else ""
+    index = over.whole[report.index].index
+    return f"{asked} is illegal, at event {index}." if report.word == "illegal" else f"{asked} is judged up to event {index}, and no further."

@@ -1,0 +1,146 @@
+"""What the commands of the package share: what they say, what they write, and how they end.
+
+A user's mistake is one clear line on standard error and status 3; Ctrl-C ends with 130; a traceback is never shown. A file gets its
+name once it is whole.
+"""
+from __future__ import annotations
+
+import argparse
+import io
+import os
+import pathlib
+import sys
+from typing import BinaryIO, Callable, Iterable, NoReturn, Optional, TextIO, Type, Union
+
+from .errors import OutputError, ProgramError
+from .names import printable
+
+__all__ = ["INTERRUPTED", "OutputError", "REFUSED", "Words", "run", "say", "standard_error", "standard_input", "tool", "write_error",
+           "write_file", "write_output"]
+
+REFUSED = 3  # the status of whatever is no verdict
+INTERRUPTED = 130
+
+
+def tool(name: str) -> str:
+    """How a tool of this package is called, by the way in which this one was."""
+    path = pathlib.PurePath(sys.argv[0] if sys.argv else "")
+    if path.parent.name == "examples":
+        return f"examples/{name}"
+    return f"python3 -m jepmon {name}" if path.parts[-2:] == ("jepmon", "__main__.py") else f"jepmon-{name}"
+
+
+def say(name: str, line: str) -> None:
+    """Says a line on standard error, where there is one, as the tool of this name."""
+    write_error(f"{name}: {line}")
+
+
+def write_error(line: str) -> None:
+    """Writes a line to standard error, where there is one."""
+    try:
+        if sys.stderr is not None:
+            print(printable(line), file=sys.stderr)
+    except OSError:  # nobody reads it
+        pass
+
+
+def standard_error() -> TextIO:
+    """Standard error, or where it is closed what goes nowhere."""
+    return sys.stderr if sys.stderr is not None else open(os.devnull, "w")
+
+
+def standard_input() -> BinaryIO:
+    """Standard input; an OSError where it is closed."""
+    if sys.stdin is None:
+        raise OSError(0, "standard input is closed: name a file, or give the history there")
+    return sys.stdin.buffer
+
+
+def write_output(texts: Iterable[str]) -> None:
+    """Writes these texts to standard output."""
+    if sys.stdout is None:
+        raise OutputError("the output can't be written: standard output is closed")
+    try:
+        for text in texts:
+            _write_whole(sys.stdout, text)
+        sys.stdout.flush()
+    except OSError as fault:
+        abandon_output()
+        raise OutputError(f"the output can't be written: {fault.strerror}") from fault
+
+
+def _write_whole(stream: TextIO, text: str) -> None:
+    """Writes the text to its end. Where PYTHONUNBUFFERED has left out the buffer, a full disk or an ended reader takes a part of it, and
+    nothing says so."""
+    raw = getattr(stream, "buffer", None)
+    if not isinstance(raw, io.RawIOBase):
+        stream.write(text)
+        return
+    rest = memoryview(text.encode(stream.encoding or "utf-8", stream.errors or "strict"))
+    while rest:
+        rest = rest[raw.write(rest) or 0:]
+
+
+def abandon_output() -> None:
+    """What standard output still holds goes nowhere, so that Python has nothing to say of it as it ends."""
+    try:
+        os.dup2(os.open(os.devnull, os.O_WRONLY), sys.stdout.fileno())
+    except (OSError, ValueError):
+        pass
+
+
+def write_file(path: Union[str, "os.PathLike[str]"], data: Union[str, bytes]) -> None:
+    """Writes a file. It has its name only once it is whole; where that fails, what had the name before is as it was."""
+    import tempfile
+
+    whole = data.encode() if isinstance(data, str) else data
+    path = os.path.realpath(path)  # of a link what it leads to
+    made: Optional[str] = None
+    try:
+        if os.path.exists(path) and not os.path.isfile(path):  # a device or a pipe is written as it is
+            with open(path, "wb") as file:
+                file.write(whole)
+            return
+        number, made = tempfile.mkstemp(prefix=os.path.basename(path) + ".", dir=os.path.dirname(path))
+        with open(number, "wb") as file:
+            file.write(whole)
+        os.chmod(made, 0o666 & ~_umask())
+        os.replace(made, path)
+        made = None
+    except OSError as fault:
+        raise OutputError(f"{path} can't be written: {fault.strerror}") from fault
+    finally:
+        if made is not None:
+            os.unlink(made)
+
+
+def _umask() -> int:
+    mask = os.umask(0o077)
+    os.umask(mask)
+    return mask
+
+
+class Words(argparse.ArgumentParser):
+    """The words of a command line. A fault of theirs is raised as `refusal`, whose text is one line."""
+
+    refusal: Type[Exception] = ValueError
+
+    def error(self, message: str) -> NoReturn:
+        raise self.refusal(message)
+
+
+def run(name: str, main: Callable[[], int]) -> int:
+    """Does the work of a command, and gives its exit status. What it raises is said in one line."""
+    status = REFUSED
+    try:
+        status = main()
+        write_output(())
+    except KeyboardInterrupt:
+        return INTERRUPTED
+    except (OutputError, ProgramError) as reason:
+        say(name, str(reason))
+        return REFUSED
+    except Exception as fault:
+        say(name, f"a fault of {name} itself: {fault!r}")
+        return REFUSED
+    return status

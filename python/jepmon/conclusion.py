@@ -1,0 +1,53 @@
+"""What a run of a live test leaves in its folder: the verdict as soon as it has fallen, and at the end the cause and the page."""
+from __future__ import annotations
+
+from typing import Counter, Dict, Hashable, List, NamedTuple, Optional
+
+from . import aftermath
+from .run_folder import CAUSE, COUNTS, NAMES, PAGE, VERDICT, RunFolder
+from .verdicts import NotLegal, Unknown
+
+
+class Conclusion(NamedTuple):
+    """What came of a run."""
+
+    failure: Optional[NotLegal]  # None: legal
+    length: int
+    counts: Dict[str, Counter[str]]  # of outcomes, by operation
+    dropped: Dict[int, Unknown]
+    ended_by: Optional[BaseException]  # that the test raised, where it did not come to its end
+    model: str  # of the key that is not legal
+    budget: int
+    numbers: Dict[Hashable, int]  # that stand for other things
+
+
+def leave_verdict(folder: RunFolder, conclusion: Conclusion) -> None:
+    folder.put(COUNTS, counts_text(conclusion, folder.lost))
+    if conclusion.numbers:
+        folder.put(NAMES, "".join(f"{number} is {thing!r}\n" for thing, number in conclusion.numbers.items()))
+    folder.put(VERDICT, (conclusion.failure.reply if conclusion.failure is not None else "legal") + "\n")
+
+
+def leave_cause(folder: RunFolder, conclusion: Conclusion) -> None:
+    """Why it is illegal or unknown, in words and as a page. Nothing where the history does not have it, and says so elsewhere."""
+    failure = conclusion.failure
+    if failure is None or failure.key is None or failure.index is None or folder.lost is not None:
+        return
+    bad = aftermath.Bad(failure.reply, failure.key, failure.index, conclusion.model, conclusion.budget)
+    told = aftermath.told(folder, bad)
+    folder.put(CAUSE, "".join(line + "\n" for line in [*told.cause, *failure.hint.split("\n")] if line))
+    if told.page:
+        folder.put(PAGE, told.page)
+
+
+def counts_text(conclusion: Conclusion, lost: Optional[str]) -> str:
+    """How many operations ended how, and what else is to be known of the run."""
+    lines: List[str] = [f"events: {conclusion.length}"]
+    for name, counted in sorted(conclusion.counts.items()):
+        lines.append(f"{name}: " + ", ".join(f"{counted[outcome]} {outcome}" for outcome in ("ok", "fail", "info")))
+    lines += [f"dropped: {unknown.reply}" for unknown in conclusion.dropped.values()]
+    if conclusion.ended_by is not None and not isinstance(conclusion.ended_by, NotLegal):
+        lines.append(f"the test was ended by {conclusion.ended_by!r}")
+    if lost is not None:
+        lines.append(lost)
+    return "\n".join(lines) + "\n"

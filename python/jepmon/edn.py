@@ -1,0 +1,251 @@
+"""Reads EDN, element by element, from a text or from a file in pieces: the one reader of all tools.
+
+It reads the whole of EDN as Jepsen writes it: tags and metadata are passed over, so that an element counts without them. With
+`profile=True` it reads what the program `jepmon` reads and nothing else (docs/FORMATS.md, Text), and says what is outside of that.
+An atom is its own spelling, a collection is a Many. What can't be read is Unreadable, with its line and the reason.
+"""
+from __future__ import annotations
+
+from typing import Iterable, Iterator, List, Match, NamedTuple, NoReturn, Optional, Tuple, Union
+
+from . import edn_profile
+from .edn_tokens import ATOM, CLOSE, COMMENT, END, MARKS, METADATA, OPEN, PREFIX, RUN, STRANGE, TOKEN, UNENDED, atoms_of, kind_of
+from .edn_values import CLOSING, Many, Value, canonical, fields_of, has_twice, integer, keyword, shown, spelling, string
+
+__all__ = ["Element", "Many", "Reader", "Unreadable", "Value", "canonical", "fields_of", "integer", "keyword", "shown", "spelling",
+           "string"]
+
+DEEPEST = 200  # collections, tags and discards in one another
+
+
+class Element(NamedTuple):
+    """An element at the top of a text, or of the one vector that is the text."""
+
+    line: int  # on which it begins
+    text: str
+    value: Value
+
+
+class Unreadable(Exception):
+    """The text can't be read on, from this place on (characters from 0), for this reason."""
+
+    def __init__(self, line: int, reason: str, place: int) -> None:
+        super().__init__(f"line {line}: {reason}")
+        self.line, self.reason, self.place = line, reason, place
+
+
+Open = Tuple[str, int, Optional[List[Value]]]  # what is open: its text and place, and the members that it is to stand among
+
+
+
+
+class Reader:
+    """Reads a text, or the pieces of one, each of which but the last ends with a line's end. `line` is that of its beginning."""
+
+    def __init__(self, text: Union[str, Iterable[str]], profile: bool = False, line: int = 1) -> None:
+        self._pieces = iter((text,) if isinstance(text, str) else text)
+        self._profile = edn_profile.Profile() if profile else None
+        self._piece = ""
+        self._before = 0  # characters before the piece
+        self._rest = 0  # the place in the piece from which on it is read together with the next one
+        self._line, self._counted = line, 0  # the line of a place in the piece
+        self._stack: List[Open] = []  # collections that are open, and prefixes that wait for an element, the innermost last
+        self._unwraps = False  # whether the first element, where it is a vector or list, is the text
+        self._whole: Optional[Open] = None  # this vector or list
+        self._whole_line = line
+        self._is_closed = False  # whether it is
+        self._element_line = line
+        self._element_place = 0  # of the element at the top, characters from 0
+        self._held = ""  # the front of that element which stands before the piece
+        self._begin = 0  # where the rest of it begins in the piece
+
+    def elements(self) -> Iterator[Element]:
+        """The elements of the text."""
+        return self._read()
+
+    def history(self) -> Iterator[Element]:
+        """The elements of the text, or of the one vector or list that it is."""
+        self._unwraps = True
+        return self._read()
+
+    def _read(self) -> Iterator[Element]:
+        stack, profile = self._stack, self._profile
+        members: Optional[List[Value]] = None  # of the innermost collection; None at the top, and where a prefix waits
+        for piece, is_last in self._all_pieces():
+            if profile is not None:
+                profile.begin(piece)
+            for token in TOKEN.finditer(piece):
+                text: str = token[1]
+                kind = MARKS.get(text)
+                if kind is None:
+                    kind = kind_of(text) if text[0] in ';#"\\' else RUN
+                if profile is not None and not profile.is_inside(token):
+                    self._test_profile(profile, token, kind)
+                if kind == RUN and members is not None:
+                    members.extend(text.replace(",", " ").split())
+                    continue
+                if kind == CLOSE:
+                    if members is None or CLOSING[stack[-1][0]] != text:
+                        self._close_whole(text, token.start(1))
+                        continue
+                    if text == "}":
+                        self._test_members(members, token.start(1))
+                    opened, _, outer = stack.pop()
+                    value: Value = Many(opened, tuple(members))
+                    members = outer
+                elif kind == OPEN or kind == PREFIX:
+                    if not stack and self._begin_element(text, token.start(1)):
+                        continue
+                    if len(stack) >= edn_profile.DEEPEST:
+                        self._test_depth(token.start(1))
+                    stack.append((text, self._before + token.start(1), members))
+                    members = [] if kind == OPEN else None
+                    continue
+                elif kind == COMMENT:
+                    continue
+                elif kind == END:
+                    break
+                elif kind == UNENDED and not is_last:
+                    self._rest = token.start(1)
+                    break
+                elif kind == STRANGE or kind == UNENDED:
+                    self._refuse_token(kind, token.start(1))
+                else:
+                    value = text
+                if members is not None:
+                    members.append(value)
+                    continue
+                for value, begin, end in atoms_of(token) if kind == RUN else ((value, token.start(1), token.end()),):
+                    if members is not None:  # an atom of the run that was before it has ended a prefix
+                        members.append(value)
+                        continue
+                    if stack:
+                        members, is_dropped = self._end_prefixes()
+                        if members is not None and not is_dropped:
+                            members.append(value)
+                        if members is not None or is_dropped:
+                            continue
+                    elif kind != CLOSE:
+                        self._begin_element("", begin)
+                    yield Element(self._element_line, self._held + piece[self._begin:end], value)
+        self._test_end(members is None)
+
+    def _begin_element(self, text: str, place: int) -> bool:
+        """An element begins at the top with this token. Whether it is the vector or list that is the text."""
+        if self._is_closed:
+            self._refuse_more(place)
+        self._element_line, self._element_place = self._line_at(place), self._before + place
+        self._held, self._begin = "", place
+        is_whole, self._unwraps = self._unwraps and text in ("[", "("), False
+        if is_whole:
+            self._whole, self._whole_line = (text, self._element_place, None), self._element_line
+        return is_whole
+
+    def _close_whole(self, text: str, place: int) -> None:
+        """Closes the vector or list that is the text; whatever else is closed here is refused."""
+        if self._is_closed:
+            self._refuse_more(place)
+        if self._stack or self._whole is None or CLOSING[self._whole[0]] != text:
+            self._refuse(place, f"{text!r} closes nothing" if self._profile is None else f"{text} closes nothing that is open")
+        self._is_closed = True
+
+    def _end_prefixes(self) -> Tuple[Optional[List[Value]], bool]:
+        """An element has ended that prefixes stand before: the members among which it stands, and whether it is dropped."""
+        members = None
+        while members is None and self._stack:
+            text, place, members = self._stack.pop()
+            if text in METADATA:
+                self._stack.append(("#", place, members))
+                return None, True
+            if text == "#_":
+                return members, True
+        return members, False
+
+    # Pieces, and lines in them.
+
+    def _all_pieces(self) -> Iterator[Tuple[str, bool]]:
+        """The pieces, and of each whether it is the last one. One begins with what was left of the one before it."""
+        self._piece = next(self._pieces, "")
+        following = next(self._pieces, None)
+        while following is not None:
+            self._rest = len(self._piece)
+            yield self._piece, False
+            if self._stack:
+                self._held += self._piece[self._begin:self._rest]
+                self._begin = 0
+            self._line_at(self._rest)
+            self._before += self._rest
+            self._counted = 0
+            parts, count = [self._piece[self._rest:], following], len(following)
+            following = next(self._pieces, None)
+            while following is not None and count < len(parts[0]):  # so that a long string is not read anew for each piece
+                parts.append(following)
+                count += len(following)
+                following = next(self._pieces, None)
+            self._piece = "".join(parts)
+        yield self._piece, True
+
+    def _line_at(self, place: int) -> int:
+        """The line of a place in the piece. Places are asked for in their order."""
+        self._line += self._piece.count("\n", self._counted, place)
+        self._counted = place
+        return self._line
+
+    def _line_of(self, opened: Open) -> int:
+        if not self._stack:
+            return self._whole_line
+        text = self._held + self._piece[self._begin:]
+        return self._element_line + text.count("\n", 0, opened[1] - self._element_place)
+
+    # What is refused.
+
+    def _refuse(self, place: int, reason: str, opened: Optional[Open] = None) -> NoReturn:
+        line = self._line_at(place) if opened is None else self._line_of(opened)
+        raise Unreadable(line, reason, self._before + place)
+
+    def _refuse_more(self, place: int) -> NoReturn:
+        assert self._whole is not None
+        self._refuse(place, f"more follows the {self._whole[0]!r} that has the history")
+
+    def _refuse_token(self, kind: int, place: int) -> NoReturn:
+        """Refuses a token by which no element begins."""
+        if self._is_closed:
+            self._refuse_more(place)
+        if kind == UNENDED:
+            self._refuse(place, "the text ends within a string that begins here: was the file cut off?")
+        self._refuse(place, f"this is no EDN: {self._piece[place:place + 40]!r}")
+
+    def _test_end(self, waits: bool) -> None:
+        """Refuses a text that ends within an element."""
+        opened = self._stack[-1] if self._stack else None if self._is_closed else self._whole
+        end = len(self._piece)
+        if opened is None:
+            return
+        if self._profile is not None:
+            self._refuse(end, "the text ends within an element: was the file cut off?")
+        if self._stack and waits:
+            self._refuse(end, "the text ends where an element is wanted: was the file cut off?")
+        self._refuse(end, f"the text ends within the {opened[0]!r} that begins here: was the file cut off?", opened)
+
+    def _test_depth(self, place: int) -> None:
+        if self._profile is None:
+            if len(self._stack) >= DEEPEST:
+                self._refuse(place, f"more than {DEEPEST} collections, tags or discards stand in one another")
+        elif sum(text in CLOSING for text, _, _ in self._stack) >= edn_profile.DEEPEST:
+            self._refuse(place, f"here more than {edn_profile.DEEPEST} collections are open in one another")
+
+    def _test_profile(self, profile: edn_profile.Profile, token: Match[str], kind: int) -> None:
+        """Refuses a token that is outside the profile, and other white space before it or in it than the profile's."""
+        places = [place for _, place, _ in atoms_of(token)] if kind == RUN else [token.start(1)] if kind != COMMENT else []
+        found = profile.outside(token, places)
+        if found is not None:
+            self._refuse(*found)
+
+    def _test_members(self, members: List[Value], place: int) -> None:
+        """Refuses a map with a key that has no value, and in the profile two keys or members that are equal."""
+        is_map = self._stack[-1][0] == "{"
+        if is_map and len(members) % 2 == 1:
+            self._refuse(place, "the map that begins here has a key without a value", self._stack[-1])
+        if self._profile is not None and has_twice(members[0::2] if is_map else members):
+            what = "map that begins here has a key" if is_map else "set that begins here has a member"
+            self._refuse(place, f"the {what} twice", self._stack[-1])

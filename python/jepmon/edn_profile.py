@@ -1,0 +1,75 @@
+"""What the program `jepmon` reads of EDN (docs/FORMATS.md, Text), token by token, and in words what is outside of that."""
+from __future__ import annotations
+
+import re
+from typing import Iterable, Match, Optional, Tuple
+
+DEEPEST = 32  # collections in one another
+INTEGERS = range(-(1 << 63), 1 << 63)
+MARKS = frozenset(("{", "[", "#{", "}", "]", "#_", "", '"'))  # with the end of the text, and a string that does not end in it
+
+ATOM = r"(?::[A-Za-z][A-Za-z0-9_?!*.-]*|[+-]?(?:0|[1-9][0-9]{0,17})|nil|true|false)"  # but for the longest integers
+WHOLE_ATOM = ATOM + r'(?![^ \t\r\n,;"\[\]{}()])'
+RUN = ATOM + rf"(?:[ \t\r\n,]+{ATOM})*"
+STRING = r'"(?:[^"\\]|\\[trn\\"])*"'
+SPELLED = r'\\.[^ \t\r\n,;"\[\]{}()]*|"|\(|\)|[^ \t\r\n,;"\[\]{}()]+'
+OTHER_SPACE = r"[^\S \t\r\n]"  # white space that is none to the program
+
+# What a token that is outside may be, by its spelling.
+OUTSIDE = (
+    (r".*\ufffd.*", "bytes that are no UTF-8"),
+    (r".*\s.*", "text with white space that is neither a space, a tab nor the end of a line"),
+    (r":", "a colon by itself, as JSON has it"),
+    (r"#[^_{].*", "a tag or a record"),
+    (r"[()]", "a list"),
+    (r":[^/]+/.*", "a keyword with a namespace"),
+    (r"[+-]?[0-9]+N", "an integer with the suffix N"),
+    (r"[+-]?[0-9]+/[0-9]+", "a ratio"),
+    (r"[+-]?0[0-9]+", "an integer with a leading 0"),
+    (r"[+-]?[0-9]+(\.[0-9]*)?([eE][+-]?[0-9]+)?M?|##.*", "a number that is no integer"),
+    (r"[+-]?[0-9].*", "no number"),
+    (r"\\.*", "a character"),
+)
+ESCAPES = 'a string that begins here has an escape other than \\t \\r \\n \\\\ \\", which jepmon does not read'
+
+
+class Profile:
+    """Tests tokens. Its expressions are compiled where one is made, since most readers need none."""
+
+    def __init__(self) -> None:
+        self._token = re.compile(f"{RUN}|{STRING}")
+        self._space = re.compile(OTHER_SPACE)
+        self._piece = ""
+        self._has_space = False
+
+    def begin(self, piece: str) -> None:
+        """The tokens that follow are of this piece of the text."""
+        self._piece, self._has_space = piece, self._space.search(piece) is not None
+
+    def is_inside(self, token: Match[str]) -> bool:
+        """Whether this token, whose own text is its group 1, is of the profile, with the white space before it."""
+        text = token[1]
+        return (text in MARKS or self._token.fullmatch(text) is not None) and not self._has_space
+
+    def outside(self, token: Match[str], places: Iterable[int]) -> Optional[Tuple[int, str]]:
+        """What is outside of a token whose atoms begin at these places, and where; None where nothing is."""
+        space = self._space.search(self._piece, token.start(), token.end() if places else token.start(1))
+        for place in sorted([*places, space.start()] if space else places):
+            reason = reason_of(self._piece, place)
+            if reason is not None:
+                return place, reason
+        return None
+
+
+def reason_of(piece: str, place: int) -> Optional[str]:
+    """Why what begins at this place of the piece is outside the profile; None where it is not."""
+    if place == len(piece) or re.compile(f"{WHOLE_ATOM}|{STRING}|[{{}}\\[\\]]|#[{{_]").match(piece, place):
+        return None
+    if piece[place] == '"':  # one that does not end is for the reader to refuse
+        return ESCAPES if re.compile(r'"(?:[^"\\]|\\.)*"', re.S).match(piece, place) else None
+    spelled = re.compile(SPELLED, re.S).match(piece, place)
+    text = spelled[0] if spelled else piece[place]
+    if re.fullmatch(r"[+-]?[1-9][0-9]+", text):
+        return None if len(text) < 1000 and int(text) in INTEGERS else f"{text[:40]} is an integer of more than 64 bits"
+    what = next((what for pattern, what in OUTSIDE if re.fullmatch(pattern, text, re.S)), "a symbol")
+    return f"{text[:40]} is {what}, which jepmon does not read"

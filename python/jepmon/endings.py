@@ -1,0 +1,33 @@
+"""How an exception in the block of an operation ends it: as a :fail, as an :info, and whether it goes further."""
+from __future__ import annotations
+
+from typing import Optional, Tuple, Type
+
+from .verdicts import Failed
+
+Exceptions = Tuple[Type[BaseException], ...]
+
+
+def test_exceptions(expected: Exceptions, failed: Exceptions) -> None:
+    """That what is named can be told apart: a class in both would be both."""
+    for name, classes in (("expected", expected), ("failed", failed)):
+        if not isinstance(classes, tuple) or not all(isinstance(one, type) and issubclass(one, BaseException) for one in classes):
+            raise TypeError(f"{name} is a tuple of classes of exceptions, as (TimeoutError,), not {classes!r}")
+    both = [one.__name__ for one in failed if one in expected]
+    if both:
+        raise ValueError(f"{both[0]} is in expected and in failed: an operation that it ends took place perhaps, or certainly not")
+
+
+def outcome_of(error: BaseException, expected: Exceptions, failed: Exceptions) -> Optional[str]:
+    """The outcome by which an exception ends an operation and goes no further: "fail" or "info"; None for one that goes on.
+
+    Where it is of classes in both, the more special one decides: with failed=(ConnectionRefusedError,) and expected=(OSError,) a
+    refused connection is a "fail". Where no class of failed is below each of expected that it is of, it is an "info", which is
+    the cautious one: an :info makes no false alarm."""
+    if isinstance(error, Failed):
+        return "fail"
+    as_info = [one for one in expected if isinstance(error, one)]
+    as_fail = [one for one in failed if isinstance(error, one)]
+    if any(all(issubclass(one, other) for other in as_info) for one in as_fail):
+        return "fail"
+    return "info" if as_info or as_fail else None

@@ -1,0 +1,49 @@
+"""The exchange of a live test with the running program, whose faults are Refused, as are those of the test."""
+from __future__ import annotations
+
+import os
+from typing import List, Optional, Union
+
+from .hints import hint_of_refusal
+from .program import ProgramError, Script, find_program
+from .verdicts import Refused
+
+PATIENCE = 10.0  # seconds for what is not worth more, as another model that is tried
+
+
+class Exchange:
+    """A running `jepmon script`: a line goes in, and the reply to it comes out. One thread at a time may use it."""
+
+    def __init__(self, words: List[str], timeout: float, program: Union[str, os.PathLike[str], None]) -> None:
+        try:
+            self.program = find_program(os.fspath(program) if program is not None else None)
+        except ProgramError as fault:
+            raise FileNotFoundError(str(fault)) from None
+        try:
+            self._script = Script(words, timeout, self.program)
+        except ProgramError as fault:
+            if isinstance(fault.__cause__, OSError):
+                raise fault.__cause__ from None
+            raise refused(fault) from None
+
+    def reply(self, line: str, timeout: Optional[float] = None) -> str:
+        """Sends a line, and waits for the reply to it. Refused where the program has ended, or gives none in time."""
+        try:
+            return self._script.reply(line, timeout)
+        except ProgramError as fault:
+            raise refused(fault) from None
+
+    def is_legal_as(self, key: int, model: str) -> bool:
+        """Whether what the key has seen is legal by this model. The verdict has fallen, so the program is free to judge it anew."""
+        try:
+            reply = self.reply(f"[:model {key} :{model}]", PATIENCE)
+        except Refused:
+            return False
+        return not reply.startswith((f"illegal key {key} ", f"unknown key {key} ", "refused "))
+
+    def end(self) -> None:
+        self._script.end()
+
+
+def refused(fault: ProgramError) -> Refused:
+    return Refused(str(fault), hint=hint_of_refusal(str(fault)))

@@ -1,0 +1,87 @@
+"""Says what a verdict or a refusal of `jepmon check` speaks of: the file's own events beside it.
+
+    {tool} history.edn --concurrency 5 --model cas-register
+
+It runs the check with these options and prints what it prints, and on standard error what its last line speaks of in the file:
+the line, the event, what was open then, and what may have been meant. Nothing of what it says is proved; the verdict is
+jepmon's own, and so is the exit status; whatever else there is, as no program or no verdict, ends with 3. It takes the program
+that JEPMON names, else the one built or released in this repository, else jepmon on the PATH.
+"""
+from __future__ import annotations
+
+import argparse
+import pathlib
+from typing import Dict
+
+from .. import command, program
+from ..edn import integer
+from ..kinds import THREADS
+from .event import Options
+from .refusal import many_clients
+from .said import said
+
+NAME = "explain"
+OPTIONS = ("--concurrency", "--model", "--budget", "--workers")
+
+
+class WrongWords(Exception):
+    """A fault of the command line."""
+
+
+class Words(command.Words):
+    refusal = WrongWords
+
+
+def say(line: str) -> None:
+    command.say(NAME, line)
+
+
+def parser() -> argparse.ArgumentParser:
+    description = (__doc__ or "").format(tool=command.tool(NAME))
+    made = Words(prog=NAME, description=description, formatter_class=argparse.RawDescriptionHelpFormatter)
+    made.add_argument("file", metavar="FILE", help="a recorded history, - for standard input")
+    for option in OPTIONS:
+        made.add_argument(option, metavar="X", help="as of jepmon check")
+    return made
+
+
+def work() -> int:
+    """Prints what the check prints, and says what may be said beside it. Gives the status of the check."""
+    words = parser()
+    try:
+        given = words.parse_args()
+    except WrongWords as fault:
+        words.print_usage(command.standard_error())
+        say(str(fault))
+        return command.REFUSED
+    stated = {option: getattr(given, option[2:]) for option in OPTIONS if getattr(given, option[2:]) is not None}
+    options = [word for pair in stated.items() for word in pair]
+    try:
+        raw = command.standard_input().read() if given.file == "-" else pathlib.Path(given.file).read_bytes()
+    except OSError as fault:
+        say(fault.strerror if given.file == "-" else f"{given.file}: {fault.strerror}")
+        if given.file == "-":
+            return command.REFUSED
+        text, _, status = program.run_check([given.file] + options)
+        command.write_output([text])
+        return status
+    text, _, status = program.run_check(["/dev/stdin"] + options, raw)
+    command.write_output([text])
+    if text:
+        tell(text.splitlines()[-1], raw, stated)
+    elif (integer(stated.get("--concurrency")) or 0) > THREADS:
+        say(many_clients())
+    return status
+
+
+def tell(reply: str, raw: bytes, stated: Dict[str, str]) -> None:
+    """Says what may be said. The verdict stands, whatever comes of this."""
+    try:
+        for line in said(reply, raw, Options(int(stated.get("--concurrency", 2)), stated.get("--model", "register"))):
+            say(line)
+    except Exception as fault:
+        say(f"no more can be said of it, by a fault of explain itself: {fault!r}")
+
+
+def main() -> int:
+    return command.run(NAME, work)

@@ -1,0 +1,6 @@
+"""Forms in which recorded histories come: where they lie, which form it is, and how each becomes jepmon's own."""
+from __future__ import annotations
+
+
+class Refused(Exception):
+    """A history can't be judged, for the reason that is told in one line."""

@@ -1,0 +1,33 @@
+"""Which form a recorded history has, by how its text begins."""
+from __future__ import annotations
+
+import re
+
+from . import Refused, logs
+
+NOTHING, EDN, JSON, CSV, LOG = "nothing", "EDN", "JSON", "CSV", "log"
+
+GAP = re.compile(r"(?:[\s,]+|;[^\n]*)*")
+# The front of a JSON text that has an object: a name in quotes, and a colon that begins no keyword of EDN.
+OBJECT = re.compile(r'[\[{][\s\[{]*"(?:[^"\\]|\\.)*"\s*:[^A-Za-z]')
+COLUMNS = re.compile(r"[A-Za-z_ .\"'-]+([,;\t][A-Za-z_ .\"'-]+){2,}\s*$")
+EMPTY = re.compile(r"[\s,]*[\[(][\s,]*[\])][\s,]*")
+FRONT = 200_000  # characters within which a log's first event is looked for
+
+
+def form_of(text: str) -> str:
+    """The form of a text. Refused where it is none of a history."""
+    begin = GAP.match(text).end()  # type: ignore[union-attr]
+    if begin == len(text) or EMPTY.fullmatch(text):
+        return NOTHING
+    if text[begin] in "{[":
+        return JSON if OBJECT.match(text, begin) else EDN
+    if text[begin] in "(#":
+        return EDN
+    if logs.LINE.search(text, 0, FRONT):
+        return LOG
+    first = text[:10_000].lstrip("\r\n").split("\n", 1)[0]
+    if COLUMNS.match(first.rstrip("\r")):
+        return CSV
+    shown = text[begin:begin + 60].split("\n", 1)[0]
+    raise Refused(f"this is no form of a history that is known: it begins with {shown!r}")

@@ -1,0 +1,56 @@
+"""Events of EDN that have their key in a field of its own, as the logs of a key-value store that Porcupine is tested with.
+
+    {:process 0, :type :invoke, :f :put, :key "3", :value "a"}
+
+There a get of a missing key answers an empty text, and so does each key at first.
+"""
+from __future__ import annotations
+
+from typing import Iterator, Optional
+
+from .. import edn, history
+from . import Refused, rows_told
+from .rows import Row, named
+from .written import Written
+
+LOOKED_AT = 50  # elements within which the first event of a client is looked for
+PORCUPINE = ("get", "put", "append")
+
+
+def written(text: str) -> Optional[Written]:
+    """The history, where its events are of this form."""
+    if not _is_one(text):
+        return None
+    is_porcupine = True
+
+    def rows() -> Iterator[Row]:
+        nonlocal is_porcupine
+        for element in edn.Reader(text).history():
+            fields = history.plain(element.value)
+            if not isinstance(fields, dict):
+                raise Refused(f"line {element.line}: this is no map, so no event: {edn.shown(element.value, 60)}")
+            row = Row(element.line, named(fields))
+            is_porcupine = is_porcupine and row.fields.get("f") in PORCUPINE
+            if is_porcupine and row.fields.get("value") == "":
+                row.fields["value"] = None
+            yield row
+
+    try:
+        found = rows_told.written(rows())
+    except edn.Unreadable as fault:
+        raise Refused(str(fault)) from fault
+    return found._replace(nil_is_absent=is_porcupine)
+
+
+def _is_one(text: str) -> bool:
+    """Whether the first event of a client has a field of its key."""
+    try:
+        for _, element in zip(range(LOOKED_AT), edn.Reader(text).history()):
+            fields = edn.fields_of(element.value)
+            if fields is None:
+                return False
+            if edn.integer(fields.get(":process")) is not None:
+                return ":key" in fields
+    except edn.Unreadable:
+        pass
+    return False

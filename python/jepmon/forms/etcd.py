@@ -1,0 +1,98 @@
+"""Operations of etcd as its robustness tests record them for Porcupine: puts, deletes and ranges of one key each.
+
+Transactions with conditions or over several keys, ranges over several keys and of old revisions, and leases are of a model of
+their own, which those tests check; they are refused by name. Defragmentations and compactions change no key, and are left out.
+"""
+from __future__ import annotations
+
+from typing import Any, Dict, List, NoReturn, Optional
+
+from . import Refused
+from .rows import Row, named
+from .written import Writer
+
+LEFT_OUT = ("defragment", "compact")
+TYPES = ("range", "txn", "leasegrant", "leaserevoke") + LEFT_OUT
+CHECKED = "etcd's robustness tests check these by Porcupine"
+
+
+def is_one(row: Row) -> bool:
+    """Whether the row is one of these operations."""
+    asked = row.fields.get("input")
+    return "clientid" in row.fields and isinstance(asked, dict) and str(asked.get("Type", "")).lower() in TYPES
+
+
+def turned(row: Row, writer: Writer) -> Optional[Row]:
+    """The row as one of a register; None where it changes no key."""
+    asked, came = named(row.fields["input"]), _inner(row, row.fields, "output")
+    kind = str(asked["type"]).lower()
+    if kind in LEFT_OUT:
+        writer.counts[f"operations left out, which change no key: {kind}"] += 1
+        return None
+    fields: Dict[str, Any] = {name: row.fields.get(name) for name in ("clientid", "call", "return")}
+    if came.get("error") or came.get("persisted"):
+        fields["error"] = came.get("error") or "its response was lost"
+    if kind == "range":
+        fields.update(_read(row, _inner(row, asked, "range"), came))
+    elif kind == "txn":
+        fields.update(_write(row, _inner(row, asked, "txn")))
+    else:
+        _refuse(row, "a lease")
+    return Row(row.line, fields)
+
+
+def _refuse(row: Row, what: str) -> NoReturn:
+    raise Refused(f"line {row.line}: {what} of etcd, which jepmon does not judge ({CHECKED})")
+
+
+def _inner(row: Row, fields: Dict[str, Any], name: str) -> Dict[str, Any]:
+    """The object in a field, an empty one where there is none."""
+    inner = fields.get(name) or {}
+    if not isinstance(inner, dict):
+        raise Refused(f"line {row.line}: its {name} is no object")
+    return named(inner)
+
+
+def _list(row: Row, fields: Dict[str, Any], name: str) -> List[Dict[str, Any]]:
+    """The objects in a field."""
+    inner = fields.get(name) or []
+    if not isinstance(inner, list) or not all(isinstance(member, dict) for member in inner):
+        raise Refused(f"line {row.line}: its {name} is no list of objects")
+    return [named(member) for member in inner]
+
+
+def _read(row: Row, asked: Dict[str, Any], came: Dict[str, Any]) -> Dict[str, Any]:
+    options = _inner(row, asked, "rangeoptions") or asked
+    key = options.get("key", options.get("start"))
+    if options.get("end") or key is None:
+        _refuse(row, "a range over several keys")
+    if asked.get("revision"):
+        _refuse(row, "a range of an old revision")
+    found = _list(row, _inner(row, came, "range"), "kvs")
+    if len(found) > 1:
+        _refuse(row, "a range over several keys")
+    return {"f": "read", "key": key, "answer": _value(found[0].get("value")) if found else None}
+
+
+def _write(row: Row, asked: Dict[str, Any]) -> Dict[str, Any]:
+    done = _list(row, asked, "operationsonsuccess")
+    if asked.get("conditions") or asked.get("operationsonfailure"):
+        _refuse(row, "a transaction with conditions")
+    if len(done) != 1:
+        _refuse(row, "a transaction of several operations")
+    operation = done[0]
+    kind = str(operation.get("type", "")).replace("-operation", "").lower()
+    if kind == "put":
+        put = _inner(row, operation, "put")
+        return {"f": "write", "key": put.get("key"), "value": _value(put.get("value"))}
+    if kind == "delete":
+        return {"f": "delete", "key": _inner(row, operation, "delete").get("key")}
+    _refuse(row, f"a transaction of one {kind or 'operation without a type'}")
+
+
+def _value(value: Any) -> Any:
+    """A value, or the hash of a long one."""
+    if not isinstance(value, dict):
+        return value
+    fields = named(value)
+    return fields["value"] if fields.get("value") not in (None, "") else f"hash {fields.get('hash', 0)}"

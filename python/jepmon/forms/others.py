@@ -1,0 +1,69 @@
+"""Histories of what jepmon does not judge, by the names of their operations: what it is, and what checks it."""
+from __future__ import annotations
+
+from typing import Dict, Iterable, Optional, Tuple
+
+from .. import edn
+
+LOOKED_AT = 200  # events of clients
+
+OTHERS: Dict[str, Tuple[str, str]] = {
+    "txn": ("transactions over several keys", "Elle"),
+    "transfer": ("a bank, whose sum is looked at", "jepsen.tests.bank"),
+    "broadcast": ("a broadcast", "Maelstrom's own checker"),
+    "echo": ("an echo", "Maelstrom's own checker"),
+    "generate": ("unique ids", "jepsen.checker/unique-ids"),
+    "send": ("a log as Kafka's", "jepsen.tests.kafka"),
+    "poll": ("a log as Kafka's", "jepsen.tests.kafka"),
+    "append": ("appends to lists or texts", "of lists Elle, of texts Porcupine's model of a key-value store"),
+    "inc": ("a counter", "jepsen.checker/counter"),
+    "increment": ("a counter", "jepsen.checker/counter"),
+    "dec": ("a counter", "jepsen.checker/counter"),
+    "decrement": ("a counter", "jepsen.checker/counter"),
+}
+SEVERAL_REGISTERS = "this read is of several registers at once, which jepmon does not judge; Knossos's multi-register does"
+GROW_ONLY = ("this is a grow-only set, which is read at the end and need not be linearizable; Maelstrom's own checker judges it "
+             "(with --model set it is judged here all the same)")
+RESULTS = "these are the results of a test, and no history"
+
+
+def named(text: str, as_set: bool) -> Optional[str]:
+    """The reason for which a text of EDN is none of a history that is judged, where that is seen in its first events."""
+    try:
+        return _named(edn.Reader(text).history(), as_set)
+    except edn.Unreadable:  # which is told where the whole of it is read
+        return None
+
+
+def _named(elements: Iterable[edn.Element], as_set: bool) -> Optional[str]:
+    for _, element in zip(range(LOOKED_AT), elements):
+        fields = edn.fields_of(element.value)
+        if fields is None:
+            return None
+        if ":valid?" in fields and ":process" not in fields:
+            return f"line {element.line}: {RESULTS}"
+        name = edn.keyword(fields.get(":f")) or ""
+        if edn.integer(fields.get(":process")) is None:
+            continue
+        if name in OTHERS:
+            return reason(element.line, name)
+        if name == "read" and fields.get(":type") == ":invoke" and _is_several(fields.get(":value")):
+            return f"line {element.line}: {SEVERAL_REGISTERS}"
+        if name in ("add", "read") and fields.get(":final?") == "true" and not as_set:
+            return f"line {element.line}: {GROW_ONLY}"
+    return None
+
+
+def reason(line: int, name: str) -> str:
+    """Why operations of this name are not judged."""
+    what, who = OTHERS[name]
+    return f"line {line}: :{name} is an operation of {what}, which jepmon does not judge; {who} does"
+
+
+def _is_several(value: Optional[edn.Value]) -> bool:
+    """Whether a read asks for several registers: a map of them, or a vector of pairs."""
+    if not isinstance(value, edn.Many) or not value.members:
+        return False
+    if value.opened == "{":
+        return True
+    return value.opened == "[" and all(isinstance(member, edn.Many) and member.opened == "[" for member in value.members)

@@ -1,0 +1,209 @@
+"""jepmon's own form, an event a line: what its lines tell, read fast. What is taken for it the program takes too.
+
+Between the events may stand comments, notes of faults (#_{..}), and the commands of a log of `jepmon script`: [:model k m] and
+[:budget k n] say what a key is, and [:rewind n] takes events back.
+"""
+from __future__ import annotations
+
+import array
+import collections
+import re
+from typing import Counter, Dict, List, NamedTuple, Optional, Set, Tuple
+
+from .. import kinds
+
+INTEGER = r"[+-]?(?:0|[1-9][0-9]{0,18})"
+ATOM = rf'(?:nil|true|false|{INTEGER}|:[A-Za-z][A-Za-z0-9_?!*.-]*|"(?:[^"\\\n]|\\[trn\\"])*")'
+FLAT = rf"(?:{ATOM}|#\{{\}}|\[(?:{ATOM}(?:,? {ATOM})*)?\])"
+DEEP = rf"(?:{FLAT}|\[(?:{FLAT}(?:,? {FLAT})*)?\])"
+PART = rf"nil|{INTEGER}|\[{INTEGER} {INTEGER}\]|#\{{(?:{INTEGER}(?: {INTEGER})*)?\}}"
+EVENT = re.compile(
+    r"\{:type :(invoke|ok|fail|info),? :process ([0-9]{1,10}|:nemesis),? :f :([a-z-]+),? "
+    rf":value (?:\[([0-9]{{1,5}}) ({PART})\]|{DEEP})((?:,? :[a-z-]+ {DEEP})*)\}}\r?")
+NOTE = re.compile(r'#_\{(?:[^{}"\\]|"(?:[^"\\\n]|\\.)*")*\}[ \t\r]*')
+COMMAND = re.compile(r"\[:(?:(model) ([0-9]{1,5}) :([a-z-]+)|(budget) ([0-9]{1,5}) ([0-9]{1,6})|(rewind) ([0-9]{1,7})|verdict)\]\r?")
+INDEX = re.compile(r",? :index ([0-9]{1,10})(?![0-9])")
+FAULTS = frozenset({"partition", "heal", "pause", "resume", "crash", "restart", "lose-replies"})  # jepmon's own
+
+NIL, NUMBER, PAIR, SET = "n", "0", "[", "#"  # the parts of events, by how they begin
+TOLD = {"read": NIL, "dequeue": NIL, "acquire": NIL, "release": NIL, "write": NUMBER, "enqueue": NUMBER, "add": NUMBER, "cas": PAIR}
+ANSWERS = {"read": (NIL, NUMBER, SET), "dequeue": (NUMBER,)}
+
+Opened = Dict[str, Tuple[str, str, str]]  # the operation of each process that is open: its name, key and part
+
+
+class KeyFacts:
+    """What the events of a key tell of what it is."""
+
+    def __init__(self) -> None:
+        self.names: Set[str] = set()
+        self.events = 0
+        self.reads = 0  # that were answered
+        self.reads_of_nil = 0
+        self.reads_of_sets = 0
+
+
+class Facts:
+    """What the events of a history tell."""
+
+    def __init__(self) -> None:
+        self.keys: Dict[int, KeyFacts] = {}
+        self.outcomes: Counter[str] = collections.Counter()  # of operations, as "read ok"
+        self.processes = array.array("q")  # of each event; -1 of the nemesis
+        self.infos: Set[int] = set()  # the indices of the events of clients that are :info
+        self.lines = array.array("I")  # of each event in its file
+
+    @property
+    def events(self) -> int:
+        return len(self.processes)
+
+
+class Own(NamedTuple):
+    """A history in jepmon's own form."""
+
+    text: str
+    facts: Facts
+    models: Dict[int, str]  # of keys that the history itself gives a model
+    budgets: Dict[int, int]
+    has_commands: bool
+
+
+def read(text: str) -> Optional[Own]:
+    """The history, where the text is one in this form, an event a line."""
+    scan = _Scan()
+    for number, line in enumerate(text.split("\n"), 1):
+        if not scan.take(number, line):
+            return None
+    return scan.own(text)
+
+
+class _Scan:
+    """Goes through the lines."""
+
+    def __init__(self) -> None:
+        self._events: List[str] = []
+        self._numbers: List[int] = []
+        self._models: Dict[int, str] = {}
+        self._budgets: Dict[int, int] = {}
+        self._has_commands = False
+
+    def take(self, number: int, line: str) -> bool:
+        if line.startswith("{"):
+            self._events.append(line)
+            self._numbers.append(number)
+            return True
+        if line.startswith("["):
+            return self._command(line)
+        return not line.strip(" \t\r,") or line.startswith(";") or NOTE.fullmatch(line) is not None
+
+    def _command(self, line: str) -> bool:
+        found = COMMAND.fullmatch(line)
+        if found is None:
+            return False
+        self._has_commands = True
+        if found.group(1):
+            self._models[int(found.group(2))] = found.group(3)
+        elif found.group(4):
+            self._budgets[int(found.group(5))] = int(found.group(6))
+        elif found.group(7):
+            del self._events[int(found.group(8)):], self._numbers[int(found.group(8)):]
+        return found.group(3) in (None, *kinds.MODELS)
+
+    def own(self, text: str) -> Optional[Own]:
+        facts = facts_of(self._events, self._numbers)
+        if facts is None:
+            return None
+        if self._has_commands:
+            text = "".join(line.rstrip("\r") + "\n" for line in self._events)
+        return Own(text, facts, self._models, self._budgets, self._has_commands)
+
+
+def facts_of(events: List[str], numbers: List[int]) -> Optional[Facts]:
+    """What these lines tell, where each is an event that the program takes after those before it."""
+    facts, opened = Facts(), {}  # type: Facts, Opened
+    keys, infos, count = facts.keys, facts.infos, facts.outcomes
+    for index, (line, number) in enumerate(zip(events, numbers)):
+        found = EVENT.fullmatch(line)
+        if found is None:
+            return None
+        kind, process, name, key, part, further = found.groups()
+        if ":index" in further and not _is_index(further, index):
+            return None
+        facts.lines.append(number)
+        if process == ":nemesis":
+            if name not in FAULTS:
+                return None
+            facts.processes.append(-1)
+            continue
+        if key is None or not _may_come(opened, kind, process, name, key, part):
+            return None
+        facts.processes.append(int(process))
+        of_key = keys.get(int(key))
+        if of_key is None:
+            of_key = keys[int(key)] = KeyFacts()
+        of_key.names.add(name)
+        of_key.events += 1
+        if kind == "info":
+            infos.add(index)
+        if kind == "ok" and name == "read":
+            of_key.reads += 1
+            of_key.reads_of_nil += part == "nil"
+            of_key.reads_of_sets += part[0] == SET
+        if kind != "invoke":
+            count[f"{name} {kind}"] += 1
+    return facts
+
+
+def _is_index(further: str, index: int) -> bool:
+    stated = INDEX.search(further)
+    return stated is not None and int(stated.group(1)) == index
+
+
+def _may_come(opened: Opened, kind: str, process: str, name: str, key: str, part: str) -> bool:
+    """Whether this event of a client may come after those that opened these operations. One that completes repeats its invocation, but
+    for an answer."""
+    wanted = TOLD.get(name)
+    begins = part[0] if part[0] in (NIL, PAIR, SET) else NUMBER
+    if kind == "ok" and name in ANSWERS:
+        if begins not in ANSWERS[name]:
+            return False
+        invoked = opened.pop(process, None)
+        return invoked is not None and invoked[:2] == (name, key) and _is_value(begins, part)
+    if begins != wanted or not _is_value(begins, part):
+        return False
+    if kind == "invoke":
+        if process in opened:
+            return False
+        opened[process] = (name, key, part)
+        return int(key) in kinds.KEYS
+    return opened.pop(process, None) == (name, key, part)
+
+
+def _is_value(begins: str, part: str) -> bool:
+    """Whether the integers in a part have 64 bits, and are of a set each another one."""
+    if begins == SET:
+        members = part[2:-1].split()
+        return len({int(member) for member in members}) == len(members) and all(len(member) < 19 for member in members)
+    if len(part) < 19:
+        return True
+    return all(int(number) in kinds.VALUES for number in part.strip("[]").split())
+
+
+def concurrency_of(facts: Facts) -> Optional[int]:
+    """The fewest threads that the processes fit: at first each thread's own number, and p + threads after an :info of p."""
+    for threads in range(1, kinds.THREADS + 1):
+        if _fits(facts, threads):
+            return threads
+    return None
+
+
+def _fits(facts: Facts, threads: int) -> bool:
+    current, infos = list(range(threads)), facts.infos
+    for index, process in enumerate(facts.processes):
+        if process >= 0:
+            thread = process % threads
+            if current[thread] != process:
+                return False
+            if index in infos:
+                current[thread] += threads
+    return True

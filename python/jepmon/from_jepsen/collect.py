@@ -1,0 +1,230 @@
+"""Goes through the elements of a Jepsen history, and keeps the events of clients, each with its key and its part.
+
+A drain of a queue, `:drain`, whose :ok tells a list of what came out, is taken apart into dequeues. Each of these took place at
+some moment between the drain's invocation and its :ok; which moment is not known, and the list is in no order that means much
+(a test may have put each value to its front, or into a set). They are written one after the other, each invoked and completed,
+in the place of the :ok. For a queue without an order that is exact, the history is linearizable with them if and only if it is
+with dequeues that are open from the drain's invocation to its :ok:
+
+- What is linearizable with the later invocations is so with the earlier ones, which allow more.
+- Let there be an order that shows the history linearizable with dequeues that are open all the time. Take the drain's dequeues
+  out of it, and put them in again just after the last of them and of the operations that had completed before the :ok. Nothing
+  that was invoked after the :ok stands before that place, since each of those operations precedes it. Up to the place the queue
+  now holds all that it held before, and more, so that each dequeue there finds its value as before. At the place it holds what it
+  held there and the drain's values, so that their dequeues take place, in any order, and leave what it held before. So the order
+  shows the history linearizable with dequeues that are invoked and completed one by one at the :ok.
+
+For a queue with an order it is not so: a dequeue that is put off keeps those behind it waiting. So a key with a drain is judged as
+a queue without an order, which is what Jepsen's checkers of such tests, total-queue and the like, look at.
+
+A drain that failed took nothing. One that timed out may have taken whatever it liked; it is left out, which changes no verdict: it
+may have taken nothing, and whatever was linearizable with something taken is so with more left in the queue.
+"""
+from __future__ import annotations
+
+from typing import Dict, Iterable, Iterator, NoReturn, Optional, Tuple
+
+from .. import edn, faults, kinds
+from ..edn import Many, Value, canonical, integer, shown, spelling
+from .events import Event, Fault, History, Left, is_pair, tuple_of
+from .refusal import NoKey, Refusal, refuse
+
+DRAIN = ":drain"
+TYPES = frozenset(f":{kind}" for kind in kinds.EVENT_TYPES)
+OPERATIONS = sorted(f":{name}" for name in kinds.OPERATIONS)
+TAKEN = frozenset(OPERATIONS + [DRAIN])
+ANSWERED = frozenset(f":{name}" for name in kinds.ANSWERED)
+WITHOUT_PART = frozenset([f":{name}" for name in kinds.WITHOUT_PART] + [DRAIN])
+NATURAL = range(0, 1 << 63)  # processes, and indices
+
+
+class Collector:
+    """Goes through the elements of a history, and keeps what jepmon takes in jepmon's form."""
+
+    def __init__(self, lone_key: Optional[str], nil_is_absent: bool) -> None:
+        self.lone_key = lone_key
+        self.nil_is_absent = nil_is_absent
+        self.open: Dict[int, Event] = {}
+        self.history = History()
+
+    def collect(self, pieces: Iterable[str]) -> History:
+        """The history of a text that comes in pieces."""
+        elements = edn.Reader(pieces).history()
+        count = 0
+        try:
+            for element in elements:
+                self.take(element, count)
+                count += 1
+        except NoKey:
+            refuse_others(elements)
+            raise
+        except edn.Unreadable as fault:
+            raise Refusal(str(fault)) from fault
+        if count == 0:
+            raise Refusal("there is no event in it: the file is empty")
+        if not self.history.clients() and self.history.drained:
+            raise Refusal("its clients did nothing but drains by which nothing came out: there is nothing to judge")
+        if not self.history.clients():
+            raise Refusal(f"none of its {count} events is of a client: there is nothing to judge")
+        return self.history
+
+    def take(self, element: edn.Element, count: int) -> None:
+        fields = edn.fields_of(element.value)
+        if fields is None:
+            text = shown(element.value, 60)
+            refuse(element.line, f"this is no map, so no event: {text} (is this Jepsen's history.edn?)")
+        stated = integer(fields.get(":index"))
+        index = stated if stated is not None and stated in NATURAL else count
+        process = integer(fields.get(":process"))
+        if process is not None and process in NATURAL:
+            self.take_event(element.line, process, fields, index)
+        elif faults.is_fault(fields):
+            self.history.events.append(Fault(f":f {fields[':f']}, :value {spelling(fields[':value'])}", index))
+        else:
+            self.leave_out(element, fields)
+
+    def leave_out(self, element: edn.Element, fields: Dict[str, Value]) -> None:
+        """Leaves out the event of a process that is no client, as :nemesis."""
+        process = fields.get(":process")
+        if not isinstance(process, str) or not (process.startswith(":") or process == "nil"):
+            wanted = "its :process is neither a number of 64 bits from 0 on nor a keyword as :nemesis"
+            refuse(element.line, f"{wanted}: {shown(element.value)}")
+        self.history.left_out[process] += 1
+        if process == ":nemesis":
+            name, value = spelling(fields.get(":f", "nil")), fields.get(":value", "nil")
+            self.history.nemesis.append(Left(len(self.history.events), name, value, integer(fields.get(":time")) or 0))
+
+    def take_event(self, line: int, process: int, fields: Dict[str, Value], index: int) -> None:
+        kind, name, value = fields.get(":type"), fields.get(":f"), fields.get(":value", "nil")
+        if not isinstance(kind, str) or kind not in TYPES:
+            refuse(line, f"its :type is {shown(kind or 'nil')}, and none of {', '.join(sorted(TYPES))}")
+        if not isinstance(name, str) or name not in TAKEN:
+            refuse_operation(line, name)
+        if kind == ":invoke":
+            self.invoke(line, process, name, value, index)
+        else:
+            self.complete(line, kind, process, name, value, index)
+
+    def invoke(self, line: int, process: int, name: str, value: Value, index: int) -> None:
+        if process in self.open:
+            began = self.open[process].line
+            refuse(line, f"process {process} invokes {name}, and its operation of line {began} is not completed")
+        key, part = self.invoked(line, name, canonical(value))
+        if name in WITHOUT_PART and part != "nil":
+            self.history.notes[f":invoke of {name} with a value, which is left out"] += 1
+        event = Event(":invoke", process, name, key, "nil" if name in WITHOUT_PART else part, index, line)
+        self.open[process] = event
+        if name == DRAIN:
+            self.history.drained.add(key)
+        else:
+            self.history.events.append(event)
+
+    def invoked(self, line: int, name: str, value: Value) -> Tuple[Value, Value]:
+        """The key and the part of an invocation."""
+        refuse_value_of_read(line, name, value)
+        key, part = self.key_and_part(line, name, value)
+        self.test_part(line, name, part)
+        return key, part
+
+    def complete(self, line: int, kind: str, process: int, name: str, value: Value, index: int) -> None:
+        """A completion repeats its invocation, but for the answer of a read or a dequeue that took place."""
+        invoked = self.open.pop(process, None)
+        if invoked is None:
+            refuse(line, f"process {process} completes {name} and has invoked nothing: is the beginning missing?")
+        if invoked.name != name:
+            refuse(line, f"process {process} completes {name}, and has invoked {invoked.name} at line {invoked.line}")
+        if name == DRAIN:
+            self.drain(line, kind, invoked, value, index)
+            return
+        part = invoked.part
+        if kind == ":ok" and name in ANSWERED:
+            part = self.answer(line, invoked, canonical(value))
+            kind = self.answered(kind, name, part)
+            part = invoked.part if kind == ":fail" else part
+        elif name not in WITHOUT_PART and not self.repeats(invoked, canonical(value)):
+            self.history.notes[f"{kind} of {name} with another value than their invocation, whose value stands"] += 1
+        self.history.events.append(Event(kind, process, name, invoked.key, part, index, line))
+
+    def answer(self, line: int, invoked: Event, value: Value) -> Value:
+        """The answer that an :ok tells, which is of the invocation's key."""
+        key, part = self.key_and_part(line, invoked.name, value)
+        if key != invoked.key:
+            refuse(line, f"the answer is of key {shown(key)}, and the invocation of key {shown(invoked.key)}")
+        return part
+
+    def answered(self, kind: str, name: str, part: Value) -> str:
+        """A dequeue that answers nil took nothing: it did not take place."""
+        if name == ":dequeue" and part == "nil":
+            self.history.notes["dequeues answered by nil (written as :fail; that the queue was empty is not judged)"] += 1
+            return ":fail"
+        return kind
+
+    def drain(self, line: int, kind: str, invoked: Event, value: Value, index: int) -> None:
+        """Takes the values of a drain out one by one. Of one that failed or timed out nothing is written."""
+        if kind != ":ok":
+            what = {":fail": "nothing came out", ":info": "what came out is not known, which changes no verdict"}[kind]
+            self.history.notes[f"{kind} of :drain, left out: {what}"] += 1
+            return
+        drained = self.answer(line, invoked, canonical(value))
+        if drained != "nil" and not (isinstance(drained, Many) and drained.opened in ("[", "#{")):
+            refuse(line, f"this :drain is answered by {shown(drained)}, which is no list of what came out")
+        for taken in drained.members if isinstance(drained, Many) else ():
+            dequeue = Event(":invoke", invoked.process, ":dequeue", invoked.key, "nil", index, line)
+            ended = self.answered(":ok", ":dequeue", taken)
+            part = taken if ended == ":ok" else "nil"
+            if ended == ":ok":
+                self.history.notes["values that came out by :drain, each written as a dequeue at its :ok"] += 1
+            self.history.events += [dequeue, dequeue._replace(kind=ended, part=part)]
+
+    def repeats(self, invoked: Event, value: Value) -> bool:
+        part = value if self.lone_key is not None else (tuple_of(value) or (value, "nil"))[1]
+        return part == invoked.part
+
+    def key_and_part(self, line: int, name: str, value: Value) -> Tuple[Value, Value]:
+        pair = tuple_of(value)
+        if self.lone_key is not None:
+            if pair is not None and (pair[1] == "nil" and name in WITHOUT_PART or name == ":cas" and is_pair(pair[1])):
+                refuse(line, f"the value {shown(value)} of {name} has a key of its own: leave --key out")
+            return self.lone_key, value
+        if pair is None or (name == ":cas" and not is_pair(pair[1])):
+            raise NoKey(f"line {line}: the value {shown(value)} of {name} is no [key part]; are there no keys? say --key 0")
+        return pair
+
+    def test_part(self, line: int, name: str, part: Value) -> None:
+        if name == ":cas" and not is_pair(part):
+            refuse(line, f"the part of a :cas is {shown(part)}, and no [old new]")
+        if self.nil_is_absent and name in (":write", ":cas"):
+            return
+        if name not in WITHOUT_PART and "nil" in (part.members if name == ":cas" and isinstance(part, Many) else (part,)):
+            other = " or say --nil-is-absent" if name in (":write", ":cas") else ""
+            refuse(line, f"{name} of nil, which jepmon has not as a value; let the test write a number for it{other}")
+
+
+def refuse_operation(line: int, name: Optional[Value]) -> NoReturn:
+    if isinstance(name, str) and name[1:] in kinds.NOT_JUDGED:
+        refuse(line, f"{name} {kinds.NOT_JUDGED[name[1:]]}")
+    refuse(line, f"no object of jepmon has {shown(name or 'nil')}; they have {', '.join(OPERATIONS)}")
+
+
+def refuse_value_of_read(line: int, name: Value, value: Value) -> None:
+    """A read asks for one key. One that is invoked with a value, as [[:x 1] [:y 2]], is of several registers at once."""
+    pair = tuple_of(value)
+    if name == ":read" and value != "nil" and (pair is None or pair[1] != "nil"):
+        refuse(line, f"this :read is invoked with {shown(value)}, in place of nil or [key nil]: is it of several registers at once? "
+               "jepmon judges reads of one key each")
+
+
+def refuse_others(elements: Iterator[edn.Element]) -> None:
+    """Refuses what follows where it has operations that no key makes into ones of jepmon."""
+    try:
+        for element in elements:
+            fields = edn.fields_of(element.value) or {}
+            name = fields.get(":f")
+            if integer(fields.get(":process")) is None:
+                continue
+            if name not in TAKEN:
+                refuse_operation(element.line, name)
+            if fields.get(":type") == ":invoke":
+                refuse_value_of_read(element.line, name or "nil", fields.get(":value", "nil"))
+    except edn.Unreadable:  # that is to be said once there is a key
+        return

@@ -1,0 +1,70 @@
+"""What is to be told of a history that was turned, and how to have it judged."""
+from __future__ import annotations
+
+import collections
+from typing import Iterator, Set
+
+from ..edn import Value
+from .events import History
+from .models import Models, common
+from .write import Writer
+
+
+def notes(history: History, writer: Writer) -> Iterator[str]:
+    """What was left out or changed, how the operations ended, and what numbers stand for."""
+    left_out = ", ".join(f"{count} of {process}" for process, count in history.left_out.items())
+    yield f"events: {len(history.events)}; left out: {left_out or 'none'}"
+    yield from notes_of_outcomes(history)
+    yield from (f"{note}: {count}" for note, count in history.notes.items())
+    yield from notes_of_absent(history, writer) if writer.registers else notes_of_nil(history, writer.sets)
+    if writer.processes.renumbered:
+        yield "processes are numbered anew, Jepsen's own stand as :jepsen-process"
+    yield from writer.keys.told("key")
+    yield from writer.values.told("value")
+
+
+def advice(history: History, models: Models, writer: Writer) -> Iterator[str]:
+    """How to have the output judged."""
+    options = f"--concurrency {writer.processes.threads}"
+    shared = common(models)
+    if history.drained:
+        yield "what came out by :drain has no order: a queue with drains is judged as an unordered-queue, not as a fifo-queue"
+    if shared:
+        other = f" (or {shared[1]}, where any order will do)" if shared[:1] == ["fifo-queue"] else ""
+        yield f"judge it by: jepmon check FILE {options} --model {shared[0]}{other}"
+        return
+    yield f"its keys are of several kinds: judge it by jepmon script {options}, these lines before it:"
+    yield from (f"  [:model {writer.keys(key)} :{possible[0]}]" for key, possible in models.items())
+
+
+def notes_of_outcomes(history: History) -> Iterator[str]:
+    """How the operations ended, by their names. Only what is :ok is judged."""
+    counts = collections.Counter((event.name, event.kind) for event in history.clients())
+    for name in sorted({name for name, _ in counts}):
+        yield f"{name[1:]}: " + ", ".join(f"{counts[name, kind]} {kind[1:]}" for kind in (":ok", ":fail", ":info"))
+    if not any(kind == ":ok" for _, kind in counts):
+        yield "no operation is :ok: nothing was judged"
+
+
+def notes_of_nil(history: History, sets: Set[Value]) -> Iterator[str]:
+    """What answers of nil mean to jepmon."""
+    reads = [event for event in history.clients() if event.kind == ":ok" and event.name == ":read"]
+    of_nil = [event for event in reads if event.part == "nil"]
+    of_sets = sum(event.key in sets for event in of_nil)
+    if of_sets:
+        yield f"reads of a set answered by nil (it fits no set, so they are illegal): {of_sets}"
+    count, whole = len(of_nil) - of_sets, len(reads) - sum(event.key in sets for event in reads)
+    if count == whole > 0:
+        yield f"NOTHING IS SAID OF WHAT A REGISTER HOLDS: each read is answered by nil, which fits whatever it holds: {whole}"
+    elif count > 0:
+        yield f"reads answered by nil (it fits whatever a register holds): {count} of {whole}"
+    if count > 0:
+        yield "where nil is what a missing key answers, say --nil-is-absent, and they are judged"
+
+
+def notes_of_absent(history: History, writer: Writer) -> Iterator[str]:
+    """What became of nil where it is what a missing key answers."""
+    reads = [event for event in history.clients() if event.kind == ":ok" and event.name == ":read"]
+    answers = [event.part for event in reads if event.key in writer.registers]
+    yield f"a missing key is {writer.absent}, which {answers.count('nil')} of {len(answers)} reads of a register answered"
+    yield f"a write of it to each register comes first: {2 * len(writer.registers)} events"

@@ -1,0 +1,94 @@
+"""Turns a recorded Jepsen history into one that jepmon reads.
+
+    {tool} store/latest/history.edn > history.edn
+    jepmon check history.edn --concurrency 10 --model cas-register
+
+Run it once, read on standard error the options that it names, and run the check with them.
+
+It reads what Jepsen 0.1 to 0.3 writes into history.edn: maps or records (#jepsen.history.Op{{..}}), one a line or over several
+lines, or one vector of them, also compressed by gzip. From each event of a client it keeps :type, :process, :f and :value; what
+else stands there (times, errors, exceptions) is dropped, whatever it is. A :drain of a queue is taken apart into dequeues.
+
+  --key K           for a history without independent keys: every value v becomes [K v]
+  --nil-is-absent   nil is what a missing key answers, and no read that says nothing: it becomes a number of its own, and a
+                    write of it comes first for each key that is a register, by process 0, before the history's own events
+
+Standard error says what was left out, how the operations ended, and the least --concurrency and the --model by which jepmon
+can judge the rest. Keys and values that are no integers within jepmon's limits are numbered, and the numbering is told there
+too, and in comments at the end of the output. Each line of the output keeps Jepsen's own index as :jepsen-index, which jepmon
+drops: event I of a verdict is line I + 1.
+
+What jepmon can't judge (transactions, unknown operations, a file that was cut off) is refused by name, with status 3. Then the
+output is one line that is no event, so that a check of it is refused too, also behind a pipe.
+"""
+from __future__ import annotations
+
+import argparse
+from typing import Iterable
+
+from .. import command
+from ..edn import integer
+from ..kinds import KEYS
+from .refusal import Refusal
+from .turn import Turned, turn
+
+NAME = "from-jepsen"
+NOTHING = "from-jepsen: nothing was turned; standard error says why\n"
+
+
+class Words(command.Words):
+    refusal = Refusal
+
+
+def words() -> argparse.Namespace:
+    called = command.tool(NAME)
+    parser = Words(prog=NAME, description=(__doc__ or "").format(tool=called), formatter_class=argparse.RawDescriptionHelpFormatter)
+    parser.add_argument("file", nargs="?", default="-", metavar="FILE", help="Jepsen's history.edn; without it standard input")
+    parser.add_argument("--key", metavar="K", help="the history has no keys: each of its values is of key K, 0 to 65535")
+    parser.add_argument("--nil-is-absent", action="store_true", help="nil is what a missing key answers, and is judged")
+    try:
+        given = parser.parse_args()
+        if given.key is not None and integer(given.key) not in KEYS:
+            parser.error("--key takes an integer, 0 to 65535")
+    except Refusal as fault:
+        raise Refusal(f"{fault}; see {called} --help") from fault
+    return given
+
+
+def turned(given: argparse.Namespace) -> Turned:
+    try:
+        if given.file == "-":
+            return turn(command.standard_input(), given.key, given.nil_is_absent)
+        with open(given.file, "rb") as file:
+            return turn(file, given.key, given.nil_is_absent)
+    except OSError as fault:
+        raise Refusal(f"it can't be read: {fault.strerror}") from fault
+
+
+def work() -> int:
+    """Nothing of the history is written before all of it was read."""
+    path, status = "", command.REFUSED
+    output: Iterable[str] = (NOTHING,)
+    try:
+        given = words()
+        path = "" if given.file == "-" else f"{given.file}: "
+        result = turned(given)
+        for line in result.notes + result.advice:
+            command.say(NAME, line)
+        output, status = result.lines(), 0
+    except Refusal as refusal:
+        command.say(NAME, f"refused: {path}{refusal}")
+    except KeyboardInterrupt:
+        status = command.INTERRUPTED
+    except Exception as fault:  # a fault of this program must not pass as a history either
+        command.say(NAME, f"refused: {path}a fault of from-jepsen itself: {fault!r}")
+    try:
+        command.write_output(output)
+    except command.OutputError as fault:
+        command.say(NAME, f"refused: {path}{fault}")
+        return command.REFUSED
+    return status
+
+
+def main() -> int:
+    return command.run(NAME, work)

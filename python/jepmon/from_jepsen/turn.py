@@ -1,0 +1,55 @@
+"""Turns a history: from the source of its text to the lines in jepmon's form, and what is to be told of them."""
+from __future__ import annotations
+
+from typing import Dict, Iterator, List, Optional
+
+from ..kinds import REGISTERS
+from ..names import Names
+from .collect import Collector
+from .models import common, models_of_keys
+from .notes import advice, notes
+from .source import Source, texts
+from .write import Writer
+
+
+class Turned:
+    """A history in jepmon's form."""
+
+    def __init__(self, writer: Writer, models: Dict[int, List[str]], shared: List[str], told: List[str], advised: List[str]) -> None:
+        self._writer = writer
+        self.history = writer.history  # what was read, event by event as it is written, and what was left out
+        self.notes = told  # what is to be told of it, a line each
+        self.advice = advised  # how to have it judged, a line each
+        self.concurrency: int = writer.processes.threads  # the least that it needs
+        self.models = models  # of each key, by its number: those that it may be of, the stricter first
+        self.model: Optional[str] = shared[0] if shared else None  # one that each key may be of, if there is one
+        self.names: Names = writer.names()  # what numbered keys and values were
+
+    @property
+    def begun(self) -> int:
+        """How many events come before the history's own: those by which each register begins where nil is what a missing key answers."""
+        return 2 * len(self._writer.registers)
+
+    def lines(self) -> Iterator[str]:
+        """The lines, with their line feeds: an event each, and then comments that say what numbers stand for."""
+        return self._writer.lines()
+
+    def text(self) -> str:
+        return "".join(self.lines())
+
+
+def turn(source: Source, key: Optional[str] = None, nil_is_absent: bool = False) -> Turned:
+    """Turns a Jepsen history: its text, its bytes, or a file that is open for reading bytes.
+
+    key            for a history without independent keys: every value v becomes [key v]
+    nil_is_absent  nil is what a missing key answers, and no read that says nothing
+    """
+    told: List[str] = []
+    history = Collector(key, nil_is_absent).collect(texts(source, told.append))
+    models = models_of_keys(history)
+    if nil_is_absent:  # what begins with a write is no set
+        models = {key: [model for model in possible if model in REGISTERS] or possible for key, possible in models.items()}
+    writer = Writer(history, models, nil_is_absent)
+    told += notes(history, writer)
+    by_number = {writer.keys.numbers[key]: possible for key, possible in models.items()}
+    return Turned(writer, by_number, common(models), told, list(advice(history, models, writer)))

@@ -1,0 +1,90 @@
+"""Turns a recorded history of JSON or CSV, or a log, into one that jepmon reads.
+
+    {tool} history.jsonl > history.edn
+    jepmon check history.edn --concurrency 10 --model register
+
+A row is an event (process, type, f, key, value), or an operation with the times of its call and return, from one clock. Standard
+error says how the operations ended, what keys and values that are no integers are numbered as, and the options of the check.
+What can't be turned is refused with its line, with status 3; then the output is one line that is no event. `jepmon-judge` takes
+such a history as it is.
+"""
+from __future__ import annotations
+
+import argparse
+import sys
+from typing import Iterator, List, Optional
+
+from . import command
+from .forms import Refused, detect, files
+from .forms.recorded import Options, Recorded, recorded
+from .judge import models
+from .judge.hints import outcomes
+from .judge.words import number
+from .kinds import KEYS
+
+NAME = "from-json"
+NOTHING = "from-json: nothing was turned; standard error says why\n"
+
+
+class Words(command.Words):
+    """Its faults are refusals as any other."""
+
+    refusal = Refused
+
+
+def main(arguments: Optional[List[str]] = None) -> int:
+    """Turns the file that the words of the command line name. Gives the exit status."""
+    return command.run(NAME, lambda: _turn(arguments))
+
+
+def _turn(arguments: Optional[List[str]]) -> int:
+    output, status = NOTHING, command.REFUSED
+    try:
+        found = _found(arguments)
+        for line in _told(found):
+            command.say(NAME, line)
+        output, status = found.text, 0
+    except Refused as refusal:
+        command.say(NAME, f"refused: {refusal}")
+    except Exception as fault:  # a fault of this program must not pass as a history either
+        command.say(NAME, f"refused: a fault of from-json itself: {fault!r}")
+    command.write_output([output])
+    return status
+
+
+def _found(arguments: Optional[List[str]]) -> Recorded:
+    called = command.tool(NAME)
+    parser = Words(prog=NAME, description=(__doc__ or "").format(tool=called), formatter_class=argparse.RawDescriptionHelpFormatter)
+    parser.add_argument("file", nargs="?", default="-", metavar="FILE", help="a history of JSON or CSV, or a log; - for standard input")
+    parser.add_argument("--key", metavar="K", type=number("a key", KEYS), help="the history has no keys: each value is of key K")
+    parser.add_argument("--nil-is-absent", action="store_true", help="null is what a missing key answers, and is judged")
+    try:
+        given = parser.parse_args(arguments)
+    except Refused as fault:
+        raise Refused(f"{fault}; see {called} --help") from fault
+    source = files.found(given.file)
+    try:
+        if detect.form_of(source.text) == detect.EDN:
+            raise Refused(f"it is EDN: {command.tool('from-jepsen')} turns it")
+        return recorded(source, Options(None if given.key is None else str(given.key), given.nil_is_absent))
+    except Refused as refusal:
+        raise Refused(f"{source.name}: {refusal}") from refusal
+
+
+def _told(found: Recorded) -> Iterator[str]:
+    """What standard error says of what was turned."""
+    yield f"{found.form}: {found.facts.events} events"
+    yield from found.notes
+    yield from outcomes(found.facts)
+    if found.key_names or found.value_names:
+        yield "keys or values are numbered: comments at the end of the output tell what they are"
+    choice, threads = models.chosen(found.facts, None, {}, found.possible), models.concurrency_of(found.facts)
+    if choice.common:
+        yield f"judge it by: jepmon check FILE --concurrency {threads} --model {choice.common}"
+    else:
+        yield f"its keys are of several kinds: judge it by jepmon script --concurrency {threads}, these lines before it:"
+        yield from (f"  [:model {key} :{model}]" for key, model in choice.models.items())
+
+
+if __name__ == "__main__":
+    sys.exit(main())

@@ -1,0 +1,122 @@
+"""What jepmon-judge says of a history beside the cause: what was found, what was not judged, what else may have been meant."""
+from __future__ import annotations
+
+from typing import Iterator, Optional
+
+from ..explain.event import Options as Explained
+from ..explain.said import said as explained
+from ..forms import Refused
+from ..forms.files import Source
+from ..forms.own import Facts
+from ..forms.recorded import Options as Said
+from ..forms.recorded import Recorded, recorded
+from ..program import Options, ProgramError, Report, check
+from . import models
+from .events import alone, of_key
+from .judging import Task, judged
+from .models import ALIKE
+
+PATIENCE = 20.0  # seconds for what the program is asked for a hint
+MOST_EVENTS = 100_000  # of a history that is judged once more for a hint
+
+
+def counted(number: int, what: str) -> str:
+    return f"{number:,} {what}" + ("" if number == 1 else "s")
+
+
+def found(source: Source, history: Recorded, task: Task) -> Iterator[str]:
+    """What the history was found to be."""
+    facts, threads = history.facts, task.options.concurrency
+    yield (f"{source.name}: {history.form}, {counted(facts.events, 'event')}, {counted(models.clients_of(facts, threads), 'client')}, "
+           f"{counted(len(facts.keys), 'key')}")
+    yield from history.notes
+    if history.faults:
+        yield f"faults, which the page shows: {len(history.faults)}"
+    yield from outcomes(facts)
+    if task.choice.common:
+        yield f"model {task.choice.common}, {task.choice.reason}"
+    else:
+        yield task.choice.reason
+    if source.path is not None and source.is_plain and history.is_own and not task.commands:
+        yield f"judged by: {task.again(source.path)}"
+    else:
+        yield f"judged by: {task.again('FILE')}, where FILE is history.edn of --out DIR"
+
+
+def outcomes(facts: Facts) -> Iterator[str]:
+    """How the operations ended. Only what is ok is judged."""
+    for name in sorted({outcome.split(" ")[0] for outcome in facts.outcomes}):
+        yield f"{name}: " + ", ".join(f"{facts.outcomes[f'{name} {kind}']} {kind}" for kind in ("ok", "fail", "info"))
+    if not any(outcome.endswith(" ok") for outcome in facts.outcomes):
+        yield "no operation is ok: nothing was judged"
+
+
+def after(history: Recorded, task: Task, report: Report, source: Source, said: Said, asks: bool) -> Iterator[str]:
+    """What may be said beside the report. What the program would say otherwise, it is asked."""
+    if report.key is not None and report.key in history.key_names:
+        yield f"key {report.key} is {history.key_names[report.key]}"
+    if report.word == "refused" and report.index is not None:
+        yield from _of_refusal(history, task, report, report.index)
+    if asks and report.word == "illegal" and report.key is not None:
+        yield from _of_order(history, task, report.key)
+    yield from _of_nil(history, task, report, source, said, asks)
+
+
+def _of_refusal(history: Recorded, task: Task, report: Report, index: int) -> Iterator[str]:
+    """Why the program refuses an event of a history in its own form."""
+    last = history.lines[index] if history.is_own and not history.has_commands else index + 1
+    lines = history.text.split("\n")[:last]
+    if len(lines) <= MOST_EVENTS:
+        yield from explained(report.verdict, "\n".join(lines).encode(), Explained(task.options.concurrency, task.options.model))
+
+
+def _asked(history: Recorded, key: int, options: Options) -> Optional[Report]:
+    """What the program says of a key's own events by these options, where it does so in time."""
+    try:
+        return check(alone(of_key(history, key), options.concurrency).encode(), options, timeout=PATIENCE)
+    except ProgramError:
+        return None
+
+
+def _of_order(history: Recorded, task: Task, key: int) -> Iterator[str]:
+    """Where a key that is illegal would be legal by a model with the same operations."""
+    model = task.choice.of(key)
+    other = ALIKE.get(model)
+    if other is None:
+        return
+    asked = _asked(history, key, task.options._replace(model=other))
+    if asked is not None and asked.word == "legal":
+        yield f"key {key} is judged as a {model}, and is legal as an {other}: where no order was promised, say --model {other}"
+
+
+def _of_nil(history: Recorded, task: Task, report: Report, source: Source, said: Said, asks: bool) -> Iterator[str]:
+    """Reads of a register that are answered by nil say nothing, unless nil is what a missing key answers."""
+    reads = of_nil = 0
+    for key, facts in history.facts.keys.items():
+        if task.choice.of(key) in ("register", "cas-register"):
+            reads, of_nil = reads + facts.reads, of_nil + facts.reads_of_nil
+    if of_nil == 0:
+        return
+    if of_nil == reads:
+        yield f"NOTHING IS SAID OF WHAT A REGISTER HOLDS: each read is answered by nil, which fits whatever it holds: {of_nil}"
+    else:
+        yield f"reads answered by nil, which fits whatever a register holds: {of_nil} of {reads}"
+    verdict = _with_nil(history, task, report, source, said) if asks else None
+    if verdict is None:
+        yield "where nil is what a missing key answers, say --nil-is-absent, and they are judged"
+    else:
+        yield f"where nil is what a missing key answers, say --nil-is-absent: then the history is {verdict}"
+
+
+def _with_nil(history: Recorded, task: Task, report: Report, source: Source, said: Said) -> Optional[str]:
+    if report.word == "illegal" or history.facts.events > MOST_EVENTS:
+        return None
+    try:
+        again = recorded(source, said._replace(nil_is_absent=True))
+        threads = models.concurrency_of(again.facts)
+        if threads is None:
+            return None
+        options = task.options._replace(concurrency=threads)
+        return judged(task._replace(text=again.text, options=options)).word
+    except (Refused, ProgramError):
+        return None

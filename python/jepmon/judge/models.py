@@ -1,0 +1,83 @@
+"""What each key of a history is, by the operations and answers that were seen; and how many threads its processes have."""
+from __future__ import annotations
+
+from typing import Dict, List, Mapping, NamedTuple, Optional, Sequence
+
+from .. import kinds
+from ..forms import Refused
+from ..forms.own import Facts, KeyFacts, concurrency_of
+
+__all__ = ["ALIKE", "Choice", "chosen", "clients_of", "concurrency_of", "possible"]
+ALIKE = {"fifo-queue": "unordered-queue"}  # a stricter model, and the one with the same operations
+
+
+class Choice(NamedTuple):
+    """The model of each key."""
+
+    models: Dict[int, str]
+    common: Optional[str]  # that all keys have; None where they are of several kinds
+    reason: str
+
+    def of(self, key: int) -> str:
+        return self.common or self.models[key]
+
+
+def possible(facts: KeyFacts) -> List[str]:
+    """The models that one key may have: those with all its operations and answers, the stricter ones first."""
+    models = [model for model, operations in kinds.MODELS.items() if facts.names <= operations]
+    if facts.names == {"read"}:
+        if facts.reads_of_sets:
+            return ["set"]
+        if facts.reads > facts.reads_of_nil:
+            models.remove("set")
+    return models
+
+
+def chosen(facts: Facts, given: Optional[str], stated: Mapping[int, str], known: Mapping[int, Sequence[str]]) -> Choice:
+    """The model of each key: the one that the history states for it, else the one that is given, else one of those that are known to be
+    possible, else one by its operations."""
+    by_key: Dict[int, Sequence[str]] = {}
+    for key, of_key in facts.keys.items():
+        by_key[key] = [stated[key]] if key in stated else [given] if given else known[key] if key in known else possible(of_key)
+        if not by_key[key]:
+            raise Refused(f"key {key} has {' and '.join(sorted(of_key.names))}, which no object has together; --model NAME judges it "
+                          "all the same")
+        if not given and key not in stated:
+            _test_counter(key, of_key, by_key[key])
+    common = [model for model in kinds.MODELS if all(model in models for models in by_key.values())]
+    if common:
+        return Choice({}, common[0], _reason(facts, common, given, stated))
+    models = {key: models[0] for key, models in by_key.items()}
+    return Choice(models, None, "its keys are of several kinds: " + _counted(models))
+
+
+def _test_counter(key: int, facts: KeyFacts, models: Sequence[str]) -> None:
+    """A read of a set is answered by its members. One that is answered by a sum is of a counter."""
+    if list(models) == ["set"] and facts.reads > facts.reads_of_nil + facts.reads_of_sets:
+        raise Refused(f"key {key} has adds, and reads answered by integers: this is a counter, which jepmon does not judge "
+                      "(jepsen.checker/counter does)")
+
+
+def _reason(facts: Facts, common: Sequence[str], given: Optional[str], stated: Mapping[int, str]) -> str:
+    """Why this model."""
+    if not facts.keys:
+        return ""
+    if given and not stated:
+        return "as --model says"
+    if stated and all(key in stated for key in facts.keys):
+        return "as the history says"
+    names = ", ".join(sorted(set().union(*(of_key.names for of_key in facts.keys.values()))))
+    other = ALIKE.get(common[0])
+    if other:
+        return f"by its operations: {names}; the stricter of two: where no order was promised, say --model {other}"
+    return f"by its operations: {names}"
+
+
+def _counted(models: Dict[int, str]) -> str:
+    counts = {model: list(models.values()).count(model) for model in kinds.MODELS}
+    return ", ".join(f"{count} {model}" for model, count in counts.items() if count)
+
+
+def clients_of(facts: Facts, threads: int) -> int:
+    """How many threads have events."""
+    return len({process % threads for process in facts.processes if process >= 0})

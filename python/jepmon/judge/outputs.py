@@ -1,0 +1,111 @@
+"""Files that are written at the end: that their place takes them is tested at the beginning, and each comes whole under its name."""
+from __future__ import annotations
+
+import os
+import pathlib
+import stat
+from typing import Dict, List, Optional
+
+from .. import command
+from ..forms import Refused
+
+AGAIN = "judge-again"  # the file by which a folder is known as one that was written here
+VERDICT = "verdict.txt"
+
+
+class Page:
+    """A file of its own, as --html names it."""
+
+    def __init__(self, path: str) -> None:
+        self.path = pathlib.Path(os.path.realpath(path))
+        _test_file(self.path)
+        if self.path.is_file() and not _is_page(self.path):
+            raise Refused(f"{path}: this file is there, and is no page: it is not overwritten")
+
+    def put(self, text: str) -> None:
+        command.write_file(self.path, text)
+
+
+class Folder:
+    """A folder, as --out names it: a new one, an empty one, or one that was written here before."""
+
+    def __init__(self, path: str) -> None:
+        self.path = pathlib.Path(path)
+        self._made: List[pathlib.Path] = []
+        try:
+            self._make(self.path)
+            names = os.listdir(self.path)
+        except OSError as fault:
+            raise Refused(f"{path}: this folder can't be made: {fault.strerror}") from fault
+        if names and AGAIN not in names:
+            raise Refused(f"{path}: this folder has other files: name a new one, or one that --out has written before")
+        try:
+            _test_file(self.path / VERDICT)
+        except Refused:
+            self.give_up()
+            raise
+
+    def _make(self, path: pathlib.Path) -> None:
+        if not path.is_dir():
+            if path.parent != path:
+                self._make(path.parent)
+            path.mkdir()
+            self._made.insert(0, path)
+
+    def put(self, files: Dict[str, Optional[str]]) -> None:
+        """Writes these files, the verdict last; those without a text are removed, as an earlier run may have left them."""
+        remove(self.path / VERDICT)
+        for name, text in sorted(files.items(), key=lambda file: file[0] == VERDICT):
+            if text is None:
+                remove(self.path / name)
+            else:
+                command.write_file(self.path / name, text)
+        mode = (self.path / AGAIN).stat().st_mode & 0o777
+        (self.path / AGAIN).chmod(mode | (mode & 0o444) >> 2)
+        self._made = []
+
+    def give_up(self) -> None:
+        """Takes away the folders that were made, where nothing came into them."""
+        for folder in self._made:
+            try:
+                folder.rmdir()
+            except OSError:
+                return
+
+
+def _test_file(path: pathlib.Path) -> None:
+    """Tests that a file can be written at this place, as far as that is seen before."""
+    try:
+        if path.is_dir():
+            raise Refused(f"{path}: this is a folder; name a file")
+        if _is_special(path):
+            if not os.access(path, os.W_OK):
+                raise Refused(f"{path}: it can't be written: Permission denied")
+            return
+        beside = _beside(path)
+        os.close(os.open(beside, os.O_CREAT | os.O_EXCL | os.O_WRONLY, 0o666))
+        os.unlink(beside)
+    except OSError as fault:
+        raise Refused(f"{path}: it can't be written: {fault.strerror}") from fault
+
+
+def _beside(path: pathlib.Path) -> pathlib.Path:
+    return path.with_name(f".{path.name}.{os.getpid()}.new")
+
+
+def _is_special(path: pathlib.Path) -> bool:
+    """Whether it is a device or a pipe, which is written as it is."""
+    return path.exists() and not stat.S_ISREG(path.stat().st_mode)
+
+
+def _is_page(path: pathlib.Path) -> bool:
+    with open(path, "rb") as file:
+        front = file.read(100).lstrip()
+    return front == b"" or front.startswith(b"<")
+
+
+def remove(path: pathlib.Path) -> None:
+    try:
+        os.unlink(path)
+    except FileNotFoundError:
+        pass

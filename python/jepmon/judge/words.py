@@ -1,0 +1,83 @@
+"""The command line of jepmon-judge."""
+from __future__ import annotations
+
+import argparse
+import sys
+from typing import List, NamedTuple, Optional
+
+from .. import command, kinds
+from ..forms import Refused
+
+NAME = "judge"
+DESCRIPTION = """Judges a recorded history: finds out its form, the model and the concurrency, has it judged by the proved program, and tells the cause.
+
+  {tool} store/latest                    a Jepsen store; or a file, also compressed by gzip
+  {tool} history.jsonl --html page.html  JSON, CSV or a log, and a page that shows the cause
+  some-test | {tool} --out judged        standard input; what came of it goes to a folder
+
+The report and the verdict go to standard output, the verdict last. What was found, hints and the cause go to standard error; they
+are not proved. Exit status: 0 legal, 1 illegal, 2 unknown, 3 where there is no verdict.
+"""
+
+
+class Given(NamedTuple):
+    """What the command line says."""
+
+    history: str
+    model: Optional[str]
+    concurrency: Optional[int]
+    budget: int
+    workers: Optional[int]
+    key: Optional[str]
+    nil_is_absent: bool
+    html: Optional[str]
+    out: Optional[str]
+    cause: bool
+
+
+class Words(command.Words):
+    """Its faults are refusals as any other."""
+
+    refusal = Refused
+
+
+def number(name: str, limits: range) -> "type[int]":
+    """The type of an option that takes an integer within these limits."""
+    def parsed(word: str) -> int:
+        try:
+            value = int(word)
+        except ValueError:
+            value = limits.start - 1
+        if value not in limits:
+            raise argparse.ArgumentTypeError(f"it takes {name}, {limits[0]} to {limits[-1]}")
+        return value
+    return parsed  # type: ignore[return-value]
+
+
+def given(words: Optional[List[str]]) -> Given:
+    parser = Words(prog=NAME, description=DESCRIPTION.format(tool=command.tool(NAME)), formatter_class=argparse.RawDescriptionHelpFormatter)
+    parser.add_argument("history", nargs="?", metavar="HISTORY", help="a file or a folder; - or nothing is standard input")
+    parser.add_argument("--model", metavar="NAME", choices=tuple(kinds.MODELS),
+                        help="the object that each key is, in place of the one found: " + ", ".join(kinds.MODELS))
+    parser.add_argument("--concurrency", metavar="N", type=number("threads", range(1, kinds.THREADS + 1)),
+                        help="the threads of the clients, in place of the number found")
+    parser.add_argument("--budget", metavar="N", type=number("ends", kinds.BUDGETS), default=4096,
+                        help="ends of a key that are kept apart (4096)")
+    parser.add_argument("--workers", metavar="N", type=number("threads", range(1, kinds.THREADS + 1)),
+                        help="threads that judge keys side by side")
+    parser.add_argument("--key", metavar="K", type=number("a key", kinds.KEYS),
+                        help="the history has no keys: each value in it is of key K")
+    parser.add_argument("--nil-is-absent", action="store_true", help="nil is what a missing key answers, and is judged")
+    parser.add_argument("--html", metavar="PAGE", help="write a page that shows the cause")
+    parser.add_argument("--out", metavar="DIR", help="write the history as judged, the report, the cause, the page, and the command "
+                        "that judges it again, into this folder")
+    parser.add_argument("--no-cause", dest="cause", action="store_false", help="the verdict alone")
+    try:
+        parsed = parser.parse_args(words)
+        if parsed.history is None and sys.stdin is not None and sys.stdin.isatty():
+            parser.error("no history is named, and standard input is a terminal")
+    except Refused as fault:
+        raise Refused(f"{fault}; see {command.tool(NAME)} --help") from fault
+    key = None if parsed.key is None else str(parsed.key)
+    return Given(parsed.history or "-", parsed.model, parsed.concurrency, parsed.budget, parsed.workers, key, parsed.nil_is_absent,
+                 parsed.html, parsed.out, parsed.cause)

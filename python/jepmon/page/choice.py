@@ -1,0 +1,45 @@
+"""Which events of a key a page shows: all of them, or, of a long history, those around the fatal one."""
+from __future__ import annotations
+
+from typing import AbstractSet, List, NamedTuple, Optional, Sequence
+
+from ..history import Event, Operation, operations
+from .layout import stays
+
+MOST = 10_000  # events on a page
+AFTER = 500  # of them behind the fatal one, where not all have room
+
+
+class Choice(NamedTuple):
+    """The events that are shown; the operations that are, with those that were open before the first of these events; those of
+    the smallest part that are further away, which are shown with it; how many events there are before and after that are not
+    shown."""
+
+    events: Sequence[Event]
+    operations: List[Operation]
+    away: List[Operation]
+    before: int
+    after: int
+    every: int  # how many operations there are
+
+
+def choose(events: Sequence[Event], concurrency: int, fatal: Optional[int], part: AbstractSet[int] = frozenset(),
+           most: int = MOST) -> Choice:
+    """Chooses at most so many events, with the fatal one (by its index) among them; `part` has the indices of the smallest
+    part."""
+    every = operations(events, concurrency)
+    if len(events) <= most:
+        return Choice(events, every, [], 0, 0, len(every))
+    place = next((place for place, event in enumerate(events) if event.index == fatal), len(events) - 1)
+    end = min(len(events), max(most, place + 1 + min(AFTER, most // 2)))
+    chosen = events[end - most:end]
+    met = [each for each in every if meets(each, chosen)]
+    away = [each for each in every if each.invocation.index in part and not meets(each, chosen)]
+    return Choice(chosen, met, away, end - most, len(events) - end, len(every))
+
+
+def meets(operation: Operation, chosen: Sequence[Event]) -> bool:
+    """Whether the operation may take place at one of these events, or is told there."""
+    first, last = chosen[0].index, chosen[-1].index
+    ended = operation.completion
+    return operation.invocation.index <= last and (ended is None or ended.index >= first or stays(operation))

@@ -1,0 +1,71 @@
+"""Faults as bands: which faults there are, and from the times in which they held to places among the events of a key."""
+from __future__ import annotations
+
+import bisect
+import itertools
+from typing import Callable, List, NamedTuple, Sequence, Tuple
+
+from ..history import Event
+from .given import AnyFault, Fault
+from .labels import printable
+
+# What ends a fault, by the name of what begins it: jepmon's own faults, and those of Jepsen's nemeses.
+ENDED_BY = {
+    "partition": ("heal",),
+    "pause": ("resume",),
+    "crash": ("restart",),
+    "kill": ("restart", "start"),
+    "start": ("stop",),
+    "bump-clock": ("reset-clock",),
+    "strobe-clock": ("reset-clock",),
+}
+STARTS, STOPS = "start-", "stop-"
+
+
+class Band(NamedTuple):
+    """A fault among the events of a view: from `begin` to `end` in the view's own measure. Its text stands in this row of a
+    strip."""
+
+    text: str
+    begin: int
+    end: int
+    row: int
+
+
+def ended_by(name: str) -> Tuple[str, ...]:
+    """The names of what ends a fault of this name; none where it is a fault of a moment, or not known."""
+    return (STOPS + name[len(STARTS):],) if name.startswith(STARTS) else ENDED_BY.get(name, ())
+
+
+def spans(faults: Sequence[AnyFault], events: Sequence[Event]) -> List[Tuple[str, int, int]]:
+    """The text of each fault that held at some of these events, and between which of them it began and ended: gap i is between
+    event i and event i + 1, -1 before the first, and the last one after the last. One that is told by time, where an event has
+    no :time, is left out, and so is one that was over before the first event or began after the last."""
+    indices = [event.index for event in events]
+    times = [event.fields["time"] for event in events if isinstance(event.fields.get("time"), int)]
+    times = list(itertools.accumulate(times, max))  # clocks may be set back
+    found: List[Tuple[str, int, int]] = []
+    for fault in sorted(faults, key=lambda each: each.begin):
+        of_events = times if isinstance(fault, Fault) and fault.by == "time" else indices
+        if len(of_events) < len(events) or not events:
+            continue
+        last = len(events) - 1
+        begin = bisect.bisect_left(of_events, fault.begin) - 1
+        end = last if fault.end is None else bisect.bisect_left(of_events, fault.end) - 1
+        if begin < last and (end > -1 or fault.end is None):
+            found.append((printable(fault.text), begin, end))
+    return found
+
+
+def rows(bands: Sequence[Tuple[str, int, int]], room: Callable[[str], int]) -> List[Band]:
+    """The bands with a row for each, so that no text (which takes so much room from its band's begin on) meets another in its
+    row."""
+    taken: List[int] = []  # of each row: up to where it is taken
+    found: List[Band] = []
+    for text, begin, end in bands:
+        free = next((row for row, until in enumerate(taken) if until <= begin), len(taken))
+        if free == len(taken):
+            taken.append(0)
+        taken[free] = max(end, begin + room(text))
+        found.append(Band(text, begin, end, free))
+    return found

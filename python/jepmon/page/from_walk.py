@@ -1,0 +1,76 @@
+"""From a walk through a key's events (jepmon.walk) to what a page shows of it, in words."""
+from __future__ import annotations
+
+from typing import Dict, Iterable, List, Mapping, Optional, Sequence, Tuple
+
+from .. import walk
+from ..history import Event
+from ..objects import Found, State
+from .given import End, Walked
+from .labels import Labels
+
+ENDS = 48  # on a page
+STATES = 8  # of what may be held at an event
+MEMBERS = 12  # of a queue
+WORK = walk.WORK  # outcomes to try once more, for what was held
+
+
+def walked(given: walk.Walk, names: Mapping[int, str]) -> Walked:
+    """What the walk found, in words."""
+    labels = Labels(names)
+    at = given.steps[-1].event.index if given.steps else None
+    try:
+        found = given.ends() if given.status == "dead" else []
+    except walk.GaveUp:  # they are more than those at an ok, which the budget bounds
+        return Walked("gave-up", at)
+    growth = [(step.event.index, step.ends) for step in given.steps if step.ends is not None]
+    ended = {"gave up": "gave-up"}.get(given.status, given.status)
+    ends = [End(state_words(given.model, end.state, labels), found_words(end.taken, given.walker.live, labels), end.order)
+            for end in sorted(found, key=lambda end: (len(end.taken), sort_key(end.state)))[:ENDS]]
+    return Walked(ended, at, growth, held(given, labels), ends, len(found))
+
+
+def sort_key(state: State) -> Tuple[bool, Sequence[int]]:
+    """An order of states of one model."""
+    if state is None:
+        return False, ()
+    return True, (state,) if isinstance(state, int) else sorted(state) if isinstance(state, frozenset) else state
+
+
+def state_words(model: str, state: State, labels: Labels) -> str:
+    if model == "mutex":
+        return "held" if state else "free"
+    if isinstance(state, tuple):
+        more = f" and {len(state) - MEMBERS} more" if len(state) > MEMBERS else ""
+        return " ".join(map(labels.integer, state[:MEMBERS])) + more if state else "empty"
+    return labels.value(state)
+
+
+def found_words(taken: Mapping[int, Found], live: Mapping[int, walk.Live], labels: Labels) -> Dict[int, str]:
+    """What each operation found that has taken place and has not been answered; "" where there is nothing to find."""
+    return {id: labels.value(found) if id in live and live[id].answers else "" for id, found in taken.items()}
+
+
+def held(given: walk.Walk, labels: Labels) -> List[Tuple[int, str]]:
+    """For each ok what the object could hold just before it. Nothing, where that would take too long."""
+    walker = walk.Walker(given.model, 1 << 62, WORK)
+    said: List[Tuple[int, str]] = []
+    try:
+        for event in of_steps(given):
+            if event.kind == "ok" or event.index == given.index:
+                said.append((event.index, states_words(given.model, {place[0] for place in walker.complete()}, labels)))
+            if event.index != given.index:
+                walker.take(event)
+    except walk.GaveUp:
+        return []
+    return said
+
+
+def of_steps(given: walk.Walk) -> Iterable[Event]:
+    return (step.event for step in given.steps) if given.status in ("dead", "alive") else ()
+
+
+def states_words(model: str, states: Iterable[State], labels: Labels) -> str:
+    every = sorted(states, key=sort_key)
+    words = [state_words(model, state, labels) for state in every[:STATES]]
+    return " or ".join(words) + (f" or {len(every) - STATES} more" if len(every) > STATES else "")

@@ -1,0 +1,73 @@
+"""What a page is given: plain data about one key of one history, and what was found out about it."""
+from __future__ import annotations
+
+from typing import List, Mapping, NamedTuple, Optional, Sequence, Tuple, Union
+
+from .. import notes
+from ..history import Event
+
+
+class Fault(NamedTuple):
+    """A fault, and the time in which it held: from `begin` to `end`. By "index" these are numbers of events of the whole
+    history that came before it (of a nemesis' event: its index); by "time" they are told in the unit of the events' :time. An
+    end of None: it held to the end of the history. An end that is the begin: it is one moment, as a reply that was lost."""
+
+    text: str
+    begin: int
+    end: Optional[int] = None
+    by: str = "index"
+
+
+AnyFault = Union[Fault, notes.Fault]
+
+
+class End(NamedTuple):
+    """One way in which the events before the fatal one may have gone: what the object holds after it, in words; which of the
+    operations that were open or timed out have taken place in it, by the index of their invocation, each with what it found in
+    words ("" where it has no answer); and one order of the operations that leads there, by the index of their invocations."""
+
+    state: str
+    taken: Mapping[int, str]
+    order: Sequence[int]
+
+
+class Walked(NamedTuple):
+    """What a walk through the key's events found. It ended at event `at` as "dead" (no end goes on), "over" (more ends than the
+    budget), or "gave-up" (more than it would follow); as "alive" it came to the last event."""
+
+    ended: str
+    at: Optional[int]
+    growth: Sequence[Tuple[int, int]] = ()  # for each ok: its index, and how many ends there were just before it
+    held: Sequence[Tuple[int, str]] = ()  # for each ok: its index, and what the object could hold just before it, in words
+    ends: Sequence[End] = ()  # just before the event at which it ended
+    fatal_count: int = 0  # how many ends there were then; `ends` may be some of them
+
+
+class PageInput(NamedTuple):
+    """All that a page shows. `verdict` is jepmon's last line and `report` its line of this key; `headline` and `sentences` say
+    the cause; `smallest` has the events of the smallest illegal part, or their indices; `names` says what numbered values stand
+    for, and `key_name` what the key's number stands for; `again` is the command that judges the history again."""
+
+    verdict: str
+    key: int
+    events: Sequence[Event]  # the key's own, in their order
+    model: str = "register"
+    concurrency: int = 2
+    budget: int = 4096
+    report: str = ""
+    file: str = ""
+    walked: Optional[Walked] = None
+    headline: str = ""
+    sentences: Sequence[str] = ()
+    smallest: Sequence[Union[int, Event]] = ()
+    faults: Sequence[AnyFault] = ()
+    names: Mapping[int, str] = {}
+    key_name: str = ""
+    again: str = ""
+
+
+def smallest_of(given: PageInput) -> List[Event]:
+    """The events of the smallest illegal part, in their order."""
+    part = {each.index: each for each in given.smallest if isinstance(each, Event)}
+    indices = {each for each in given.smallest if not isinstance(each, Event)}
+    return [part.get(event.index, event) for event in given.events if event.index in part or event.index in indices]

@@ -1,0 +1,80 @@
+"""The words for values and operations, as they stand on a page and on a terminal: `write 3`, `read → 2`, `cas 1→2`."""
+from __future__ import annotations
+
+import heapq
+from typing import FrozenSet, Mapping, Optional, Tuple, Union
+
+from ..history import Event, Operation, Value
+from ..kinds import ABSENT, ANSWERED
+
+ARROW = "\u2192"
+CUT = "\u2026"
+# How an operation ended, in words, and the mark that its bar has beside its colour.
+OUTCOMES = {
+    "ok": "it took place",
+    "fail": "it failed: it did not take place",
+    "info": "it timed out: it may have taken place, or may take place at any later moment, or never",
+    "open": "it was open when the history ended",
+}
+MARKS = {"ok": "", "fail": "\u2717", "info": "?", "open": CUT}
+MEMBERS = 24  # of a set, in a label
+ALSO_PRINTED = {"\u200d", "\u200c"}  # joiners within letters and signs
+
+
+def printable(text: str) -> str:
+    """The text so that whatever shows it obeys nothing in it: a control character stands there as its escape."""
+    if text.isprintable():
+        return text
+    return "".join(c if c.isprintable() or c in ALSO_PRINTED else c.encode("unicode_escape", "surrogatepass").decode()
+                   for c in text)
+
+
+def cut(text: str, most: int) -> str:
+    """The text, or as much of it as `most` characters have room for, with an ellipsis."""
+    return text if len(text) <= most else text[: max(0, most - 1)] + CUT
+
+
+class Labels:
+    """Values and operations in words, where some values stand for others: `names` says for which."""
+
+    def __init__(self, names: Mapping[int, str]) -> None:
+        self.names = names
+
+    def value(self, value: Union[Value, Tuple[int, ...]]) -> str:
+        if value is None:
+            return "nil"
+        if isinstance(value, frozenset):
+            return self.members(value)
+        if isinstance(value, tuple):
+            return ARROW.join(self.integer(member) for member in value)
+        return self.integer(value)
+
+    def members(self, members: FrozenSet[int]) -> str:
+        """A set, the least members first, and of a great one how many more there are."""
+        left = len(members) - MEMBERS
+        shown = sorted(members) if left <= 0 else heapq.nsmallest(MEMBERS, members)
+        return "{" + " ".join(map(self.integer, shown)) + (f" and {left} more" if left > 0 else "") + "}"
+
+    def integer(self, value: int) -> str:
+        if value in self.names:
+            return printable(self.names[value])
+        return "ABSENT" if value == ABSENT else str(value)
+
+    def operation(self, operation: Operation) -> str:
+        """The operation with its value; of one that answers, its answer where there is one."""
+        asked, ended = operation.invocation, operation.completion
+        if asked.name in ANSWERED:
+            answered = ended is not None and ended.kind == "ok"
+            return asked.name + (f" {ARROW} {self.value(ended.value)}" if ended is not None and answered else "")
+        return asked.name + ("" if asked.value is None else " " + self.value(asked.value))
+
+    def stands_for(self, *events: Optional[Event]) -> str:
+        """Which numbers of these events stand for which values: "3 stands for blue"; empty where none does."""
+        found = {number for event in events if event is not None for number in numbers(event.value) if number in self.names}
+        return "; ".join(f"{number} stands for {printable(self.names[number])}" for number in sorted(found)[:12])
+
+
+def numbers(value: Value) -> FrozenSet[int]:
+    if value is None:
+        return frozenset()
+    return frozenset((value,)) if isinstance(value, int) else frozenset(value)

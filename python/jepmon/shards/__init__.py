@@ -1,0 +1,14 @@
+"""Judges recorded histories of any length, of any number of keys and clients, by the program on shards of them.
+
+    from jepmon import program, shards
+    report = shards.check("history.edn", program.Options(concurrency=200), jobs=4)
+
+docs/SHARDS.md says why the report is, byte for byte, the one that one check without limits would print, and what is in which file.
+"""
+from __future__ import annotations
+
+from .checking import check
+from .doubt import ShardsError
+from .progress import Progress
+
+__all__ = ["Progress", "ShardsError", "check"]

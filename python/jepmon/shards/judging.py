@@ -1,0 +1,107 @@
+"""Judges batches by the program, and says of each key of theirs in the words of the history what the program said."""
+from __future__ import annotations
+
+import os
+import re
+from typing import List, NamedTuple, Optional, Sequence, Tuple
+
+from ..program import Options, run_check
+from .batches import NOWHERE, Batch, KeyMap, batches_of
+from .by_key import events_of
+from .doubt import Doubt, ShardsError
+from .routing import Source
+from .sizes import Sizes
+
+REFUSED = re.compile(r"refused [0-9]+ [A-Za-z]+ (?:event )?[0-9]+")  # of what stands in a file
+STATUS = re.compile(r"status (alive|dead|over)(?: ([0-9]+))?")
+
+Found = Tuple[int, int]  # the index of an event, and the key
+
+
+class Status(NamedTuple):
+    """What is known of a key: the index of its first event, and what the report says of it."""
+
+    first: int
+    key: int
+    events: int
+    status: str  # "alive", "dead", "over"; or "full", "wide": alive up to there, where the program's limits are met
+    place: Optional[int]
+
+    def line(self, options: Options) -> str:
+        found = "" if self.place is None else f" {self.place}"
+        return f"key {self.key} model {options.model} budget {options.budget} events {self.events} status {self.status}{found}"
+
+
+class ShardTask(NamedTuple):
+    """A shard to judge: the files that have it, and the folder into which its result is written."""
+
+    sources: List[Source]
+    shard: int
+    name: str
+    folder: str
+    options: Options
+    program: str
+    sizes: Sizes
+
+
+class Judged(NamedTuple):
+    """What came of a shard: the file of its result, the keys in it, and the least event of those that are dead, and not decided."""
+
+    path: str
+    keys: int
+    dead: Optional[Found]
+    undecided: Optional[Found]
+
+
+def judge_shard(task: ShardTask) -> Judged:
+    """The second pass over a shard."""
+    statuses: List[Status] = []
+    for batch in batches_of(*events_of(task.sources, task.shard, task.sizes.events), task.sizes):
+        report, _, _ = run_check(["/dev/stdin", *words(task.options, task.sizes)], batch.text, task.program)
+        statuses += statuses_of(report, batch.keys, batch.places, task.options)
+    return write_result(os.path.join(task.folder, task.name + ".result"), statuses, task.options)
+
+
+def words(options: Options, sizes: Sizes) -> List[str]:
+    """The words by which a batch is checked."""
+    return options._replace(concurrency=sizes.threads, workers=None).words()
+
+
+def statuses_of(report: str, keys: Sequence[KeyMap], places: Sequence[int], options: Options) -> List[Status]:
+    """What the report of a batch says of its keys; a Doubt where it refuses an event."""
+    lines = report.splitlines()
+    if lines and lines[-1].startswith("refused "):
+        if REFUSED.fullmatch(lines[-1]):
+            raise Doubt(f"jepmon says {lines[-1]} of a shard")
+        raise ShardsError(f"jepmon can't judge a shard: {lines[-1]}")
+    if len(lines) != len(keys) + 1:
+        raise Doubt(f"jepmon's report on a shard has {len(lines)} lines in place of {len(keys) + 1}")
+    found: List[Status] = []
+    at = 0
+    for number, (line, key) in enumerate(zip(lines, keys)):
+        begin = f"key {number} model {options.model} budget {options.budget} events {key.judged} "
+        match = STATUS.fullmatch(line, len(begin))
+        if not line.startswith(begin) or match is None:
+            raise Doubt(f"jepmon's report on a shard has {line!r} in place of {begin!r}")
+        found.append(status_of(key, match.group(1), match.group(2), places[at], places))
+        at += key.judged
+    return found
+
+
+def status_of(key: KeyMap, status: str, index: Optional[str], first: int, places: Sequence[int]) -> Status:
+    if status == "alive":
+        return Status(first, key.key, key.events, key.cut or "alive", key.cut_place if key.cut else None)
+    place = places[int(index)] if index is not None and int(index) < len(places) else NOWHERE
+    if place == NOWHERE:
+        raise Doubt(f"jepmon's report on a shard says {status} {index}, which is no event of the history")
+    return Status(first, key.key, key.events, status, place)
+
+
+def write_result(path: str, statuses: List[Status], options: Options) -> Judged:
+    """Writes a line for each key, in the order of their first events, which stand in front of each line."""
+    statuses.sort()
+    with open(path, "w") as file:
+        file.writelines(f"{status.first:020d} {status.line(options)}\n" for status in statuses)
+    dead = [(status.place or 0, status.key) for status in statuses if status.status == "dead"]
+    undecided = [(status.place or 0, status.key) for status in statuses if status.status not in ("alive", "dead")]
+    return Judged(path, len(statuses), min(dead, default=None), min(undecided, default=None))

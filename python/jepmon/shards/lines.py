@@ -1,0 +1,104 @@
+"""The quick way through the lines of a history: what stands in each, found by one expression over a block of them.
+
+A line is taken here only if it is one event for sure, or a text by itself, which the exact reader then reads. If every line of a file
+is, so is the file, with the same elements. Whether the part is one is left to the program, which gets it as it stands: its brackets
+close, and there are no words, strings or comments in it, so that it can change nothing around it.
+"""
+from __future__ import annotations
+
+import operator
+import re
+from typing import Dict, Iterator, List, Tuple
+
+from ..kinds import PROCESSES
+from . import events
+from .doubt import Doubt
+from .reading import Reader, Unreadable
+
+Row = Tuple[bytes, bytes, bytes, bytes, bytes]  # the stated index, the head, the key, the part; or an odd line. A fault has no head
+Head = Tuple[int, int, int, int]  # the code; of the process rule the thread, its state before and after
+
+LINE = re.compile(
+    rb"^\{(?::index (0|[1-9][0-9]{0,9}), )?(:type :[a-z]+, :process [0-9]+, :f :[a-z]+, ):value "
+    rb"\[(0|[1-9][0-9]{0,17}) (nil|[-+]?[0-9]+|\[[-+0-9 ]*\]|\#\{[-+0-9 ]*\})\]"
+    rb"(?:, :time (?:0|[1-9][0-9]{0,17}))?(?:, :jepsen-index (?:0|[1-9][0-9]{0,17}))?(?:, :jepsen-process (?:0|[1-9][0-9]{0,17}))?"
+    rb"\}[ \t\r]*$|^(.+)$",
+    re.MULTILINE,
+)
+HEAD = re.compile(rb":type :(invoke|ok|fail|info), :process (0|[1-9][0-9]{0,9}), :f :([a-z]+), ")
+ODD = operator.itemgetter(4)
+
+KIND_BITS, NAME_BITS = 2, 3  # of a code; above them stands the process
+
+
+def rows_of(block: bytes) -> List[Row]:
+    """The events of these whole lines."""
+    rows: List[Row] = LINE.findall(block)
+    if any(map(ODD, rows)):
+        rows = [event for row in rows for event in (odd_rows(row[4]) if row[4] else (row,))]
+    return rows
+
+
+def odd_rows(line: bytes) -> Iterator[Row]:
+    """The events of a line that is spelled otherwise, where it is a text by itself."""
+    try:
+        for element in Reader(line).elements():
+            event = events.event_of(element)
+            stated = b"" if event.stated is None else b"%d" % event.stated
+            if event.process is None:
+                yield stated, b"", b"", b"", b""
+            else:
+                head = b":type :%b, :process %d, :f :%b, " % (event.kind, event.process, event.name)
+                yield stated, head, b"%d" % event.key, events.text_of(event.part), b""
+    except (Unreadable, events.Refusal):
+        raise Doubt from None
+
+
+class Heads(Dict[bytes, Head]):
+    """What the head of an event says, by its text. Its thread is among the states then, at first as one that was not seen."""
+
+    def __init__(self, concurrency: int, states: Dict[int, int]) -> None:
+        super().__init__()
+        self._concurrency, self._states = concurrency, states
+
+    def __missing__(self, text: bytes) -> Head:
+        match = HEAD.fullmatch(text)
+        if match is None:
+            raise Doubt
+        kind, process, name = match.group(1), int(match.group(2)), match.group(3)
+        if process not in PROCESSES or name not in events.NAMES:
+            raise Doubt
+        before = idle(process) if kind == b"invoke" else busy(process)
+        after = {b"invoke": busy(process), b"info": idle(process + self._concurrency)}.get(kind, idle(process))
+        thread = process % self._concurrency
+        self._states.setdefault(thread, UNSEEN)
+        head = self[text] = code_of(kind, process, name), thread, before, after
+        return head
+
+
+# The state of a thread: its current process, and whether that has an open operation.
+
+
+UNSEEN = -1  # before its first event
+
+
+def idle(process: int) -> int:
+    return 2 * process
+
+
+def busy(process: int) -> int:
+    return 2 * process + 1
+
+
+# A number for the type, the process and the operation of an event.
+
+
+def code_of(kind: bytes, process: int, name: bytes) -> int:
+    return (process << NAME_BITS | events.NAMES.index(name)) << KIND_BITS | events.KINDS.index(kind)
+
+
+def of_code(code: int) -> Tuple[bytes, int, bytes]:
+    """The type, the process and the operation."""
+    rest, kind = divmod(code, 1 << KIND_BITS)
+    process, name = divmod(rest, 1 << NAME_BITS)
+    return events.KINDS[kind], process, events.NAMES[name]

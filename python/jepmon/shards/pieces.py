@@ -1,0 +1,168 @@
+"""The first pass: a task reads a piece of a history, tests the process rule in it, and writes its events by shards.
+
+Pieces are read in any order, side by side. What a piece can't know, it assumes, and `follow` tests it against the pieces before: the
+state of each thread at its first event, and the index of the piece's first event.
+
+That a completion has the key of its invocation is not tested here. The events of each process invoke and complete in turn, which is
+tested here over all keys; and they do so within each key, which the program tests in a shard. Then no completion can be of another key:
+the first that is, in the order of the history, would complete in its key what has not been invoked there.
+"""
+from __future__ import annotations
+
+import os
+from typing import BinaryIO, Dict, Iterator, List, NamedTuple, Optional, Sequence
+
+from ..kinds import INDICES
+from .doubt import Doubt
+from .lines import UNSEEN, Heads, Row, idle, rows_of
+from .routing import Router, Source
+from .sizes import Sizes
+
+
+class PieceTask(NamedTuple):
+    """The lines of a file that begin within these places, and the folder into which their events are written."""
+
+    path: str
+    begin: int
+    end: int
+    concurrency: int
+    shards: int
+    folder: str
+    sizes: Sizes
+
+
+class Piece(NamedTuple):
+    """What a piece is found to be."""
+
+    path: str  # of the file that was written
+    slabs: List[int]
+    written: List[int]  # bytes of each shard
+    events: int
+    base: Optional[int]  # the index of its first event, if any is stated
+    starts: Dict[int, int]  # of a thread: the state before its first event
+    ends: Dict[int, int]  # of a thread: the state after its last event
+
+
+def read_piece(task: PieceTask) -> Piece:
+    """The first pass over a piece."""
+    path = os.path.join(task.folder, f"{task.begin}.piece")
+    router = Router(task.shards)
+    events = PieceEvents(task.concurrency, router)
+    slabs: List[int] = []
+    held = 0
+    with open(path, "wb") as file:
+        for block in blocks_of(task):
+            events.take(rows_of(block))
+            router.settle()
+            held += len(block)
+            if held >= task.sizes.slab:
+                slabs.append(router.write(file))
+                events.forget()
+                held = 0
+        if held:
+            slabs.append(router.write(file))
+    ends = {thread: state for thread, state in events.states.items() if state != UNSEEN}
+    return Piece(path, slabs, router.written, events.count, events.base, events.starts, ends)
+
+
+class PieceEvents:
+    """Takes the events of a piece, in their order: tests them, and gives them to the router."""
+
+    def __init__(self, concurrency: int, router: Router) -> None:
+        self.count = 0
+        self.base: Optional[int] = None
+        self.starts: Dict[int, int] = {}
+        self.states: Dict[int, int] = {}
+        self._heads = Heads(concurrency, self.states)
+        self._router = router
+
+    def take(self, rows: Sequence[Row]) -> None:
+        """The loop over all events of a history: what stands in it costs most."""
+        heads, router, states, place = self._heads, self._router, self.states, self.count
+        for stated, text, key, part, _ in rows:
+            if stated or not text:
+                if stated:
+                    self._test_index(int(stated), place)
+                if not text:  # of a fault
+                    place += 1
+                    continue
+            code, thread, before, after = heads[text]
+            if states[thread] != before:
+                self._begin(thread, before)
+            states[thread] = after
+            router[key]((key, part, code, place))
+            place += 1
+        self.count = place
+
+    def forget(self) -> None:
+        """Forgets how heads are spelled, of which a long history has many."""
+        self._heads.clear()
+
+    def _begin(self, thread: int, state: int) -> None:
+        """A thread is in another state than this one, which may only be because it has had no event yet."""
+        if self.states[thread] != UNSEEN:
+            raise Doubt
+        self.starts[thread] = state
+
+    def _test_index(self, stated: int, place: int) -> None:
+        """A stated index says which one the piece's first event has."""
+        if self.base is None:
+            self.base = stated - place
+        if self.base != stated - place or stated not in INDICES:
+            raise Doubt
+
+
+def follow(pieces: Sequence[Piece]) -> List[Source]:
+    """Tests that each piece begins as those before it end. The files, with what is to be added to their places."""
+    states: Dict[int, int] = {}
+    sources: List[Source] = []
+    count = 0
+    for piece in pieces:
+        if piece.base not in (None, count):
+            raise Doubt
+        if any(states.get(thread, idle(thread)) != state for thread, state in piece.starts.items()):
+            raise Doubt
+        states.update(piece.ends)
+        sources.append(Source(piece.path, piece.slabs, count))
+        count += piece.events
+    return sources
+
+
+# --- Blocks of whole lines ---
+
+
+def blocks_of(task: PieceTask) -> Iterator[bytes]:
+    """The lines that begin within the piece, in blocks."""
+    with open(task.path, "rb") as file:
+        begin, end = (line_from(file, place, task.sizes) for place in (task.begin, task.end))
+        file.seek(begin)
+        rest = b""
+        while begin < end:
+            data = file.read(min(task.sizes.block, end - begin))
+            if not data:
+                raise Doubt  # the file has become shorter
+            begin += len(data)
+            cut = len(data) if begin == end else data.rfind(b"\n") + 1
+            if cut:
+                yield rest + data[:cut]
+                rest = data[cut:]
+            else:
+                rest += data
+            if len(rest) > task.sizes.line:
+                raise Doubt
+
+
+def line_from(file: BinaryIO, place: int, sizes: Sizes) -> int:
+    """Where the first line begins that does so at this place or behind it; the end of the file, if none does."""
+    if place == 0:
+        return 0
+    at = file.seek(place - 1)
+    while at < place + sizes.line:
+        data = file.read(sizes.block)
+        found = data.find(b"\n")
+        if found >= 0:
+            return at + found + 1
+        if not data:
+            return at
+        at += len(data)
+    raise Doubt

@@ -1,0 +1,39 @@
+"""Says on a terminal how far a check has come, in one line that is written over."""
+from __future__ import annotations
+
+import time
+from typing import Iterator, Optional, TextIO, TypeVar
+
+Item = TypeVar("Item")
+SECONDS = 0.2  # between two lines
+
+
+class Progress:
+    """Tells it to a terminal, or to nobody."""
+
+    def __init__(self, terminal: Optional[TextIO] = None) -> None:
+        self._terminal = terminal if terminal is not None and terminal.isatty() else None
+        self._next = time.monotonic() + 1  # a short check says nothing
+        self._width = 0
+
+    def over(self, what: str, items: Iterator[Item], count: int) -> Iterator[Item]:
+        """The items, of which there are so many. They are counted as they come."""
+        for number, item in enumerate(items):
+            self.say(f"{what} {100 * number // max(1, count)} %")
+            yield item
+        self.clear()
+
+    def say(self, text: str) -> None:
+        if self._terminal is not None and time.monotonic() >= self._next:
+            self._write(text)
+            self._next = time.monotonic() + SECONDS
+
+    def clear(self) -> None:
+        if self._width:
+            self._write("")
+
+    def _write(self, text: str) -> None:
+        if self._terminal is not None:
+            self._terminal.write("\r" + text.ljust(self._width) + ("" if text else "\r"))
+            self._terminal.flush()
+            self._width = len(text)

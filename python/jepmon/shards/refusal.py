@@ -1,0 +1,57 @@
+"""The exact way through a history: from its front, event by event, to the first that is refused.
+
+It is gone where the quick way is in doubt: something is refused, or an event is not one line. It says the line that `jepmon check`
+prints, or that there is none.
+"""
+from __future__ import annotations
+
+import mmap
+from typing import BinaryIO, Iterator, Optional, Union
+
+from .events import NAMES_OF_REFUSALS, PLAIN, Event, Refusal, Rule, event_of, plain_event
+from .reading import Reader, Unreadable
+
+Entry = Union[Event, Refusal]
+
+
+def entries_of(reader: Reader) -> Iterator[Entry]:
+    """What each element of a text is: an event, or the refusal of it."""
+    while reader.more():
+        match = PLAIN.match(reader.data, reader.at)
+        try:
+            if match is not None:
+                reader.at = reader.good = match.end()
+                yield plain_event(match)
+            else:
+                yield event_of(reader.element(0, 0))
+        except Refusal as refusal:
+            yield refusal
+
+
+def first_refusal(path: str, concurrency: int, plainly: Optional[BinaryIO] = None) -> Optional[str]:
+    """The line of the first refusal of a file, as `jepmon check` prints it; None where nothing is refused. Each event before it is
+    written plainly, one a line, to the other file."""
+    with open(path, "rb") as file:
+        if file.seek(0, 2) == 0:
+            return None
+        with mmap.mmap(file.fileno(), 0, access=mmap.ACCESS_READ) as data:
+            return _first_refusal(Reader(data), Rule(concurrency), plainly)
+
+
+def _first_refusal(reader: Reader, rule: Rule, plainly: Optional[BinaryIO]) -> Optional[str]:
+    refused: Optional[str] = None
+    try:
+        for entry in entries_of(reader):
+            if refused is not None:  # the text may be unreadable further on, and that comes before any event's refusal
+                continue
+            try:
+                if isinstance(entry, Refusal):
+                    raise entry
+                rule.take(entry)
+                if plainly is not None:
+                    plainly.write(entry.text() + b"\n")
+            except Refusal as refusal:
+                refused = f"refused {refusal.number} {NAMES_OF_REFUSALS[refusal.number]} event {rule.length}"
+    except Unreadable as unreadable:
+        return f"refused 11 Unreadable {unreadable.place}"
+    return refused

@@ -1,0 +1,135 @@
+"""Processes that do tasks side by side. They are of this program, not forks, so that a program with threads may use them."""
+from __future__ import annotations
+
+import contextlib
+import gc
+import multiprocessing.connection
+import os
+import pathlib
+import signal
+import socket
+import subprocess
+import sys
+from types import TracebackType
+from typing import Any, Callable, Dict, Iterator, List, Optional, Sequence, Tuple, Type, TypeVar
+
+from .doubt import ShardsError
+
+Task = TypeVar("Task")
+Result = TypeVar("Result")
+
+PACKAGE = str(pathlib.Path(__file__).resolve().parents[2])  # the folder in which the package jepmon lies
+SERVE = "import sys; sys.path.insert(0, sys.argv[1]); from jepmon.shards.worker import serve; serve(int(sys.argv[2]))"
+
+
+class Member:
+    """One process, and the connection to it."""
+
+    def __init__(self) -> None:
+        ours, theirs = socket.socketpair()
+        with theirs:
+            try:
+                # a group of its own, so that it ends together with the program that it runs, and Ctrl-C reaches this process alone
+                self.process = subprocess.Popen([sys.executable, "-I", "-c", SERVE, PACKAGE, str(theirs.fileno())],
+                                                stdin=subprocess.DEVNULL, pass_fds=[theirs.fileno()], start_new_session=True)
+            except OSError as fault:
+                ours.close()
+                raise ShardsError(f"{sys.executable} can't be run: {fault.strerror}") from fault
+        self.connection = multiprocessing.connection.Connection(ours.detach())
+
+    def send(self, function: Callable[[Task], Result], task: Task) -> None:
+        try:
+            self.connection.send((function, task))
+        except (BrokenPipeError, ConnectionResetError):
+            raise self._ended() from None
+
+    def receive(self) -> Any:
+        """What the task gave; what it raised is raised."""
+        try:
+            result, fault = self.connection.recv()
+        except (EOFError, OSError):
+            raise self._ended() from None
+        if fault is not None:
+            raise fault
+        return result
+
+    def _ended(self) -> ShardsError:
+        """How the process has ended. It is not waited for, so that its number stays its own until `kill`."""
+        ended = os.waitid(os.P_PID, self.process.pid, os.WEXITED | os.WNOWAIT)
+        how = "with status" if ended is not None and ended.si_code == os.CLD_EXITED else "by signal"
+        return ShardsError(f"a process of this check has ended, {how} {ended.si_status if ended is not None else '?'}: nothing is judged")
+
+    def kill(self) -> None:
+        """Ends it, and the program that it runs."""
+        self.connection.close()
+        with contextlib.suppress(ProcessLookupError):
+            os.killpg(self.process.pid, signal.SIGKILL)
+        self.process.wait()
+
+
+class Team:
+    """So many processes. One does its tasks in this process."""
+
+    def __init__(self, jobs: int) -> None:
+        self.jobs = jobs
+        self._members: List[Member] = []
+
+    def __enter__(self) -> "Team":
+        return self
+
+    def __exit__(self, kind: Optional[Type[BaseException]], fault: Optional[BaseException], trace: Optional[TracebackType]) -> None:
+        self.stop()
+
+    def stop(self) -> None:
+        """Ends all processes. The next task starts them anew."""
+        while self._members:
+            self._members.pop().kill()
+
+    def run(self, function: Callable[[Task], Result], tasks: Sequence[Task]) -> Iterator[Tuple[int, Result]]:
+        """What the function gives for each task, with the task's number, as it comes. The function is one of a module. What one task
+        raises is raised, and then the others are not done to their end."""
+        if self.jobs == 1:
+            with uncollected():
+                for number, task in enumerate(tasks):
+                    yield number, function(task)
+            return
+        try:
+            yield from self._run(function, tasks)
+        except BaseException:
+            self.stop()
+            raise
+
+    def _run(self, function: Callable[[Task], Result], tasks: Sequence[Task]) -> Iterator[Tuple[int, Result]]:
+        waiting = iter(enumerate(tasks))
+        while len(self._members) < min(self.jobs, len(tasks)):
+            self._members.append(Member())
+        running: Dict[Any, Tuple[Member, int]] = {}
+        for member, (number, task) in zip(self._members, waiting):
+            member.send(function, task)
+            running[member.connection] = member, number
+        while running:
+            for connection in multiprocessing.connection.wait(list(running)):
+                member, number = running.pop(connection)
+                result: Result = member.receive()
+                following = next(waiting, None)
+                if following is not None:
+                    member.send(function, following[1])
+                    running[connection] = member, following[0]
+                yield number, result
+
+
+@contextlib.contextmanager
+def uncollected() -> Iterator[None]:
+    """Without the search for objects that go in cycles, which would look through all events again and again."""
+    was_enabled = gc.isenabled()
+    gc.disable()
+    try:
+        yield
+    finally:
+        if was_enabled:
+            gc.enable()
+
+
+def in_order(results: Iterator[Tuple[int, Result]]) -> List[Result]:
+    """The results of all tasks in the order of the tasks."""
+    return [result for _, result in sorted(results, key=lambda pair: pair[0])]

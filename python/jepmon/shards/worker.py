@@ -1,0 +1,34 @@
+"""A process of a team: does the tasks that come through a connection, one after another, until it is closed (see team.py)."""
+from __future__ import annotations
+
+import gc
+import multiprocessing.connection
+from typing import Any, Callable, Optional, Tuple
+
+from ..errors import ProgramError
+from .doubt import Doubt, ShardsError
+
+TOLD = (Doubt, ShardsError, ProgramError, OSError, MemoryError)  # what a task may raise, and is told as it is
+
+
+def answer(function: Callable[[Any], Any], task: Any) -> Tuple[Any, Optional[BaseException]]:
+    """What the function gives for the task, and what it raises."""
+    try:
+        return function(task), None
+    except TOLD as fault:
+        return None, fault
+    except Exception as fault:
+        return None, ShardsError(f"a fault of jepmon.shards itself: {fault!r}")
+
+
+def serve(number: int) -> None:
+    """Does what comes through the connection of this number: pairs of a function and a task. What comes back is a pair of what the
+    function gave, and of what it raised."""
+    gc.disable()  # nothing here goes in cycles, and it would look through all events again and again
+    with multiprocessing.connection.Connection(number) as connection:
+        try:
+            while True:
+                function, task = connection.recv()
+                connection.send(answer(function, task))
+        except (EOFError, BrokenPipeError):  # the team is no more
+            return

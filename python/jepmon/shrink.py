@@ -1,0 +1,162 @@
+"""The smallest illegal part of a history that is illegal.
+
+    part = smallest(events, report, options)
+    part.text    # a history, which `jepmon check` with the key's model and budget calls illegal at its last event
+
+Only what can't make a legal history illegal is taken out (docs/SHRINKING.md says what that is, and why), and the program judges
+each try. So the part is illegal by itself, and what is illegal in it is so in the whole history. It is smallest in that nothing
+more of it may go out; there may be smaller ones.
+"""
+from __future__ import annotations
+
+import time
+from typing import Collection, FrozenSet, List, NamedTuple, Optional, Sequence, Set
+
+from .history import Event, Operation, of_key, operations
+from .program import Options, ProgramError, Report, check
+from .shrinking import ways
+from .shrinking.kept import kept
+from .shrinking.part import events_of, text_of, without
+from .shrinking.units import Unit, dragging, with_dragged
+
+
+class Part(NamedTuple):
+    """An illegal part of a history, of one key."""
+
+    events: List[Event]  # with the indices, lines and processes of the history; sets without the values that were taken out
+    text: str  # the same as a history by itself: `jepmon check` with these options calls it illegal at its last event
+    options: Options  # the key's own model and budget, and the history's concurrency
+    of: int  # how many operations of the key had begun by the fatal event
+    operations: int  # how many of them are left
+    values: FrozenSet[int]  # of a set: what was taken out of each answer
+    checks: int  # how often the program was asked
+    finished: bool  # False: time was up, and more might go out
+
+
+def smallest(events: Sequence[Event], report: Report, options: Options, program: Optional[str] = None, seconds: float = 10.0,
+             hints: Collection[int] = ()) -> Optional[Part]:
+    """The smallest illegal part that is found within about so many seconds. The events are those of the whole history, and the
+    report is the program's on them, with these options. Hints are indices of events that may be to blame: whether their operations
+    are illegal alone is tried first. None where the verdict is not illegal, or nothing was taken out by the time. A ProgramError
+    comes where the program can't be asked."""
+    line = next((line for line in report.keys if report.word == "illegal" and line.key == report.key), None)
+    if line is None or line.index is None:
+        return None
+    own = Options(options.concurrency, line.model, line.budget)
+    whole = operations((event for event in of_key(events, line.key) if event.index <= (line.index or 0)), options.concurrency)
+    search = Search(own, line.index, frozenset(hints), program, time.monotonic() + seconds)
+    left = search.run(whole)
+    if left is None or search.is_late() and len(left.operations) == len(whole):
+        return None
+    made = events_of(left.operations)
+    return Part(made, text_of(made, own.concurrency), own, len(whole), len(left.operations), left.values, search.checks,
+                not search.is_late())
+
+
+class Left(NamedTuple):
+    """What is left of a history."""
+
+    operations: List[Operation]
+    values: FrozenSet[int]  # that went out of answers
+
+
+class Search:
+    """The search for the smallest part that the program calls illegal at the event of index fatal, its last."""
+
+    def __init__(self, options: Options, fatal: int, hints: FrozenSet[int], program: Optional[str], until: float) -> None:
+        self.options, self.fatal, self.hints, self.program, self.until = options, fatal, hints, program, until
+        self.checks = 0
+        self.patience = until - time.monotonic()  # seconds that a check may take
+
+    def run(self, whole: List[Operation]) -> Optional[Left]:
+        """What is left of the operations when nothing more may go out, or time is up."""
+        began = time.monotonic()
+        some = self.without_idle(whole)
+        left = self.hinted_alone(some) or next((Left(each, frozenset()) for each in (some, whole) if self.is_illegal(each)), None)
+        if left is None:
+            return None
+        self.patience = max(2 * (time.monotonic() - began), self.patience / 10)
+        before = -1
+        while before != len(left.operations) and not self.is_late():
+            before = len(left.operations)
+            for number in range(len(ways(self.options.model, []))):
+                less = self.round(left.operations, ways(self.options.model, left.operations)[number])
+                left = Left(less.operations, left.values | less.values)
+        return left
+
+    def hinted_alone(self, whole: List[Operation]) -> Optional[Left]:
+        """What is left where all goes out that may, but for the hints: None where that is not illegal, or there are none."""
+        if not self.hints:
+            return None
+        for units in ways(self.options.model, whole):
+            others = [number for number in self.free(whole, units)
+                      if not any(self.is_hinted(whole[place]) for place in units[number].operations)]
+            left = taken_out(whole, units, with_dragged(units, others))
+            if self.is_illegal(left.operations):
+                return left
+        return None
+
+    def without_idle(self, whole: List[Operation]) -> List[Operation]:
+        """Without what decides nothing: what failed, and reads that have not answered; but for what is to be seen."""
+        staying = self.staying(whole)
+        return [operation for place, operation in enumerate(whole) if place in staying or operation.outcome == "ok"
+                or operation.outcome in ("info", "open") and operation.invocation.name != "read"]
+
+    def staying(self, whole: List[Operation]) -> Set[int]:
+        """The places of what does not go out: the fatal operation, what must be seen beside it, and hints that failed."""
+        fatal = next(place for place, operation in enumerate(whole)
+                     if operation.completion is not None and operation.completion.index == self.fatal)
+        failed = [place for place, operation in enumerate(whole) if operation.outcome == "fail" and self.is_hinted(operation)]
+        return {*kept(self.options.model, whole, fatal), *failed}
+
+    def free(self, whole: List[Operation], units: List[Unit]) -> List[int]:
+        """The units that may go out, in the order in which they are tried: values of sets first, since a set of few is judged fast,
+        and else the oldest."""
+        staying = self.staying(whole)
+        blocked = dragging(units, [number for number, unit in enumerate(units) if staying & set(unit.operations)])
+        return sorted((number for number in range(len(units)) if number not in blocked),
+                      key=lambda number: (not units[number].values, max(units[number].operations, default=-1)))
+
+    def round(self, whole: List[Operation], units: List[Unit]) -> Left:
+        """Takes out as many units as may go out: tries all, then halves, and ever smaller pieces, down to one by one."""
+        free = self.free(whole, units)
+        best, out = Left(whole, frozenset()), set()  # type: Left, Set[int]
+        size = len(free)
+        while size > 0 and not self.is_late():
+            for piece in [free[at:at + size] for at in range(0, len(free), size)]:
+                tried = with_dragged(units, [*out, *piece])
+                less = taken_out(whole, units, tried)
+                if not out.issuperset(piece) and self.is_illegal(less.operations):
+                    best, out = less, tried
+            free = [number for number in free if number not in out]
+            size = min(size, len(free) + 1) // 2
+        return best
+
+    def is_hinted(self, operation: Operation) -> bool:
+        return any(event is not None and event.index in self.hints for event in (operation.invocation, operation.completion))
+
+    def is_late(self) -> bool:
+        return time.monotonic() >= self.until
+
+    def is_illegal(self, part: List[Operation]) -> bool:
+        """Whether the program calls it illegal at its last event. No, where it takes too long over it, or time is up."""
+        began = time.monotonic()
+        limit = min(self.patience, self.until - began)
+        if limit <= 0:
+            return False
+        events = events_of(part)
+        self.checks += 1
+        try:
+            report = check(text_of(events, self.options.concurrency).encode(), self.options, self.program, timeout=limit)
+        except ProgramError:
+            if time.monotonic() - began >= limit:
+                return False
+            raise
+        return report.word == "illegal" and report.index == len(events) - 1
+
+
+def taken_out(whole: List[Operation], units: List[Unit], out: Set[int]) -> Left:
+    """The operations without those of these units."""
+    values = frozenset(value for number in out for value in units[number].values)
+    places = {place for number in out for place in units[number].operations}
+    return Left(without(whole, places, values), values)

@@ -1,0 +1,29 @@
+"""What may be taken out of a history of one key so that a legal one stays legal: docs/SHRINKING.md says why each may."""
+from __future__ import annotations
+
+from typing import Callable, Dict, List, Sequence, Tuple
+
+from ..history import Operation
+from ..kinds import MODELS
+from . import mutex, queues, registers, sets
+from .units import Unit
+
+Rule = Callable[[Sequence[Operation], Sequence[int]], List[Unit]]
+RULES: Dict[str, Tuple[Rule, ...]] = {
+    "register": (registers.units,),
+    "cas-register": (registers.units,),
+    "mutex": (mutex.of_blocks, mutex.of_pairs, mutex.of_handovers),
+    "fifo-queue": (queues.of_fifo_queue,),
+    "unordered-queue": (queues.of_unordered_queue,),
+    "set": (sets.units,),
+}
+
+
+def ways(model: str, operations: Sequence[Operation]) -> List[List[Unit]]:
+    """The units of a history of one key, of its operations in the order of their invocations, in each way that there is to make
+    them: what failed, and what the object does not have, alone; and the others by a rule of the model. Units of one way may go out
+    together."""
+    alone = [place for place, operation in enumerate(operations)
+             if operation.outcome == "fail" or operation.invocation.name not in MODELS[model]]
+    others = sorted(set(range(len(operations))) - set(alone))
+    return [rule(operations, others) + [Unit((place,)) for place in alone] for rule in RULES[model]]

@@ -1,0 +1,59 @@
+"""Units: what goes out of a history together."""
+from __future__ import annotations
+
+from typing import Iterable, List, NamedTuple, Sequence, Set, Tuple
+
+from ..history import Operation
+
+NEVER = 1 << 62  # the end of what has not ended
+
+
+class Unit(NamedTuple):
+    """What goes out together. Where it drags other units, these go with it. Any number of the units of one history may go out at
+    once. Operations are meant by their places in the list that the units were made of, units by theirs."""
+
+    operations: Tuple[int, ...]
+    values: Tuple[int, ...] = ()  # of a set: these go out of each answer
+    drags: Tuple[int, ...] = ()
+
+
+def begin(operation: Operation) -> int:
+    return operation.invocation.index
+
+
+def end(operation: Operation) -> int:
+    """The index of the event by which it is known to have taken place. What is open, or has timed out, may do so at any later
+    moment."""
+    return operation.completion.index if operation.completion is not None and operation.outcome == "ok" else NEVER
+
+
+def precedes(first: Operation, second: Operation) -> bool:
+    return end(first) < begin(second)
+
+
+def with_dragged(units: Sequence[Unit], chosen: Iterable[int]) -> Set[int]:
+    """The units that go out with those that are chosen."""
+    out: Set[int] = set()
+    todo: List[int] = list(chosen)
+    while todo:
+        place = todo.pop()
+        if place not in out:
+            out.add(place)
+            todo.extend(units[place].drags)
+    return out
+
+
+def dragging(units: Sequence[Unit], kept: Iterable[int]) -> Set[int]:
+    """The units that can't go out where these are kept: they drag one of them."""
+    draggers: List[List[int]] = [[] for _ in units]
+    for place, unit in enumerate(units):
+        for dragged in unit.drags:
+            draggers[dragged].append(place)
+    found: Set[int] = set()
+    todo = list(kept)
+    while todo:
+        place = todo.pop()
+        if place not in found:
+            found.add(place)
+            todo.extend(draggers[place])
+    return found

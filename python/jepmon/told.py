@@ -1,0 +1,80 @@
+"""What a live test has told of each key: its last events, which operations it has seen, and how they ended."""
+from __future__ import annotations
+
+import collections
+from typing import Counter, Deque, Dict, Optional, Set, Tuple
+
+from .sources import Sources
+from .values import readable
+
+LAST_EVENTS = 16  # of a key, in the text of an exception
+
+
+class Told:
+    """Learns each event as it is told; the caller has a lock."""
+
+    def __init__(self) -> None:
+        self.sources = Sources()
+        self._events: Dict[int, Deque[Tuple[int, int, str]]] = {}  # the last ones of each key: index, process and text
+        self._names: Dict[int, Set[str]] = {}  # of the operations that each key has seen, but for the write that begins it
+        self._outcomes: Counter[Tuple[int, str, str]] = collections.Counter()  # of a key, by operation and outcome
+        self._pending: Counter[int] = collections.Counter()  # operations of each key that are open
+        self._timeouts: Counter[int] = collections.Counter()  # operations of each key that timed out; reads do not count
+
+    # --- Events ---
+
+    def tell(self, kind: str, process: int, name: str, key: int, part: str, index: int, line: str) -> None:
+        events = self._events.get(key)
+        if events is None:
+            events = self._events[key] = collections.deque(maxlen=LAST_EVENTS)
+        events.append((index, process, line))
+        self.sources.tell(kind, process, name, key, part, index)
+
+    def take_back(self, key: int) -> None:
+        """Forgets the last event of the key."""
+        self._events[key].pop()
+
+    def forget(self, key: int, process: int) -> None:
+        """Takes an operation that failed out of the events that are shown: what did not take place explains nothing."""
+        events = self._events[key]
+        for event in [event for event in events if event[1] == process][-2:]:
+            events.remove(event)
+
+    def last_events(self, key: Optional[int], index: int) -> Tuple[str, ...]:
+        """The last events of the key, each a line for people; the one of this index is marked."""
+        events = self._events.get(key, ()) if key is not None else ()
+        return tuple(readable(f"  {at} {'<--' if at == index else '   '} {line}") for at, _, line in events)
+
+    # --- Operations ---
+
+    def begin(self, key: int, name: str) -> None:
+        self._names.setdefault(key, set()).add(name)
+        self._pending[key] += 1
+
+    def end(self, key: int, name: str, outcome: str) -> None:
+        self._outcomes[key, name, outcome] += 1
+        self._pending[key] -= 1
+        if outcome == "info" and name != "read":
+            self._timeouts[key] += 1
+
+    def names(self, key: int) -> Set[str]:
+        return self._names.get(key, set())
+
+    def ended(self, key: int, name: str, outcome: str) -> int:
+        """How many operations of the key, of this name, have ended so."""
+        return self._outcomes[key, name, outcome]
+
+    def timeouts(self, key: int) -> int:
+        """How many operations of the key have ended as :info and may yet take place; reads do not count."""
+        return self._timeouts[key]
+
+    def pending(self, key: int) -> int:
+        """How many operations of the key are open now."""
+        return self._pending[key]
+
+    def counts(self) -> Dict[str, Counter[str]]:
+        """How the operations ended, by name."""
+        counts: Dict[str, Counter[str]] = {}
+        for (_, name, outcome), count in self._outcomes.items():
+            counts.setdefault(name, collections.Counter())[outcome] += count
+        return counts

@@ -1,0 +1,39 @@
+"""Keys and values of a live test, as they are told to jepmon: integers, and ABSENT for what a missing key answers."""
+from __future__ import annotations
+
+from typing import Any, Iterable, Union
+
+from .kinds import ABSENT, KEYS, VALUES
+
+Value = Union[None, int, Iterable[int]]
+
+
+def key_of(key: Any) -> int:
+    """The key, where it is one: an integer from 0 to 65535."""
+    if isinstance(key, bool) or not isinstance(key, int) or not KEYS.start <= key < KEYS.stop:
+        raise ValueError(f"a key is an integer from 0 to 65535, not {key!r}; Monitor.number gives one")
+    return key
+
+
+def told(value: Any) -> Any:
+    """None stands for a missing key."""
+    return ABSENT if value is None else value
+
+
+def integer(value: Any) -> str:
+    """The text of an integer of 64 bits."""
+    if isinstance(value, bool) or not isinstance(value, int):
+        raise TypeError(f"jepmon takes integers, not {value!r}; Monitor.number gives one")
+    if not VALUES.start <= value < VALUES.stop:
+        raise ValueError(f"jepmon takes integers of 64 bits, not {value}; Monitor.number gives one")
+    return str(value)
+
+
+def members(value: Any) -> str:
+    """The text of a set of integers; None stands for the empty one."""
+    return "#{" + " ".join(sorted({integer(member) for member in value or ()})) + "}"
+
+
+def readable(line: str) -> str:
+    """A line of a history, for people."""
+    return line.replace(str(ABSENT), "ABSENT")

@@ -1,0 +1,110 @@
+"""The repository's own histories, with what the program replied to each: those of tests/cases, tests/explain and
+tests/from-jepsen, and the examples."""
+from __future__ import annotations
+
+import re
+import shlex
+import subprocess
+import sys
+from typing import Dict, Iterator, List, NamedTuple, Optional, Tuple
+
+from jepmon.history import Event, HistoryError, read_history
+
+from . import TOP
+
+VERDICT = re.compile(r"(illegal|unknown) key (\d+) index (\d+)|legal")
+
+
+class Judged(NamedTuple):
+    """Events, and what the program says of them."""
+
+    name: str
+    events: List[Event]
+    concurrency: int
+    models: Dict[int, str]  # of keys
+    budgets: Dict[int, int]
+    model: str  # of every other key
+    budget: int
+    verdict: str
+
+
+def options(words: List[str]) -> Tuple[int, str, int]:
+    """The concurrency, model and budget that these words give."""
+    given = dict(zip(words, words[1:]))
+    return int(given.get("--concurrency", 2)), given.get("--model", "register"), int(given.get("--budget", 4096))
+
+
+def printed(folder: str, name: str) -> Optional[bytes]:
+    """A file of a case: its bytes, or what its script prints; None without it."""
+    path = TOP / folder / name
+    script = path.with_suffix(".py")
+    if path.exists():
+        return path.read_bytes()
+    if script.exists():
+        return subprocess.run([sys.executable, str(script)], stdout=subprocess.PIPE, check=True).stdout
+    return None
+
+
+def checks() -> Iterator[Judged]:
+    """Each history that a case gives to `jepmon check`."""
+    for case in sorted((TOP / "tests" / "cases").iterdir()):
+        words = (case / "args").read_text().split("\n") if (case / "args").exists() else []
+        if words[:1] == ["check"] and len(words) > 1 and (TOP / words[1]).is_file() and not (case / "memory").exists():
+            raw = (TOP / words[1]).read_bytes()
+            yield from judged(case.name, raw, words[2:], (case / "stdout").read_text())
+    for case in sorted((TOP / "tests" / "explain").iterdir()):
+        raw_or_none = printed(f"tests/explain/{case.name}", "history.edn")
+        words = (case / "args").read_text().split() if (case / "args").exists() else []
+        yield from judged(f"explain/{case.name}", raw_or_none or b"", words, (case / "stdout").read_text())
+    for case in sorted((TOP / "tests" / "from-jepsen").iterdir()):
+        said = re.search(r"judge it by: jepmon check FILE (.*?)(?: \(or .*)?\n", (case / "stderr").read_text(errors="replace"))
+        if said:
+            yield from judged(f"from-jepsen/{case.name}", (case / "stdout").read_bytes(), shlex.split(said.group(1)),
+                              (case / "verdict").read_text())
+
+
+def judged(name: str, raw: bytes, words: List[str], output: str) -> Iterator[Judged]:
+    lines = output.splitlines()
+    if lines and VERDICT.fullmatch(lines[-1]):
+        try:
+            events = read_history(raw.decode())
+        except (HistoryError, UnicodeDecodeError):
+            return
+        concurrency, model, budget = options(words)
+        yield Judged(name, events, concurrency, {}, {}, model, budget, lines[-1])
+
+
+COMMAND = re.compile(r"\[:(rewind|model|budget|verdict)(?: (\d+))?(?: :?([\w-]+))?\]")
+
+
+def scripts() -> Iterator[Judged]:
+    """After replies that a case of `jepmon script` expects, the events that were taken so far: after each reply of a short case, and
+    after the last one, and those before a command that changes what came before."""
+    for case in sorted((TOP / "tests" / "cases").iterdir()):
+        words = (case / "args").read_text().split("\n") if (case / "args").exists() else []
+        given = printed(f"tests/cases/{case.name}", "stdin")
+        expected = printed(f"tests/cases/{case.name}", "stdout")
+        if words[:1] != ["script"] or given is None or expected is None or len(given) > 100_000 or b"Usage" in expected:
+            continue
+        concurrency, model, budget = options(words)
+        events: List[Event] = []
+        models: Dict[int, str] = {}
+        budgets: Dict[int, int] = {}
+        lines = [line for line in given.decode("utf-8", "replace").split("\n") if line.split(";")[0].strip(" \t\r,")]
+        replies = expected.decode().splitlines()
+        if len(lines) != len(replies):  # lines of several elements, or of discards alone
+            continue
+        for number, (line, reply) in enumerate(zip(lines, replies)):
+            if not VERDICT.fullmatch(reply):
+                continue
+            command = COMMAND.match(line)
+            if command is None:
+                events += read_history(line, len(events))
+            elif command.group(1) == "rewind":
+                del events[int(command.group(2)):]
+            elif command.group(1) == "model":
+                models[int(command.group(2))] = command.group(3)
+            elif command.group(1) == "budget":
+                budgets[int(command.group(2))] = int(command.group(3))
+            if len(lines) <= 40 or number + 1 == len(lines) or lines[number + 1].startswith("["):
+                yield Judged(case.name, list(events), concurrency, dict(models), dict(budgets), model, budget, reply)

@@ -1,0 +1,44 @@
+"""The program, and what a check of it says."""
+import os
+import tempfile
+import unittest
+from unittest import mock
+
+from jepmon import program
+
+
+class Reports(unittest.TestCase):
+    def test_a_report(self):
+        text = "key 7 model register budget 4096 events 6 status dead 5\nillegal key 7 index 5\n"
+        report = program.report_of(text, "", 1)
+        self.assertEqual(report.keys, [program.KeyLine(7, "register", 4096, 6, "dead", 5)])
+        self.assertEqual((report.word, report.key, report.index), ("illegal", 7, 5))
+
+    def test_refusals(self):
+        report = program.report_of("refused 5 BadValue event 3\n", "", 3)
+        self.assertEqual((report.word, report.key, report.index), ("refused", None, 3))
+        report = program.report_of("", "refused 10 BadConcurrency\n", 3)
+        self.assertEqual((report.word, report.verdict, report.index), ("refused", "refused 10 BadConcurrency", None))
+
+
+class Finding(unittest.TestCase):
+    def test_the_one_that_is_named(self):
+        with mock.patch.dict(os.environ, {"JEPMON": "/there/jepmon"}):
+            self.assertEqual(program.find_program(), "/there/jepmon")
+            self.assertEqual(program.find_program("/here/jepmon"), "/here/jepmon")
+
+    def test_no_script_is_taken(self):
+        with tempfile.TemporaryDirectory() as folder:
+            path = os.path.join(folder, "jepmon")
+            with open(path, "w") as file:
+                file.write("#!/bin/sh\n")
+            os.chmod(path, 0o755)
+            with mock.patch.dict(os.environ, {"PATH": folder}), mock.patch("sys.prefix", folder), \
+                    mock.patch.object(program, "__file__", "/nowhere/python/jepmon/program.py"):
+                os.environ.pop("JEPMON", None)
+                with self.assertRaises(program.ProgramError):
+                    program.find_program()
+
+
+if __name__ == "__main__":
+    unittest.main()
