@@ -6,6 +6,7 @@ name once it is whole.
 from __future__ import annotations
 
 import argparse
+import gc
 import io
 import os
 import pathlib
@@ -15,11 +16,17 @@ from typing import BinaryIO, Callable, Iterable, NoReturn, Optional, TextIO, Typ
 from .errors import OutputError, ProgramError
 from .names import printable
 
-__all__ = ["INTERRUPTED", "OutputError", "REFUSED", "Words", "run", "say", "standard_error", "standard_input", "tool", "write_error",
-           "write_file", "write_output"]
+__all__ = ["INTERRUPTED", "OutputError", "REFUSED", "Words", "collect_seldom", "run", "say", "standard_error", "standard_input", "tool",
+           "write_error", "write_file", "write_output"]
 
 REFUSED = 3  # the status of whatever is no verdict
 INTERRUPTED = 130
+OBJECTS = 100_000  # that are made before Python looks for garbage among them
+
+
+def collect_seldom() -> None:
+    """Has Python look for garbage less often: a tool keeps nearly all that it reads, so that there is little to find."""
+    gc.set_threshold(OBJECTS)
 
 
 def tool(name: str) -> str:
@@ -132,6 +139,7 @@ class Words(argparse.ArgumentParser):
 def run(name: str, main: Callable[[], int]) -> int:
     """Does the work of a command, and gives its exit status. What it raises is said in one line."""
     status = REFUSED
+    collect_seldom()
     try:
         status = main()
         write_output(())

@@ -38,8 +38,6 @@ class Unreadable(Exception):
 Open = Tuple[str, int, Optional[List[Value]]]  # what is open: its text and place, and the members that it is to stand among
 
 
-
-
 class Reader:
     """Reads a text, or the pieces of one, each of which but the last ends with a line's end. `line` is that of its beginning."""
 
@@ -99,6 +97,10 @@ class Reader:
                     value = Many("{", tuple(members_of(text[1:-1])))
                     if len(value.members) % 2 == 1 or len(stack) + DEPTH_OF_MAP > DEEPEST:
                         self._test_map(value, token)
+                    if members is None and not stack:
+                        self._begin_element("", token.start(1))
+                        yield Element(self._element_line, text, value)
+                        continue
                 elif kind == OPEN or kind == PREFIX:
                     if not stack and self._begin_element(text, token.start(1)):
                         continue
