@@ -101,7 +101,7 @@ def write_file(path: Union[str, "os.PathLike[str]"], data: Union[str, bytes]) ->
     import tempfile
 
     whole = data.encode() if isinstance(data, str) else data
-    path = os.path.realpath(path)  # of a link what it leads to
+    named, path = path, os.path.realpath(path)  # of a link what it leads to
     made: Optional[str] = None
     try:
         if os.path.exists(path) and not os.path.isfile(path):  # a device or a pipe is written as it is
@@ -115,7 +115,7 @@ def write_file(path: Union[str, "os.PathLike[str]"], data: Union[str, bytes]) ->
         os.replace(made, path)
         made = None
     except OSError as fault:
-        raise OutputError(f"{path} can't be written: {fault.strerror}") from fault
+        raise OutputError(f"{named} can't be written: {fault.strerror}") from fault
     finally:
         if made is not None:
             os.unlink(made)

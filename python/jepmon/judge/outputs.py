@@ -17,13 +17,14 @@ class Page:
     """A file of its own, as --html names it."""
 
     def __init__(self, path: str) -> None:
+        self.name = path  # as the user named it
         self.path = pathlib.Path(os.path.realpath(path))
         _test_file(self.path)
         if self.path.is_file() and not _is_page(self.path):
             raise Refused(f"{path}: this file is there, and is no page: it is not overwritten")
 
     def put(self, text: str) -> None:
-        command.write_file(self.path, text)
+        command.write_file(self.name, text)
 
 
 class Folder:
