@@ -76,9 +76,9 @@ class Reader:
                 profile.begin(piece)
             for token in tokens.finditer(piece):
                 text: str = token[1]
-                kind = MARKS.get(text)
+                kind = MAP if len(text) > 1 and text[0] == "{" else MARKS.get(text)
                 if kind is None:
-                    kind = kind_of(text) if text[0] in ';#"\\{' else RUN
+                    kind = kind_of(text) if text[0] in ';#"\\' else RUN
                 if profile is not None and not profile.is_inside(token):
                     self._test_profile(profile, token, kind)
                 if kind == RUN and members is not None:

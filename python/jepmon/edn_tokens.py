@@ -46,9 +46,7 @@ METADATA = ("^", "#^")  # two elements follow these: the metadata and what has i
 
 
 def kind_of(text: str) -> int:
-    """The kind of a token that is none of the marks."""
-    if text[0] == "{":
-        return MAP
+    """The kind of a token that is none of the marks, and no map."""
     if text[0] == ";":
         return COMMENT
     if text[0] == "#":

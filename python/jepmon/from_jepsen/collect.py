@@ -75,9 +75,8 @@ class Collector:
         if fields is None:
             text = shown(element.value, 60)
             refuse(element.line, f"this is no map, so no event: {text} (is this Jepsen's history.edn?)")
-        stated = integer(fields.get(":index"))
+        stated, process = integer(fields.get(":index")), integer(fields.get(":process"))
         index = stated if stated is not None and stated in NATURAL else count
-        process = integer(fields.get(":process"))
         if process is not None and process in NATURAL:
             self.take_event(element.line, process, fields, index)
         elif faults.is_fault(fields):
