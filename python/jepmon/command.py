@@ -31,6 +31,9 @@ def collect_seldom() -> None:
 
 def tool(name: str) -> str:
     """How a tool of this package is called, by the way in which this one was."""
+    called = os.environ.get("JEPMON_CALLED")  # by a script of the repository, as ./jepmon-judge
+    if called and pathlib.PurePath(called).name == f"jepmon-{name}":
+        return called
     path = pathlib.PurePath(sys.argv[0] if sys.argv else "")
     if path.parent.name == "examples":
         return f"examples/{name}"
