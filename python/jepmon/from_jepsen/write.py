@@ -1,7 +1,7 @@
 """Writes the events of a Jepsen history in jepmon's form."""
 from __future__ import annotations
 
-from typing import Iterator, Sequence
+from typing import Dict, Iterator, Sequence, Tuple
 
 from ..edn import Many, Value
 from ..kinds import KEYS, REGISTERS, VALUES
@@ -11,6 +11,8 @@ from .models import Models
 from .numbering import Numbering
 from .processes import processes_of
 from .refusal import Refusal
+
+MOST_KNOWN = 10_000  # operations whose texts are remembered
 
 
 class Writer:
@@ -26,6 +28,7 @@ class Writer:
         self.values = Numbering((value for value in values if value != "nil"), VALUES)
         self.absent = str(self.values.another()) if nil_is_absent else "nil"
         self.processes = processes_of(clients)
+        self.known: Dict[Tuple[str, str, Value, Value], str] = {}  # the texts of operations that come again and again
         if len(self.keys.numbers) > len(KEYS):
             raise Refusal(f"it has {len(self.keys.numbers)} keys, and jepmon takes {len(KEYS)}")
 
@@ -50,9 +53,13 @@ class Writer:
 
     def line(self, event: Event, process: int) -> str:
         own = f", :jepsen-process {event.process}" if self.processes.renumbered else ""
-        value = f"[{self.keys(event.key)} {self.part(event)}]"
-        return (f"{{:type {event.kind}, :process {process}, :f {event.name}, :value {value}, "
-                f":jepsen-index {event.own_index}{own}}}\n")
+        kind, _, name, key, part, own_index, _ = event
+        text = self.known.get((kind, name, key, part))
+        if text is None:
+            text = f":f {name}, :value [{self.keys(key)} {self.part(event)}]"
+            if len(self.known) < MOST_KNOWN and isinstance(part, str):
+                self.known[kind, name, key, part] = text
+        return f"{{:type {kind}, :process {process}, {text}, :jepsen-index {own_index}{own}}}\n"
 
     def part(self, event: Event) -> str:
         of_set = event.key in self.sets
