@@ -268,4 +268,5 @@ def all_cases() -> List[Case]:
 
 
 if __name__ == "__main__":
+    signal.signal(signal.SIGINT, signal.default_int_handler)  # it may be ignored here, as for a job in the background, and so in children
     sys.exit(run_cases("judge", all_cases(), sys.argv[1:]))
