@@ -5,9 +5,9 @@ from typing import Iterator, List, Mapping, NamedTuple, Optional
 
 from ..from_jepsen import Refusal, Turned, turn
 from ..from_jepsen.events import Event
-from ..from_jepsen.refusal import NoKey
+from ..from_jepsen.refusal import NoKey, TooMany
 from ..notes import Fault
-from . import Refused, faults
+from . import Beyond, Refused, faults
 
 NO_KEYS = "its values have no keys: all of it is one object, key 0"
 
@@ -35,6 +35,8 @@ def turned(text: str, key: Optional[str], nil_is_absent: bool) -> FromJepsen:
                 raise
             found = turn(text, "0", nil_is_absent)
             notes.append(NO_KEYS)
+    except TooMany as refusal:
+        raise Beyond(str(refusal)) from refusal
     except Refusal as refusal:
         raise Refused(str(refusal)) from refusal
     lines = [0] * found.begun + [event.line if isinstance(event, Event) else 0 for event in found.history.events]

@@ -90,7 +90,7 @@ def _from_jepsen(form: str, text: str, options: Options, notes: List[str], file_
     try:
         made = jepsen.turned(text, options.key, options.nil_is_absent)
     except Refused as refusal:
-        raise Refused(_with_lines(str(refusal), file_lines)) from refusal
+        raise type(refusal)(_with_lines(str(refusal), file_lines)) from refusal
     found = own.read(made.text)
     if found is None:
         raise Refused("a fault of this program: what it made of the history is not in jepmon's form")

@@ -9,7 +9,7 @@ from typing import Dict, List, NamedTuple, Sequence
 
 from ..kinds import THREADS
 from .events import Event
-from .refusal import Refusal
+from .refusal import TooMany
 
 
 class Processes(NamedTuple):
@@ -27,7 +27,7 @@ def processes_of(events: Sequence[Event]) -> Processes:
             return Processes(threads, [event.process for event in events], False)
     most = most_open(events)
     if most > THREADS:
-        raise Refusal(f"{most} operations are open at once, and jepmon has {THREADS} threads")
+        raise TooMany(f"{most} operations are open at once, and jepmon has {THREADS} threads")
     return Processes(most, on_threads(events, most), True)
 
 

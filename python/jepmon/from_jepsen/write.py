@@ -10,7 +10,7 @@ from .events import Event, Fault, History
 from .models import Models
 from .numbering import Numbering
 from .processes import processes_of
-from .refusal import Refusal
+from .refusal import TooMany
 
 
 class Writer:
@@ -27,7 +27,7 @@ class Writer:
         self.absent = str(self.values.another()) if nil_is_absent else "nil"
         self.processes = processes_of(clients)
         if len(self.keys.numbers) > len(KEYS):
-            raise Refusal(f"it has {len(self.keys.numbers)} keys, and jepmon takes {len(KEYS)}")
+            raise TooMany(f"it has {len(self.keys.numbers)} keys, and jepmon takes {len(KEYS)}")
 
     def names(self) -> Names:
         """What the numbers stand for."""

@@ -17,6 +17,7 @@ from .doubt import Doubt
 from .lines import UNSEEN, Heads, Row, idle, rows_of
 from .routing import Router, Source
 from .sizes import Sizes
+from .tally import Counting, Tally
 
 
 class PieceTask(NamedTuple):
@@ -41,12 +42,14 @@ class Piece(NamedTuple):
     base: Optional[int]  # the index of its first event, if any is stated
     starts: Dict[int, int]  # of a thread: the state before its first event
     ends: Dict[int, int]  # of a thread: the state after its last event
+    tally: Tally
 
 
 def read_piece(task: PieceTask) -> Piece:
     """The first pass over a piece."""
     path = os.path.join(task.folder, f"{task.begin}.piece")
-    router = Router(task.shards)
+    counting = Counting()
+    router = Router(task.shards, counting=counting)
     events = PieceEvents(task.concurrency, router)
     slabs: List[int] = []
     held = 0
@@ -58,11 +61,12 @@ def read_piece(task: PieceTask) -> Piece:
             if held >= task.sizes.slab:
                 slabs.append(router.write(file))
                 events.forget()
+                counting.forget()
                 held = 0
         if held:
             slabs.append(router.write(file))
     ends = {thread: state for thread, state in events.states.items() if state != UNSEEN}
-    return Piece(path, slabs, router.written, events.count, events.base, events.starts, ends)
+    return Piece(path, slabs, router.written, events.count, events.base, events.starts, ends, counting.tally(events.count))
 
 
 class PieceEvents:

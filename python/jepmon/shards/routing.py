@@ -7,7 +7,9 @@ from __future__ import annotations
 
 import array
 import zlib
-from typing import Any, BinaryIO, Callable, Dict, Iterator, List, NamedTuple, Sequence, Tuple
+from typing import Any, BinaryIO, Callable, Dict, Iterator, List, NamedTuple, Optional, Sequence, Tuple
+
+from .tally import Counting
 
 Put = Callable[[Tuple[bytes, bytes, int, int]], None]
 FIELDS = 4  # of an event in a bucket: key, part, code and place; of a shard in a directory
@@ -36,9 +38,9 @@ class Source(NamedTuple):
 class Router(Dict[bytes, Put]):
     """Gives for each key what takes its events: their key, part, code and place."""
 
-    def __init__(self, shards: int, level: int = 0) -> None:
+    def __init__(self, shards: int, level: int = 0, counting: Optional[Counting] = None) -> None:
         super().__init__()
-        self._level = level
+        self._level, self._counting = level, counting
         self._buckets: List[List[Any]] = [[] for _ in range(shards)]
         self._keys: List[List[bytes]] = [[] for _ in range(shards)]
         self._parts: List[List[bytes]] = [[] for _ in range(shards)]
@@ -56,7 +58,10 @@ class Router(Dict[bytes, Put]):
             if bucket:
                 keys.append(b" ".join(bucket[0::FIELDS]))
                 parts.append(b"\n".join(bucket[1::FIELDS]))
-                codes.extend(bucket[2::FIELDS])
+                of_bucket = bucket[2::FIELDS]
+                codes.extend(of_bucket)
+                if self._counting is not None:
+                    self._counting.take(of_bucket, parts[-1])
                 places.extend(bucket[3::FIELDS])
                 bucket.clear()
 
