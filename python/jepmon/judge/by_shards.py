@@ -1,6 +1,7 @@
 """Judges a history beyond the limits of one check: by jepmon.shards, with what is told of it beside the report."""
 from __future__ import annotations
 
+import functools
 import os
 import sys
 from typing import Iterator, List, Optional, Sequence
@@ -15,7 +16,10 @@ from ..forms.recorded import Recorded
 from ..history import Event
 from ..program import KeyLine, Options, Report, check
 from ..shards.checking import key_line
+from ..shards.cluster import judged_on
+from ..shards.judging import Judged
 from ..shards.report import KEY_LINE, Verdict
+from ..shards.splitting import judged_elsewhere
 from ..shards.tally import Tally
 from ..shrinking.part import as_asked, text_of
 from . import causes, large_key, results
@@ -63,7 +67,7 @@ def _judge(given: Given, found: Large, session: shards.Session, page: Optional[P
     options = session.options._replace(model=choice.common or "")
     path = os.path.join(session.tools.folder, "report.txt")
     with open(path, "wb") as file:
-        verdict = session.report(session.judged(options), file)
+        verdict = session.report(judged(given, session, options), file)
     task = Task("", choice, {}, options, in_shards=True)
     for line in said(found, session.tally, verdict, task):
         say(line)
@@ -78,6 +82,14 @@ def _judge(given: Given, found: Large, session: shards.Session, page: Optional[P
         copies = {results.HISTORY: session.file.path, results.REPORT: path} if folder is not None else {}
         results.write(page, folder, results.Results(found.name, recorded, task, report, key, copies))
     return verdict.status
+
+
+def judged(given: Given, session: shards.Session, options: Options) -> List[Judged]:
+    """What comes of the shards: here, or on the cluster that is named."""
+    if given.dask is None:
+        return session.judged(options)
+    engine = functools.partial(judged_on, given.dask, threads=session.tools.sizes.threads, program=session.tools.program)
+    return judged_elsewhere(session, options, engine)
 
 
 def shown(recorded: Recorded, task: Task, report: Report, with_cause: bool, events: Sequence[Event]) -> Optional[causes.Shown]:

@@ -42,24 +42,28 @@ class Opened(NamedTuple):
 
 def large(given: Given) -> Optional[Large]:
     """The history, where it is to be judged by shards: because it is said so, or since one check does not take so many events."""
-    is_asked = given.jobs is not None or given.dask is not None or (given.concurrency or 0) > kinds.THREADS
+    if given.jobs is not None or given.dask is not None or (given.concurrency or 0) > kinds.THREADS:
+        return asked(given)
     if given.history == "-":
-        if not is_asked:
-            return None
+        return None
+    path = files.located(pathlib.Path(given.history))
+    try:
+        return beyond(given, f"more than {kinds.EVENTS:,} events, which one check does not take") if has_too_many(path) else None
+    except OSError as fault:
+        raise Refused(f"{path}: {fault.strerror}") from fault
+
+
+def asked(given: Given) -> Large:
+    """The history, which is to be judged by shards."""
+    if given.history == "-":
         if sys.stdin is None:
             raise Refused("standard input is closed")
         return of_opened(opened("standard input", sys.stdin.buffer, None), "")
     path = files.located(pathlib.Path(given.history))
     try:
-        if not is_asked and not has_too_many(path):
-            return None
-        found = opened(str(path), open(path, "rb"), str(path))  # its pieces are read until the end, and then it is closed
+        return of_opened(opened(str(path), open(path, "rb"), str(path)), "")
     except OSError as fault:
         raise Refused(f"{path}: {fault.strerror}") from fault
-    if not is_asked and not is_edn(found.front):
-        return None
-    reason = f"more than {kinds.EVENTS:,} events, which one check does not take" if not is_asked else ""
-    return of_opened(found, reason)
 
 
 def beyond(given: Given, reason: str) -> Optional[Large]:

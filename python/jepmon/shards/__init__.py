@@ -12,4 +12,11 @@ from .doubt import ShardsError
 from .progress import Progress
 from .session import Refused, Session
 
-__all__ = ["Progress", "Refused", "Session", "ShardsError", "check", "opened"]
+__all__ = ["Progress", "Refused", "Session", "ShardsError", "check", "main", "opened"]
+
+
+def main() -> int:
+    """The tool `jepmon-shards`."""
+    from .tool import main as tool
+
+    return tool()

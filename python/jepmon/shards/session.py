@@ -54,6 +54,7 @@ class Session:
 
     def __init__(self, file: File, options: Options, tools: Tools, finds_threads: bool = False) -> None:
         self.file, self.options, self.tools = file, options, tools
+        self.original = file
         self.tally = Tally()
         self.shards: List[Shard] = []
         self._finds_threads = finds_threads
