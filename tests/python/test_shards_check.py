@@ -11,12 +11,13 @@ from typing import List, Optional
 
 from jepmon import program, shards
 from jepmon.forms import own
+from jepmon.lives import Lives
 from jepmon.program import Options
 from jepmon.shards.checking import opened
+from jepmon.shards.lines import rows_of
 from jepmon.shards.sizes import Sizes
 from jepmon.shards.team import Team
-from jepmon.shards.threads import Lives, fewest_threads
-from jepmon.shards.lines import rows_of
+from jepmon.shards.threads import fewest_threads, tell
 
 from .fuzz import has_program
 from .shard_histories import case_of
@@ -106,7 +107,7 @@ class BeyondLimits(unittest.TestCase):
 class Threads(unittest.TestCase):
     def fewest(self, text: str) -> Optional[int]:
         lives = Lives()
-        lives.take(rows_of(text.encode()))
+        tell(lives, rows_of(text.encode()))
         return lives.fewest()
 
     def test_as_the_whole_history_has_it(self) -> None:

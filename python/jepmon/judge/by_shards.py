@@ -1,10 +1,11 @@
 """Judges a history beyond the limits of one check: by jepmon.shards, with what is told of it beside the report."""
 from __future__ import annotations
 
+import contextlib
 import functools
 import os
 import sys
-from typing import Iterator, List, Optional, Sequence
+from typing import Iterator, List, NamedTuple, Optional, Sequence
 
 from .. import command, kinds, shards
 from ..errors import ProgramError
@@ -13,16 +14,18 @@ from ..explain.said import said as explained
 from ..forms import Refused
 from ..forms.own import Facts
 from ..forms.recorded import Recorded
+from ..from_jepsen import Turned
 from ..history import Event
 from ..program import KeyLine, Options, Report, check
 from ..shards.checking import key_line
 from ..shards.cluster import judged_on
 from ..shards.judging import Judged
 from ..shards.report import KEY_LINE, Verdict
+from ..shards.source import History
 from ..shards.splitting import judged_elsewhere
 from ..shards.tally import Tally
 from ..shrinking.part import as_asked, text_of
-from . import causes, large_key, results
+from . import causes, large_key, results, turned
 from .hints import MOST_EVENTS, PATIENCE, counted
 from .judging import Task
 from .large import Large
@@ -39,49 +42,81 @@ def say(line: str) -> None:
     command.say(NAME, line)
 
 
+class Asked(NamedTuple):
+    """A history as it goes to shards: in jepmon's own form, and what it was made from where that was another one."""
+
+    history: History
+    concurrency: Optional[int]  # None: it is found
+    made: Optional[Turned]
+
+
+def asked(given: Given, found: Large) -> Asked:
+    if found.is_own and given.key is None and not given.nil_is_absent:
+        return Asked(found.history, given.concurrency, None)
+    made, notes = turned.turned(given, found)
+    for note in notes:
+        say(note)
+    return Asked(made.lines(), given.concurrency or made.concurrency, made)
+
+
+@contextlib.contextmanager
+def opened(given: Given, found: Large, history: Asked) -> Iterator[shards.Session]:
+    """The shards of a history, read."""
+    options = Options(history.concurrency or 2, given.model or "register", given.budget)
+    with shards.opened(history.history, options, given.jobs, temporary=given.temporary, progress=shards.Progress(sys.stderr),
+                       finds_threads=history.concurrency is None) as session:
+        try:
+            session.read()
+        except shards.Refused as refused:
+            for hint in hints_of_refusal(found, str(refused), session.options):
+                say(hint)
+            raise
+        if session.tally.events == 0:
+            raise Refused(f"{found.name}: there is no event in it: nothing was judged")
+        yield session
+
+
 def judge(given: Given, found: Large, page: Optional[Page], folder: Optional[Folder]) -> int:
     """Judges it, writes what was asked for, and gives the exit status."""
     if found.reason:
-        say(f"{found.name}: {found.reason}; it is judged in shards, {counted(given.jobs or os.cpu_count() or 1, 'process')} side by side")
-    options = Options(given.concurrency or 2, given.model or "register", given.budget)
-    session: Optional[shards.Session] = None
+        say(f"{found.name}: {found.reason}; it is judged in shards, {processes(given.jobs or os.cpu_count() or 1)}")
+    history = asked(given, found)
     try:
-        with shards.opened(found.history, options, given.jobs, temporary=given.temporary, progress=shards.Progress(sys.stderr),
-                           finds_threads=given.concurrency is None) as session:
-            return _judge(given, found, session, page, folder)
+        with opened(given, found, history) as session:
+            return _judge(given, found, history, session, page, folder)
     except shards.Refused as refused:
-        line = str(refused)
-        command.write_output([line + "\n"])
-        for hint in hints_of_refusal(found, line, session.options if session is not None else options):
-            say(hint)
+        command.write_output([f"{refused}\n"])
         return command.REFUSED
 
 
-def _judge(given: Given, found: Large, session: shards.Session, page: Optional[Page], folder: Optional[Folder]) -> int:
-    if not found.is_own:
-        raise Refused(f"{found.name}: Jepsen's form")
-    session.read()
-    if session.tally.events == 0:
-        raise Refused(f"{found.name}: there is no event in it: nothing was judged")
-    choice = chosen(found.name, session.tally, given.model)
+def _judge(given: Given, found: Large, history: Asked, session: shards.Session, page: Optional[Page], folder: Optional[Folder]) -> int:
+    choice = chosen(found.name, session.tally, given.model, history.made)
     options = session.options._replace(model=choice.common or "")
     path = os.path.join(session.tools.folder, "report.txt")
     with open(path, "wb") as file:
         verdict = session.report(judged(given, session, options), file)
     task = Task("", choice, {}, options, in_shards=True)
-    for line in said(found, session.tally, verdict, task):
+    for line in said(found, history, session.tally, verdict, task):
         say(line)
     command.write_output(texts_of(path))
     report = report_of(path, verdict)
-    for line in nil_hints(session.tally, choice):
+    for line in nil_hints(session.tally, choice) if history.made is None else ():
         say(line)
-    recorded = Recorded("", "", Facts(), is_own=True)
-    events = large_key.events_of(session, report.key, found.path) if report.key is not None else []
-    key = shown(recorded, task, report, given.cause, events)
+    recorded = turned.recorded(history.made) if history.made is not None else Recorded("", "", Facts(), is_own=True)
+    key = shown(recorded, task, report, given.cause, bad_events(session, report, found, history))
     if page is not None or folder is not None:
         copies = {results.HISTORY: session.file.path, results.REPORT: path} if folder is not None else {}
         results.write(page, folder, results.Results(found.name, recorded, task, report, key, copies))
     return verdict.status
+
+
+def bad_events(session: shards.Session, report: Report, found: Large, history: Asked) -> List[Event]:
+    """The events of the bad key, with their lines in the file that was given."""
+    if report.key is None:
+        return []
+    if history.made is None:
+        return large_key.events_of(session, report.key, found.path)
+    return turned.with_lines(history.made, large_key.events_of(session, report.key, None), found.path)
 
 
 def judged(given: Given, session: shards.Session, options: Options) -> List[Judged]:
@@ -134,10 +169,12 @@ def lines_of(path: str) -> Iterator[str]:
 # --- The model ---
 
 
-def chosen(name: str, tally: Tally, model: Optional[str]) -> Choice:
+def chosen(name: str, tally: Tally, model: Optional[str], made: Optional[Turned] = None) -> Choice:
     """The model of all keys: the one that is given, else the strictest that has all operations and answers that there are."""
     if model is not None:
         return Choice({}, model, "as --model says")
+    if made is not None and made.model is not None:
+        return Choice({}, made.model, by_operations(made.model, tally.names()))
     names, answers = tally.names(), tally.number_of("read", "ok") - tally.reads_of_nil() - tally.sets
     models = tally.models()
     if not models:
@@ -147,26 +184,38 @@ def chosen(name: str, tally: Tally, model: Optional[str]) -> Choice:
     if found in kinds.REGISTERS and tally.sets or found == "set" and answers > 0:
         raise Refused(f"{name}: of its reads {answers:,} are answered by integers, and {tally.sets:,} by sets, so its keys are of several "
                       "kinds, or counters, which jepmon does not judge; say --model NAME")
-    other = ALIKE.get(found)
+    return Choice({}, found, by_operations(found, names))
+
+
+def by_operations(model: str, names: Sequence[str]) -> str:
+    """Why it is this model."""
+    other = ALIKE.get(model)
     more = f"; the stricter of two: where no order was promised, say --model {other}" if other else ""
-    return Choice({}, found, f"by its operations: {', '.join(names)}{more}")
+    return f"by its operations: {', '.join(names)}{more}"
 
 
 # --- What is told ---
 
 
-def said(found: Large, tally: Tally, verdict: Verdict, task: Task) -> Iterator[str]:
+def processes(number: int) -> str:
+    return f"by {number} processes side by side" if number > 1 else "by one process"
+
+
+def said(found: Large, history: Asked, tally: Tally, verdict: Verdict, task: Task) -> Iterator[str]:
     """What the history was found to be."""
-    form = "jepmon's own form" if found.is_own else "Jepsen's form"
+    form = "jepmon's own form" if history.made is None else "Jepsen's form"
     yield (f"{found.name}: {form}, {counted(tally.events, 'event')}, concurrency {task.options.concurrency:,}, "
            f"{counted(verdict.keys, 'key')}")
     outcomes = tally.outcomes()
-    for name in tally.names():
+    for name in tally.names() if history.made is None else ():
         yield f"{name}: " + ", ".join(f"{outcomes[f'{name} {kind}']} {kind}" for kind in ("ok", "fail", "info"))
     if not any(outcome.endswith(" ok") for outcome in outcomes):
         yield "no operation is ok: nothing was judged"
     yield f"model {task.choice.common}, {task.choice.reason}"
-    yield f"judged in shards: {task.again(found.path or 'FILE')}"
+    if history.made is None and found.path is not None:
+        yield f"judged in shards: {task.again(found.path)}"
+    else:
+        yield f"judged in shards: {task.again('FILE')}, where FILE is history.edn of --out DIR"
 
 
 def nil_hints(tally: Tally, choice: Choice) -> Iterator[str]:

@@ -31,6 +31,16 @@ class Large(NamedTuple):
     reason: str
 
 
+class Pieces:
+    """Pieces that are read as a file."""
+
+    def __init__(self, pieces: Iterator[bytes]) -> None:
+        self._pieces = pieces
+
+    def read(self, _size: int = -1) -> bytes:
+        return next((piece for piece in self._pieces if piece), b"")
+
+
 class Opened(NamedTuple):
     """A file, or standard input: how it is told of, its front, out of gzip where it is compressed, and all its pieces."""
 

@@ -4,17 +4,15 @@ from __future__ import annotations
 import argparse
 import os
 import shlex
-import sys
 import tempfile
 from typing import Callable, Dict, Iterator
 
 from .. import command, kinds
 from ..errors import ProgramError
 from ..forms import Refused as NoHistory
-from ..program import Options, find_program
-from .checking import file_error, opened
+from ..program import find_program
+from .checking import file_error
 from .doubt import ShardsError
-from .progress import Progress
 from .session import Refused
 from .splitting import finish, join, judge, new_folder, split
 
@@ -84,12 +82,11 @@ def splits(given: argparse.Namespace) -> int:
             if value is not None for word in (f"--{name}", str(value))]
     asked = judge_words.given([given.history, *more])
     found = large.asked(asked)
-    options = Options(given.concurrency or 2, given.model or "register", given.budget)
+    history = by_shards.asked(asked, found)
     with new_folder(folder):
-        with opened(found.history, options, given.jobs, temporary=given.temporary, progress=Progress(sys.stderr),
-                    finds_threads=given.concurrency is None) as session:
-            session.read()
-            options = session.options._replace(model=by_shards.chosen(found.name, session.tally, given.model).common or "")
+        with by_shards.opened(asked, found, history) as session:
+            choice = by_shards.chosen(found.name, session.tally, given.model, history.made)
+            options = session.options._replace(model=choice.common or "")
             shards = split(session, options, folder)
             finish(session, options, folder, shards)
     command.say(NAME, f"{found.name}: {session.tally.events:,} events, in {len(shards)} shards; model {options.model}, "
