@@ -20,7 +20,7 @@ from case_loop import Case, differing, run_cases
 from program import PROGRAM
 
 TOP = pathlib.Path(__file__).resolve().parent.parent
-LIMIT = 900  # seconds: on a busy machine the engines begin slowly
+LIMIT = 3000  # seconds: on a busy machine all this is slow
 SYSTEM = "/usr/bin/python3"  # for which Debian's python3-distributed is
 LEGAL, ILLEGAL = "legal", "illegal"
 Ran = Tuple[int, str, str]
@@ -209,6 +209,27 @@ def run_full_disk() -> List[str]:
     return faults
 
 
+def run_jepsen_form() -> List[str]:
+    """A history in Jepsen's form, judged whole and in shards; one with more operations open than a check takes, judged in shards by itself."""
+    faults: List[str] = []
+    example = TOP / "examples" / "jepsen-register.edn"
+    for words in ([], ["--nil-is-absent"]):
+        whole, parts = (tool("judge", str(example), "--no-cause", *words, *more) for more in ([], ["--jobs", "1"]))
+        faults += differing(f"what came of {words}", parts[:2], whole[:2])
+    with room() as folder:
+        path = folder / "history.edn"
+        opened = [f"{{:type :invoke, :f :read, :value [key-{client % 20} nil], :process {client}, :time {client}}}\n" for client in range(70)]
+        path.write_text("".join(opened) + "{:type :ok, :f :read, :value [key-6 9], :process 6, :time 77, :error \"a, b\"}\n")
+        status, output, error = tool("judge", str(path), "--html", str(folder / "page.html"), "--model", "register")
+        faults += differing("the verdict", (status, output.splitlines()[-1:]), (1, ["illegal key 6 index 70"]))
+        for text in ("70 operations are open at once", "it is judged in shards", "Client 6 read 9 from key key-6", "line 71"):
+            faults += differing(f"whether it says {text!r}", text in error, True)
+        path.write_text("".join(opened) + "{:type :ok, :f :read, :value [key-6 9], :process 6}\n{:type :ok, :f")
+        status, output, error = tool("judge", str(path), "--jobs", "1")
+        faults += differing("a file that is cut off", (status, output, "line 72" in error, error.count("\n")), (3, "", True, 1))
+    return faults
+
+
 # --- jepmon-shards, and GNU parallel ---
 
 
@@ -335,7 +356,8 @@ def has_dask() -> bool:
 def main(names: List[str]) -> int:
     cases: List[Case] = [(name, functools.partial(run)) for name, run in (
         ("same_report", run_same_report), ("refusals", run_refusals), ("beyond", run_beyond), ("many_clients", run_many_clients),
-        ("interrupted", run_interrupted), ("killed_program", run_killed_program), ("full_disk", run_full_disk))]
+        ("jepsen_form", run_jepsen_form), ("interrupted", run_interrupted), ("killed_program", run_killed_program),
+        ("full_disk", run_full_disk))]
     skipped = 0
     for is_there, what, more in ((shutil.which("parallel") is not None, "GNU parallel", [("parallel", run_parallel)]),
                                  (has_dask(), "python3-distributed", [("a_worker_killed", run_a_worker_killed), ("no_worker_left", run_no_worker_left),

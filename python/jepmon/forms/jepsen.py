@@ -41,10 +41,10 @@ def turned(text: str, key: Optional[str], nil_is_absent: bool) -> FromJepsen:
         raise Refused(str(refusal)) from refusal
     lines = [0] * found.begun + [event.line if isinstance(event, Event) else 0 for event in found.history.events]
     return FromJepsen(found.text(), found.models, found.names.keys, found.names.values, lines,
-                      faults.of_nemesis(found.history.nemesis, found.begun), notes + list(_notes(found)))
+                      faults.of_nemesis(found.history.nemesis, found.begun), notes + list(notes_of(found)))
 
 
-def _notes(found: Turned) -> Iterator[str]:
+def notes_of(found: Turned) -> Iterator[str]:
     """What was left out or changed."""
     if found.history.left_out:
         yield "left out: " + ", ".join(f"{count} of {process}" for process, count in found.history.left_out.items())

@@ -100,7 +100,7 @@ def _judge(given: Given, found: Large, history: Asked, session: shards.Session, 
         say(line)
     command.write_output(texts_of(path))
     report = report_of(path, verdict)
-    for line in nil_hints(session.tally, choice) if history.made is None else ():
+    for line in nil_hints(session.tally, choice):
         say(line)
     recorded = turned.recorded(history.made) if history.made is not None else Recorded("", "", Facts(), is_own=True)
     key = shown(recorded, task, report, given.cause, bad_events(session, report, found, history))
@@ -111,8 +111,8 @@ def _judge(given: Given, found: Large, history: Asked, session: shards.Session, 
 
 
 def bad_events(session: shards.Session, report: Report, found: Large, history: Asked) -> List[Event]:
-    """The events of the bad key, with their lines in the file that was given."""
-    if report.key is None:
+    """The events of the bad key, where it was judged to its end, with their lines in the file that was given."""
+    if report.key is None or not report.keys or report.keys[0].status in CUT:
         return []
     if history.made is None:
         return large_key.events_of(session, report.key, found.path)
@@ -207,7 +207,7 @@ def said(found: Large, history: Asked, tally: Tally, verdict: Verdict, task: Tas
     yield (f"{found.name}: {form}, {counted(tally.events, 'event')}, concurrency {task.options.concurrency:,}, "
            f"{counted(verdict.keys, 'key')}")
     outcomes = tally.outcomes()
-    for name in tally.names() if history.made is None else ():
+    for name in tally.names():
         yield f"{name}: " + ", ".join(f"{outcomes[f'{name} {kind}']} {kind}" for kind in ("ok", "fail", "info"))
     if not any(outcome.endswith(" ok") for outcome in outcomes):
         yield "no operation is ok: nothing was judged"

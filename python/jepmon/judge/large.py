@@ -11,6 +11,8 @@ from typing import BinaryIO, Iterator, List, NamedTuple, Optional, Tuple
 
 from .. import kinds
 from ..forms import Refused, detect, files
+from ..shards.doubt import Doubt
+from ..shards.lines import HEAD, rows_of
 from ..shards.source import BUFFER, History
 from .words import Given
 
@@ -94,7 +96,18 @@ def of_opened(found: Opened, reason: str) -> Large:
         raise Refused(f"{found.name}: shards are made of a history in jepmon's own form or in Jepsen's; jepmon-from-json makes the first "
                       "of JSON lines")
     history: History = found.pieces if found.path is None else found.path
-    return Large(found.name, found.path, history, OWN.search(found.front) is not None, reason)
+    return Large(found.name, found.path, history, is_own(found.front), reason)
+
+
+def is_own(front: bytes) -> bool:
+    """Whether the first event of a front is one in jepmon's own form; where there is none, it is."""
+    for line in front.split(b"\n"):
+        if line.startswith(b"{"):
+            try:
+                return OWN.match(line) is not None and all(HEAD.fullmatch(head) or not key for _, head, key, _, _ in rows_of(line))
+            except Doubt:
+                return False
+    return not front.lstrip().startswith((b"[", b"(", b"#jepsen"))
 
 
 def is_edn(front: bytes) -> bool:

@@ -76,7 +76,7 @@ def _judge_to(given: Given, page: Optional[Page], folder: Optional[Folder]) -> i
     except Beyond as beyond:
         long = large.beyond(given, str(beyond))
         if long is None:
-            raise Refused(f"{source.name}: {beyond}") from beyond
+            raise Refused(f"{source.name}: {beyond}; --jobs N judges it in shards, which take more") from beyond
     return by_shards.judge(given, long, page, folder)
 
 

@@ -5,9 +5,9 @@ from typing import BinaryIO, Dict, Iterator, List, Optional, Sequence, cast
 
 from .. import edn, history
 from ..forms import Refused, faults
-from ..forms.jepsen import NO_KEYS
-from ..forms.recorded import Recorded
+from ..forms.jepsen import NO_KEYS, notes_of
 from ..forms.own import Facts
+from ..forms.recorded import Recorded
 from ..from_jepsen import Refusal, Turned, turn
 from ..from_jepsen.events import Event as JepsenEvent
 from ..from_jepsen.refusal import NoKey
@@ -29,7 +29,7 @@ def turned(given: Given, found: Large) -> "tuple[Turned, List[str]]":
             made, notes = _turn(found, "0", given), [NO_KEYS]
     except Refusal as refusal:
         raise Refused(f"{found.name}: {refusal}") from refusal
-    return made, notes + made.notes
+    return made, [*notes, *notes_of(made)]
 
 
 def _turn(found: Large, key: Optional[str], given: Given) -> Turned:

@@ -89,7 +89,7 @@ def splits(given: argparse.Namespace) -> int:
             options = session.options._replace(model=choice.common or "")
             shards = split(session, options, folder)
             finish(session, options, folder, shards)
-    command.say(NAME, f"{found.name}: {session.tally.events:,} events, in {len(shards)} shards; model {options.model}, "
+    command.say(NAME, f"{found.name}: {session.tally.events:,} events, shards: {len(shards)}; model {options.model}, "
                 f"concurrency {options.concurrency}, budget {options.budget}")
     command.write_output(os.path.join(folder, f"{shard.name}.edn") + "\n" for shard in shards)
     return 0
