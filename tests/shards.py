@@ -160,6 +160,11 @@ def run_many_clients() -> List[str]:
     return faults
 
 
+def heed_interrupts() -> None:
+    """A shell has what it runs in the background ignore Ctrl-C."""
+    signal.signal(signal.SIGINT, signal.SIG_DFL)
+
+
 def run_interrupted() -> List[str]:
     """Ctrl-C and the end by a signal: no verdict, and no file is left."""
     faults: List[str] = []
@@ -169,7 +174,8 @@ def run_interrupted() -> List[str]:
             scratch.mkdir()
             slow = script(folder / "jepmon", f"touch {folder}/began; exec sleep 600\n")
             child = subprocess.Popen([sys.executable, "-m", "jepmon", "judge", str(path), "--jobs", "2", "--temporary", str(scratch)],
-                                     stdout=subprocess.PIPE, stderr=subprocess.PIPE, env=environment(slow), start_new_session=True)
+                                     stdout=subprocess.PIPE, stderr=subprocess.PIPE, env=environment(slow), start_new_session=True,
+                                     preexec_fn=heed_interrupts)
             began = time.monotonic()
             while not (folder / "began").exists() and child.poll() is None and time.monotonic() < began + LIMIT:
                 time.sleep(0.05)

@@ -37,6 +37,10 @@ class Spool:
             yield from map(event_of, marshal.loads(batch))
         yield from map(event_of, self._batch)
 
+    def __del__(self) -> None:
+        if self._file is not None:
+            self._file.close()
+
     def _put(self, batch: bytes) -> None:
         if self._file is None and len(self._batches) < HELD:
             self._batches.append(batch)

@@ -70,10 +70,10 @@ def asked(given: Given) -> Large:
     if given.history == "-":
         if sys.stdin is None:
             raise Refused("standard input is closed")
-        return of_opened(opened("standard input", sys.stdin.buffer, None), "")
+        return of_opened(opened("standard input", pieces_of(sys.stdin.buffer), None), "")
     path = files.located(pathlib.Path(given.history))
     try:
-        return of_opened(opened(str(path), open(path, "rb"), str(path)), "")
+        return of_opened(opened(str(path), pieces_of_path(path), str(path)), "")
     except OSError as fault:
         raise Refused(f"{path}: {fault.strerror}") from fault
 
@@ -83,7 +83,7 @@ def beyond(given: Given, reason: str) -> Optional[Large]:
     if given.history == "-":
         return None
     path = files.located(pathlib.Path(given.history))
-    found = opened(str(path), open(path, "rb"), str(path))
+    found = opened(str(path), pieces_of_path(path), str(path))
     return of_opened(found, reason) if is_edn(found.front) else None
 
 
@@ -135,10 +135,10 @@ def has_too_many(path: pathlib.Path) -> bool:
 # --- Bytes ---
 
 
-def opened(name: str, file: BinaryIO, path: Optional[str]) -> Opened:
-    """A file that is open, from its front on."""
-    first = file.read(BUFFER)
-    pieces = itertools.chain([first], pieces_of(file))
+def opened(name: str, pieces: Iterator[bytes], path: Optional[str]) -> Opened:
+    """What comes in these pieces, of which the first is read."""
+    first = next(pieces, b"")
+    pieces = itertools.chain([first], pieces)
     if not first.startswith(GZIP):
         is_file = path is not None and os.path.isfile(path)
         return Opened(name, path if is_file else None, front_of(first), pieces)
@@ -160,6 +160,11 @@ def front_from(pieces: Iterator[bytes]) -> Tuple[bytes, Iterator[bytes]]:
             break
         front.append(piece)
     return b"".join(front), pieces
+
+
+def pieces_of_path(path: pathlib.Path) -> Iterator[bytes]:
+    with open(path, "rb") as file:
+        yield from pieces_of(file)
 
 
 def pieces_of(file: BinaryIO) -> Iterator[bytes]:
