@@ -275,7 +275,7 @@ def run_parallel() -> List[str]:
 
 @contextlib.contextmanager
 def cluster(folder: pathlib.Path, programs: List[str]) -> "Iterator[Tuple[str, List[subprocess.Popen[bytes]]]]":
-    """A scheduler, and a worker for each program."""
+    """A scheduler, and a worker for each program: the file that has the address, and all that was started."""
     told = folder / "scheduler.json"
     log = open(folder / "log", "wb")
     started: "List[subprocess.Popen[bytes]]" = []
@@ -288,7 +288,7 @@ def cluster(folder: pathlib.Path, programs: List[str]) -> "Iterator[Tuple[str, L
         for number, program in enumerate(programs):
             start("distributed.cli.dask_worker", "--scheduler-file", str(told), "--nworkers", "1", "--nthreads", "1", "--no-nanny",
                   "--no-dashboard", "--local-directory", str(folder / f"worker-{number}"), JEPMON=program)
-        yield str(told), started[1:]
+        yield str(told), started
     finally:
         for child in started:
             child.kill()
@@ -308,15 +308,15 @@ def address_of(told: str) -> str:
     raise TimeoutError("the scheduler did not begin")
 
 
-def run_on_cluster(folder: pathlib.Path, path: pathlib.Path, programs: Callable[[pathlib.Path], List[str]]) -> Ran:
-    """Judges a history on a cluster, whose first worker is killed in its first task."""
-    with cluster(folder, programs(folder)) as (told, workers):
+def run_on_cluster(folder: pathlib.Path, path: pathlib.Path, programs: Callable[[pathlib.Path], List[str]], kills: str = "worker") -> Ran:
+    """Judges a history on a cluster, whose first worker, or scheduler, is killed in the first task."""
+    with cluster(folder, programs(folder)) as (told, started):
         child = subprocess.Popen([SYSTEM, "-m", "jepmon", "judge", str(path), "--dask", address_of(told), "--jobs", "1", "--no-cause"],
                                  stdout=subprocess.PIPE, stderr=subprocess.PIPE, universal_newlines=True, env=environment())
         began = time.monotonic()
         while not (folder / "began").exists() and child.poll() is None and time.monotonic() < began + LIMIT:
             time.sleep(0.1)
-        workers[0].kill()
+        started[kills == "worker"].kill()
         output, error = child.communicate(timeout=LIMIT)
         return child.returncode, output, error
 
@@ -343,6 +343,14 @@ def run_no_worker_left() -> List[str]:
         return differing("what came", (status, output, "has no worker, and" in error, "Traceback" in error), (3, "", True, False))
 
 
+def run_scheduler_lost() -> List[str]:
+    """The scheduler is killed: it is said, and there is no verdict."""
+    with room() as folder:
+        path = several(folder / "history.edn", illegal=False)
+        status, output, error = run_on_cluster(folder, path, lambda folder: [stuck(folder)], kills="scheduler")
+        return differing("what came", (status, output, "not judged" in error or "can't be judged" in error, "Traceback" in error), (3, "", True, False))
+
+
 def run_program_fails_there() -> List[str]:
     """A program that fails on the workers, and a scheduler that is not there."""
     with room() as folder:
@@ -366,8 +374,9 @@ def main(names: List[str]) -> int:
         ("full_disk", run_full_disk))]
     skipped = 0
     for is_there, what, more in ((shutil.which("parallel") is not None, "GNU parallel", [("parallel", run_parallel)]),
-                                 (has_dask(), "python3-distributed", [("a_worker_killed", run_a_worker_killed), ("no_worker_left", run_no_worker_left),
-                                                                      ("program_fails_there", run_program_fails_there)])):
+                                 (has_dask(), "python3-distributed", [
+                                     ("a_worker_killed", run_a_worker_killed), ("no_worker_left", run_no_worker_left),
+                                     ("scheduler_lost", run_scheduler_lost), ("program_fails_there", run_program_fails_there)])):
         if is_there:
             cases += more
         else:

@@ -10,6 +10,7 @@ import importlib
 import logging
 import os
 import time
+import warnings
 from typing import Any, Callable, Dict, Iterator, List, Sequence, Tuple
 
 from ..program import Options
@@ -20,7 +21,7 @@ from .splitting import judged_of, tested_report
 
 CONNECT = 20.0  # seconds within which the scheduler must answer
 PATIENCE = 30.0  # seconds for which there may be no worker
-LOOK = 1.0  # seconds between two looks at the cluster
+LOOK = 0.02  # seconds between two looks at the tasks
 RETRIES = 3  # of a task whose program fails
 
 
@@ -42,6 +43,7 @@ def connected(address: str) -> Iterator[Any]:
     except ImportError as fault:
         raise ShardsError(f"--dask needs the package distributed (Debian: python3-distributed), which is not here: {fault}") from fault
     logging.getLogger("distributed").setLevel(logging.CRITICAL)
+    warnings.filterwarnings("ignore", module="distributed")  # of large objects: a shard goes with its task, so that none is lost
     try:
         client = distributed.Client(address, timeout=CONNECT, set_as_default=False)
     except (OSError, ValueError, TypeError) as fault:
@@ -81,9 +83,10 @@ class Tasks:
 
     def _threads(self, left: int) -> int:
         """How many threads the workers have; a ShardsError where there was no worker for long."""
-        if self._client.status not in ("running", "connecting"):
-            raise ShardsError(f"the Dask scheduler at {self._address} is lost, and {left} shards are not judged")
-        workers = self._client.scheduler_info().get("workers", {})
+        try:
+            workers: Dict[str, Any] = self._client.scheduler_info()["workers"]
+        except Exception as fault:  # of whatever kind: without its scheduler the cluster says nothing more
+            raise ShardsError(f"the Dask scheduler at {self._address} is lost, and {left} shards are not judged") from fault
         now = time.monotonic()
         if workers:
             self._had_workers = now
@@ -92,12 +95,16 @@ class Tasks:
         return sum(int(worker.get("nthreads", 1)) for worker in workers.values())
 
     def _done(self) -> List[Any]:
-        """The tasks that are done, for which it waits a moment."""
-        self._threads(len(self._running))
-        distributed: Any = importlib.import_module("distributed")
-        with contextlib.suppress(TimeoutError, distributed.TimeoutError):
-            distributed.wait(list(self._running), timeout=LOOK, return_when="FIRST_COMPLETED")
-        return [future for future in self._running if future.status != "pending"]
+        """The tasks that are done, for which it waits."""
+        looked = time.monotonic()
+        while True:
+            done = [future for future in self._running if future.status != "pending"]
+            if done:
+                return done
+            time.sleep(LOOK)
+            if time.monotonic() > looked + 1:
+                self._threads(len(self._running))
+                looked = time.monotonic()
 
     def _report(self, future: Any, shard: Written) -> str:
         """What the program has printed."""
