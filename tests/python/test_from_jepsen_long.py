@@ -30,7 +30,7 @@ def read(text: str, quickly: bool) -> List[object]:
     found: List[object] = []
     try:
         for element in elements_of(iter(pieces)) if quickly else edn.Reader(pieces).history():
-            found.append((element.line, element.value))
+            found.append((element.line, element.value))  # a quick one puts its value together
     except edn.Unreadable as fault:
         found.append(str(fault))
     return found

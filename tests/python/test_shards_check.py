@@ -1,6 +1,8 @@
 """Checks by shards: the same bytes as one check within its limits, and what is said beyond them."""
 from __future__ import annotations
 
+import io
+import itertools
 import os
 import signal
 import tempfile
@@ -8,6 +10,7 @@ import threading
 import time
 import unittest
 from typing import List, Optional
+from unittest import mock
 
 from jepmon import program, shards
 from jepmon.forms import own
@@ -181,6 +184,28 @@ class Sessions(unittest.TestCase):
             with self.assertRaisesRegex(shards.ShardsError, "has ended, by signal 9: nothing is judged"):
                 list(team.run(time.sleep, [600, 600]))
             self.assertEqual(team._members, [])
+
+
+class Terminal(io.StringIO):
+    def isatty(self) -> bool:
+        return True
+
+
+class Progressing(unittest.TestCase):
+    def said(self, terminal: io.StringIO) -> str:
+        progress = shards.Progress(terminal)
+        with mock.patch("time.monotonic", side_effect=itertools.count(time.monotonic(), 5)):
+            self.assertEqual(list(progress.over("judged", iter("abcd"), 4)), list("abcd"))
+        return terminal.getvalue()
+
+    def test_on_a_terminal(self) -> None:
+        """One line that is written over, and nothing is left of it."""
+        said = self.said(Terminal())
+        self.assertIn("\rjudged 25 %\rjudged 50 %", said)
+        self.assertTrue(said.endswith("\r" + " " * len("judged 75 %") + "\r"))
+
+    def test_elsewhere(self) -> None:
+        self.assertEqual(self.said(io.StringIO()), "")
 
 
 def endless() -> "List[bytes]":

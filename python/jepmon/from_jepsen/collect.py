@@ -22,12 +22,12 @@ may have taken nothing, and whatever was linearizable with something taken is so
 """
 from __future__ import annotations
 
-from typing import Dict, Iterable, Iterator, NoReturn, Optional, Tuple
+from typing import Callable, Dict, Iterable, Iterator, NoReturn, Optional, Tuple
 
 from .. import edn, faults, kinds
 from ..edn import Many, Value, canonical, integer, shown, spelling
 from .events import Event, Fault, History, Left, is_pair, tuple_of
-from .quick import elements_of
+from .quick import Read, elements_of
 from .refusal import NoKey, Refusal, refuse
 from .spool import Spool
 
@@ -44,9 +44,10 @@ class Collector:
     """Goes through the elements of a history, and keeps what jepmon takes in jepmon's form."""
 
     def __init__(self, lone_key: Optional[str], nil_is_absent: bool) -> None:
-        self.lone_key = lone_key
+        self.lone_key = None if lone_key is None else canonical(lone_key)
         self.nil_is_absent = nil_is_absent
         self.open: Dict[int, Event] = {}
+        self._canonical: Callable[[Value], Value] = canonical  # of the element that is taken
         self.history = History(Spool())
 
     def collect(self, pieces: Iterable[str]) -> History:
@@ -70,11 +71,12 @@ class Collector:
             raise Refusal(f"none of its {count} events is of a client: there is nothing to judge")
         return self.history
 
-    def take(self, element: edn.Element, count: int) -> None:
-        fields = edn.fields_of(element.value)
+    def take(self, element: Read, count: int) -> None:
+        fields = element.fields
         if fields is None:
             text = shown(element.value, 60)
             refuse(element.line, f"this is no map, so no event: {text} (is this Jepsen's history.edn?)")
+        self._canonical = _itself if element.is_canonical else canonical
         stated = integer(fields.get(":index"))
         index = stated if stated is not None and stated in NATURAL else count
         process = integer(fields.get(":process"))
@@ -85,7 +87,7 @@ class Collector:
         else:
             self.leave_out(element, fields)
 
-    def leave_out(self, element: edn.Element, fields: Dict[str, Value]) -> None:
+    def leave_out(self, element: Read, fields: Dict[str, Value]) -> None:
         """Leaves out the event of a process that is no client, as :nemesis."""
         process = fields.get(":process")
         if not isinstance(process, str) or not (process.startswith(":") or process == "nil"):
@@ -111,7 +113,7 @@ class Collector:
         if process in self.open:
             began = self.open[process].line
             refuse(line, f"process {process} invokes {name}, and its operation of line {began} is not completed")
-        key, part = self.invoked(line, name, canonical(value))
+        key, part = self.invoked(line, name, self._canonical(value))
         if name in WITHOUT_PART and part != "nil":
             self.history.notes[f":invoke of {name} with a value, which is left out"] += 1
         event = Event(":invoke", process, name, key, "nil" if name in WITHOUT_PART else part, index, line)
@@ -140,10 +142,10 @@ class Collector:
             return
         part = invoked.part
         if kind == ":ok" and name in ANSWERED:
-            part = self.answer(line, invoked, canonical(value))
+            part = self.answer(line, invoked, self._canonical(value))
             kind = self.answered(kind, name, part)
             part = invoked.part if kind == ":fail" else part
-        elif name not in WITHOUT_PART and not self.repeats(invoked, canonical(value)):
+        elif name not in WITHOUT_PART and not self.repeats(invoked, self._canonical(value)):
             self.history.notes[f"{kind} of {name} with another value than their invocation, whose value stands"] += 1
         self.history.add(Event(kind, process, name, invoked.key, part, index, line))
 
@@ -167,7 +169,7 @@ class Collector:
             what = {":fail": "nothing came out", ":info": "what came out is not known, which changes no verdict"}[kind]
             self.history.notes[f"{kind} of :drain, left out: {what}"] += 1
             return
-        drained = self.answer(line, invoked, canonical(value))
+        drained = self.answer(line, invoked, self._canonical(value))
         if drained != "nil" and not (isinstance(drained, Many) and drained.opened in ("[", "#{")):
             refuse(line, f"this :drain is answered by {shown(drained)}, which is no list of what came out")
         for taken in drained.members if isinstance(drained, Many) else ():
@@ -203,6 +205,10 @@ class Collector:
             refuse(line, f"{name} of nil, which jepmon has not as a value; let the test write a number for it{other}")
 
 
+def _itself(value: Value) -> Value:
+    return value
+
+
 def refuse_operation(line: int, name: Optional[Value]) -> NoReturn:
     if isinstance(name, str) and name[1:] in kinds.NOT_JUDGED:
         refuse(line, f"{name} {kinds.NOT_JUDGED[name[1:]]}")
@@ -217,11 +223,11 @@ def refuse_value_of_read(line: int, name: Value, value: Value) -> None:
                "jepmon judges reads of one key each")
 
 
-def refuse_others(elements: Iterator[edn.Element]) -> None:
+def refuse_others(elements: Iterator[Read]) -> None:
     """Refuses what follows where it has operations that no key makes into ones of jepmon."""
     try:
         for element in elements:
-            fields = edn.fields_of(element.value) or {}
+            fields = element.fields or {}
             name = fields.get(":f")
             if integer(fields.get(":process")) is None:
                 continue

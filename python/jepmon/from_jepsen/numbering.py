@@ -33,7 +33,8 @@ class Numbering:
         return int(integer(thing) or 0) if self.stays else self._numbers[thing]
 
     def __call__(self, thing: Value) -> str:
-        return str(self.number(thing))
+        """The number of a thing, whose spelling is canonical, as it is written."""
+        return thing if self.stays and isinstance(thing, str) else str(self.number(thing))
 
     def another(self) -> int:
         """A number that nothing has."""

@@ -7,16 +7,16 @@ fields. Any other line is read by the reader: by itself, where it is whole; else
 from __future__ import annotations
 
 import re
-from typing import Dict, Iterator, List, Optional
+from typing import Dict, Iterable, Iterator, List, NamedTuple, Optional
 
 from .. import edn
 from ..edn import Element, Many, Value
 
 LINE = re.compile(r"(?:#jepsen\.history\.Op ?)?\{((?::[a-z-]+ (?:[A-Za-z0-9:.+-]+|\[[A-Za-z0-9:.+\[\] -]*\])(?:, |(?=\})))+)\}[ \t\r]*")
-ATOM = re.compile(r"nil|true|false|:[A-Za-z][A-Za-z0-9-]*|-?(?:0|[1-9][0-9]*)")
+ATOM = re.compile(r"nil|true|false|:[A-Za-z][A-Za-z0-9-]*|0|-?[1-9][0-9]*")
 PAIR = re.compile(r"\[(-?[0-9]+|:[A-Za-z][A-Za-z0-9-]*|nil) (?:(nil|-?[0-9]+|:[A-Za-z][A-Za-z0-9-]*)|\[(-?[0-9]+|nil) (-?[0-9]+|nil)\])\]")
 FIRST = ("{", "#jepsen.history.Op{", ";")  # what may begin a first line that is read by itself: no vector, which may be all of the text
-OCTAL = re.compile(r"[ \[]-?0[0-9]")
+OCTAL = re.compile(r"[ \[](?:-?0[0-9]|-0)")
 
 
 def quick_fields(line: str) -> Optional[Dict[str, Value]]:
@@ -44,7 +44,25 @@ def quick_value(text: str) -> Optional[Value]:
     return Many("[", (key, Many("[", (old, new)) if part is None else part))
 
 
-def elements_of(pieces: Iterator[str]) -> Iterator[Element]:
+class Read(NamedTuple):
+    """An element that was read: the line on which it begins, its fields where it is a map, and whether their values are canonical."""
+
+    line: int
+    fields: Optional[Dict[str, Value]]
+    is_canonical: bool
+    element: Optional[Value]  # where it was not read quickly
+
+    @property
+    def value(self) -> Value:
+        return self.element if self.element is not None else map_of(self.fields or {})
+
+
+def read_by(elements: Iterable[Element]) -> Iterator[Read]:
+    for element in elements:
+        yield Read(element.line, edn.fields_of(element.value), False, element.value)
+
+
+def elements_of(pieces: Iterator[str]) -> Iterator[Read]:
     """The elements of a history whose text comes in pieces, each of which ends with a line's end."""
     number, is_first = 1, True
     for piece in pieces:
@@ -52,17 +70,17 @@ def elements_of(pieces: Iterator[str]) -> Iterator[Element]:
         for place, line in enumerate(lines[:-1] if piece.endswith("\n") else lines):
             fields = quick_fields(line)
             if fields is not None:
-                yield Element(number, line, map_of(fields))
+                yield Read(number, fields, True, None)
                 is_first = False
             elif line.strip():
                 whole = whole_elements(line, number) if not is_first or line.startswith(FIRST) else None
                 if whole is not None:
-                    yield from whole
+                    yield from read_by(whole)
                     is_first = is_first and not whole
                     number += 1
                     continue
                 rest = edn.Reader(chained("\n".join(lines[place:]), pieces), line=number)
-                yield from rest.history() if is_first else rest.elements()
+                yield from read_by(rest.history() if is_first else rest.elements())
                 return
             number += 1
 

@@ -42,18 +42,23 @@ def connected(address: str) -> Iterator[Any]:
         distributed: Any = importlib.import_module("distributed")  # optional: nothing else of this package needs it
     except ImportError as fault:
         raise ShardsError(f"--dask needs the package distributed (Debian: python3-distributed), which is not here: {fault}") from fault
-    logging.getLogger("distributed").setLevel(logging.CRITICAL)
+    logged = logging.root.manager.disable
+    logging.disable(logging.CRITICAL)  # what is lost is said here, in one line
     warnings.filterwarnings("ignore", module="distributed")  # of large objects: a shard goes with its task, so that none is lost
+    client: Any = None
     try:
         client = distributed.Client(address, timeout=CONNECT, set_as_default=False)
+        yield client
     except (OSError, ValueError, TypeError) as fault:
+        if client is not None:
+            raise
         said = " ".join(str(fault).split())
         raise ShardsError(f"there is no Dask scheduler at {address}: {said or type(fault).__name__}") from fault
-    try:
-        yield client
     finally:
         with contextlib.suppress(Exception):
-            client.close(timeout=5)
+            if client is not None:
+                client.close(timeout=5)
+        logging.disable(logged)
 
 
 class Tasks:
