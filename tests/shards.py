@@ -215,6 +215,35 @@ def run_full_disk() -> List[str]:
     return faults
 
 
+def run_several_kinds() -> List[str]:
+    """A history of several kinds: each key is judged by its own model, as it is where the history is judged whole."""
+    faults: List[str] = []
+    both = ("invoke", "ok")
+    with room() as folder:
+        path, shards = folder / "history.edn", folder / "shards"
+        text = written(0, 2) + "".join(line(kind, 0, "acquire", 1, "nil") for kind in both) + "".join(
+            line(kind, 0, "enqueue", 2, 7) for kind in both) + "".join(line(kind, 1, "add", 3, 5) for kind in both)
+        text += line("invoke", 1, "read", 3, "nil") + line("ok", 1, "read", 3, "#{5}")
+        for end in ("", line("invoke", 1, "dequeue", 2, "nil") + line("ok", 1, "dequeue", 2, 8)):
+            path.write_text(text + end)
+            whole = tool("judge", str(path), "--no-cause")[:2]
+            faults += differing("the keys", whole[1].count("\n"), 5)
+            faults += differing("what came of it in shards", tool("judge", str(path), "--jobs", "1", "--no-cause")[:2], whole)
+            shutil.rmtree(shards, ignore_errors=True)
+            tool("shards", "split", str(path), str(shards))
+            tool("shards", "judge", *sorted(str(file) for file in shards.glob("*.edn")))
+            faults += differing("what came of files", tool("shards", "join", str(shards))[:2], whole)
+        status, output, error = tool("judge", str(path), "--jobs", "1")
+        faults += differing("the cause", (status, "dequeued 8" in error or "8" in error.split("illegal")[-1]), (1, True))
+        path.write_text(text + "".join(line(kind, 1, "write", 3, 5) for kind in both))
+        status, output, error = tool("judge", str(path), "--jobs", "1")
+        faults += differing("no object", (status, output, "key 3 has add and read and write, which no object has together" in error), (3, "", True))
+        path.write_text(text + line("invoke", 1, "read", 3, "nil") + line("ok", 1, "read", 3, 5))
+        status, output, error = tool("judge", str(path), "--jobs", "1")
+        faults += differing("a counter", (status, output, "this is a counter" in error), (3, "", True))
+    return faults
+
+
 def run_jepsen_form() -> List[str]:
     """A history in Jepsen's form, judged whole and in shards; one with more operations open than a check takes, judged in shards by itself."""
     faults: List[str] = []
@@ -370,8 +399,8 @@ def has_dask() -> bool:
 def main(names: List[str]) -> int:
     cases: List[Case] = [(name, functools.partial(run)) for name, run in (
         ("same_report", run_same_report), ("refusals", run_refusals), ("beyond", run_beyond), ("many_clients", run_many_clients),
-        ("jepsen_form", run_jepsen_form), ("interrupted", run_interrupted), ("killed_program", run_killed_program),
-        ("full_disk", run_full_disk))]
+        ("several_kinds", run_several_kinds), ("jepsen_form", run_jepsen_form),
+        ("interrupted", run_interrupted), ("killed_program", run_killed_program), ("full_disk", run_full_disk))]
     skipped = 0
     for is_there, what, more in ((shutil.which("parallel") is not None, "GNU parallel", [("parallel", run_parallel)]),
                                  (has_dask(), "python3-distributed", [

@@ -27,10 +27,7 @@ def tally(counts: Sorts, nils: int = 0, sets: int = 0) -> Tally:
 
 class Models(unittest.TestCase):
     def chosen(self, counts: Sorts, nils: int = 0, sets: int = 0, model: Optional[str] = None) -> Optional[str]:
-        try:
-            return by_shards.chosen("x", tally(counts, nils, sets), model).common
-        except Refused:
-            return None
+        return by_shards.chosen(tally(counts, nils, sets), model).common
 
     def test_by_operations(self) -> None:
         self.assertEqual(self.chosen({("write", "ok"): 1, ("read", "ok"): 1}), "register")
@@ -48,7 +45,7 @@ class Models(unittest.TestCase):
 
     def test_what_jepsen_has_said(self) -> None:
         made = turn("{:type :invoke, :f :enqueue, :value [1 2], :process 0}")
-        self.assertEqual(by_shards.chosen("x", Tally(), None, made).common, "fifo-queue")
+        self.assertEqual(by_shards.chosen(Tally(), None, made).common, "fifo-queue")
 
 
 class Ways(unittest.TestCase):

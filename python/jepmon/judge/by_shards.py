@@ -20,6 +20,7 @@ from ..program import KeyLine, Options, Report, check
 from ..shards.checking import key_line
 from ..shards.cluster import judged_on
 from ..shards.judging import Judged
+from ..shards.models import EACH
 from ..shards.report import KEY_LINE, Verdict
 from ..shards.source import History
 from ..shards.splitting import judged_elsewhere
@@ -90,16 +91,16 @@ def judge(given: Given, found: Large, page: Optional[Page], folder: Optional[Fol
 
 
 def _judge(given: Given, found: Large, history: Asked, session: shards.Session, page: Optional[Page], folder: Optional[Folder]) -> int:
-    choice = chosen(found.name, session.tally, given.model, history.made)
-    options = session.options._replace(model=choice.common or "")
+    choice = chosen(session.tally, given.model, history.made)
+    options = session.options._replace(model=choice.common or EACH)
     path = os.path.join(session.tools.folder, "report.txt")
     with open(path, "wb") as file:
         verdict = session.report(judged(given, session, options), file)
-    task = Task("", choice, {}, options, in_shards=True)
+    report = report_of(path, verdict)
+    task = Task("", of_bad_key(choice, report), {}, options, in_shards=True)
     for line in said(found, history, session.tally, verdict, task):
         say(line)
     command.write_output(texts_of(path))
-    report = report_of(path, verdict)
     for line in nil_hints(session.tally, choice):
         say(line)
     recorded = turned.recorded(history.made) if history.made is not None else Recorded("", "", Facts(), is_own=True)
@@ -169,7 +170,7 @@ def lines_of(path: str) -> Iterator[str]:
 # --- The model ---
 
 
-def chosen(name: str, tally: Tally, model: Optional[str], made: Optional[Turned] = None) -> Choice:
+def chosen(tally: Tally, model: Optional[str], made: Optional[Turned] = None) -> Choice:
     """The model of all keys: the one that is given, else the strictest that has all operations and answers that there are."""
     if model is not None:
         return Choice({}, model, "as --model says")
@@ -177,14 +178,19 @@ def chosen(name: str, tally: Tally, model: Optional[str], made: Optional[Turned]
         return Choice({}, made.model, by_operations(made.model, tally.names()))
     names, answers = tally.names(), tally.number_of("read", "ok") - tally.reads_of_nil() - tally.sets
     models = tally.models()
-    if not models:
-        raise Refused(f"{name}: its keys are of several kinds, by their operations: {', '.join(names)}; shards are judged as "
-                      "one: say --model NAME")
-    found = "set" if names == ["read"] and tally.sets else models[0]
-    if found in kinds.REGISTERS and tally.sets or found == "set" and answers > 0:
-        raise Refused(f"{name}: of its reads {answers:,} are answered by integers, and {tally.sets:,} by sets, so its keys are of several "
-                      "kinds, or counters, which jepmon does not judge; say --model NAME")
+    found = "set" if names == ["read"] and tally.sets else models[0] if models else ""
+    if not found or found in kinds.REGISTERS and tally.sets or found == "set" and answers > 0:
+        if made is not None and made.history.drained:
+            raise Refused("its keys are of several kinds, and of some all was drained, which has no order; say --model NAME")
+        return Choice({}, None, f"its keys are of several kinds, each judged by its own operations: {', '.join(names)}")
     return Choice({}, found, by_operations(found, names))
+
+
+def of_bad_key(choice: Choice, report: Report) -> Choice:
+    """The choice with the model of the bad key, where each key has its own."""
+    if choice.common is not None or not report.keys:
+        return choice
+    return choice._replace(models={report.keys[0].key: report.keys[0].model})
 
 
 def by_operations(model: str, names: Sequence[str]) -> str:
@@ -211,7 +217,7 @@ def said(found: Large, history: Asked, tally: Tally, verdict: Verdict, task: Tas
         yield f"{name}: " + ", ".join(f"{outcomes[f'{name} {kind}']} {kind}" for kind in ("ok", "fail", "info"))
     if not any(outcome.endswith(" ok") for outcome in outcomes):
         yield "no operation is ok: nothing was judged"
-    yield f"model {task.choice.common}, {task.choice.reason}"
+    yield f"model {task.choice.common}, {task.choice.reason}" if task.choice.common else task.choice.reason
     if history.made is None and found.path is not None:
         yield f"judged in shards: {task.again(found.path)}"
     else:

@@ -36,7 +36,9 @@ class Task(NamedTuple):
     def again(self, file: str) -> str:
         """The command that judges it again from this file, which has the commands too."""
         if self.in_shards:
-            return f"jepmon-judge {shlex.quote(file)} --jobs {os.cpu_count() or 1} {' '.join(self.script_words)}"
+            words = [f"--concurrency {self.options.concurrency}", f"--budget {self.options.budget}"]
+            words += [f"--model {self.choice.common}"] if self.choice.common else []
+            return f"jepmon-judge {shlex.quote(file)} --jobs {os.cpu_count() or 1} {' '.join(words)}"
         if self.commands:
             return f"jepmon script {' '.join(self.script_words)} < {shlex.quote(file)}"
         return f"jepmon check {shlex.quote(file)} {' '.join(self.options.words())}"

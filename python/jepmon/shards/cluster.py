@@ -28,9 +28,9 @@ RETRIES = 3  # of a task whose program fails
 def judged_on(address: str, folder: str, shards: Sequence[Written], options: Options, *, threads: int, program: str,
               patience: float = PATIENCE) -> Iterator[Judged]:
     """What the shards of a folder come to, as the cluster judges them."""
-    words = options._replace(concurrency=threads, workers=None).words()
     with connected(address) as client:
-        for shard, report in Tasks(client, address, folder, words, program, patience).reports(shards):
+        tasks = Tasks(client, address, folder, options._replace(concurrency=threads, workers=None), program, patience)
+        for shard, report in tasks.reports(shards):
             path = os.path.join(folder, shard.name + OUT)
             write_report(path, shard.checksum, tested_report(report))
             yield judged_of(folder, shard, path, options, folder)
@@ -64,9 +64,9 @@ def connected(address: str) -> Iterator[Any]:
 class Tasks:
     """The tasks of a cluster, a few at once, since the scheduler keeps the text of each."""
 
-    def __init__(self, client: Any, address: str, folder: str, words: List[str], program: str, patience: float) -> None:
+    def __init__(self, client: Any, address: str, folder: str, options: Options, program: str, patience: float) -> None:
         self._client, self._address, self._folder = client, address, folder
-        self._words, self._program, self._patience = words, program, patience
+        self._options, self._program, self._patience = options, program, patience
         self._check = checker()
         self._running: Dict[Any, Written] = {}
         self._had_workers = time.monotonic()
@@ -83,7 +83,8 @@ class Tasks:
     def _send(self, shard: Written) -> None:
         with open(os.path.join(self._folder, shard.name + TEXT), "rb") as file:
             text = file.read()
-        future = self._client.submit(self._check, text, self._words, self._program, pure=False, retries=RETRIES)
+        words = self._options._replace(model=shard.model).words()
+        future = self._client.submit(self._check, text, words, self._program, pure=False, retries=RETRIES)
         self._running[future] = shard
 
     def _threads(self, left: int) -> int:

@@ -33,6 +33,7 @@ class Written(NamedTuple):
 
     name: str
     checksum: str
+    model: str
 
 
 class Manifest(NamedTuple):
@@ -60,7 +61,7 @@ def write_shard(folder: str, name: str, batch: Batch, options: Options, threads:
     with open(path + MAP, "wb") as file:
         file.write(json.dumps({"keys": batch.keys, "order": sys.byteorder}).encode() + b"\n")
         batch.places.tofile(file)
-    return Written(name, checksum_of(text))
+    return Written(name, checksum_of(text), options.model)
 
 
 def read_shard(path: str) -> Tuple[bytes, Options]:

@@ -17,6 +17,7 @@ from .doubt import Doubt, ShardsError
 from .folder import MANIFEST, MAP, OUT, TEXT, Manifest, Written, read_manifest, read_map, read_report, read_shard, write_manifest
 from .folder import checksum_of, write_report, write_shard
 from .judging import REFUSED, Judged, statuses_of, write_result
+from .models import by_model
 from .refusal import first_refusal
 from .report import Verdict, merged, verdict_of
 from .report import write_report as write_whole
@@ -43,9 +44,13 @@ class SplitTask(NamedTuple):
 
 def write_shards(task: SplitTask) -> List[Written]:
     """The second pass over a shard that is judged elsewhere."""
-    batches = batches_of(*events_of(task.sources, task.shard, task.sizes.events), task.sizes)
-    return [write_shard(task.folder, f"{task.name}-{number}", batch, task.options, task.sizes.threads)
-            for number, batch in enumerate(batches)]
+    keys, rests = events_of(task.sources, task.shard, task.sizes.events)
+    written: List[Written] = []
+    for model, of_model in by_model(keys, task.options.model):
+        for batch in batches_of(of_model, rests, task.sizes):
+            options = task.options._replace(model=model)
+            written.append(write_shard(task.folder, f"{task.name}-{len(written)}", batch, options, task.sizes.threads))
+    return written
 
 
 def split(session: Session, options: Options, folder: str) -> List[Written]:
@@ -168,7 +173,8 @@ def judged_of(folder: str, shard: Written, path: str, options: Options, scratch:
     if report is None:
         raise ShardsError(f"{path}: it has changed while it was read")
     keys, places = read_map(folder, shard.name)
-    return write_result(os.path.join(scratch, shard.name + ".result"), statuses_of(report, keys, places, options), options)
+    statuses = statuses_of(report, keys, places, options._replace(model=shard.model))
+    return write_result(os.path.join(scratch, shard.name + ".result"), statuses, options)
 
 
 def refusal_in(manifest: Manifest, doubt: Doubt) -> Exception:

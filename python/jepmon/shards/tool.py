@@ -13,6 +13,7 @@ from ..forms import Refused as NoHistory
 from ..program import find_program
 from .checking import file_error
 from .doubt import ShardsError
+from .models import EACH
 from .session import Refused
 from .splitting import finish, join, judge, new_folder, split
 
@@ -85,11 +86,12 @@ def splits(given: argparse.Namespace) -> int:
     history = by_shards.asked(asked, found)
     with new_folder(folder):
         with by_shards.opened(asked, found, history) as session:
-            choice = by_shards.chosen(found.name, session.tally, given.model, history.made)
-            options = session.options._replace(model=choice.common or "")
+            choice = by_shards.chosen(session.tally, given.model, history.made)
+            options = session.options._replace(model=choice.common or EACH)
             shards = split(session, options, folder)
             finish(session, options, folder, shards)
-    command.say(NAME, f"{found.name}: {session.tally.events:,} events, shards: {len(shards)}; model {options.model}, "
+    command.say(NAME, f"{found.name}: {session.tally.events:,} events, shards: {len(shards)}; "
+                f"{f'model {choice.common}' if choice.common else 'each key by its own model'}, "
                 f"concurrency {options.concurrency}, budget {options.budget}")
     command.write_output(os.path.join(folder, f"{shard.name}.edn") + "\n" for shard in shards)
     return 0
