@@ -3,71 +3,20 @@
 killed. Ends with 'N passed, M failed', or 'N passed, M failed, K skipped' where an engine is not installed (tests/setup installs it).
 With words, it runs the cases of these names alone.
 """
-import contextlib
 import functools
 import os
-import pathlib
 import resource
 import shutil
 import signal
 import subprocess
 import sys
-import tempfile
 import time
-from typing import Callable, Dict, Iterator, List, Tuple
+from typing import List
 
 from case_loop import Case, differing, run_cases
-from program import PROGRAM
-
-TOP = pathlib.Path(__file__).resolve().parent.parent
-LIMIT = 3000  # seconds: on a busy machine all this is slow
-SYSTEM = "/usr/bin/python3"  # for which Debian's python3-distributed is
-LEGAL, ILLEGAL = "legal", "illegal"
-Ran = Tuple[int, str, str]
-
-
-def environment(jepmon: str = str(PROGRAM)) -> Dict[str, str]:
-    return {**os.environ, "JEPMON": os.path.abspath(jepmon), "PYTHONPATH": str(TOP / "python"), "LC_ALL": "C.UTF-8"}
-
-
-def tool(*words: str, python: str = sys.executable, jepmon: str = str(PROGRAM), **more: object) -> Ran:
-    ran = subprocess.run([python, "-m", "jepmon", *words], stdin=subprocess.DEVNULL, stdout=subprocess.PIPE, stderr=subprocess.PIPE,
-                         universal_newlines=True, timeout=LIMIT, env=environment(jepmon), **more)  # type: ignore[call-overload]
-    return ran.returncode, ran.stdout, ran.stderr
-
-
-def checked(path: pathlib.Path, *words: str) -> Tuple[int, str]:
-    ran = subprocess.run([str(PROGRAM), "check", str(path), *words], stdout=subprocess.PIPE, stderr=subprocess.DEVNULL,
-                         universal_newlines=True, timeout=LIMIT)
-    return ran.returncode, ran.stdout
-
-
-def line(kind: str, process: int, name: str, key: int, part: object) -> str:
-    return f"{{:type :{kind}, :process {process}, :f :{name}, :value [{key} {part}]}}\n"
-
-
-def written(key: int, count: int) -> str:
-    return "".join(line(kind, 0, "write", key, number) for number in range(count) for kind in ("invoke", "ok"))
-
-
-def several(path: pathlib.Path, illegal: bool = True) -> pathlib.Path:
-    """A history that is written as three shards at least."""
-    read = line("invoke", 1, "read", 77, "nil") + line("ok", 1, "read", 77, 123456 if illegal else 59)
-    path.write_text("".join(written(key, 60) for key in range(500)) + read)
-    return path
-
-
-@contextlib.contextmanager
-def room() -> Iterator[pathlib.Path]:
-    with tempfile.TemporaryDirectory() as folder:
-        yield pathlib.Path(folder)
-
-
-def script(path: pathlib.Path, text: str) -> str:
-    """A program that is run in the place of jepmon."""
-    path.write_text("#!/bin/sh\n" + text)
-    path.chmod(0o755)
-    return str(path)
+from shard_engines import (has_dask, run_a_worker_killed, run_no_worker_left, run_parallel, run_program_fails_there,
+                           run_scheduler_lost)
+from shard_runs import LIMIT, TOP, checked, environment, line, room, script, several, tool, written
 
 
 # --- jepmon-judge ---
@@ -85,7 +34,8 @@ def run_same_report() -> List[str]:
             faults += differing("the events", "60,002 events, concurrency 2, 500 keys" in error, True)
         with open(path) as file:
             ran = subprocess.run([sys.executable, "-m", "jepmon", "judge", "-", "--jobs", "2", "--no-cause"], stdin=file,
-                                 stdout=subprocess.PIPE, stderr=subprocess.DEVNULL, universal_newlines=True, timeout=LIMIT, env=environment())
+                                 stdout=subprocess.PIPE, stderr=subprocess.DEVNULL, universal_newlines=True, timeout=LIMIT,
+                                 env=environment())
         faults += differing("what came of standard input", (ran.returncode, ran.stdout), checked(path))
         ran_gzip = subprocess.run(["gzip", "-k", str(path)], timeout=LIMIT)
         status, output, _ = tool("judge", str(path) + ".gz", "--jobs", "1", "--no-cause")
@@ -127,7 +77,7 @@ def run_beyond() -> List[str]:
         faults += differing("the verdict", (status, lines[-1]), (2, "unknown key 5 index 1048576"))
         faults += differing("the hot key", lines[0], "key 5 model register budget 4096 events 1050000 status full 1048576")
         faults += differing("keys", len(lines), 66_002)
-        faults += differing("what was said", "more than 1,048,576 events, which one check does not take; it is judged in shards" in error, True)
+        faults += differing("what was said", "more than 1,048,576 events, which one check does not take; it is judged in" in error, True)
         faults += differing("what was not judged", "key 5 has more than 1,048,576 events, and is judged up to event 1048576" in error, True)
         with open(path, "a") as file:
             file.write(line("invoke", 1, "read", 165_999, "nil") + line("ok", 1, "read", 165_999, 2))
@@ -237,7 +187,7 @@ def run_several_kinds() -> List[str]:
         faults += differing("the cause", (status, "dequeued 8" in error or "8" in error.split("illegal")[-1]), (1, True))
         path.write_text(text + "".join(line(kind, 1, "write", 3, 5) for kind in both))
         status, output, error = tool("judge", str(path), "--jobs", "1")
-        faults += differing("no object", (status, output, "key 3 has add and read and write, which no object has together" in error), (3, "", True))
+        faults += differing("no object", (status, output, "key 3 has add and read and write, which no object" in error), (3, "", True))
         path.write_text(text + line("invoke", 1, "read", 3, "nil") + line("ok", 1, "read", 3, 5))
         status, output, error = tool("judge", str(path), "--jobs", "1")
         faults += differing("a counter", (status, output, "this is a counter" in error), (3, "", True))
@@ -245,7 +195,7 @@ def run_several_kinds() -> List[str]:
 
 
 def run_jepsen_form() -> List[str]:
-    """A history in Jepsen's form, judged whole and in shards; one with more operations open than a check takes, judged in shards by itself."""
+    """A history in Jepsen's form, judged whole and in shards; one with more operations open than a check takes is so by itself."""
     faults: List[str] = []
     example = TOP / "examples" / "jepsen-register.edn"
     for words in ([], ["--nil-is-absent"]):
@@ -253,7 +203,8 @@ def run_jepsen_form() -> List[str]:
         faults += differing(f"what came of {words}", parts[:2], whole[:2])
     with room() as folder:
         path = folder / "history.edn"
-        opened = [f"{{:type :invoke, :f :read, :value [key-{client % 20} nil], :process {client}, :time {client}}}\n" for client in range(70)]
+        opened = [f"{{:type :invoke, :f :read, :value [key-{client % 20} nil], :process {client}, :time {client}}}\n"
+                  for client in range(70)]
         path.write_text("".join(opened) + "{:type :ok, :f :read, :value [key-6 9], :process 6, :time 77, :error \"a, b\"}\n")
         status, output, error = tool("judge", str(path), "--html", str(folder / "page.html"), "--model", "register")
         faults += differing("the verdict", (status, output.splitlines()[-1:]), (1, ["illegal key 6 index 70"]))
@@ -263,137 +214,6 @@ def run_jepsen_form() -> List[str]:
         status, output, error = tool("judge", str(path), "--jobs", "1")
         faults += differing("a file that is cut off", (status, output, "line 72" in error, error.count("\n")), (3, "", True, 1))
     return faults
-
-
-# --- jepmon-shards, and GNU parallel ---
-
-
-def parallel(folder: pathlib.Path, jepmon: str, *words: str) -> int:
-    judge = f"{sys.executable} -m jepmon shards judge"
-    files = sorted(str(path) for path in folder.glob("*.edn"))
-    ran = subprocess.run(["parallel", "--will-cite", "--jobs", "2", "--retries", "3", *words, judge, "{}", ":::", *files],
-                         stdin=subprocess.DEVNULL, stdout=subprocess.DEVNULL, stderr=subprocess.PIPE, timeout=LIMIT, env=environment(jepmon))
-    return ran.returncode
-
-
-def run_parallel() -> List[str]:
-    """Shards that are judged by GNU parallel, the first job of which is killed: the same report as that of a check."""
-    faults: List[str] = []
-    with room() as folder:
-        path, shards = several(folder / "history.edn"), folder / "shards"
-        status, output, _ = tool("shards", "split", str(path), str(shards))
-        faults += differing("the shards", (status, output.split()), (0, sorted(str(file) for file in shards.glob("*.edn"))))
-        faults += differing("whether there are several", len(output.split()) > 2, True)
-        status, report, error = tool("shards", "join", str(shards))
-        faults += differing("a join too early", (status, report, "are not judged: shard-" in error), (3, "", True))
-        killed = script(folder / "jepmon", f"if mkdir {folder}/once 2>/dev/null; then kill -9 $PPID; fi; exec {PROGRAM} \"$@\"\n")
-        faults += differing("the status of parallel", (parallel(shards, killed), (folder / "once").exists()), (0, True))
-        faults += differing("the report", tool("shards", "join", str(shards))[:2], checked(path))
-        os.unlink(next(shards.glob("*.out")))
-        dead = script(folder / "dead", "kill -9 $$\n")
-        faults += differing("that a job fails", parallel(shards, dead) > 0, True)
-        status, report, error = tool("shards", "join", str(shards))
-        faults += differing("a join of what lacks", (status, report, "1 are not judged" in error), (3, "", True))
-        faults += differing("what goes on", parallel(shards, str(PROGRAM)), 0)
-        faults += differing("the report in the end", tool("shards", "join", str(shards))[:2], checked(path))
-    return faults
-
-
-# --- Dask ---
-
-
-@contextlib.contextmanager
-def cluster(folder: pathlib.Path, programs: List[str]) -> "Iterator[Tuple[str, List[subprocess.Popen[bytes]]]]":
-    """A scheduler, and a worker for each program: the file that has the address, and all that was started."""
-    told = folder / "scheduler.json"
-    log = open(folder / "log", "wb")
-    started: "List[subprocess.Popen[bytes]]" = []
-
-    def start(*words: str, **more: str) -> None:
-        started.append(subprocess.Popen([SYSTEM, "-m", *words], stdout=log, stderr=log, cwd=folder, env={**environment(), **more}))
-
-    try:
-        start("distributed.cli.dask_scheduler", "--host", "127.0.0.1", "--port", "0", "--no-dashboard", "--scheduler-file", str(told))
-        for number, program in enumerate(programs):
-            start("distributed.cli.dask_worker", "--scheduler-file", str(told), "--nworkers", "1", "--nthreads", "1", "--no-nanny",
-                  "--no-dashboard", "--local-directory", str(folder / f"worker-{number}"), JEPMON=program)
-        yield str(told), started
-    finally:
-        for child in started:
-            child.kill()
-            child.wait()
-        log.close()
-
-
-def address_of(told: str) -> str:
-    import json
-
-    began = time.monotonic()
-    while time.monotonic() < began + LIMIT:
-        with contextlib.suppress(OSError, ValueError, KeyError):
-            address: str = json.loads(pathlib.Path(told).read_text())["address"]
-            return address
-        time.sleep(0.2)
-    raise TimeoutError("the scheduler did not begin")
-
-
-def run_on_cluster(folder: pathlib.Path, path: pathlib.Path, programs: Callable[[pathlib.Path], List[str]], kills: str = "worker") -> Ran:
-    """Judges a history on a cluster, whose first worker, or scheduler, is killed in the first task."""
-    with cluster(folder, programs(folder)) as (told, started):
-        child = subprocess.Popen([SYSTEM, "-m", "jepmon", "judge", str(path), "--dask", address_of(told), "--jobs", "1", "--no-cause"],
-                                 stdout=subprocess.PIPE, stderr=subprocess.PIPE, universal_newlines=True, env=environment())
-        began = time.monotonic()
-        while not (folder / "began").exists() and child.poll() is None and time.monotonic() < began + LIMIT:
-            time.sleep(0.1)
-        started[kills == "worker"].kill()
-        output, error = child.communicate(timeout=LIMIT)
-        return child.returncode, output, error
-
-
-def stuck(folder: pathlib.Path) -> str:
-    """A program that never ends."""
-    return script(folder / "stuck", f"touch {folder}/began; exec sleep 1000\n")
-
-
-def run_a_worker_killed() -> List[str]:
-    """Two workers, of which one is killed in the middle: the other does its tasks, and the report is the same."""
-    with room() as folder:
-        path = several(folder / "history.edn")
-        status, output, error = run_on_cluster(folder, path, lambda folder: [stuck(folder), str(PROGRAM)])
-        return differing("what came", (status, output), checked(path)) + differing("that it was killed", (folder / "began").exists(), True) + (
-            [error] if status == 3 else [])
-
-
-def run_no_worker_left() -> List[str]:
-    """The only worker is killed: it is said, and there is no verdict."""
-    with room() as folder:
-        path = several(folder / "history.edn", illegal=False)
-        status, output, error = run_on_cluster(folder, path, lambda folder: [stuck(folder)])
-        return differing("what came", (status, output, "has no worker, and" in error, "Traceback" in error), (3, "", True, False))
-
-
-def run_scheduler_lost() -> List[str]:
-    """The scheduler is killed: it is said, and there is no verdict."""
-    with room() as folder:
-        path = several(folder / "history.edn", illegal=False)
-        status, output, error = run_on_cluster(folder, path, lambda folder: [stuck(folder)], kills="scheduler")
-        return differing("what came", (status, output, "not judged" in error or "can't be judged" in error, "Traceback" in error), (3, "", True, False))
-
-
-def run_program_fails_there() -> List[str]:
-    """A program that fails on the workers, and a scheduler that is not there."""
-    with room() as folder:
-        path = several(folder / "history.edn", illegal=False)
-        failing = script(folder / "failing", f"touch {folder}/began; exit 7\n")
-        with cluster(folder, [failing]) as (told, _):
-            status, output, error = tool("judge", str(path), "--dask", address_of(told), "--jobs", "1", python=SYSTEM)
-        faults = differing("what came", (status, output, "has ended with status 7" in error), (3, "", True))
-        status, output, error = tool("judge", str(path), "--dask", "tcp://127.0.0.1:9", "--jobs", "1", python=SYSTEM)
-        return faults + differing("nobody there", (status, output, "there is no Dask scheduler at tcp://127.0.0.1:9" in error), (3, "", True))
-
-
-def has_dask() -> bool:
-    return os.path.exists(SYSTEM) and subprocess.run([SYSTEM, "-c", "import distributed"], stderr=subprocess.DEVNULL).returncode == 0
 
 
 def main(names: List[str]) -> int:
