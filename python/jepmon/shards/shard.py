@@ -82,9 +82,7 @@ def divide(division: Division) -> Divided:
     held = 0
     with open(path, "wb") as file:
         for segment in segments_of(shard.sources, shard.number):
-            for key, part, code, place in zip(segment.keys, segment.parts, segment.codes, segment.places):
-                router[key]((key, part, code, place + segment.base))
-            router.settle()
+            router.route(segment.keys, segment.parts, segment.codes, list(map(segment.base.__add__, segment.places)))
             held += len(segment.keys)
             if held >= division.sizes.slab_events:
                 slabs.append(router.write(file))
