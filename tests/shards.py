@@ -136,6 +136,31 @@ def run_interrupted() -> List[str]:
     return faults
 
 
+def run_interrupted_split() -> List[str]:
+    """A split that is ended by a signal leaves nothing, neither in its folder nor elsewhere."""
+    faults: List[str] = []
+    for number, wanted in ((signal.SIGINT, 130), (signal.SIGTERM, 143)):
+        with room() as folder:
+            pipe, scratch, shards = folder / "pipe", folder / "scratch", folder / "shards"
+            os.mkfifo(pipe)
+            scratch.mkdir()
+            words = ["shards", "split", str(pipe), str(shards), "--temporary", str(scratch)]
+            child = subprocess.Popen([sys.executable, "-m", "jepmon", *words], stdout=subprocess.PIPE, stderr=subprocess.PIPE,
+                                     env=environment(), preexec_fn=heed_interrupts)
+            with open(pipe, "w") as writer:  # which it has opened then; the history is not at its end
+                writer.write(written(0, 12_000))
+                writer.flush()
+                began = time.monotonic()
+                while not os.listdir(scratch) and child.poll() is None and time.monotonic() < began + LIMIT:
+                    time.sleep(0.05)
+                os.kill(child.pid, number)
+                output, error = child.communicate(timeout=LIMIT)
+            left = sorted(os.listdir(folder)), os.listdir(scratch)
+            faults += differing(f"what came of signal {number}", (child.returncode, output, b"Traceback" in error, left),
+                                (wanted, b"", False, (["pipe", "scratch"], [])))
+    return faults
+
+
 def run_killed_program() -> List[str]:
     """A program that is killed, one that prints nothing, and one that lies: an error, and no verdict."""
     faults: List[str] = []
@@ -220,7 +245,8 @@ def main(names: List[str]) -> int:
     cases: List[Case] = [(name, functools.partial(run)) for name, run in (
         ("same_report", run_same_report), ("refusals", run_refusals), ("beyond", run_beyond), ("many_clients", run_many_clients),
         ("several_kinds", run_several_kinds), ("jepsen_form", run_jepsen_form),
-        ("interrupted", run_interrupted), ("killed_program", run_killed_program), ("full_disk", run_full_disk))]
+        ("interrupted", run_interrupted), ("interrupted_split", run_interrupted_split), ("killed_program", run_killed_program),
+        ("full_disk", run_full_disk))]
     skipped = 0
     for is_there, what, more in ((shutil.which("parallel") is not None, "GNU parallel", [("parallel", run_parallel)]),
                                  (has_dask(), "python3-distributed", [

@@ -52,7 +52,7 @@ class Folder:
             path.mkdir()
             self._made.insert(0, path)
 
-    def put(self, files: Dict[str, Optional[str]], copies: Mapping[str, str]) -> None:
+    def put(self, files: Dict[str, Optional[str]], copies: Mapping[str, str] = {}) -> None:
         """Writes these files, the verdict last; those without a text are removed, as an earlier run may have left them. Copies are made
         of files that are elsewhere."""
         remove(self.path / VERDICT)

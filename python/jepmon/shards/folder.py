@@ -56,11 +56,14 @@ def write_shard(folder: str, name: str, batch: Batch, options: Options, threads:
     """Writes a shard and its map."""
     text = first_line(options, threads) + batch.text
     path = os.path.join(folder, name)
-    with open(path + TEXT, "wb") as file:
-        file.write(text)
-    with open(path + MAP, "wb") as file:
-        file.write(json.dumps({"keys": batch.keys, "order": sys.byteorder}).encode() + b"\n")
-        batch.places.tofile(file)
+    try:
+        with open(path + TEXT, "wb") as file:
+            file.write(text)
+        with open(path + MAP, "wb") as file:
+            file.write(json.dumps({"keys": batch.keys, "order": sys.byteorder}).encode() + b"\n")
+            batch.places.tofile(file)
+    except OSError as fault:
+        raise ShardsError(f"{path}: {fault.strerror}") from fault
     return Written(name, checksum_of(text), options.model)
 
 

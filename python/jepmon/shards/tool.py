@@ -4,8 +4,12 @@ from __future__ import annotations
 import argparse
 import os
 import shlex
+import signal
+import sys
 import tempfile
-from typing import Callable, Dict, Iterator
+import threading
+from types import FrameType
+from typing import Callable, Dict, Iterator, Optional
 
 from .. import command, kinds
 from ..errors import ProgramError
@@ -125,5 +129,11 @@ def texts_of(path: str) -> Iterator[str]:
         yield from iter(lambda: file.read(CHUNK), "")
 
 
+def terminated(number: int, _frame: Optional[FrameType]) -> None:
+    sys.exit(128 + number)  # by way of all that removes files
+
+
 def main() -> int:
+    if threading.current_thread() is threading.main_thread():
+        signal.signal(signal.SIGTERM, terminated)
     return command.run(NAME, work)
