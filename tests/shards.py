@@ -153,7 +153,9 @@ def run_interrupted_split() -> List[str]:
                 began = time.monotonic()
                 while not os.listdir(scratch) and child.poll() is None and time.monotonic() < began + LIMIT:
                     time.sleep(0.05)
-                os.kill(child.pid, number)
+                while child.poll() is None and time.monotonic() < began + LIMIT:  # one that comes just before a read is seen after it
+                    os.kill(child.pid, number)
+                    time.sleep(0.5)
                 output, error = child.communicate(timeout=LIMIT)
             left = sorted(os.listdir(folder)), os.listdir(scratch)
             faults += differing(f"what came of signal {number}", (child.returncode, output, b"Traceback" in error, left),
