@@ -220,6 +220,8 @@ def growth(browser: Browser) -> List[str]:
     line, over = browser.box(".budget-line"), browser.box(".count.over")
     faults += differing("that it is above the line", over["top"] < line["top"] < over["bottom"], True)
     faults += differing("ends", browser.count("tr[data-end]"), 0) + differing("dots", browser.count(".dot"), 0)
+    opened(browser, "first_ok")
+    faults += differing("where there is no other", browser.texts(".count"), ["> 4096"])
     return faults + console(browser)
 
 

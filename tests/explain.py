@@ -31,7 +31,8 @@ def explained(arguments: List[str], text: bytes = b"", program: str = PROGRAM) -
 def run_case(case: pathlib.Path) -> List[str]:
     text = given(case, "history")
     ran = explained(["-"] + words(case / "args"), text)
-    plain = subprocess.run([PROGRAM, "check", "/dev/stdin"] + words(case / "args"), input=text, stdout=subprocess.PIPE, timeout=LIMIT)
+    plain = subprocess.run([PROGRAM, "check", "/dev/stdin"] + words(case / "args"), input=text, stdout=subprocess.PIPE,
+                           stderr=subprocess.PIPE, timeout=LIMIT)
     return (differing("the last line of standard output", b"".join(ran.stdout.splitlines(True)[-1:]), read(case / "stdout"))
             + differing("standard error", ran.stderr, read(case / "stderr"))
             + differing("status", ran.returncode, int(read(case / "status", b"0")))

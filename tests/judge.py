@@ -212,7 +212,12 @@ def run_page() -> List[str]:
             got = ran([STALE, "--html", str(page)])
             faults += differing("what came", (got.returncode, got.stdout), (1, VERDICT))
             faults += differing("the page", page.read_text().startswith("<!"), True)
+        got = ran([STALE, "--html", "page.html"], folder=folder)
+        faults += differing("how it is named", b"judge: the page is page.html\n" in got.stderr, True)
         faults += differing("what is there", os.listdir(folder), ["page.html"])
+        got = ran([STALE, "--html", "nowhere/page.html"], folder=folder)
+        faults += differing("how one that can't be written is named", last_lines(got),
+                            (3, b"", b"judge: nowhere/page.html: it can't be written: No such file or directory\n"))
         for name, why in (("nowhere/page.html", "No such file or directory"), (".", "this is a folder; name a file"),
                           ("history.edn", "this file is there, and is no page: it is not overwritten")):
             pathlib.Path(folder, "history.edn").write_text("{}")
@@ -263,4 +268,5 @@ def all_cases() -> List[Case]:
 
 
 if __name__ == "__main__":
+    signal.signal(signal.SIGINT, signal.default_int_handler)  # it may be ignored here, as for a job in the background, and so in children
     sys.exit(run_cases("judge", all_cases(), sys.argv[1:]))

@@ -3,6 +3,7 @@
 No server is needed. Ends with 'N passed, M failed'. With words, it runs the tests of these names alone.
 """
 import faulthandler
+import signal
 import sys
 from typing import List
 
@@ -34,5 +35,6 @@ def main(names: List[str]) -> int:
 
 
 if __name__ == "__main__":
+    signal.signal(signal.SIGINT, signal.default_int_handler)  # it may be ignored here, as for a job in the background, and so in children
     faulthandler.dump_traceback_later(LIMIT, exit=True)
     sys.exit(main(sys.argv[1:]))

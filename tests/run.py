@@ -101,6 +101,12 @@ def ask(process, line, limit=10.0):
     return os.read(process.stdout.fileno(), 65536) if ready else b"(no reply)"
 
 
+def refused(errors):
+    """The first line of standard error, where the usual cause of a refusal stands in one line behind it."""
+    lines = errors.splitlines(True)
+    return lines[0] if len(lines) == 2 and lines[1].endswith((b".\n", b"?\n")) else errors
+
+
 def run_live():
     """Each reply reaches the reader of standard output before the next line is sent."""
     case = TOP / "tests" / "cases" / "write_then_read"
@@ -123,6 +129,36 @@ def run_live():
     return faults
 
 
+def run_strict():
+    """A strict script ends at its first refusal though nobody closes its input, and answers no line behind it."""
+    process = subprocess.Popen([str(PROGRAM), "script", "--strict"], stdin=subprocess.PIPE, stdout=subprocess.PIPE, stderr=subprocess.PIPE)
+    try:
+        got = ask(process, b"[:verdict]\n") + ask(process, b"[:rewind 1]\n[:verdict]\n")
+        status, rest = process.wait(timeout=10), process.stdout.read()
+    finally:
+        process.kill()
+        process.communicate()
+    return [] if (got + rest, status) == (b"legal\nrefused 8 NoSuchIndex\n", 3) else [f"it answered {got + rest!r} and ended with {status}"]
+
+
+def on_terminals(words):
+    """Runs it with standard input and standard error a terminal, at which Ctrl-D is typed: the status, and what it shows."""
+    shown, terminal = os.openpty()
+    process = subprocess.Popen([str(PROGRAM), *words], stdin=terminal, stdout=subprocess.PIPE, stderr=terminal)
+    os.close(terminal)
+    os.write(shown, b"[:verdict]\n\x04")
+    said = process.communicate(timeout=60)[0]
+    return process.returncode, said, all_shown(shown)
+
+
+def run_typed():
+    """Who has to type the events is told so; a check of a file tells nobody."""
+    status, said, shown = on_terminals(["script"])
+    faults = [] if (status, said) == (0, b"legal\n") and b"reading events from the terminal" in shown else [f"script: {(status, said, shown)!r}"]
+    status, said, shown = on_terminals(["check", str(TOP / "examples" / "recorded-stale-read.edn")])
+    return faults + ([f"check: {shown!r}"] if b"reading events" in shown else [])
+
+
 def run_half_a_line():
     """Whole lines are answered though half a line stands behind them in one piece, and that one when the rest of it comes."""
     case = TOP / "tests" / "cases" / "write_then_read"
@@ -143,7 +179,7 @@ def run_half_a_line():
 def run_with(stdin, stdout):
     """Runs write_then_read with these streams in place of its own: the status and standard error."""
     ran = subprocess.run([str(PROGRAM), "script"], stdin=stdin, stdout=stdout, stderr=subprocess.PIPE, timeout=60)
-    return ran.returncode, ran.stderr
+    return ran.returncode, refused(ran.stderr)
 
 
 def run_failing_reader():
@@ -169,18 +205,20 @@ def run_script_without_memory():
     ran = subprocess.run([str(PROGRAM), "script"], input=given, stdout=subprocess.PIPE, stderr=subprocess.PIPE, timeout=60,
                          preexec_fn=limited(64 << 10))
     taken = len(ran.stdout) // len(b"legal\n")
-    got = (ran.returncode, ran.stderr, ran.stdout == b"legal\n" * taken, 0 < taken < 2**20)
+    got = (ran.returncode, refused(ran.stderr), ran.stdout == b"legal\n" * taken, 0 < taken < 2**20)
     return [] if got == (3, b"refused 13 NoMemory\n", True, True) else [f"after {taken} events it ended with {got!r}"]
 
 
 def run_full_check():
-    """A check whose standard output takes no byte: status 3, whatever the verdict."""
-    history = TOP / "examples" / "recorded-stale-read.edn"
-    with open("/dev/full", "wb") as full:
-        ran = subprocess.run([str(PROGRAM), "check", str(history)], stdin=subprocess.DEVNULL, stdout=full,
-                             stderr=subprocess.PIPE, timeout=60)
-    got = (ran.returncode, ran.stderr)
-    return [] if got == (3, b"") else [f"it ended with {got!r}"]
+    """What is not written is said, whatever the verdict: refused 21, status 3."""
+    faults = []
+    for words in (["check", str(TOP / "examples" / "recorded-stale-read.edn")], ["check", "/dev/null"], ["run"], ["--help"], ["--version"],
+                  ["script", "--help"]):
+        with open("/dev/full", "wb") as full:
+            ran = subprocess.run([str(PROGRAM), *words], stdin=subprocess.DEVNULL, stdout=full, stderr=subprocess.PIPE, timeout=60)
+        if ran.returncode != 3 or b"refused 21 WriteFailed\n" not in ran.stderr:
+            faults.append(f"{words} ended with {ran.returncode}, {ran.stderr!r}")
+    return faults
 
 
 def many_keys():
@@ -275,7 +313,7 @@ def run_run_progress():
     if re.sub(rb"\r\d+ events, legal so far    ", b"", seen) != b"\r\n":
         faults.append(f"on a terminal it also showed something else: {seen[:400]!r}")
     if run_stopped(False, 1.2) != (b"", [b"legal"]):
-        faults.append("where standard error is no terminal it said something")
+        faults.append("where standard error is no terminal it showed how far it had come")
     return faults
 
 
@@ -287,7 +325,7 @@ def run_narrow_writer():
                                  restore_signals=False,
                                  preexec_fn=lambda: resource.setrlimit(resource.RLIMIT_FSIZE, (10, 10)))
         narrow.seek(0)
-        got = (ran.returncode, narrow.read(), ran.stderr)
+        got = (ran.returncode, narrow.read(), refused(ran.stderr))
     return [] if got == (3, b"legal\nlega", b"refused 21 WriteFailed\n") else [f"it ended with {got!r}"]
 
 
@@ -304,7 +342,7 @@ def run_broken_reader():
         replies = process.stdout.readline() + process.stdout.readline()
         client.setsockopt(socket.SOL_SOCKET, socket.SO_LINGER, struct.pack("ii", 1, 0))
     more, errors = process.communicate(timeout=10)
-    got = (process.returncode, replies + more, errors)
+    got = (process.returncode, replies + more, refused(errors))
     return [] if got == (3, b"legal\nlegal\n", b"refused 20 ReadFailed\n") else [f"it ended with {got!r}"]
 
 
@@ -354,16 +392,24 @@ def run_cut_off_at_each_byte():
         if last:
             want += b"legal\n" if last.endswith(b"}") else b"refused 11 Unreadable 0\n"
         ran = subprocess.run([str(PROGRAM), "script"], input=lines[:n], stdout=subprocess.PIPE, stderr=subprocess.PIPE, timeout=60)
-        if (ran.returncode, ran.stdout, ran.stderr) != (0, want, b""):
+        if (ran.returncode, ran.stdout) != (0, want):
             faults.append(f"cut off after {n} bytes it ended with {ran.returncode}, {ran.stdout!r}")
     return faults
 
 
 # Words of the command line, the processes that invoke a read, the replies, the status, and how standard error begins.
 WORDS = [
-    ("script --concurrency 64 --budget 65536", (63, 64), b"legal\nrefused 2 WrongProcess\n", 0, b""),
-    ("script --budget 1 --concurrency 1", (0, 1), b"legal\nrefused 2 WrongProcess\n", 0, b""),
-    ("script --model set --concurrency 3", (2, 3), b"legal\nrefused 2 WrongProcess\n", 0, b""),
+    ("script --concurrency 64 --budget 65536", (63, 64), b"legal\nrefused 2 WrongProcess\n", 0, b"1 of 2 lines was refused, line 2: "),
+    ("script --budget 1 --concurrency 1", (0, 1), b"legal\nrefused 2 WrongProcess\n", 0, b"1 of 2 lines was refused, line 2: "),
+    ("script --model set --concurrency 3", (2, 3), b"legal\nrefused 2 WrongProcess\n", 0, b"1 of 2 lines was refused, line 2: "),
+    ("script --concurrency 1 --strict", (0, 1, 0), b"legal\nrefused 2 WrongProcess\n", 3, b"line 2 was refused, and a strict script "),
+    ("script --strict", (0, 1), b"legal\nlegal\n", 0, b""),
+    ("script --strict=yes", (), b"", 3, b"error: "),
+    ("check -", (0, 1), b"key 7 model register budget 4096 events 2 status alive\nlegal\n", 0, b""),
+    ("check - --strict", (), b"", 3, b"error: "),
+    ("history.edn", (), b"", 3, b"error: history.edn is no command; jepmon check history.edn judges it\n"),
+    ("./history", (), b"", 3, b"error: ./history is no command; jepmon check ./history judges it\n"),
+    ("chek", (), b"", 3, b"error: unrecognized subcommand 'chek'\n"),
     ("script --concurrency -1", (), b"", 3, b"refused 10 BadConcurrency\n"),
     ("script --concurrency 99999999999999999999", (), b"", 3, b"refused 10 BadConcurrency\n"),
     ("script --concurrency 0 --budget 0", (), b"", 3, b"refused 9 BadBudget\n"),
@@ -372,7 +418,7 @@ WORDS = [
     ("script --model", (), b"", 3, b"error: "),
     ("check x.edn --budget 0 --concurrency 0", (), b"", 3, b"refused 9 BadBudget\n"),
     ("check x.edn --concurrency 65 --workers 65", (), b"", 3, b"refused 10 BadConcurrency\n"),
-    ("check /dev/null --workers 64", (), b"legal\n", 0, b""),
+    ("check /dev/null --workers 64", (), b"legal\n", 0, b"no event was read\n"),
     ("script --seed 1", (), b"", 3, b"error: "),
     ("watch", (), b"", 3, b"error: "),
     ("run --concurrency 64", (), b"", 3, b"refused 10 BadConcurrency\n"),
@@ -451,7 +497,8 @@ def run_is_struck():
     faults, struck = [], False
     for has_faults in ("off", *["on"] * 20):
         lines, status, errors = run_of(f"{words} {has_faults}")
-        if len(lines) != 2 or errors or "budget 2" not in lines[0] or status not in ((0,) if has_faults == "off" else (0, 2)):
+        said = errors.startswith(b"key 0 has more ends than its budget: ") if status == 2 else not errors
+        if len(lines) != 2 or not said or "budget 2" not in lines[0] or status not in ((0,) if has_faults == "off" else (0, 2)):
             faults.append(f"with faults {has_faults}: {(lines, status, errors)!r}")
         struck = status == 2
         if struck or faults:
@@ -544,8 +591,8 @@ def run_without_memory():
     """A run that outgrows the memory is refused on standard output, in place of a report: status 3."""
     ran = subprocess.run([str(PROGRAM), "run", "--ops", "100000"], stdin=subprocess.DEVNULL, stdout=subprocess.PIPE,
                          stderr=subprocess.PIPE, timeout=60, preexec_fn=limited(48 << 10))
-    got = (ran.returncode, ran.stdout, ran.stderr)
-    return [] if got == (3, b"refused 13 NoMemory\n", b"") else [f"it ended with {got!r}"]
+    got = (ran.returncode, ran.stdout, len(ran.stderr.splitlines()))
+    return [] if got == (3, b"refused 13 NoMemory\n", 1) else [f"it ended with {got!r}"]
 
 
 def run_no_text():
@@ -564,7 +611,7 @@ def run_start():
 
 def start_time():
     begin = time.monotonic()
-    subprocess.run([str(PROGRAM), "script"], stdin=subprocess.DEVNULL, stdout=subprocess.PIPE, check=True)
+    subprocess.run([str(PROGRAM), "script"], stdin=subprocess.DEVNULL, stdout=subprocess.PIPE, stderr=subprocess.PIPE, check=True)
     return time.monotonic() - begin
 
 
@@ -572,6 +619,7 @@ def all_cases():
     """Each case by its name."""
     cases = [(c.name, lambda c=c: run_case(c)) for c in sorted((TOP / "tests" / "cases").iterdir()) if c.is_dir()]
     cases += [("replies_are_live", run_live), ("half_a_line_holds_none_back", run_half_a_line),
+              ("strict_script_ends_at_a_refusal", run_strict), ("who_types_is_told", run_typed),
               ("starts_in_milliseconds", run_start),
               ("any_cutting", run_any_cutting), ("cut_off_at_each_byte", run_cut_off_at_each_byte),
               ("failing_reader", run_failing_reader),

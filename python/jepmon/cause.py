@@ -141,7 +141,7 @@ def lines(cause: Cause, width: int = 110) -> List[str]:
 def of_part(part: Part) -> List[str]:
     """What the part is."""
     if part.operations == part.of:
-        what = "The only operation" if part.of == 1 else f"All {part.of} operations"
+        what = {1: "The only operation", 2: "Both operations"}.get(part.of, f"All {part.of} operations")
         return [f"{what} of the key up to there:"]
     which, verb = ("This one", "is") if part.operations == 1 else (f"These {part.operations}", "are")
     asked = f"jepmon was asked {ordinal_times(part.checks)}{'' if part.finished else '; time was up, and more might go out'}"

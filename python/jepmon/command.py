@@ -6,6 +6,7 @@ name once it is whole.
 from __future__ import annotations
 
 import argparse
+import gc
 import io
 import os
 import pathlib
@@ -15,15 +16,24 @@ from typing import BinaryIO, Callable, Iterable, NoReturn, Optional, TextIO, Typ
 from .errors import OutputError, ProgramError
 from .names import printable
 
-__all__ = ["INTERRUPTED", "OutputError", "REFUSED", "Words", "copy_file", "run", "say", "standard_error", "standard_input", "tool", "write_error",
-           "write_file", "write_output"]
+__all__ = ["INTERRUPTED", "OutputError", "REFUSED", "Words", "collect_seldom", "copy_file", "run", "say", "standard_error", "standard_input",
+           "tool", "write_error", "write_file", "write_output"]
 
 REFUSED = 3  # the status of whatever is no verdict
 INTERRUPTED = 130
+OBJECTS = 100_000  # that are made before Python looks for garbage among them
+
+
+def collect_seldom() -> None:
+    """Has Python look for garbage less often: a tool keeps nearly all that it reads, so that there is little to find."""
+    gc.set_threshold(OBJECTS)
 
 
 def tool(name: str) -> str:
     """How a tool of this package is called, by the way in which this one was."""
+    called = os.environ.get("JEPMON_CALLED")  # by a script of the repository, as ./jepmon-judge
+    if called and pathlib.PurePath(called).name == f"jepmon-{name}":
+        return called
     path = pathlib.PurePath(sys.argv[0] if sys.argv else "")
     if path.parent.name == "examples":
         return f"examples/{name}"
@@ -106,7 +116,7 @@ def copy_file(source: str, path: Union[str, "os.PathLike[str]"]) -> None:
 def _write_to(path: Union[str, "os.PathLike[str]"], write: Callable[[BinaryIO], object]) -> None:
     import tempfile
 
-    path = os.path.realpath(path)  # of a link what it leads to
+    named, path = path, os.path.realpath(path)  # of a link what it leads to
     made: Optional[str] = None
     try:
         if os.path.exists(path) and not os.path.isfile(path):  # a device or a pipe is written as it is
@@ -120,7 +130,7 @@ def _write_to(path: Union[str, "os.PathLike[str]"], write: Callable[[BinaryIO], 
         os.replace(made, path)
         made = None
     except OSError as fault:
-        raise OutputError(f"{path} can't be written: {fault.strerror}") from fault
+        raise OutputError(f"{named} can't be written: {fault.strerror}") from fault
     finally:
         if made is not None:
             os.unlink(made)
@@ -144,6 +154,7 @@ class Words(argparse.ArgumentParser):
 def run(name: str, main: Callable[[], int]) -> int:
     """Does the work of a command, and gives its exit status. What it raises is said in one line."""
     status = REFUSED
+    collect_seldom()
     try:
         status = main()
         write_output(())

@@ -9,7 +9,8 @@ from __future__ import annotations
 from typing import Iterable, Iterator, List, Match, NamedTuple, NoReturn, Optional, Tuple, Union
 
 from . import edn_profile
-from .edn_tokens import ATOM, CLOSE, COMMENT, END, MARKS, METADATA, OPEN, PREFIX, RUN, STRANGE, TOKEN, UNENDED, atoms_of, kind_of
+from .edn_tokens import (ATOM, CLOSE, COMMENT, DEPTH_OF_MAP, END, MAP, MARKS, METADATA, OPEN, PREFIX, RUN, STRANGE, TOKEN, TOKEN_OR_MAP,
+                         UNENDED, atoms_of, kind_of, members_of)
 from .edn_values import CLOSING, Many, Value, canonical, fields_of, has_twice, integer, keyword, shown, spelling, string
 
 __all__ = ["Element", "Many", "Reader", "Unreadable", "Value", "canonical", "fields_of", "integer", "keyword", "shown", "spelling",
@@ -35,8 +36,6 @@ class Unreadable(Exception):
 
 
 Open = Tuple[str, int, Optional[List[Value]]]  # what is open: its text and place, and the members that it is to stand among
-
-
 
 
 class Reader:
@@ -70,13 +69,14 @@ class Reader:
 
     def _read(self) -> Iterator[Element]:
         stack, profile = self._stack, self._profile
+        tokens = TOKEN_OR_MAP if profile is None else TOKEN
         members: Optional[List[Value]] = None  # of the innermost collection; None at the top, and where a prefix waits
         for piece, is_last in self._all_pieces():
             if profile is not None:
                 profile.begin(piece)
-            for token in TOKEN.finditer(piece):
+            for token in tokens.finditer(piece):
                 text: str = token[1]
-                kind = MARKS.get(text)
+                kind = MAP if len(text) > 1 and text[0] == "{" else MARKS.get(text)
                 if kind is None:
                     kind = kind_of(text) if text[0] in ';#"\\' else RUN
                 if profile is not None and not profile.is_inside(token):
@@ -93,6 +93,14 @@ class Reader:
                     opened, _, outer = stack.pop()
                     value: Value = Many(opened, tuple(members))
                     members = outer
+                elif kind == MAP:
+                    value = Many("{", tuple(members_of(text[1:-1])))
+                    if len(value.members) % 2 == 1 or len(stack) + DEPTH_OF_MAP > DEEPEST:
+                        self._test_map(value, token)
+                    if members is None and not stack:
+                        self._begin_element("", token.start(1))
+                        yield Element(self._element_line, text, value)
+                        continue
                 elif kind == OPEN or kind == PREFIX:
                     if not stack and self._begin_element(text, token.start(1)):
                         continue
@@ -233,6 +241,22 @@ class Reader:
                 self._refuse(place, f"more than {DEEPEST} collections, tags or discards stand in one another")
         elif sum(text in CLOSING for text, _, _ in self._stack) >= edn_profile.DEEPEST:
             self._refuse(place, f"here more than {edn_profile.DEEPEST} collections are open in one another")
+
+    def _test_map(self, value: Many, token: Match[str]) -> None:
+        """Refuses a flat map as one that comes token by token: where it is too deep in others, or a key has no value."""
+        if not self._stack:
+            self._begin_element("{", token.start(1))
+        kept = len(self._stack)
+        for inner in TOKEN.finditer(self._piece, token.start(1), token.end()):
+            kind = MARKS.get(inner[1])
+            if kind == OPEN:
+                if len(self._stack) >= DEEPEST:
+                    self._test_depth(inner.start(1))
+                self._stack.append((inner[1], self._before + inner.start(1), None))
+            elif kind == CLOSE and len(self._stack) > kept + 1:
+                self._stack.pop()
+        self._test_members(list(value.members), token.end() - 1)
+        del self._stack[kept:]
 
     def _test_profile(self, profile: edn_profile.Profile, token: Match[str], kind: int) -> None:
         """Refuses a token that is outside the profile, and other white space before it or in it than the profile's."""

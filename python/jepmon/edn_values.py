@@ -6,7 +6,9 @@ from typing import Any, Dict, NamedTuple, Optional, Sequence, Tuple, Union
 
 CLOSING = {"{": "}", "[": "]", "(": ")", "#{": "}"}
 NUMERIC = frozenset("+-0123456789")  # with which numbers begin
+DIGITS = frozenset("123456789")  # with which one begins that is spelled in no other way
 INTEGER = re.compile(r"[+-]?[0-9]{1,1000}N?")
+ATOMS = {str}
 ESCAPES = {"t": "\t", "r": "\r", "n": "\n"}
 
 
@@ -36,7 +38,9 @@ def shown(value: Value, most: int = 160) -> str:
 def canonical(value: Value) -> Value:
     """The value so that two which EDN calls equal are equal: sets and maps in one order, lists as vectors, 1N and +1 as 1."""
     if isinstance(value, str):
-        number = integer(value) if value[:1] in NUMERIC else None
+        if value[0] not in NUMERIC or value[0] in DIGITS and value.isdecimal() and value.isascii():  # as most are
+            return value
+        number = integer(value)
         return value if number is None else str(number)
     members = [canonical(member) for member in value.members]
     if value.opened == "#{":
@@ -70,7 +74,11 @@ def fields_of(value: Value) -> Optional[Dict[str, Value]]:
     """The fields of a map whose keys are keywords or other atoms; None of anything else."""
     if not isinstance(value, Many) or value.opened != "{":
         return None
-    return {key: field for key, field in zip(value.members[0::2], value.members[1::2]) if isinstance(key, str)}
+    members = iter(value.members)
+    fields: Dict[str, Value] = dict(zip(members, members))
+    if set(map(type, fields)) <= ATOMS:  # as nearly all are
+        return fields
+    return {key: field for key, field in fields.items() if isinstance(key, str)}
 
 
 def integer(value: Optional[Value]) -> Optional[int]:

@@ -224,10 +224,11 @@ class Script:
         return ProgramError(f"{self._name} has ended, {how}{self._errors_told()}")
 
     def _errors_told(self) -> str:
-        """The last of what it wrote to standard error."""
+        """The last of what it wrote to standard error; of a refusal its line alone, without the usual cause."""
         file = self._errors.fileno()
         text = os.pread(file, 2000, max(0, os.fstat(file).st_size - 2000)).decode(errors="replace").strip()
-        return f": {text}" if text else ""
+        refusals = [line for line in text.splitlines() if line.startswith("refused ")]
+        return f": {refusals[-1] if refusals else text}" if text else ""
 
     def end(self, patience: float = PATIENCE) -> None:
         """Ends it by the end of its input, else by force. A second call does nothing."""

@@ -85,6 +85,13 @@ def unknown() -> page.PageInput:
     return given(made("cas-register", 6, 300, seed=11, timeouts=0.05, values=5, pause=0.6), "cas-register", 6)
 
 
+def first_ok() -> page.PageInput:
+    """The first ok already finds more ends than the budget, so that there are no counts before it."""
+    event = "{{:type :{}, :process {}, :f :{}, :value [7 {}]}}\n".format
+    writes = [event(kind, 2 * each, "write", 1) for each in range(11) for kind in ("invoke", "info")]
+    return given("".join(writes + [event("invoke", 1, "read", "nil"), event("ok", 1, "read", 1)]), "register", 2)
+
+
 def legal() -> page.PageInput:
     return given(made("register", 3, 30, seed=2), "register", 3)
 
@@ -141,6 +148,6 @@ def big(count: int = 5000) -> page.PageInput:
 
 MADE: Dict[str, Callable[[], page.PageInput]] = {
     made_page.__name__: functools.lru_cache(maxsize=None)(made_page) for made_page in (
-        register, faults, cas_register, mutex, fifo_queue, unordered_queue, set_of_adds, unknown, legal, failed, hostile,
-        many_clients, many_timeouts, gave_up, disagrees)
+        register, faults, cas_register, mutex, fifo_queue, unordered_queue, set_of_adds, unknown, first_ok, legal, failed,
+        hostile, many_clients, many_timeouts, gave_up, disagrees)
 }

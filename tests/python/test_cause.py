@@ -122,6 +122,18 @@ client 0's write of 103 (event 72, ×3.5) and client 1's write of 209 (event 76,
 In the next test let fewer clients use one key at once.""")
         self.assertIsNone(found.part)
 
+    def test_an_acquire_that_failed(self) -> None:
+        """A lock that nobody had acquired but one who was told that it failed."""
+        text = (TOP / "tests" / "cases" / "failed_acquire_is_not_released" / "stdin").read_text()
+        found = explained(text, program.Options(2, "mutex"))
+        self.assertEqual(found.sentences[0], "Nobody had acquired it before: client 0's acquire had failed (event 1).")
+
+    def test_numbers_of_one_and_two(self) -> None:
+        text = (TOP / "examples" / "mutex-held-twice.edn").read_text()
+        self.assertIn("Both operations of the key up to there:", cause.lines(explained(text, program.Options(2, "mutex"))))
+        found = explained("\n".join(text.splitlines()[:3]), program.Options(2, "mutex", 1))
+        self.assertEqual(found.headline[:47], "At event 1 more than 1 outcome was possible for")
+
     def test_the_greatest_budget(self) -> None:
         """What a history comes to with it: the program is asked."""
         text = (TOP / "tests" / "cases" / "check_of_a_blown_and_a_dead_key" / "history.edn").read_text()

@@ -7,7 +7,7 @@ import tempfile
 import unittest
 from unittest import mock
 
-from jepmon import command
+from jepmon import __version__, command
 from tests.python import TOP
 
 
@@ -16,6 +16,23 @@ def ended(code: str, shell: str = '"$@"') -> "subprocess.CompletedProcess[str]":
     program = f"import sys; sys.path.insert(0, {str(TOP / 'python')!r}); from jepmon import command\n{code}"
     return subprocess.run(["sh", "-c", shell, "sh", sys.executable, "-c", program], stdin=subprocess.DEVNULL, stdout=subprocess.PIPE,
                           stderr=subprocess.PIPE, universal_newlines=True, timeout=60)
+
+
+class Called(unittest.TestCase):
+    def test_by_a_script_of_the_repository(self) -> None:
+        """What is said to call a tool again is how it was called."""
+        with mock.patch.object(sys, "argv", ["/somewhere/jepmon/__main__.py"]), mock.patch.dict(os.environ, JEPMON_CALLED="./jepmon-judge"):
+            self.assertEqual((command.tool("judge"), command.tool("explain")), ("./jepmon-judge", "python3 -m jepmon explain"))
+
+    def test_the_script_says_how(self) -> None:
+        ran = subprocess.run(["./jepmon-judge", "--budget", "x", "-"], cwd=TOP, env=dict(os.environ, JEPMON="jepmon"), input=b"",
+                             stdout=subprocess.PIPE, stderr=subprocess.PIPE, timeout=60)
+        want = b"judge: argument --budget: it takes a number of ends, 1 to 65536; see ./jepmon-judge --help\n"
+        self.assertEqual((ran.returncode, ran.stdout, ran.stderr), (3, b"", want))
+
+    def test_version(self) -> None:
+        ran = subprocess.run(["./jepmon-judge", "--version"], cwd=TOP, env=dict(os.environ, JEPMON="jepmon"), stdout=subprocess.PIPE, timeout=60)
+        self.assertEqual((ran.returncode, ran.stdout), (0, f"jepmon (Python) {__version__}\n".encode()))
 
 
 class Ends(unittest.TestCase):

@@ -1,8 +1,7 @@
-"""Long histories in Jepsen's form: lines that are read fast, events that are kept in a file, and limits that shards do not have."""
+"""Long histories in Jepsen's form: events that are kept in a file, and limits that shards do not have."""
 from __future__ import annotations
 
 import pathlib
-import random
 import subprocess
 import sys
 import unittest
@@ -12,46 +11,10 @@ from unittest import mock
 from jepmon import edn
 from jepmon.from_jepsen import spool, turn
 from jepmon.from_jepsen.events import Event, Fault
-from jepmon.from_jepsen.quick import elements_of, quick_fields
 from jepmon.from_jepsen.refusal import TooMany
 from jepmon.from_jepsen.write import OF_SHARDS
 
 TOP = pathlib.Path(__file__).resolve().parents[2]
-PIECES = ("{:type :invoke, :f :read, :value [1 nil], :process 0}", "{:type :ok, :f :cas, :value [k [1 2]], :process 0, :index 7}",
-          "#jepsen.history.Op{:index 0, :time 5, :type :info, :process :nemesis, :f :kill, :value nil}", "; a comment", "", "  ", "[", "]",
-          "{:type :ok, :f :read, :value [1 \"x, y\"], :process 0}", "{:a 1, :b {:c 2}}", "#_", "#_ {:a 1}", "{:a 1", ", :b 2}", "\"a", "b\"",
-          "{:value [1 #{1 2}]}", "{:value [07 1]}", "{:a 1.5, :b 1N, :c foo/bar}", "{:a 1, :a 2}", "{:a 1,}", "{:type :ok} {:type :fail}", "}",
-          "{:value [1 [nil 2]], :x [1 2 3]}", "(1 2)", "{:a 1 :b 2}", "nil", "^{:m 1} {:a 2}", "#foo", "[{:a 1}", "{:b 2}]", "[{:a 1} {:b 2}]")
-
-
-def read(text: str, quickly: bool) -> List[object]:
-    """The lines and values of the elements, and at the end what can't be read."""
-    pieces = text.splitlines(True)
-    found: List[object] = []
-    try:
-        for element in elements_of(iter(pieces)) if quickly else edn.Reader(pieces).history():
-            found.append((element.line, element.value))  # a quick one puts its value together
-    except edn.Unreadable as fault:
-        found.append(str(fault))
-    return found
-
-
-class Quick(unittest.TestCase):
-    def test_as_the_reader_of_all_edn(self) -> None:
-        chance = random.Random(5)
-        for _ in range(3000):
-            text = "\n".join(chance.choice(PIECES[:3] if chance.random() < 0.5 else PIECES) for _ in range(chance.randint(0, 7)))
-            text += chance.choice(("", "\n"))
-            self.assertEqual(read(text, True), read(text, False), text)
-
-    def test_recorded_histories(self) -> None:
-        for path in sorted((TOP / "tests" / "from-jepsen").glob("*/input.edn")):
-            text = path.read_bytes().decode("utf-8", "replace").replace("\0", "")
-            self.assertEqual(read(text, True), read(text, False), path.parent.name)
-
-    def test_usual_lines_are_quick(self) -> None:
-        for line in PIECES[:1] + PIECES[2:3]:
-            self.assertIsNotNone(quick_fields(line), line)
 
 
 class Spools(unittest.TestCase):

@@ -3,6 +3,7 @@ from __future__ import annotations
 
 import json
 import random
+import re
 import unittest
 from typing import Any, Dict, List, Optional
 
@@ -24,7 +25,7 @@ def events(text: str, **options: Any) -> List[str]:
 
 
 def short(text: str) -> List[str]:
-    return [line.split(", :jepsen-index")[0].split(", :time")[0].replace(":type :", "").replace(":process ", "").replace(":f :", "")
+    return [re.split(", :(?:jepsen-index|line|time) ", line)[0].replace(":type :", "").replace(":process ", "").replace(":f :", "")
             .replace(":value ", "") for line in text.splitlines() if line.startswith("{")]
 
 
@@ -43,6 +44,15 @@ class Forms(unittest.TestCase):
         for text in ("hello", "legal\nlegal\n", "key 7 model register\n", "a,b\n1,2\n", "<html>", "%PDF-1.4"):
             with self.subTest(text=text), self.assertRaises(Refused):
                 detect.form_of(text)
+
+
+class Lines(unittest.TestCase):
+    def test_of_the_file_where_it_has_no_indices(self) -> None:
+        """An event says where it stands: by Jepsen's index, or by the line of a file that has none."""
+        rows = '{"client": 4, "op": "put", "value": 1, "call": 3, "return": 5}\n\n{"client": 2, "op": "get", "answer": 1, "call": 4}\n'
+        self.assertEqual([line.split(", ")[-1] for line in made(rows).text.splitlines()], [":line 1}", ":line 3}", ":line 1}"])
+        edn = "{:type :invoke, :f :write, :value [1 2], :process 0, :index 7}\n"
+        self.assertEqual(made(edn).text.split(", ")[-1], ":jepsen-index 7}\n")
 
 
 class OwnForm(unittest.TestCase):

@@ -97,7 +97,7 @@ class Folders(Monitored):
                     pass
         self.assertEqual(str(caught.exception).splitlines()[0], f"{caught.exception.reply} ({monitor.folder})")
         self.assertEqual(self.lines(monitor, "verdict.txt")[0], caught.exception.reply)
-        self.assertIn("more than 1 outcomes were possible for key 0", self.lines(monitor, "cause.txt")[0])
+        self.assertIn("more than 1 outcome was possible for key 0", self.lines(monitor, "cause.txt")[0])
         assert monitor.folder is not None
         self.assertEqual(self.verdict_by(monitor.folder), caught.exception.reply)
 

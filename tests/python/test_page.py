@@ -116,6 +116,11 @@ class Pages(unittest.TestCase):
         for part in ("register.edn", "7", "4", "4,096 outcomes", "80"):
             self.assertIn(part, read.texts["dd"])
 
+    def test_what_stands_around_an_event_is_not_parted_from_it(self) -> None:
+        text = page.render(register()._replace(sentences=("It was written (events 4 to 5), and read at event 6.",)))
+        self.assertIn('<span class="whole">(<button type="button" class="seek" data-event="4">events 4 to 5</button>),</span> and read at '
+                      '<span class="whole"><button type="button" class="seek" data-event="6">event 6</button>.</span>', text)
+
     def test_without_a_cause_it_says_what_the_verdict_says(self) -> None:
         bare = register()._replace(headline="", sentences=())
         self.assertTrue("the ok of read \u2192 21 by process 2" in page.render(bare))

@@ -68,20 +68,36 @@ pub fn check_file<X: Wait + Threads + Files + Sync, W: Write + Failed, L: Onlook
     requires workers { (1 ≤ workers) × (workers ≤ 64) }
 {
     match fs::open(rt, path) {
-        Ok(file) => {
-            let mut reader = Watched::new(SeenFile {
-                file,
-                path,
-                onlooker,
-            });
-            check_text(rt, alloc, config, workers, &mut reader, writer, onlooker)
-        }
+        Ok(file) => check_input(rt, alloc, file, path, config, workers, writer, onlooker),
         Err(reason) => {
             onlooker.unread(path, &reason);
             onlooker.refused(&Refusal::ReadFailed);
             tell(rt, alloc, &Findings::Refused(Refusal::ReadFailed), writer)
         }
     }
+}
+
+/// Judges the recorded history that a reader has: [`check_text`] of that, with the same status, cost and waiting. The onlooker
+/// is told of each read, and of one that fails with this name of the input.
+pub fn check_input<X: Wait + Threads + Sync, R: Read + Drop, W: Write + Failed, L: Onlooker>(
+    rt: &X,
+    alloc: Global,
+    file: R,
+    path: &str,
+    config: Config,
+    workers: u32,
+    writer: &mut W,
+    onlooker: &L,
+) -> u8
+    requires writes { W.has_failed writer.old ≡ false }
+    requires workers { (1 ≤ workers) × (workers ≤ 64) }
+{
+    let mut reader = Watched::new(SeenFile {
+        file,
+        path,
+        onlooker,
+    });
+    check_text(rt, alloc, config, workers, &mut reader, writer, onlooker)
 }
 
 // A file, at whose reads somebody looks on.

@@ -6,6 +6,6 @@ mod reading;
 mod recorded;
 mod telling;
 
-pub use check::{check_file, check_text};
+pub use check::{check_file, check_input, check_text};
 pub use recorded::{Findings, event_text, judge_text};
 pub use telling::{REFUSED, put_refused, put_text, status_of_verdict};

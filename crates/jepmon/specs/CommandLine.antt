@@ -12,6 +12,6 @@ default_setup = judging 2 Register 4096
 
 -- its numbers are within their limits. Of the 64 seats of a run the nemesis takes one
 abbrev pub IsWithinLimits : Order → Type 0
-IsWithinLimits (Script config) = IsSetup (setup_of config)
+IsWithinLimits (Script config is_strict) = IsSetup (setup_of config)
 IsWithinLimits (Check path workers config) = IsSetup (setup_of config) × (1 ≤ workers) × (workers ≤ 64)
 IsWithinLimits (Run config) = IsSetup (setup_of config) × (config.concurrency ≤ 63)

@@ -1,12 +1,12 @@
 //! The words of the command line.
-ghost use Rattle.std.specs.Prelude.{◌≡◌, ◌≤◌, length, IfOk, IfSome, Ok};
+ghost use Rattle.std.specs.Prelude.{◌≡◌, ◌≤◌, length, IfOk, IfSome, Ok, false};
 ghost use Rattle.harness.specs.Setups.{setup_of, IsSetup};
 ghost use Rattle.harness.specs.declared.config.Config.{Config};
 ghost use Rattle.jepmon.specs.CommandLine.{default_setup, IsWithinLimits};
 
 use crate::help;
 use clap::error::ErrorKind;
-use clap::{Arg, ArgMatches, Command};
+use clap::{Arg, ArgAction, ArgMatches, Command};
 use edn::Refusal;
 use harness::Config;
 use models::ModelKind;
@@ -30,10 +30,15 @@ const MOST_KEYS: u64 = 64;
 #[derive(Drop)]
 pub enum Order {
     /// Answers the lines of standard input.
-    Script(Config),
+    Script {
+        /// How the one-thread object is opened.
+        config: Config,
+        /// Whether the first line that is refused ends it.
+        is_strict: bool,
+    },
     /// Judges a recorded history.
     Check {
-        /// The file that it stands in.
+        /// The file that it stands in; `-` for standard input.
         path: String,
         /// Threads that judge its keys.
         workers: u32,
@@ -66,11 +71,14 @@ pub enum Stop {
 /// above 63 too, then `NoSuchReplica`; and with `NoMemory` where memory is refused.
 pub fn order_of(alloc: Global, words: &[String]) -> Result<Order, Stop>
     ensures defaults { length words.now ≡ 0 → (config : Config)
-        × (result ≡ Ok (Order.Script config)) × (setup_of config ≡ default_setup) }
+        × (result ≡ Ok (Order.Script config false)) × (setup_of config ≡ default_setup) }
     ensures within { IfOk result IsWithinLimits }
 {
     if words.is_empty() {
-        return Ok(Order::Script(Config::to_judge(alloc, 2, ModelKind::Register, 4096)));
+        return Ok(Order::Script {
+            config: Config::to_judge(alloc, 2, ModelKind::Register, 4096),
+            is_strict: false,
+        });
     }
     let mut command = program(alloc)?;
     let matches = match command.try_get_matches_from_mut(words) {
@@ -87,7 +95,10 @@ pub fn order_of(alloc: Global, words: &[String]) -> Result<Order, Stop>
     } else if name == "run" {
         run_of(alloc, options, config)
     } else {
-        Ok(Order::Script(config))
+        Ok(Order::Script {
+            config,
+            is_strict: options.get_flag("strict"),
+        })
     }
 }
 
@@ -240,11 +251,16 @@ fn with_settings<'a>(
 
 // The command `script`, with its options and their help.
 fn script<'a>(alloc: Global) -> Result<Command<'a>, AllocError> {
+    let strict = Arg::new(alloc, "strict")
+        .long("strict")
+        .action(ArgAction::SetTrue)
+        .help(help::STRICT);
     let command = Command::new(alloc, "script")
         .about(help::SCRIPT)
         .long_about(help::SCRIPT_LONG)
         .after_help(help::STATUS)
-        .after_long_help(help::SCRIPT_FORMS);
+        .after_long_help(help::SCRIPT_FORMS)
+        .arg(strict)?;
     with_settings(alloc, command, help::CONCURRENCY)
 }
 
@@ -350,12 +366,35 @@ fn usage(command: &mut Command, message: &str) -> Stop {
     }
 }
 
-// What an error in these words is to the program. Script takes no file, and says so where it was given one.
+// What an error in these words is to the program. Script takes no file, and says so where it was given one; and so does the
+// program where the name of a file stands in place of a command.
 fn stop_at(alloc: Global, words: &[String], error: clap::Error) -> Stop {
     if error.kind() == ErrorKind::UnknownArgument && is_script_with_file(words) {
         return usage_of(alloc, "script", help::NO_FILE);
     }
-    stop_of(error)
+    match words.first() {
+        Some(first) if error.kind() == ErrorKind::InvalidSubcommand && is_path(first) => {
+            path_alone(alloc, first)
+        }
+        _ => stop_of(error),
+    }
+}
+
+// Whether a word looks like the path of a file.
+fn is_path(word: &str) -> bool {
+    word.bytes().any(|byte| byte == b'.' || byte == b'/')
+}
+
+// The usage fault of a path where a command must stand.
+fn path_alone(alloc: Global, path: &str) -> Stop {
+    let Ok(message) = format!(in alloc; "{path} is no command; jepmon check {path} judges it")
+    else {
+        return Stop::Refused(Refusal::NoMemory);
+    };
+    match program(alloc) {
+        Ok(mut command) => usage(&mut command, message.as_str()),
+        Err(_) => Stop::Refused(Refusal::NoMemory),
+    }
 }
 
 // Whether the words are script and, somewhere behind it, one that is neither an option nor an option's value.

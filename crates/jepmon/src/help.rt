@@ -4,7 +4,7 @@ use models::each_kind;
 use onlookers::each_hint;
 
 /// The program's version, and the logic in which it is proved: the last two words that `rt version` prints.
-pub const VERSION: &str = "1.1.0
+pub const VERSION: &str = "1.2.0
 logic dac8208d650f15bf";
 
 pub const ABOUT: &str = "Judges whether what clients saw of a store is linearizable";
@@ -23,6 +23,13 @@ before it reads the next, by the verdict on all events so far:
   unknown key K index I    the budget of key K did not suffice at event I
 
 A line that is refused changes nothing and is answered by `refused NUMBER NAME`.";
+
+pub const STRICT: &str =
+    "The first line that is refused ends the script, with status 3; without it each is answered and passed over";
+
+/// What somebody at a terminal is told who has to type what the program reads.
+pub const TYPED: &str =
+    "reading events from the terminal, a line each, until Ctrl-D; jepmon --help says more";
 
 pub const CHECK: &str = "Judges a recorded history, whose elements are events";
 
@@ -106,7 +113,7 @@ pub const SCRIPT_FORMS: &str = each_hint!(with_forms;
   [:model KEY KIND]  the key is of this kind, as [:model 7 :mutex]
   [:budget KEY N]    the key has this budget",
 "Exit status, by the verdict at the end: 0 legal, 1 illegal, 2 unknown. 3 where the words, standard
-input or standard output are refused; a line that is refused does not count.");
+input or standard output are refused; a line that is refused does not count, save with --strict.");
 
 pub const CHECK_FORMS: &str = each_hint!(with_forms;
 "The file has events, one after the other:
@@ -120,7 +127,7 @@ pub const NO_FILE: &str =
 jepmon check FILE judges a recorded history";
 
 pub const FILE: &str =
-    "The file, or /dev/stdin; its events stand in it as in script, cut into lines or not";
+    "The file, or - for standard input; its events stand in it as in script, cut into lines or not";
 
 pub const WORKERS: &str = "Threads that judge keys side by side, 1 to 64";
 

@@ -10,19 +10,21 @@ pub mod command_line;
 pub mod exit_status;
 mod help;
 pub mod run;
+mod run_line;
 
-use checks::check_file;
+use checks::{check_file, check_input};
 use command_line::{Order, Stop, no_text, order_of};
 use edn::Refusal;
-use exit_status::{status_after, status_of_stop};
+use exit_status::{say_unwritten, status_after, status_of_stop};
 use line_loop::Watched;
-use onlookers::OnTerminal;
+use onlookers::OnStandardError;
 use run::run_store;
+use run_line::RunLine;
 use scripts::run_script;
 use std::alloc::{AllocError, Global};
 use std::env;
 use std::env::Args;
-use std::io::{ErrorKind, IsTerminal};
+use std::io::{Eprint, ErrorKind, IsTerminal};
 use std::process::ExitCode;
 use std::rt::Env;
 
@@ -45,16 +47,32 @@ fn rest_of(alloc: Global, words: Args) -> Result<Vec<String>, AllocError> {
     words.skip(1).collect(alloc)
 }
 
+// Says how to go on, where somebody at a terminal has to type what the program reads.
+fn greet<R: Eprint>(rt: &R, is_terminal: bool) {
+    if is_terminal {
+        let _ = rt.eprintln(help::TYPED);
+    }
+}
+
 fn main(rt: HostRuntime) -> ExitCode {
     let alloc: Global = rt.alloc();
-    let terminal = OnTerminal::new(&rt, rt.stderr().is_terminal());
+    let aside = OnStandardError::new(&rt, rt.stderr().is_terminal());
     let status = match order_given(&rt) {
-        Ok(Order::Script(config)) => {
+        Ok(Order::Script { config, is_strict }) => {
+            greet(&rt, rt.stdin().is_terminal());
             let mut reader = Watched::new(rt.stdin());
             let mut writer = Watched::new(rt.stdout());
-            let outcome = run_script(&rt, alloc, config, &mut reader, &mut writer, &terminal);
-            terminal.end();
-            status_after(&rt, alloc, outcome, &terminal)
+            let outcome = run_script(
+                &rt,
+                alloc,
+                config,
+                is_strict,
+                &mut reader,
+                &mut writer,
+                &aside,
+            );
+            aside.end();
+            status_after(&rt, alloc, outcome, &aside)
         }
         Ok(
             Order::Check {
@@ -64,26 +82,41 @@ fn main(rt: HostRuntime) -> ExitCode {
             },
         ) => {
             let mut writer = Watched::new(rt.stdout());
-            let status = check_file(
-                &rt,
-                alloc,
-                path.as_str(),
-                config,
-                workers,
-                &mut writer,
-                &terminal,
-            );
-            terminal.end();
+            let status = if path.as_str() == "-" {
+                check_input(
+                    &rt,
+                    alloc,
+                    rt.stdin(),
+                    "standard input",
+                    config,
+                    workers,
+                    &mut writer,
+                    &aside,
+                )
+            } else {
+                check_file(
+                    &rt,
+                    alloc,
+                    path.as_str(),
+                    config,
+                    workers,
+                    &mut writer,
+                    &aside,
+                )
+            };
+            aside.end();
+            say_unwritten(&rt, alloc, &writer, &aside);
             status
         },
         Ok(Order::Run(config)) => {
             let mut writer = Watched::new(rt.stdout());
-            let line = terminal.moving_line();
-            let status = run_store(&rt, alloc, config, &mut writer, &terminal, line);
-            terminal.end();
+            let line = RunLine::new(aside.moving_line());
+            let status = run_store(&rt, alloc, config, &mut writer, &aside, line);
+            aside.end();
+            say_unwritten(&rt, alloc, &writer, &aside);
             status
         }
-        Err(stop) => status_of_stop(&rt, alloc, &stop, &terminal),
+        Err(stop) => status_of_stop(&rt, alloc, &stop, &aside),
     };
     ExitCode::from(status)
 }

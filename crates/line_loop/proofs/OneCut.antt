@@ -1,11 +1,10 @@
 -- An input is cut in one way.
-use Rattle.std.proofs.Common.{◌≡◌, ◌≢◌, ℕ, List, [], ◌∷◌, ◌++◌, refl, sym, ◌∙◌, append_assoc, subst, length, inl, inr}
+use Rattle.std.proofs.Common.{◌≡◌, ◌≢◌, ℕ, List, [], ◌∷◌, ◌++◌, refl, sym, ◌∙◌, append_assoc, subst}
 use Rattle.std.specs.Prelude.{flat_map}
 use Rattle.std.specs.List.{AllByRecursion}
 use Rattle.std.proofs.lemmas.List.Elements.{recursion_from_All}
 use Rattle.line_loop.specs.Lines.{ended, IsLine, Cuts, last_line}
-use Rattle.line_loop.specs.ReplyText.{line_limit, MayAnswer, Replies, IsReplyText}
-use Rattle.std.proofs.lemmas.Bool.Decides.{leb_tells}
+use Rattle.line_loop.specs.ReplyText.{Replies, IsReplyText}
 
 abbrev Plain : List ℕ → Type 0
 Plain xs = AllByRecursion (λ b. b ≢ 10) xs
@@ -47,19 +46,12 @@ one_cut_law input lines rest others other a b =
     same_cut lines others rest other (recursion_from_All IsLine lines a.each) (recursion_from_All IsLine others b.each) (recursion_from_All (λ x. x ≢ 10) rest a.partial) (recursion_from_All (λ x. x ≢ 10) other b.partial) (sym a.whole ∙ b.whole)
 
 module _ {S : Type 0} (may : S → List ℕ → List ℕ → S → Type 0) (one : (old : S) (line text other : List ℕ) (new next : S) → may old line text new → may old line other next → (text ≡ other) × (new ≡ next)) where
-  -- one answer to a line
-  one_answer : (old : S) (line text other : List ℕ) (new next : S) → MayAnswer may old line text new → MayAnswer may old line other next → (text ≡ other) × (new ≡ next)
-  one_answer old line text other new next a b = elim (leb_tells (length line) line_limit) as (λ _. (text ≡ other) × (new ≡ next)) [
-    | inl p ↦ one old line text other new next (a.within p.1) (b.within p.1)
-    | inr p ↦ let (t, n) = a.over p.1 in let (u, m) = b.over p.1 in (t ∙ sym u, n ∙ sym m)
-  ]
-
   one_run : (lines : List (List ℕ)) (old : S) (text other : List ℕ) (new next : S) → Replies may old lines text new → Replies may old lines other next → (text ≡ other) × (new ≡ next)
   one_run [] old text other new next a b = (a.0 ∙ sym b.0, a.1 ∙ sym b.1)
   one_run (line ∷ lines) old text other new next a b =
       let (mid, first, others, answered, run, whole) = a in
       let (mid', first', others', answered', run', whole') = b in
-      let (same, at) = one_answer old line first first' mid mid' answered answered' in
+      let (same, at) = one old line first first' mid mid' answered answered' in
       let (rest, end) = one_run lines mid' others others' new next (subst (λ s. Replies may s lines others new) at run) run' in
       (cc, end)
 

@@ -1,15 +1,16 @@
 -- How the replies run on, from what stands between two reads.
-use Rattle.std.proofs.Common.{◌≡◌, ◌≢◌, ℕ, ◌+◌, ◌-◌, ◌<◌, Bool, true, false, List, [], ◌∷◌, ◌++◌, length, take, refl, ap, sym, ◌∙◌, subst, arith, append-nil, append_assoc}
+use Rattle.std.proofs.Common.{◌≡◌, ◌≢◌, ℕ, ◌+◌, ◌-◌, ◌<◌, Bool, true, false, List, [], ◌∷◌, ◌++◌, length, take, refl, ap, sym, ◌∙◌, subst, arith, append-nil, append_assoc, inl, inr}
 use Rattle.std.specs.Prelude.{Option, None, Some, Result, Ok, Err, OnOk, OnErr, ⊤}
 use Rattle.std.proofs.lemmas.List.{take_all, append_cancel_left}
+use Rattle.std.proofs.lemmas.Bool.Decides.{leb_tells}
 use Rattle.std.specs.Io.KnownBytes.{Appends, append_known, Consumes, IsAtEnd}
 use Rattle.std.proofs.KnownBytes.{Appends-trans, Appends-nil, Consumes-trans}
 use Rattle.edn.specs.declared.refusal.Refusal.{Refusal}
 use Rattle.edn.specs.declared.refusal.Refusal.TheVariants.{ReadFailed}
 use Rattle.line_loop.specs.Lines.{ended, IsLine, last_line}
-use Rattle.line_loop.specs.ReplyText.{line_limit, MayAnswer, Replies}
+use Rattle.line_loop.specs.ReplyText.{line_limit, Replies}
 use Rattle.line_loop.specs.Stopping.{read_lines, IsPartlyAnswered, Stops, KeepsUp}
-use Rattle.line_loop.specs.BetweenReads.{Reading, Between, between, Stands, GoesOn, StopsIn, Ends, StopsAtEnd, LineIsAnswered}
+use Rattle.line_loop.specs.BetweenReads.{Reading, Between, between, Stands, GoesOn, StopsIn, Ends, StopsAtEnd, IsAnsweredFor, LineIsAnswered}
 use Rattle.line_loop.proofs.Appending.{Appends-then_nil, Appends-more, Appends-to_none, Appends-of_none, Appends-written}
 use Rattle.line_loop.proofs.Cutting.{cuts_nothing, cuts_along, cuts_bytes, cuts_feed, cuts_more, clip_over, clip_more, rest_none, last_none, last_some}
 
@@ -27,15 +28,22 @@ module _ {S : Type 0} (may : S → List ℕ → List ℕ → S → Type 0) where
       (next, one, more ++ second, answered, replies_more next lines others more second mid new run q, ap (λ l. l ++ second) whole ∙ append_assoc one more second)
 
   -- what is held is answered as the line is
-  answers_whole : (held rest text : List ℕ) (old new : S) → held ≡ take (line_limit + 1) rest → MayAnswer may old held text new → MayAnswer may old rest text new
-  answers_whole held rest text old new e h = record {
-    within = λ short. let same : held ≡ rest = e ∙ take_all (line_limit + 1) rest (omega arith) in subst (λ l. may old l text new) same (h.within (let long : length held ≡ length rest = ap length same in omega arith));
-    over = λ long. h.over (clip_over line_limit held rest e long);
-  }
+  answers_whole : (held rest text : List ℕ) (old new : S) → held ≡ take (line_limit + 1) rest → IsAnsweredFor may old held text new → may old rest text new
+  answers_whole held rest text old new e h = elim (leb_tells (length rest) line_limit) as (λ _. may old rest text new) [
+    | inl p ↦ let same : held ≡ rest = e ∙ take_all (line_limit + 1) rest (let short = p.1 in omega arith) in subst (λ l. may old l text new) same (h.within (let short = p.1 in let long : length held ≡ length rest = ap length same in omega arith))
+    | inr p ↦ h.over (clip_over line_limit held rest e p.1) rest p.1
+  ]
+
+  -- and a line of which all is there
+  answers_itself : (line text : List ℕ) (old new : S) → IsAnsweredFor may old line text new → may old line text new
+  answers_itself line text old new h = elim (leb_tells (length line) line_limit) as (λ _. may old line text new) [
+    | inl p ↦ h.within p.1
+    | inr p ↦ h.over p.1 line p.1
+  ]
 
   -- one line more
   line_more : (old : S) (before : Option (List ℕ)) (seen : List ℕ) (here : Between S) (h : Stands may old before seen here) (text : List ℕ) (new : S)
-      → MayAnswer may here.state here.held text new → Replies may old (h.lines ++ h.rest ∷ []) (h.text ++ text) new
+      → IsAnsweredFor may here.state here.held text new → Replies may old (h.lines ++ h.rest ∷ []) (h.text ++ text) new
   line_more old before seen here h text new p =
       let one : Replies may here.state (h.rest ∷ []) text new = (new, text, [], answers_whole here.held h.rest text here.state new h.held_is p, (refl, refl), sym (append-nil text)) in
       replies_more old h.lines (h.rest ∷ []) h.text text here.state new h.run one
@@ -53,11 +61,11 @@ module _ {S : Type 0} (may : S → List ℕ → List ℕ → S → Type 0) where
   }
 
   -- a whole line and its line feed, where nothing is held
-  pub goes_whole : (line : List ℕ) → IsLine line → (here there : Between S) → here.held ≡ [] → there.held ≡ [] → (text : List ℕ) → MayAnswer may here.state line text there.state → Appends here.written there.written text
+  pub goes_whole : (line : List ℕ) → IsLine line → (here there : Between S) → here.held ≡ [] → there.held ≡ [] → (text : List ℕ) → IsAnsweredFor may here.state line text there.state → Appends here.written there.written text
       → GoesOn may (ended line) here there
   goes_whole line plain here there none empty text answered grown old before seen h =
       let same : h.rest ++ line ≡ line = ap (λ l. l ++ line) (rest_none line_limit here.held h.rest h.held_is none) in
-      let of_all : MayAnswer may here.state (h.rest ++ line) text there.state = subst (λ l. MayAnswer may here.state l text there.state) (sym same) answered in
+      let of_all : may here.state (h.rest ++ line) text there.state = subst (λ l. may here.state l text there.state) (sym same) (answers_itself line text here.state there.state answered) in
       let one : Replies may here.state ((h.rest ++ line) ∷ []) text there.state = (there.state, text, [], of_all, (refl, refl), sym (append-nil text)) in
       record {
         lines = h.lines ++ (h.rest ++ line) ∷ [];
@@ -71,7 +79,7 @@ module _ {S : Type 0} (may : S → List ℕ → List ℕ → S → Type 0) where
 
   -- the same, of a session
   pub answers_whole_line : {M : Type 0} (state : M → S) (line : List ℕ) → IsLine line → (inner old : Reading M) → inner ≡ old → old.held ≡ [] → (machine : M) (text replies : List ℕ)
-      → MayAnswer may (state inner.machine) line text (state machine) → replies ≡ inner.replies ++ text
+      → IsAnsweredFor may (state inner.machine) line text (state machine) → replies ≡ inner.replies ++ text
       → (written : Option (List ℕ)) → GoesOn may (ended line) (between state old written) (between state (record { machine = machine; held = inner.held; replies = replies }) written)
   answers_whole_line state line plain inner old same none machine text replies answered grown written =
       let there = between state (record { machine = machine; held = inner.held; replies = replies }) written in
@@ -341,7 +349,7 @@ module _ {S : Type 0} (may : S → List ℕ → List ℕ → S → Type 0) where
   halts_ending old left left' before after seen read end stopped e other = record { seen = seen; has_ended = true; read = read; at_end = λ _. end; not_reading = λ _. other; answered = stopped }
 
   pub keeps_up : {M : Type 0} (state : M → S) (old : S) (left left' : Option (List ℕ)) (before : Option (List ℕ)) (seen : List ℕ) (reading : Reading M) (written : Option (List ℕ)) → reading.replies ≡ []
-      → Consumes left left' seen → Stands may old before seen (between state reading written) → KeepsUp may old left left' before written
+      → Consumes left left' seen → Stands may old before seen (between state reading written) → KeepsUp may old (state reading.machine) left left' before written
   keeps_up state old left left' before seen reading written none read h = record {
     seen = seen;
     read = read;
@@ -351,7 +359,19 @@ module _ {S : Type 0} (may : S → List ℕ → List ℕ → S → Type 0) where
       cut = h.cut;
       written = h.text;
       grown = began old before written seen (between state reading written) h (ap (append_known written) none);
-      new = state reading.machine;
       run = h.run;
     };
   }
+
+  -- the flush, of what is still to be answered
+  pub stopped_flushed : (old : S) (before : Option (List ℕ)) (seen : List ℕ) (a b : Option (List ℕ)) → Appends a b [] → IsPartlyAnswered may old before seen false a → IsPartlyAnswered may old before seen false b
+  stopped_flushed old before seen a b q h = record { written = h.written; grown = Appends-then_nil before a b h.written h.grown q; beginning = h.beginning }
+
+  pub keeps_up_flushed : (old new : S) (left left' : Option (List ℕ)) (before a b : Option (List ℕ)) → Appends a b [] → KeepsUp may old new left left' before a → KeepsUp may old new left left' before b
+  keeps_up_flushed old new left left' before a b q h =
+      let u = h.answered in
+      record {
+        seen = h.seen;
+        read = h.read;
+        answered = record { lines = u.lines; rest = u.rest; cut = u.cut; written = u.written; grown = Appends-then_nil before a b u.written u.grown q; run = u.run };
+      }

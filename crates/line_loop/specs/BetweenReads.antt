@@ -1,10 +1,10 @@
 -- Invariant: what stands between two reads, and how a piece of the input leads on from there
-use Rattle.std.specs.Prelude.{◌≡◌, ◌≢◌, ℕ, ◌+◌, Bool, true, false, List, [], ◌++◌, take, Option}
+use Rattle.std.specs.Prelude.{◌≡◌, ◌≢◌, ℕ, ◌+◌, ◌<◌, ◌≤◌, Bool, true, false, List, [], ◌++◌, take, length, Option}
 use Rattle.std.specs.Io.KnownBytes.{Appends, append_known}
 use Rattle.edn.specs.declared.refusal.Refusal.{Refusal}
 use Rattle.edn.specs.declared.refusal.Refusal.TheVariants.{ReadFailed, WriteFailed}
 use Rattle.line_loop.specs.Lines.{Cuts}
-use Rattle.line_loop.specs.ReplyText.{line_limit, MayAnswer, Replies}
+use Rattle.line_loop.specs.ReplyText.{line_limit, Replies}
 use Rattle.line_loop.specs.Stopping.{MayStop, IsAnswered, IsPartlyAnswered}
 
 -- a machine, what is held of the line that is being read, and the replies that are not written yet
@@ -53,9 +53,14 @@ module _ {S : Type 0} (may_reply : S → List ℕ → List ℕ → S → Type 0)
   abbrev pub StopsAtEnd : Between S → Option (List ℕ) → Type 0
   StopsAtEnd here after = (old : S) (before : Option (List ℕ)) (seen : List ℕ) → Stands old before seen here → IsPartlyAnswered may_reply old before seen true after
 
+  -- the line of which this is held is answered by this text, whatever follows of it behind one byte over the limit
+  pub record IsAnsweredFor (old : S) (held text : List ℕ) (new : S) : Type 0 where
+    pub within : length held ≤ line_limit → may_reply old held text new
+    pub over : line_limit < length held → (line : List ℕ) → line_limit < length line → may_reply old line text new
+
   -- the line that is held got its reply, and none is held
   pub record LineIsAnswered (here there : Between S) : Type 0 where
     pub text : List ℕ
-    pub answered : MayAnswer may_reply here.state here.held text there.state
+    pub answered : IsAnsweredFor here.state here.held text there.state
     pub grown : Appends here.written there.written text
     pub empty : there.held ≡ []

@@ -1,24 +1,16 @@
 -- Promise: the reply text of an input
-use Rattle.std.specs.Prelude.{◌≡◌, ℕ, ◌<◌, ◌≤◌, List, [], ◌∷◌, ◌++◌, length}
-use Rattle.edn.specs.declared.refusal.Refusal.TheVariants.{TooLong}
+use Rattle.std.specs.Prelude.{◌≡◌, ℕ, List, [], ◌∷◌, ◌++◌}
 use Rattle.line_loop.specs.Lines.{Cuts, last_line}
-use Rattle.line_loop.specs.RefusalLine.{refusal_line}
 
 -- bytes of a line at most, its line feed not counted
 abbrev pub line_limit : ℕ
 line_limit = 65536
 
 module _ {S : Type 0} (may_reply : S → List ℕ → List ℕ → S → Type 0) where
-  -- in the state old the line may be answered by this text, which leads to the state new. A line over the limit is
-  -- refused and skipped
-  pub record MayAnswer (old : S) (line text : List ℕ) (new : S) : Type 0 where
-    pub within : length line ≤ line_limit → may_reply old line text new
-    pub over : line_limit < length line → (text ≡ refusal_line TooLong) × (new ≡ old)
-
   -- the lines in turn may be answered by this text
   abbrev pub Replies : S → List (List ℕ) → List ℕ → S → Type 0
   Replies old [] text new = (text ≡ []) × (new ≡ old)
-  Replies old (line ∷ lines) text new = (mid : S) × (first : List ℕ) × (others : List ℕ) × MayAnswer old line first mid × Replies mid lines others new × (text ≡ first ++ others)
+  Replies old (line ∷ lines) text new = (mid : S) × (first : List ℕ) × (others : List ℕ) × may_reply old line first mid × Replies mid lines others new × (text ≡ first ++ others)
 
   -- a reply text of the input, and the state after it
   pub record IsReplyText (old : S) (input text : List ℕ) (new : S) : Type 0 where

@@ -41,13 +41,12 @@ module _ {S : Type 0} (may_reply : S → List ℕ → List ℕ → S → Type 0)
     pub beginning : IsBeginning old input written has_ended
 
   -- a writer has grown by the replies to all lines of the input that have their line feed
-  pub record IsUpToDate (old : S) (before : Option (List ℕ)) (input : List ℕ) (after : Option (List ℕ)) : Type 0 where
+  pub record IsUpToDate (old : S) (before : Option (List ℕ)) (input : List ℕ) (new : S) (after : Option (List ℕ)) : Type 0 where
     pub lines : List (List ℕ)
     pub rest : List ℕ
     pub cut : Cuts input lines rest
     pub written : List ℕ
     pub grown : Appends before after written
-    pub new : S
     pub run : Replies may_reply old lines written new
 
   -- the loop came to its end: all that the reader had is consumed, and the writer has grown by a reply text of it
@@ -67,8 +66,8 @@ module _ {S : Type 0} (may_reply : S → List ℕ → List ℕ → S → Type 0)
     pub not_reading : has_ended ≡ true → refusal ≢ ReadFailed
     pub answered : IsPartlyAnswered old before seen has_ended after
 
-  -- all lines that were read to their line feed have had their replies
-  pub record KeepsUp (old : S) (left left' : Option (List ℕ)) (before after : Option (List ℕ)) : Type 0 where
+  -- all lines that were read to their line feed have had their replies, which lead to the state new
+  pub record KeepsUp (old new : S) (left left' : Option (List ℕ)) (before after : Option (List ℕ)) : Type 0 where
     pub seen : List ℕ
     pub read : Consumes left left' seen
-    pub answered : IsUpToDate old before seen after
+    pub answered : IsUpToDate old before seen new after

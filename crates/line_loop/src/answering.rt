@@ -1,23 +1,24 @@
 //! Bytes to bytes, over any machine of lines.
-ghost use Rattle.std.specs.Prelude.{◌≡◌, IfOk, OnOk, IfErr, true, false, Err};
+ghost use Rattle.std.specs.Prelude.{◌≡◌, ◌⊎◌, IfOk, OnOk, IfErr, true, false, Err};
 ghost use Rattle.line_loop.specs.Stopping.{MayStop, Finishes, Stops, KeepsUp};
 
 use crate::line_machine::LineMachine;
 use crate::reading::{Brought, PIECE, read_some};
 use crate::session::Session;
 use crate::watched::Failed;
+use crate::writing::flush_all;
 use edn::Refusal;
 use std::alloc::Global;
 use std::io::{Read, Write};
 use std::sync::Wait;
 
 /// Reads lines, has the machine answer each, and writes the replies to the lines of one read before the next. At the reader's
-/// end it flushes the writer once and gives the machine's verdict.
+/// end, or once the machine is closed, it flushes the writer once and gives the machine's verdict.
 ///
-/// A last line without a line feed counts where it has a byte. A line of more than 65,536 bytes, its line feed not counted, is
-/// answered by the line of `TooLong`: the machine is told that there was one, and does not see it. Beside the machine it holds
-/// a piece of 8,192 bytes, one line, and the replies to the lines that end in one piece. It takes the time of the bytes, and of
-/// the machine's answers.
+/// A last line without a line feed counts where it has a byte. Of a line of more than 65,536 bytes, its line feed not counted,
+/// the machine is told that there was one, and does not see it. Once the machine is closed nothing is read; the lines that were
+/// read with the one that closed it are still given to it. Beside the machine it holds a piece of 8,192 bytes, one line, and
+/// the replies to the lines that end in one piece. It takes the time of the bytes, and of the machine's answers.
 ///
 /// # Errors
 ///
@@ -32,19 +33,24 @@ pub fn answer_lines<X: Wait, M: LineMachine, R: Read + Failed, W: Write + Failed
 ) -> Result<M::Verdict, Refusal>
     requires reads { R.has_failed reader.old ≡ false }
     requires writes { W.has_failed writer.old ≡ false }
-    // All that the reader had is consumed, and the writer grew by a reply text of it.
+    // The reader has not failed, all that it had is consumed, and the writer grew by a reply text of it; or the machine is
+    // closed, and all lines that were read to their line feed had their replies.
     ensures done { IfOk result (λ verdict. (end : M.State) × M.shows end verdict
-        × Finishes M.may_reply (M.state machine) end
+        × ((Finishes M.may_reply (M.state machine) end
         (R.remaining reader.old) (R.remaining reader.new)
-        (W.contents writer.old) (W.contents writer.new)) }
-    ensures unfailed { OnOk result ((R.has_failed reader.new ≡ false)
-        × (W.has_failed writer.new ≡ false)) }
+        (W.contents writer.old) (W.contents writer.new)
+        × (R.has_failed reader.new ≡ false))
+        ⊎ ((M.is_closed end ≡ true) × KeepsUp M.may_reply (M.state machine) end
+        (R.remaining reader.old) (R.remaining reader.new)
+        (W.contents writer.old) (W.contents writer.new)))) }
+    ensures unfailed { OnOk result (W.has_failed writer.new ≡ false) }
     // The writer grew by a beginning of a reply text of the lines that were read to their end.
     ensures stopped { IfErr result (Stops M.may_reply (M.state machine)
         (R.remaining reader.old) (R.remaining reader.new)
         (W.contents writer.old) (W.contents writer.new)) }
     // Where the reader failed, all lines that were read to their line feed had their replies.
-    ensures live { result ≡ Err Refusal.ReadFailed → KeepsUp M.may_reply (M.state machine)
+    ensures live { result ≡ Err Refusal.ReadFailed → (here : M.State)
+        × KeepsUp M.may_reply (M.state machine) here
         (R.remaining reader.old) (R.remaining reader.new)
         (W.contents writer.old) (W.contents writer.new) }
     ensures kinds { IfErr result MayStop }
@@ -55,7 +61,13 @@ pub fn answer_lines<X: Wait, M: LineMachine, R: Read + Failed, W: Write + Failed
     let mut piece = [0u8; PIECE];
     for _ in rt.forever() {
         match read_some(reader, &mut piece[..])? {
-            Brought::Piece(n) => session.take_piece(rt, writer, &piece[..n])?,
+            Brought::Piece(n) => {
+                session.take_piece(rt, writer, &piece[..n])?;
+                if session.closed() {
+                    flush_all(rt, writer)?;
+                    return Ok(session.verdict());
+                }
+            }
             Brought::End => {
                 session.finish(rt, writer)?;
                 return Ok(session.verdict());

@@ -1,12 +1,11 @@
 //! What stands between two reads.
 ghost use Rattle.std.specs.Prelude.{◌≡◌, ◌+◌, ◌-◌, ◌<◌, ℕ, List, [], ◌∷◌, ◌++◌, take, length, Option, OnOk, OnErr, IfErr, IfSome, IfNone, true, false};
 ghost use Rattle.line_loop.specs.Lines.{IsLine, ended};
-ghost use Rattle.line_loop.specs.ReplyText.{MayAnswer, line_limit};
-ghost use Rattle.line_loop.specs.BetweenReads.{Reading, between, MayStopWriting, LineIsAnswered, GoesOn, StopsIn, Ends, StopsAtEnd};
+ghost use Rattle.line_loop.specs.ReplyText.{line_limit};
+ghost use Rattle.line_loop.specs.BetweenReads.{Reading, between, MayStopWriting, IsAnsweredFor, LineIsAnswered, GoesOn, StopsIn, Ends, StopsAtEnd};
 ghost use Rattle.std.specs.Io.KnownBytes.{Appends, append_known};
 
 use crate::line_machine::LineMachine;
-use crate::refusal_line::append_refusal;
 use crate::watched::Failed;
 use crate::writing::{flush_all, write_text};
 use edn::Refusal;
@@ -23,7 +22,6 @@ pub const LINE_LIMIT: usize = 65_536;
 /// not written yet: none between two reads.
 #[derive(Drop)]
 pub struct Session<M: LineMachine> {
-    alloc: Global,
     machine: M,
     held: Vec<u8>,
     reply: Vec<u8>,
@@ -48,7 +46,6 @@ impl<M: LineMachine> Session<M> {
         ensures replies { result.replies ≡ [] }
     {
         Session {
-            alloc,
             machine,
             held: Vec::new(alloc),
             reply: Vec::new(alloc),
@@ -61,6 +58,13 @@ impl<M: LineMachine> Session<M> {
         ensures { M.shows (M.state self.now.machine) result }
     {
         self.machine.verdict()
+    }
+
+    /// Whether the machine is closed.
+    pub fn closed(&self) -> bool
+        ensures { result ≡ M.is_closed (M.state self.now.machine) }
+    {
+        self.machine.closed()
     }
 
     /// Takes a piece of the input: each line that ends in it is answered, the replies are written together, and what
@@ -139,7 +143,7 @@ impl<M: LineMachine> Session<M> {
         ensures kept { OnErr result (self.new.replies ≡ self.old.replies) }
         ensures cause { IfErr result (λ e. e ≡ Refusal.NoMemory) }
     {
-        make_reply(self.alloc, &mut self.machine, &self.held, &mut self.reply)?;
+        make_reply(&mut self.machine, &self.held, &mut self.reply)?;
         self.replies.extend_from_slice(&self.reply)?;
         self.held.clear();
         Ok(())
@@ -154,7 +158,7 @@ impl<M: LineMachine> Session<M> {
         ensures kept { OnErr result (self.new.replies ≡ self.old.replies) }
         ensures cause { IfErr result (λ e. e ≡ Refusal.NoMemory) }
     {
-        make_reply(self.alloc, &mut self.machine, line, &mut self.reply)?;
+        make_reply(&mut self.machine, line, &mut self.reply)?;
         self.replies.extend_from_slice(&self.reply)?;
         Ok(())
     }
@@ -248,19 +252,17 @@ fn append_up_to(held: &mut Vec<u8>, bytes: &[u8], most: usize) -> Result<(), All
 
 // Makes the reply to a line.
 fn make_reply<M: LineMachine>(
-    alloc: Global,
     machine: &mut M,
     line: &[u8],
     reply: &mut Vec<u8>,
 ) -> Result<(), Refusal>
-    ensures ok { OnOk result (MayAnswer M.may_reply
+    ensures ok { OnOk result (IsAnsweredFor M.may_reply
         (M.state machine.old) line.now reply.new.items (M.state machine.new)) }
     ensures cause { IfErr result (λ e. e ≡ Refusal.NoMemory) }
 {
     reply.clear();
     if line.len() > LINE_LIMIT {
-        machine.pass_over();
-        append_refusal(alloc, reply, &Refusal::TooLong)?;
+        machine.answer_too_long(reply)?;
     } else {
         machine.answer(line, reply)?;
     }

@@ -1,5 +1,5 @@
 //! Readers and writers that give or take little, stutter and fail. The built program shows the rest.
-ghost use Rattle.std.specs.Prelude.{◌≡◌, false};
+ghost use Rattle.std.specs.Prelude.{◌≡◌, nat_le, false};
 
 use crate::answering::answer_lines;
 use crate::line_machine::LineMachine;
@@ -9,30 +9,45 @@ use std::io;
 use std::io::{ErrorKind, Read, Write};
 use std::sync::Wait;
 
-// Answers a line by itself, and an empty line by nothing. At the end it says how many lines there were.
+// Answers a line by itself, and an empty line by nothing. At the end it says how many lines there were. So many close it, and
+// what comes then has no answer.
 #[derive(Drop)]
 struct Echo {
     lines: u32,
+    most: u32,
 }
 
 impl LineMachine for Echo {
-    type State = ();
+    type State = bool;
 
     type Verdict = u32;
 
-    ghost state = { λ _. record {} };
+    ghost state = { λ echo. nat_le echo.most echo.lines };
 
     ghost may_reply = { λ _ _ _ _. Unit {0} };
+
+    ghost is_closed = { λ is_closed. is_closed };
 
     ghost shows = { λ _ _. Unit {0} };
 
     fn answer(&mut self, line: &[u8], reply: &mut Vec<u8>) -> Result<(), AllocError> {
+        if self.lines >= self.most {
+            return Ok(());
+        }
         self.lines = self.lines.saturating_add(1);
         if !line.is_empty() {
             reply.extend_from_slice(line)?;
             reply.push(b'\n')?;
         }
         Ok(())
+    }
+
+    fn answer_too_long(&mut self, _reply: &mut Vec<u8>) -> Result<(), AllocError> {
+        Ok(())
+    }
+
+    fn closed(&self) -> bool {
+        self.lines >= self.most
     }
 
     fn verdict(&self) -> u32 {
@@ -126,9 +141,10 @@ fn drip_reader(error_at: usize, is_failure: bool) -> Drip<'static>
     }
 }
 
-// Where the reader has an error, and whether that is a failure; how much the writer takes, and whether it then fails;
-// the lines at the end or the refusal's number, what was written, and how often it was flushed.
+// How many lines close the machine; where the reader has an error, and whether that is a failure; how much the writer takes, and
+// whether it then fails; the lines at the end or the refusal's number, what was written, and how often it was flushed.
 type Row = (
+    u32,
     usize,
     bool,
     usize,
@@ -140,20 +156,25 @@ type Row = (
 
 const WHOLE: &[u8] = b"a\nb\nlast\n";
 
-const ROWS: [Row; 6] = [
-    (99, false, 99, false, Ok(4), WHOLE, 1),
-    (3, false, 99, false, Ok(4), WHOLE, 1),
-    (7, true, 99, false, Err(20), b"a\nb\n", 0),
-    (99, false, 3, true, Err(21), b"a\nb", 0),
-    (99, false, 3, false, Err(21), b"a\nb", 0),
-    (99, false, 0, false, Err(21), b"", 0),
+const ROWS: [Row; 9] = [
+    (99, 99, false, 99, false, Ok(4), WHOLE, 1),
+    (99, 3, false, 99, false, Ok(4), WHOLE, 1),
+    (99, 7, true, 99, false, Err(20), b"a\nb\n", 0),
+    (99, 99, false, 3, true, Err(21), b"a\nb", 0),
+    (99, 99, false, 3, false, Err(21), b"a\nb", 0),
+    (99, 99, false, 0, false, Err(21), b"", 0),
+    // It is closed by the third line, and what the reader has behind it is not read, nor its failure met.
+    (3, 5, true, 99, false, Ok(3), b"a\nb\n", 1),
+    (1, 2, true, 99, false, Ok(1), b"a\n", 1),
+    (4, 99, false, 99, false, Ok(4), WHOLE, 1),
 ];
 
 fn goes<X: Wait>(rt: &X, alloc: Global, row: &Row) -> bool {
-    let (error_at, is_failure, room, fails, want, written, flushes) = *row;
+    let (most, error_at, is_failure, room, fails, want, written, flushes) = *row;
     let mut reader = drip_reader(error_at, is_failure);
     let mut writer = narrow_writer(alloc, room, fails);
-    let outcome = answer_lines(rt, alloc, Echo { lines: 0 }, &mut reader, &mut writer);
+    let echo = Echo { lines: 0, most };
+    let outcome = answer_lines(rt, alloc, echo, &mut reader, &mut writer);
     let narrow = writer.inner();
     outcome.map_err(|refusal| refusal.number()) == want
         && narrow.held.as_slice() == written

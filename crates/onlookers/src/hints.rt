@@ -14,7 +14,7 @@ macro_rules! each_hint {
             4 "Mismatch" "The completion has another name, key or value than its invocation.",
             5 "BadValue" "It is outside the tables. Leave the nemesis out; :value is [KEY PART]; check takes events alone.",
             6 "BadIndex" "The stated :index is not the event's place, 0, 1, ..: take the indices out, or count them anew.",
-            7 "HistoryFull" "The history has 1048576 events: at a quiet moment begin another one, with new keys.",
+            7 "HistoryFull" "A history has at most 1048576 events. jepmon-judge judges longer ones; live, go on in another one, with new keys.",
             8 "NoSuchIndex" "A rewind keeps at most as many events as there are.",
             9 "BadBudget" "A budget is a number, 1 to 65536.",
             10 "BadConcurrency" "--concurrency takes a number, 1 to 64, and of run 1 to 63.",

@@ -1,16 +1,15 @@
 //! What is said beside standard output. Whoever looks on while the program runs is an [`Onlooker`], and is told how far a run has
-//! come and why something was refused; [`OnTerminal`] says it on standard error, where that is a terminal. No contract speaks of
-//! it, but that each refusal that is printed has a hint, and nothing of it changes what a program reads, writes to standard output
-//! or ends with.
+//! come and why something was refused; [`OnStandardError`] says it there. No contract speaks of it, but that each refusal that is
+//! printed has a hint, and nothing of it changes what a program reads, writes to standard output or ends with.
 #![tactic(auto)]
 
 mod hints;
 mod moving_line;
 mod onlooker;
 mod remark;
-mod terminal;
+mod standard_error;
 
 pub use hints::hint_of;
 pub use moving_line::MovingLine;
 pub use onlooker::Onlooker;
-pub use terminal::OnTerminal;
+pub use standard_error::OnStandardError;

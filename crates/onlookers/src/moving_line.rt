@@ -1,6 +1,5 @@
 //! A line on a terminal that is written over.
 
-use clients::Watch;
 use linspec::Verdict;
 use std::cell::Cell;
 use std::fmt::Display;
@@ -66,6 +65,20 @@ impl<'a, X: Clock + Eprint> MovingLine<'a, X> {
         self.next.set(time_in(self.rt, BETWEEN));
     }
 
+    /// Shows how far a run of clients has come: so many events, and the verdict on them. It may wait as [`show`](MovingLine::show)
+    /// does.
+    pub fn show_run(&self, events: u64, verdict: Verdict) {
+        match verdict {
+            Verdict::Legal => self.show(format_args!("{events} events, legal so far    ")),
+            Verdict::Illegal { key, .. } => {
+                self.show(format_args!("{events} events, key {key} is illegal    "));
+            }
+            Verdict::Unknown { key, .. } => {
+                self.show(format_args!("{events} events, key {key} is unknown    "));
+            }
+        }
+    }
+
     /// Ends the line, where it stands there. It may wait for standard error, whose errors are passed over.
     pub fn leave(&self) {
         if self.is_open.replace(false) {
@@ -79,26 +92,4 @@ fn time_in<X: Clock>(clock: &X, milliseconds: u64) -> Option<Instant> {
     Instant::now(clock)
         .ok()?
         .checked_add(Duration::from_millis(milliseconds))
-}
-
-impl<'a, X: Clock + Eprint> Watch for MovingLine<'a, X> {
-    fn wants(&self) -> bool {
-        self.is_time()
-    }
-
-    fn told(&mut self, events: u64, verdict: Verdict) {
-        match verdict {
-            Verdict::Legal => self.show(format_args!("{events} events, legal so far    ")),
-            Verdict::Illegal { key, .. } => {
-                self.show(format_args!("{events} events, key {key} is illegal    "));
-            }
-            Verdict::Unknown { key, .. } => {
-                self.show(format_args!("{events} events, key {key} is unknown    "));
-            }
-        }
-    }
-
-    fn end(self) {
-        self.leave();
-    }
 }

@@ -32,6 +32,9 @@ pub trait Onlooker {
     /// These bytes of a recorded history are refused as a text.
     fn refused_text(&self, bytes: &[u8], refusal: &Refusal);
 
+    /// The refusal of the line that came has closed the script, which is strict.
+    fn closed(&self);
+
     /// The input was taken to its end, and this is the verdict.
     fn judged(&self, monitor: &Monitor, verdict: &Verdict);
 

@@ -118,7 +118,9 @@ impl fmt::Display for Remark {
                     f,
                     "key {key} has more ends than its budget: raise --budget, "
                 )?;
-                f.write_str("let fewer clients use one key, or go on with a new key after timeouts")
+                f.write_str(
+                    "let fewer clients use one key, or write to a new key after timeouts and go on reading this one",
+                )
             }
         }
     }

@@ -2,7 +2,7 @@
 
 use crate::streams::{LINES, config, drip_reader, narrow_writer};
 use edn::Refusal;
-use onlookers::{OnTerminal, Onlooker};
+use onlookers::{OnStandardError, Onlooker};
 use scripts::run_script;
 use std::alloc::{AllocError, Global};
 use std::sync::Wait;
@@ -18,14 +18,22 @@ fn replies<X: Wait, L: Onlooker>(
 ) -> Result<Vec<u8>, Refusal> {
     let mut reader = drip_reader(bytes, size);
     let mut writer = narrow_writer(alloc, usize::MAX, false);
-    run_script(rt, alloc, config(alloc), &mut reader, &mut writer, onlooker)?;
+    run_script(
+        rt,
+        alloc,
+        config(alloc),
+        false,
+        &mut reader,
+        &mut writer,
+        onlooker,
+    )?;
     Ok(writer.into_inner().held)
 }
 
 /// The replies are the same in whatever pieces the text comes.
 #[test]
 fn any_cutting(rt: HostRuntime) -> Result<(), Fail> {
-    let nobody = OnTerminal::new(&rt, false);
+    let nobody = OnStandardError::new(&rt, false);
     for size in [1, 2, 3, 7, usize::MAX] {
         let told = replies(&rt, rt.alloc(), LINES, size, &nobody)?;
         assert!(rt;
@@ -56,7 +64,7 @@ fn wanted(alloc: Global, beginning: &[u8]) -> Result<Vec<u8>, AllocError> {
 /// Cut off at each byte: the lines before have their replies, and the last one has what its beginning gets.
 #[test]
 fn cut_off_at_each_byte(rt: HostRuntime) -> Result<(), Fail> {
-    let nobody = OnTerminal::new(&rt, false);
+    let nobody = OnStandardError::new(&rt, false);
     for n in 0..=LINES.len() {
         let told = replies(&rt, rt.alloc(), &LINES[..n], 7, &nobody)?;
         let want = wanted(rt.alloc(), &LINES[..n])?;

@@ -1,6 +1,10 @@
 -- What a line asks for is answered by a verdict
-use Rattle.std.proofs.Common.{◌≡◌, ℕ, List, refl, Result, Ok, Err, OnOk, Some}
-use Rattle.std.specs.declared.alloc.AllocError.{AllocError}
+use Rattle.std.proofs.Common.{◌≡◌, ◌<◌, ◌≤◌, ℕ, Bool, true, false, List, length, refl, sym, ap, ◌∙◌, arith, Result, Ok, Option, Some}
+use Rattle.std.specs.Prelude.{◌&&◌}
+use Rattle.edn.specs.declared.refusal.Refusal.{Refusal}
+use Rattle.edn.specs.declared.refusal.Refusal.TheVariants.{TooLong}
+use Rattle.line_loop.specs.RefusalLine.{refusal_line}
+use Rattle.line_loop.specs.ReplyText.{line_limit}
 use Rattle.linspec.specs.declared.verdict.Verdict.{Verdict}
 use Rattle.machine.specs.Machine.{Machine, Replies}
 use Rattle.machine.specs.declared.command.Command.{Command}
@@ -8,7 +12,7 @@ use Rattle.machine.specs.declared.command.Command.TheVariants.{Append, Rewind, S
 use Rattle.machine.specs.declared.command.Reply.{Reply}
 use Rattle.machine.specs.declared.command.Reply.TheVariants.{Verdict as Says}
 use Rattle.scripts.specs.Command.{Asks}
-use Rattle.scripts.specs.Reply.{CarriesOut, MayReply}
+use Rattle.scripts.specs.Reply.{AnswersTo, MayAnswer, Script, MayReply}
 use Rattle.scripts.proofs.Elements.{MayAsk, line_may_ask}
 
 abbrev IsVerdict : Reply → Type 0
@@ -33,8 +37,25 @@ says old new Nemesis _ may h = absurd may
 pub line_says : (line : List ℕ) (command : Command) (old new : Machine) (reply : Reply) → Asks line (Ok (Some command)) → Replies old command reply new → IsVerdict reply
 line_says line command old new reply asks = says old new command reply (line_may_ask line command asks)
 
--- the command of a line, carried out, is the reply to the line
-pub carried_out : (done : Result (Unit {0}) AllocError) (line : List ℕ) (command : Command) (old new : Machine) (said : List ℕ) → Asks line (Ok (Some command))
-    → OnOk done (CarriesOut old command said new) → OnOk done (MayReply old line said new)
-carried_out (Ok _) line command old new said asks carries = (Ok (Some command), asks, carries)
-carried_out (Err _) line command old new said asks carries = tt
+true_is_not_false : true ≡ false → ⊥
+true_is_not_false e = cc
+
+-- an open script may reply so, where the line is answered so, and is closed where a strict one's line is refused
+pub replied : (old : Script) (line text : List ℕ) (machine : Machine) (is_refused is_closed : Bool) → old.is_closed ≡ false → MayAnswer old.machine line text is_refused machine → is_closed ≡ old.is_strict && is_refused
+    → MayReply old line text (record { machine = machine; is_strict = old.is_strict; is_closed = is_closed })
+replied old line text machine is_refused is_closed is_open answers closes = (
+  λ _. (machine, is_refused, answers, ap (λ b. let new : Script = record { machine = machine; is_strict = old.is_strict; is_closed = b } in new) closes),
+  λ closed. absurd (true_is_not_false (sym closed ∙ is_open)),
+)
+
+pub and_true : (b : Bool) → b ≡ b && true
+and_true true = refl
+and_true false = refl
+
+-- and one within the limit
+pub answered_within : (old new : Machine) (line text : List ℕ) (is_refused : Bool) → length line ≤ line_limit → (asked : Result (Option Command) Refusal) × Asks line asked × AnswersTo old asked text is_refused new → MayAnswer old line text is_refused new
+answered_within old new line text is_refused short answers = record { within = λ _. answers; over = λ long. absurd (omega (arith, short, long)) }
+
+-- one over it is refused
+pub refused_over : (old : Machine) (line text : List ℕ) → line_limit < length line → text ≡ refusal_line TooLong → MayAnswer old line text true old
+refused_over old line text long said = record { within = λ short. absurd (omega (arith, short, long)); over = λ _. (said, refl, refl) }

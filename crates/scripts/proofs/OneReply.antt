@@ -1,7 +1,8 @@
 -- The machine and a line determine the reply.
-use Rattle.std.proofs.Common.{◌≡◌, ⊎_elim, ℕ, List, [], refl, sym, ap, ◌∙◌, subst}
-use Rattle.std.specs.Prelude.{Option, Some, None, Result, Ok, Err}
+use Rattle.std.proofs.Common.{◌≡◌, ⊎_elim, ℕ, Bool, true, false, List, [], ◌∷◌, length, refl, sym, ap, ◌∙◌, subst, inl, inr}
+use Rattle.std.specs.Prelude.{◌&&◌, Option, Some, None, Result, Ok, Err}
 use Rattle.std.proofs.lemmas.Bool.{cases_order}
+use Rattle.std.proofs.lemmas.Bool.Decides.{leb_tells}
 use Rattle.edn.specs.Value.{Value, nil, bool, int, text, keyword, vector, members, pairs, Values, none, more}
 use Rattle.edn.specs.Text.{IsText, IsLongestFront}
 use Rattle.edn.specs.declared.refusal.Refusal.{Refusal}
@@ -15,11 +16,11 @@ use Rattle.machine.specs.declared.command.Command.TheVariants.{Append}
 use Rattle.machine.specs.declared.command.Reply.{Reply}
 use Rattle.machine.specs.declared.command.Reply.TheVariants.{Verdict as Says}
 use Rattle.machine.proofs.OneStep.{step_one}
-use Rattle.line_loop.specs.ReplyText.{IsReplyText}
+use Rattle.line_loop.specs.ReplyText.{line_limit, IsReplyText, Replies}
 use Rattle.line_loop.specs.RefusalLine.{refusal_line}
 use Rattle.line_loop.proofs.OneCut.{one_reply_text_law}
 use Rattle.scripts.specs.Command.{Appends, ElementAsks, AskFor, Asks}
-use Rattle.scripts.specs.Reply.{CarriesOut, AnswersTo, MayReply}
+use Rattle.scripts.specs.Reply.{CarriesOut, AnswersTo, MayAnswer, Script, after, MayReply}
 use Rattle.report.specs.VerdictLine.{verdict_line}
 
 -- what a line may be read into
@@ -92,27 +93,70 @@ line_of_outcome (Ok (Says verdict)) = verdict_line verdict
 line_of_outcome (Ok _) = []
 line_of_outcome (Err refusal) = refusal_line refusal
 
-abbrev HasLine : Machine → Command → List ℕ → Machine → Type 0
-HasLine old command said new = (outcome : Result Reply Refusal) × MayStep old command outcome new × (said ≡ line_of_outcome outcome)
+abbrev is_refusal : Result Reply Refusal → Bool
+is_refusal (Ok _) = false
+is_refusal (Err _) = true
 
-has_line : (old : Machine) (command : Command) (said : List ℕ) (new : Machine) → CarriesOut old command said new → HasLine old command said new
-has_line old command said new = ⊎_elim (λ a. (Ok (Says a.0), a.1, a.2)) (λ r. (Err r.0, r.1, r.3))
+abbrev HasLine : Machine → Command → List ℕ → Bool → Machine → Type 0
+HasLine old command said is_refused new = (outcome : Result Reply Refusal) × MayStep old command outcome new × (said ≡ line_of_outcome outcome) × (is_refused ≡ is_refusal outcome)
 
-one_carried_out : (old : Machine) (command : Command) (said other : List ℕ) (new next : Machine) → CarriesOut old command said new → CarriesOut old command other next → (said ≡ other) × (new ≡ next)
-one_carried_out old command said other new next a b =
-    let (c, steps, line) = has_line old command said new a in
-    let (d, steps_too, line_too) = has_line old command other next b in
+has_line : (old : Machine) (command : Command) (said : List ℕ) (is_refused : Bool) (new : Machine) → CarriesOut old command said is_refused new → HasLine old command said is_refused new
+has_line old command said is_refused new = ⊎_elim (λ a. (Ok (Says a.0), a.1, a.2, a.3)) (λ r. (Err r.0, r.1, r.3, r.4))
+
+-- the reply, whether it is a refusal, and the machine after it
+abbrev Same : List ℕ → List ℕ → Bool → Bool → Machine → Machine → Type 0
+Same said other is_refused is_refused' new next = (said ≡ other) × (is_refused ≡ is_refused') × (new ≡ next)
+
+one_carried_out : (old : Machine) (command : Command) (said other : List ℕ) (r r' : Bool) (new next : Machine) → CarriesOut old command said r new → CarriesOut old command other r' next → Same said other r r' new next
+one_carried_out old command said other r r' new next a b =
+    let (c, steps, line, refused) = has_line old command said r new a in
+    let (d, steps_too, line_too, refused_too) = has_line old command other r' next b in
     let (outcome, machine) = step_one old new next command c d steps steps_too in
-    (line ∙ ap line_of_outcome outcome ∙ sym line_too, machine)
+    (line ∙ ap line_of_outcome outcome ∙ sym line_too, refused ∙ ap is_refusal outcome ∙ sym refused_too, machine)
 
-one_answer : (old : Machine) (asked : Outcome) (said other : List ℕ) (new next : Machine) → AnswersTo old asked said new → AnswersTo old asked other next → (said ≡ other) × (new ≡ next)
-one_answer old (Ok None) said other new next a b = (a.0 ∙ sym b.0, a.1 ∙ sym b.1)
-one_answer old (Ok (Some command)) said other new next a b = one_carried_out old command said other new next a b
-one_answer old (Err refusal) said other new next a b = (a.0 ∙ sym b.0, a.1 ∙ sym b.1)
+one_answer : (old : Machine) (asked : Outcome) (said other : List ℕ) (r r' : Bool) (new next : Machine) → AnswersTo old asked said r new → AnswersTo old asked other r' next → Same said other r r' new next
+one_answer old (Ok None) said other r r' new next a b = (a.0 ∙ sym b.0, a.1 ∙ sym b.1, a.2 ∙ sym b.2)
+one_answer old (Ok (Some command)) said other r r' new next a b = one_carried_out old command said other r r' new next a b
+one_answer old (Err refusal) said other r r' new next a b = (a.0 ∙ sym b.0, a.1 ∙ sym b.1, a.2 ∙ sym b.2)
 
-pub reply_one : (old : Machine) (line said other : List ℕ) (new next : Machine) → MayReply old line said new → MayReply old line other next → (said ≡ other) × (new ≡ next)
-reply_one old line said other new next a b =
-    one_answer old a.0 said other new next a.2 (subst (λ (asked : Outcome). AnswersTo old asked other next) (one_asked line b.0 a.0 b.1 a.1) b.2)
+-- of a line within the limit and of one over it
+one_line : (old : Machine) (line said other : List ℕ) (r r' : Bool) (new next : Machine) → MayAnswer old line said r new → MayAnswer old line other r' next → Same said other r r' new next
+one_line old line said other r r' new next a b = elim (leb_tells (length line) line_limit) as (λ _. Same said other r r' new next) [
+  | inl p ↦
+      let (asked, asks, answers) = a.within p.1 in
+      let (asked', asks', answers') = b.within p.1 in
+      one_answer old asked said other r r' new next answers (subst (λ (x : Outcome). AnswersTo old x other r' next) (one_asked line asked' asked asks' asks) answers')
+  | inr p ↦
+      let (t, u, n) = a.over p.1 in
+      let (t', u', n') = b.over p.1 in
+      (t ∙ sym t', u ∙ sym u', n ∙ sym n')
+]
 
-pub script_text_one : (old : Machine) (input said other : List ℕ) (new next : Machine) → IsReplyText MayReply old input said new → IsReplyText MayReply old input other next → (said ≡ other) × (new ≡ next)
+-- of an open script and of a closed one
+reply_open : (old : Script) (line said other : List ℕ) (new next : Script) → (is_closed : Bool) → old.is_closed ≡ is_closed → MayReply old line said new → MayReply old line other next → (said ≡ other) × (new ≡ next)
+reply_open old line said other new next false is_open a b =
+    let (machine, r, answers, at) = a.0 is_open in
+    let (machine', r', answers', at') = b.0 is_open in
+    let (t, u, n) = one_line old.machine line said other r r' machine machine' answers answers' in
+    let same : after old machine r ≡ after old machine' r' = subst (λ x. after old machine r ≡ after old machine' x) u (ap (λ m. after old m r) n) in
+    (t, at ∙ same ∙ sym at')
+reply_open old line said other new next true closed a b =
+    let (t, n) = a.1 closed in
+    let (t', n') = b.1 closed in
+    (t ∙ sym t', n ∙ sym n')
+
+pub reply_one : (old : Script) (line said other : List ℕ) (new next : Script) → MayReply old line said new → MayReply old line other next → (said ≡ other) × (new ≡ next)
+reply_one old line said other new next a b = reply_open old line said other new next old.is_closed refl a b
+
+pub script_text_one : (old : Script) (input said other : List ℕ) (new next : Script) → IsReplyText MayReply old input said new → IsReplyText MayReply old input other next → (said ≡ other) × (new ≡ next)
 script_text_one = one_reply_text_law MayReply reply_one
+
+-- a script that is not strict stays open
+pub open_stays : (old : Script) (lines : List (List ℕ)) (said : List ℕ) (new : Script) → Replies MayReply old lines said new → old.is_strict ≡ false → old.is_closed ≡ false → (new.is_strict ≡ false) × (new.is_closed ≡ false)
+open_stays old [] said new run lenient is_open = (ap (λ s. s.is_strict) run.1 ∙ lenient, ap (λ s. s.is_closed) run.1 ∙ is_open)
+open_stays old (line ∷ lines) said new run lenient is_open =
+    let (mid, first, others, replies, later, _) = run in
+    let (machine, r, answers, at) = replies.0 is_open in
+    let strict : mid.is_strict ≡ false = ap (λ s. s.is_strict) at ∙ lenient in
+    let closed : mid.is_closed ≡ false = ap (λ s. s.is_closed) at ∙ ap (λ b. b && r) lenient in
+    open_stays mid lines others new later strict closed

@@ -7,5 +7,5 @@ mod laws;
 mod script;
 
 pub use command::read_command;
-pub use laws::{one_reply, one_script_text};
+pub use laws::{one_reply, one_script_text, stays_open};
 pub use script::run_script;

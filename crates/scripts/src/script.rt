@@ -1,12 +1,14 @@
 //! The monitor, driven by lines.
-ghost use Rattle.std.specs.Prelude.{◌≡◌, ◌≢◌, ◌⊎◌, ℕ, List, [], IfOk, OnOk, IfErr, IsErrAnd, Ok, Err, Some, false, true};
+ghost use Rattle.std.specs.Prelude.{◌≡◌, ◌≢◌, ◌⊎◌, ◌≤◌, ℕ, List, [], length, Result, Option, IfOk, OnOk, IfErr, IsErrAnd, Ok, Err, Some, None, false, true};
 ghost use Rattle.machine.specs.Machine.{Machine, opening};
 ghost use Rattle.harness.specs.Setups.{setup_of, IsSetup, MayNotOpen};
-ghost use Rattle.linspec.specs.JudgedHistory.{IsVerdictOn};
 ghost use Rattle.line_loop.specs.RefusalLine.{refusal_line};
+ghost use Rattle.line_loop.specs.ReplyText.{line_limit};
 ghost use Rattle.line_loop.specs.Stopping.{MayStop, Finishes, Stops, KeepsUp};
+ghost use Rattle.edn.specs.declared.refusal.Refusal.{Refusal as RefusalValue};
+ghost use Rattle.machine.specs.declared.command.Command.{Command as CommandValue};
 ghost use Rattle.scripts.specs.Command.{Asks};
-ghost use Rattle.scripts.specs.Reply.{CarriesOut, MayReply};
+ghost use Rattle.scripts.specs.Reply.{CarriesOut, AnswersTo, MayReply, Shows, Script, script};
 ghost use Rattle.scripts.specs.Unopened.{IsUnopened};
 
 use crate::command::read_command;
@@ -26,53 +28,98 @@ use std::sync::Wait;
 struct ScriptMachine<'a, L> {
     alloc: Global,
     core: Core,
+    is_strict: bool,
+    is_closed: bool,
     onlooker: &'a L,
 }
 
 impl<'a, L> Model for ScriptMachine<'a, L> {
     ghost use Rattle.std.specs.Coded.{codes};
     ghost use Rattle.generators.specs.Codes.{generator_code};
-    ghost use Rattle.machine.specs.Machine.{Machine};
+    ghost use Rattle.scripts.specs.Reply.{Script};
 
-    ghost Value = { Machine };
+    ghost Value = { Script };
 
     ghost coded = { Prim.hlevel (codes, generator_code) };
 
-    ghost view = { λ machine. machine.core.machine };
+    ghost view = { λ machine. record {
+      machine = machine.core.machine;
+      is_strict = machine.is_strict;
+      is_closed = machine.is_closed;
+    } };
 }
 
 impl<'a, L: Onlooker> LineMachine for ScriptMachine<'a, L> {
     type State = ScriptMachine<'a, L>;
 
-    type Verdict = Verdict;
+    type Verdict = Option<Verdict>;
 
     ghost state = { λ machine. machine };
 
     ghost may_reply = { MayReply };
 
-    ghost shows = { λ machine verdict. IsVerdictOn machine.judged verdict };
+    ghost is_closed = { λ script. script.is_closed };
+
+    ghost shows = { Shows };
 
     fn answer(&mut self, line: &[u8], reply: &mut Vec<u8>) -> Result<(), AllocError> {
-        self.onlooker.line();
-        match read_command(self.alloc, line) {
-            Ok(None) => Ok(()),
-            Ok(Some(command)) => {
-                tell_event(self.onlooker, &command);
-                carry_out(self.alloc, &mut self.core, command, reply, self.onlooker)
-            }
-            Err(refusal) => reply_refusal(self.alloc, refusal, reply, self.onlooker),
+        if self.is_closed {
+            return Ok(());
         }
-    }
-
-    fn pass_over(&self) {
         self.onlooker.line();
-        self.onlooker.refused(&Refusal::TooLong);
+        let is_refused = answer_line(self.alloc, &mut self.core, line, reply, self.onlooker)?;
+        self.is_closed = self.is_strict && is_refused;
+        Ok(())
     }
 
-    fn verdict(&self) -> Verdict {
+    fn answer_too_long(&mut self, reply: &mut Vec<u8>) -> Result<(), AllocError> {
+        if self.is_closed {
+            return Ok(());
+        }
+        self.onlooker.line();
+        reply_refusal(self.alloc, Refusal::TooLong, reply, self.onlooker)?;
+        self.is_closed = self.is_strict;
+        Ok(())
+    }
+
+    fn closed(&self) -> bool {
+        self.is_closed
+    }
+
+    fn verdict(&self) -> Option<Verdict> {
+        if self.is_closed {
+            self.onlooker.closed();
+            return None;
+        }
         let verdict = self.core.verdict();
         self.onlooker.judged(self.core.monitor(), &verdict);
-        verdict
+        Some(verdict)
+    }
+}
+
+// Puts the reply to a line into an empty vector, and says whether it is a refusal.
+fn answer_line<L: Onlooker>(
+    alloc: Global,
+    core: &mut Core,
+    line: &[u8],
+    reply: &mut Vec<u8>,
+    onlooker: &L,
+) -> Result<bool, AllocError>
+    requires { reply.old.items ≡ [] }
+    ensures { IfOk result (λ is_refused. (asked : Result (Option CommandValue) RefusalValue)
+        × Asks line.now asked
+        × AnswersTo core.old.machine asked reply.new.items is_refused core.new.machine) }
+{
+    match read_command(alloc, line) {
+        Ok(None) => Ok(false),
+        Ok(Some(command)) => {
+            tell_event(onlooker, &command);
+            carry_out(alloc, core, command, reply, onlooker)
+        }
+        Err(refusal) => {
+            reply_refusal(alloc, refusal, reply, onlooker)?;
+            Ok(true)
+        }
     }
 }
 
@@ -83,21 +130,29 @@ fn tell_event<L: Onlooker>(onlooker: &L, command: &Command) {
     }
 }
 
-// Carries out a command that a line asks for, and puts the line of what came of it into an empty vector.
+// Carries out a command that a line asks for, puts the line of what came of it into an empty vector, and says whether it was
+// refused.
 fn carry_out<L: Onlooker>(
     alloc: Global,
     core: &mut Core,
     command: Command,
     reply: &mut Vec<u8>,
     onlooker: &L,
-) -> Result<(), AllocError>
+) -> Result<bool, AllocError>
     requires empty { reply.old.items ≡ [] }
     requires asked { (line : List ℕ) × Asks line (Ok (Some command)) }
-    ensures { OnOk result (CarriesOut core.old.machine command reply.new.items core.new.machine) }
+    ensures { IfOk result (λ is_refused.
+        CarriesOut core.old.machine command reply.new.items is_refused core.new.machine) }
 {
     match core.step(command) {
-        Ok(said) => append_verdict(alloc, reply, &verdict_of(said)),
-        Err(refusal) => reply_refusal(alloc, refusal, reply, onlooker),
+        Ok(said) => {
+            append_verdict(alloc, reply, &verdict_of(said))?;
+            Ok(false)
+        }
+        Err(refusal) => {
+            reply_refusal(alloc, refusal, reply, onlooker)?;
+            Ok(true)
+        }
     }
 }
 
@@ -137,7 +192,8 @@ fn reply_refusal<L: Onlooker>(
 }
 
 /// Reads commands from a reader, a line each, and writes the reply to each before it reads further. At the reader's end it
-/// flushes once and gives the verdict on the history as it then stands.
+/// flushes once and gives the verdict on the history as it then stands. A strict script is closed at the first line that is
+/// refused: it writes that line's reply, flushes, reads no further, and gives none.
 ///
 /// A line is at most 65,536 bytes, its line feed not counted; a longer one is answered by `refused 22 TooLong`. A line
 /// without an element gets no reply. The time is that of the commands, and the memory that of the monitor and of two lines.
@@ -151,31 +207,37 @@ pub fn run_script<X: Wait, R: Read + Failed, W: Write + Failed, L: Onlooker>(
     rt: &X,
     alloc: Global,
     config: Config,
+    is_strict: bool,
     reader: &mut R,
     writer: &mut W,
     onlooker: &L,
-) -> Result<Verdict, Refusal>
+) -> Result<Option<Verdict>, Refusal>
     requires reads { R.has_failed reader.old ≡ false }
     requires writes { W.has_failed writer.old ≡ false }
     // A configuration out of its limits is refused before anything is read or written.
     ensures limits { IsSetup (setup_of config)
         ⊎ IsErrAnd result
         (IsUnopened (setup_of config) reader.old reader.new writer.old writer.new) }
-    // All that the reader had is consumed, the writer grew by a reply text of it, and the verdict is that of the end.
-    ensures done { IfOk result (λ verdict. (end : Machine) × IsVerdictOn end.judged verdict
-        × Finishes MayReply (opening (setup_of config)) end
+    // The outcome is that of the end. The reader has not failed, all that it had is consumed, and the writer grew by a reply
+    // text of it; or the script is closed, and all lines that were read to their line feed had their replies.
+    ensures done { IfOk result (λ outcome. (end : Script) × Shows end outcome
+        × ((Finishes MayReply (script (setup_of config) is_strict) end
         (R.remaining reader.old) (R.remaining reader.new)
-        (W.contents writer.old) (W.contents writer.new)) }
-    ensures unfailed { OnOk result ((R.has_failed reader.new ≡ false)
-        × (W.has_failed writer.new ≡ false)) }
+        (W.contents writer.old) (W.contents writer.new)
+        × (R.has_failed reader.new ≡ false))
+        ⊎ ((end.is_closed ≡ true) × KeepsUp MayReply (script (setup_of config) is_strict) end
+        (R.remaining reader.old) (R.remaining reader.new)
+        (W.contents writer.old) (W.contents writer.new)))) }
+    ensures unfailed { OnOk result (W.has_failed writer.new ≡ false) }
     // Nothing was read or written; or the writer grew by a beginning of a reply text of the lines read to their end.
     ensures stopped { IfErr result (λ e.
         IsUnopened (setup_of config) reader.old reader.new writer.old writer.new e
-        ⊎ Stops MayReply (opening (setup_of config))
+        ⊎ Stops MayReply (script (setup_of config) is_strict)
         (R.remaining reader.old) (R.remaining reader.new)
         (W.contents writer.old) (W.contents writer.new) e) }
     // Where the reader failed, all lines that were read to their line feed had their replies.
-    ensures live { result ≡ Err Refusal.ReadFailed → KeepsUp MayReply (opening (setup_of config))
+    ensures live { result ≡ Err Refusal.ReadFailed → (here : Script)
+        × KeepsUp MayReply (script (setup_of config) is_strict) here
         (R.remaining reader.old) (R.remaining reader.new)
         (W.contents writer.old) (W.contents writer.new) }
     ensures kinds { IfErr result (λ e. MayNotOpen (setup_of config) e ⊎ MayStop e) }
@@ -186,6 +248,8 @@ pub fn run_script<X: Wait, R: Read + Failed, W: Write + Failed, L: Onlooker>(
     let machine = ScriptMachine {
         alloc,
         core,
+        is_strict,
+        is_closed: false,
         onlooker,
     };
     answer_lines(rt, alloc, machine, reader, writer)

@@ -8,7 +8,7 @@ from ..objects import BY_OPERATION
 from ..shrinking.units import begin, end
 from ..walk import UNBOUNDED, GaveUp, walk
 from .case import Case, Found, mentions
-from .names import capital, client, listed, span
+from .names import capital, client, last_event, listed, span
 
 
 def of_mutex(case: Case) -> Found:
@@ -40,11 +40,21 @@ def of_held(case: Case, last: List[Operation]) -> str:
 
 def of_free(case: Case, last: List[Operation]) -> str:
     if not case.others("acquire", lambda operation: operation.outcome != "fail"):
-        return "Nobody had acquired it before."
+        return f"Nobody had acquired it before{of_failed(case)}."
     if not last:
         return ""
     by = listed([f"{client(operation)} ({span(operation)})" for operation in last])
     return f"It had been released last by {by}, and nobody can have acquired it since."
+
+
+def of_failed(case: Case) -> str:
+    """The acquires that failed, of which one may have taken place all the same."""
+    failed = case.others("acquire", lambda operation: operation.outcome == "fail")
+    if not failed:
+        return ""
+    latest = f"{client(failed[-1])}'s acquire"
+    told = latest if len(failed) == 1 else f"{len(failed)} acquires, the last of them {latest}"
+    return f": {told} had failed (event {last_event(failed[-1])})"
 
 
 def last_operations(case: Case) -> List[Operation]:

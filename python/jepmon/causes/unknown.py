@@ -41,8 +41,9 @@ class Growth(NamedTuple):
 
 def of_unknown(over: Over) -> Found:
     index, named = over.front[-1].index, over.names.object(over.model, over.key)
-    headline = (f"At event {index} more than {over.options.budget:,} outcomes were possible for {named}, which is its budget: from "
-                "there on jepmon does not judge it.")
+    most = f"{over.options.budget:,} outcome" + ("" if over.options.budget == 1 else "s")
+    headline = (f"At event {index} more than {most} {'was' if over.options.budget == 1 else 'were'} possible for {named}, which is its "
+                "budget: from there on jepmon does not judge it.")
     made = operations(over.front, over.options.concurrency)
     pending = [operation for operation in made if may_still_take_place(operation, index)]
     asked = with_greatest_budget(over)

@@ -11,6 +11,7 @@ from __future__ import annotations
 
 import argparse
 import pathlib
+import subprocess
 from typing import Dict
 
 from .. import command, program
@@ -62,25 +63,30 @@ def work() -> int:
         say(fault.strerror if given.file == "-" else f"{given.file}: {fault.strerror}")
         if given.file == "-":
             return command.REFUSED
-        text, _, status = program.run_check([given.file] + options)
+        text, _, status = program.run_check([given.file] + options, stderr=subprocess.PIPE)
         command.write_output([text])
         return status
-    text, _, status = program.run_check(["/dev/stdin"] + options, raw)
+    text, beside, status = program.run_check(["/dev/stdin"] + options, raw, stderr=subprocess.PIPE)
     command.write_output([text])
-    if text:
-        tell(text.splitlines()[-1], raw, stated)
-    elif (integer(stated.get("--concurrency")) or 0) > THREADS:
+    is_told = bool(text) and tell(text.splitlines()[-1], raw, stated)
+    if not text and (integer(stated.get("--concurrency")) or 0) > THREADS:
+        command.standard_error().write(beside.splitlines(True)[0])
         say(many_clients())
+    elif not is_told:
+        command.standard_error().write(beside)
     return status
 
 
-def tell(reply: str, raw: bytes, stated: Dict[str, str]) -> None:
-    """Says what may be said. The verdict stands, whatever comes of this."""
+def tell(reply: str, raw: bytes, stated: Dict[str, str]) -> bool:
+    """Says what may be said, and whether there was something. The verdict stands, whatever comes of this."""
+    is_told = False
     try:
         for line in said(reply, raw, Options(int(stated.get("--concurrency", 2)), stated.get("--model", "register"))):
             say(line)
+            is_told = True
     except Exception as fault:
         say(f"no more can be said of it, by a fault of explain itself: {fault!r}")
+    return is_told
 
 
 def main() -> int:

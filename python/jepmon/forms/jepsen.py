@@ -1,7 +1,8 @@
 """Jepsen's form made into jepmon's own, by jepmon.from_jepsen."""
 from __future__ import annotations
 
-from typing import Iterator, List, Mapping, NamedTuple, Optional
+import re
+from typing import Iterator, List, Mapping, NamedTuple, Optional, Sequence
 
 from ..from_jepsen import Refusal, Turned, turn
 from ..from_jepsen.events import Event
@@ -9,6 +10,7 @@ from ..from_jepsen.refusal import NoKey, TooMany
 from ..notes import Fault
 from . import Beyond, Refused, faults
 
+INDEX = re.compile(r", :jepsen-index [0-9]+")
 NO_KEYS = "its values have no keys: all of it is one object, key 0"
 
 
@@ -42,6 +44,16 @@ def turned(text: str, key: Optional[str], nil_is_absent: bool) -> FromJepsen:
     lines = [0] * found.begun + [event.line if isinstance(event, Event) else 0 for event in found.history.events]
     return FromJepsen(found.text(), found.models, found.names.keys, found.names.values, lines,
                       faults.of_nemesis(found.history.nemesis, found.begun), notes + list(notes_of(found)))
+
+
+def with_lines(text: str, lines: Sequence[int], file_lines: Sequence[int]) -> str:
+    """The text, each event with the line of the file that it comes from, where it was given an index that the file does not have."""
+    places = iter(lines)
+    return "".join(INDEX.sub(_line_of(next(places), file_lines), line) if line.startswith("{") else line for line in text.splitlines(True))
+
+
+def _line_of(line: int, file_lines: Sequence[int]) -> str:
+    return f", :line {file_lines[line - 1]}" if line else ""
 
 
 def notes_of(found: Turned) -> Iterator[str]:

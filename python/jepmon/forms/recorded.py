@@ -91,6 +91,8 @@ def _from_jepsen(form: str, text: str, options: Options, notes: List[str], file_
         made = jepsen.turned(text, options.key, options.nil_is_absent)
     except Refused as refusal:
         raise type(refusal)(_with_lines(str(refusal), file_lines)) from refusal
+    if file_lines:
+        made = made._replace(text=jepsen.with_lines(made.text, made.lines, file_lines))
     found = own.read(made.text)
     if found is None:
         raise Refused("a fault of this program: what it made of the history is not in jepmon's form")

@@ -22,12 +22,11 @@ may have taken nothing, and whatever was linearizable with something taken is so
 """
 from __future__ import annotations
 
-from typing import Callable, Dict, Iterable, Iterator, NoReturn, Optional, Tuple
+from typing import Dict, Iterable, Iterator, NoReturn, Optional, Tuple
 
 from .. import edn, faults, kinds
 from ..edn import Many, Value, canonical, integer, shown, spelling
 from .events import Event, Fault, History, Left, is_pair, tuple_of
-from .quick import Read, elements_of
 from .refusal import NoKey, Refusal, refuse
 from .spool import Spool
 
@@ -38,6 +37,7 @@ TAKEN = frozenset(OPERATIONS + [DRAIN])
 ANSWERED = frozenset(f":{name}" for name in kinds.ANSWERED)
 WITHOUT_PART = frozenset([f":{name}" for name in kinds.WITHOUT_PART] + [DRAIN])
 NATURAL = range(0, 1 << 63)  # processes, and indices
+MOST_KNOWN = 10_000  # values of events that are remembered
 
 
 class Collector:
@@ -47,12 +47,12 @@ class Collector:
         self.lone_key = None if lone_key is None else canonical(lone_key)
         self.nil_is_absent = nil_is_absent
         self.open: Dict[int, Event] = {}
-        self._canonical: Callable[[Value], Value] = canonical  # of the element that is taken
         self.history = History(Spool())
+        self.known: Dict[Tuple[str, str, Value], Tuple[Value, Value]] = {}  # the key and part of values that came, by :type and :f
 
     def collect(self, pieces: Iterable[str]) -> History:
         """The history of a text that comes in pieces."""
-        elements = elements_of(iter(pieces))
+        elements = edn.Reader(pieces).history()
         count = 0
         try:
             for element in elements:
@@ -71,15 +71,13 @@ class Collector:
             raise Refusal(f"none of its {count} events is of a client: there is nothing to judge")
         return self.history
 
-    def take(self, element: Read, count: int) -> None:
-        fields = element.fields
+    def take(self, element: edn.Element, count: int) -> None:
+        fields = edn.fields_of(element.value)
         if fields is None:
             text = shown(element.value, 60)
             refuse(element.line, f"this is no map, so no event: {text} (is this Jepsen's history.edn?)")
-        self._canonical = _itself if element.is_canonical else canonical
-        stated = integer(fields.get(":index"))
+        stated, process = integer(fields.get(":index")), integer(fields.get(":process"))
         index = stated if stated is not None and stated in NATURAL else count
-        process = integer(fields.get(":process"))
         if process is not None and process in NATURAL:
             self.take_event(element.line, process, fields, index)
         elif faults.is_fault(fields):
@@ -87,7 +85,7 @@ class Collector:
         else:
             self.leave_out(element, fields)
 
-    def leave_out(self, element: Read, fields: Dict[str, Value]) -> None:
+    def leave_out(self, element: edn.Element, fields: Dict[str, Value]) -> None:
         """Leaves out the event of a process that is no client, as :nemesis."""
         process = fields.get(":process")
         if not isinstance(process, str) or not (process.startswith(":") or process == "nil"):
@@ -113,7 +111,7 @@ class Collector:
         if process in self.open:
             began = self.open[process].line
             refuse(line, f"process {process} invokes {name}, and its operation of line {began} is not completed")
-        key, part = self.invoked(line, name, self._canonical(value))
+        key, part = self.key_and_part(line, ":invoke", name, value)
         if name in WITHOUT_PART and part != "nil":
             self.history.notes[f":invoke of {name} with a value, which is left out"] += 1
         event = Event(":invoke", process, name, key, "nil" if name in WITHOUT_PART else part, index, line)
@@ -123,12 +121,19 @@ class Collector:
         else:
             self.history.add(event)
 
-    def invoked(self, line: int, name: str, value: Value) -> Tuple[Value, Value]:
-        """The key and the part of an invocation."""
-        refuse_value_of_read(line, name, value)
-        key, part = self.key_and_part(line, name, value)
-        self.test_part(line, name, part)
-        return key, part
+    def key_and_part(self, line: int, kind: str, name: str, value: Value) -> Tuple[Value, Value]:
+        """The key and the part of an event's value, which is read once where it comes again and again."""
+        known = self.known.get((kind, name, value))
+        if known is None:
+            plain = canonical(value)
+            if kind == ":invoke":
+                refuse_value_of_read(line, name, plain)
+            known = self.taken_apart(line, name, plain)
+            if kind == ":invoke":
+                self.test_part(line, name, known[1])
+            if len(self.known) < MOST_KNOWN and (isinstance(known[1], str) or name == ":cas"):
+                self.known[kind, name, value] = known
+        return known
 
     def complete(self, line: int, kind: str, process: int, name: str, value: Value, index: int) -> None:
         """A completion repeats its invocation, but for the answer of a read or a dequeue that took place."""
@@ -142,16 +147,16 @@ class Collector:
             return
         part = invoked.part
         if kind == ":ok" and name in ANSWERED:
-            part = self.answer(line, invoked, self._canonical(value))
+            part = self.answer(line, invoked, value)
             kind = self.answered(kind, name, part)
             part = invoked.part if kind == ":fail" else part
-        elif name not in WITHOUT_PART and not self.repeats(invoked, self._canonical(value)):
+        elif name not in WITHOUT_PART and not self.repeats(invoked, value):
             self.history.notes[f"{kind} of {name} with another value than their invocation, whose value stands"] += 1
         self.history.add(Event(kind, process, name, invoked.key, part, index, line))
 
     def answer(self, line: int, invoked: Event, value: Value) -> Value:
         """The answer that an :ok tells, which is of the invocation's key."""
-        key, part = self.key_and_part(line, invoked.name, value)
+        key, part = self.key_and_part(line, ":ok", invoked.name, value)
         if key != invoked.key:
             refuse(line, f"the answer is of key {shown(key)}, and the invocation of key {shown(invoked.key)}")
         return part
@@ -169,7 +174,7 @@ class Collector:
             what = {":fail": "nothing came out", ":info": "what came out is not known, which changes no verdict"}[kind]
             self.history.notes[f"{kind} of :drain, left out: {what}"] += 1
             return
-        drained = self.answer(line, invoked, self._canonical(value))
+        drained = self.answer(line, invoked, value)
         if drained != "nil" and not (isinstance(drained, Many) and drained.opened in ("[", "#{")):
             refuse(line, f"this :drain is answered by {shown(drained)}, which is no list of what came out")
         for taken in drained.members if isinstance(drained, Many) else ():
@@ -182,10 +187,14 @@ class Collector:
             self.history.add(dequeue._replace(kind=ended, part=part))
 
     def repeats(self, invoked: Event, value: Value) -> bool:
-        part = value if self.lone_key is not None else (tuple_of(value) or (value, "nil"))[1]
+        known = self.known.get((":invoke", invoked.name, value))
+        if known is not None:
+            return known[1] == invoked.part
+        plain = canonical(value)
+        part = plain if self.lone_key is not None else (tuple_of(plain) or (plain, "nil"))[1]
         return part == invoked.part
 
-    def key_and_part(self, line: int, name: str, value: Value) -> Tuple[Value, Value]:
+    def taken_apart(self, line: int, name: str, value: Value) -> Tuple[Value, Value]:
         pair = tuple_of(value)
         if self.lone_key is not None:
             if pair is not None and (pair[1] == "nil" and name in WITHOUT_PART or name == ":cas" and is_pair(pair[1])):
@@ -205,10 +214,6 @@ class Collector:
             refuse(line, f"{name} of nil, which jepmon has not as a value; let the test write a number for it{other}")
 
 
-def _itself(value: Value) -> Value:
-    return value
-
-
 def refuse_operation(line: int, name: Optional[Value]) -> NoReturn:
     if isinstance(name, str) and name[1:] in kinds.NOT_JUDGED:
         refuse(line, f"{name} {kinds.NOT_JUDGED[name[1:]]}")
@@ -217,17 +222,19 @@ def refuse_operation(line: int, name: Optional[Value]) -> NoReturn:
 
 def refuse_value_of_read(line: int, name: Value, value: Value) -> None:
     """A read asks for one key. One that is invoked with a value, as [[:x 1] [:y 2]], is of several registers at once."""
+    if name != ":read" or value == "nil":
+        return
     pair = tuple_of(value)
-    if name == ":read" and value != "nil" and (pair is None or pair[1] != "nil"):
+    if pair is None or pair[1] != "nil":
         refuse(line, f"this :read is invoked with {shown(value)}, in place of nil or [key nil]: is it of several registers at once? "
                "jepmon judges reads of one key each")
 
 
-def refuse_others(elements: Iterator[Read]) -> None:
+def refuse_others(elements: Iterator[edn.Element]) -> None:
     """Refuses what follows where it has operations that no key makes into ones of jepmon."""
     try:
         for element in elements:
-            fields = element.fields or {}
+            fields = edn.fields_of(element.value) or {}
             name = fields.get(":f")
             if integer(fields.get(":process")) is None:
                 continue

@@ -1,7 +1,7 @@
 """Writes the events of a Jepsen history in jepmon's form."""
 from __future__ import annotations
 
-from typing import Iterator, NamedTuple, Sequence
+from typing import Dict, Iterator, NamedTuple, Sequence, Tuple
 
 from ..edn import Many, Value
 from ..kinds import KEYS, REGISTERS, THREADS, VALUES
@@ -22,6 +22,8 @@ class Limits(NamedTuple):
 
 OF_SHARDS = Limits(range(1 << 63), 1 << 20)
 
+MOST_KNOWN = 10_000  # operations whose texts are remembered
+
 
 class Writer:
     """Writes the events of a history in jepmon's form, and after them in comments what numbers stand for."""
@@ -34,6 +36,7 @@ class Writer:
         self.values = Numbering(self._values, VALUES)
         self.absent = str(self.values.another()) if nil_is_absent else "nil"
         self.processes = processes_of(history, limits.threads)
+        self.known: Dict[Tuple[str, str, Value, Value], str] = {}  # the texts of operations that come again and again
         if len(history.keys) > limits.keys.stop:
             raise TooMany(f"it has {len(history.keys)} keys, and jepmon takes {limits.keys.stop}")
 
@@ -65,9 +68,13 @@ class Writer:
 
     def line(self, event: Event, process: int) -> str:
         own = f", :jepsen-process {event.process}" if self.processes.renumbered else ""
-        value = f"[{self.keys(event.key)} {self.part(event)}]"
-        return (f"{{:type {event.kind}, :process {process}, :f {event.name}, :value {value}, "
-                f":jepsen-index {event.own_index}{own}}}\n")
+        kind, _, name, key, part, own_index, _ = event
+        text = self.known.get((kind, name, key, part))
+        if text is None:
+            text = f":f {name}, :value [{self.keys(key)} {self.part(event)}]"
+            if len(self.known) < MOST_KNOWN and isinstance(part, str):
+                self.known[kind, name, key, part] = text
+        return f"{{:type {kind}, :process {process}, {text}, :jepsen-index {own_index}{own}}}\n"
 
     def part(self, event: Event) -> str:
         of_set = event.key in self.sets

@@ -17,13 +17,14 @@ class Page:
     """A file of its own, as --html names it."""
 
     def __init__(self, path: str) -> None:
+        self.name = path  # as the user named it
         self.path = pathlib.Path(os.path.realpath(path))
-        _test_file(self.path)
+        _test_file(self.path, path)
         if self.path.is_file() and not _is_page(self.path):
             raise Refused(f"{path}: this file is there, and is no page: it is not overwritten")
 
     def put(self, text: str) -> None:
-        command.write_file(self.path, text)
+        command.write_file(self.name, text)
 
 
 class Folder:
@@ -40,7 +41,7 @@ class Folder:
         if names and AGAIN not in names:
             raise Refused(f"{path}: this folder has other files: name a new one, or one that --out has written before")
         try:
-            _test_file(self.path / VERDICT)
+            _test_file(self.path / VERDICT, str(self.path / VERDICT))
         except Refused:
             self.give_up()
             raise
@@ -76,20 +77,20 @@ class Folder:
                 return
 
 
-def _test_file(path: pathlib.Path) -> None:
-    """Tests that a file can be written at this place, as far as that is seen before."""
+def _test_file(path: pathlib.Path, name: str) -> None:
+    """Tests that a file can be written at this place, as far as that is seen before. A refusal calls it by this name."""
     try:
         if path.is_dir():
-            raise Refused(f"{path}: this is a folder; name a file")
+            raise Refused(f"{name}: this is a folder; name a file")
         if _is_special(path):
             if not os.access(path, os.W_OK):
-                raise Refused(f"{path}: it can't be written: Permission denied")
+                raise Refused(f"{name}: it can't be written: Permission denied")
             return
         beside = _beside(path)
         os.close(os.open(beside, os.O_CREAT | os.O_EXCL | os.O_WRONLY, 0o666))
         os.unlink(beside)
     except OSError as fault:
-        raise Refused(f"{path}: it can't be written: {fault.strerror}") from fault
+        raise Refused(f"{name}: it can't be written: {fault.strerror}") from fault
 
 
 def _beside(path: pathlib.Path) -> pathlib.Path:

@@ -35,7 +35,7 @@ def write(page: Optional[Page], folder: Optional[Folder], results: Results) -> N
         command.say(NAME, f"no page was written: it would show why a key is illegal or unknown, and the verdict is {results.report.word}")
     elif page is not None and text is not None:
         page.put(text)
-        command.say(NAME, f"the page is {page.path}")
+        command.say(NAME, f"the page is {page.name}")
     if folder is not None:
         folder.put({name: each for name, each in files(results, text).items() if name not in results.copies}, results.copies)
         command.say(NAME, f"what came of it is in {folder.path}")

@@ -28,6 +28,7 @@ def say(line: str) -> None:
 
 def main(arguments: Optional[List[str]] = None) -> int:
     """Judges what the words of the command line name. Gives the exit status."""
+    command.collect_seldom()
     try:
         if threading.current_thread() is threading.main_thread():
             signal.signal(signal.SIGTERM, _terminated)

@@ -5,7 +5,7 @@ import argparse
 import sys
 from typing import List, NamedTuple, Optional
 
-from .. import command, kinds
+from .. import __version__, command, kinds
 from ..forms import Refused
 
 NAME = "judge"
@@ -64,13 +64,13 @@ def given(words: Optional[List[str]]) -> Given:
     parser.add_argument("history", nargs="?", metavar="HISTORY", help="a file or a folder; - or nothing is standard input")
     parser.add_argument("--model", metavar="NAME", choices=tuple(kinds.MODELS),
                         help="the object that each key is, in place of the one found: " + ", ".join(kinds.MODELS))
-    parser.add_argument("--concurrency", metavar="N", type=number("threads", range(1, kinds.PROCESSES.stop)),
+    parser.add_argument("--concurrency", metavar="N", type=number("a number of threads", range(1, kinds.PROCESSES.stop)),
                         help="the threads of the clients, in place of the number found; more than 64 are judged in shards")
-    parser.add_argument("--budget", metavar="N", type=number("ends", kinds.BUDGETS), default=4096,
+    parser.add_argument("--budget", metavar="N", type=number("a number of ends", kinds.BUDGETS), default=4096,
                         help="ends of a key that are kept apart (4096)")
-    parser.add_argument("--workers", metavar="N", type=number("threads", range(1, kinds.THREADS + 1)),
+    parser.add_argument("--workers", metavar="N", type=number("a number of threads", range(1, kinds.THREADS + 1)),
                         help="threads that judge keys side by side")
-    parser.add_argument("--jobs", metavar="N", type=number("processes", range(1, MOST_JOBS + 1)),
+    parser.add_argument("--jobs", metavar="N", type=number("a number of processes", range(1, MOST_JOBS + 1)),
                         help="judge in shards by key, on so many processes; a history that one check does not take is judged so on all "
                         "processors")
     parser.add_argument("--dask", metavar="ADDRESS", help="judge the shards on the Dask cluster whose scheduler is there, as "
@@ -83,6 +83,7 @@ def given(words: Optional[List[str]]) -> Given:
     parser.add_argument("--html", metavar="PAGE", help="write a page that shows the cause")
     parser.add_argument("--out", metavar="DIR", help="write the history as judged, the report, the cause, the page, and the command "
                         "that judges it again, into this folder")
+    parser.add_argument("--version", action="version", version=f"jepmon (Python) {__version__}")
     parser.add_argument("--no-cause", dest="cause", action="store_false", help="the verdict alone")
     try:
         parsed = parser.parse_args(words)

@@ -25,7 +25,7 @@ HERE = pathlib.Path(__file__).resolve().parent
 STYLES = ("palette.css", "style.css")
 SCRIPTS = ("model.js", "draw.js", "order.js", "use.js")
 PART_WORK = 200_000  # outcomes that a walk through the smallest illegal part tries at most
-EVENT = re.compile(r"\b(events?) ([0-9]{1,7})\b(?: to [0-9]{1,7}\b)?")
+EVENT = re.compile(r"(\(?)\b(events? ([0-9]{1,7})\b(?: to [0-9]{1,7}\b)?)([),.:;]*)")
 LEGEND = {"ok": "", "fail": "failed: did not take place", "info": "timed out: may take place later", "open": "open at the end"}
 
 
@@ -87,10 +87,11 @@ def linked(text: str, page: Page) -> str:
     shown = {event.index for each in page.choice.operations for event in each[:2] if event is not None}
 
     def button(found: Match[str]) -> str:
-        index = int(found.group(2))
-        if index not in shown:
+        before, words, index, behind = found.groups()
+        if int(index) not in shown:
             return found.group()
-        return f'<button type="button" class="seek" data-event="{index}">{found.group()}</button>'
+        there = f'<button type="button" class="seek" data-event="{int(index)}">{words}</button>'
+        return f'<span class="whole">{before}{there}{behind}</span>' if before or behind else there  # a line ends at neither
 
     return EVENT.sub(button, html.escape(printable(text)))
 

@@ -53,24 +53,25 @@ function build(view, isPart) {
   shown.ticks = element('div', 'cells', axis);
   if (view.fatalX !== null) {
     put(element('div', 'fatal-line', field), view.fatalX - 1, 0, null, view.height);
-    if (foot && !foot.growth.length) put(element('div', 'fatal-line', foot.cells), view.fatalX - 1, 0, null, null);
+    if (foot && !foot.scale) put(element('div', 'fatal-line', foot.cells), view.fatalX - 1, 0, null, null);
   }
 }
 
 // Below the bars: what the object could hold, and how many ends there were.
 function buildFoot(view, isPart, space) {
-  const growth = isPart || view.held.length ? [] : given.growth;
-  if (!view.held.length && !growth.length) return null;
+  const counts = !isPart && !view.held.length && (given.growth.length > 0 || given.over);
+  if (!view.held.length && !counts) return null;
+  const growth = counts ? given.growth : [];
   const foot = element('div', 'foot', space);
   const corner = element('div', 'corner', foot);
   if (view.held.length) element('span', 'row-name', corner, given.holds).style.height = `${HELD}px`;
-  if (growth.length) element('span', 'row-name growth-name', corner, 'outcomes').style.height = `${GROWTH}px`;
-  foot.style.height = `${(view.held.length ? HELD : 0) + (growth.length ? GROWTH : 0) + 1}px`;
+  if (counts) element('span', 'row-name growth-name', corner, 'outcomes').style.height = `${GROWTH}px`;
+  foot.style.height = `${(view.held.length ? HELD : 0) + (counts ? GROWTH : 0) + 1}px`;
   const cells = element('div', 'cells', foot);
   const base = view.held.length ? HELD : 0;
   const made = {foot, cells, base, held: heldOf(view), growth: growth.filter(([event]) => view.columnOf.has(event))};
-  if (growth.length) made.scale = scaleOf(growth);
-  if (growth.length && given.over) {
+  if (counts) made.scale = scaleOf(growth);
+  if (counts && given.over) {
     const line = put(element('div', 'budget-line', cells), null, base + GROWTH - 4 - made.scale(given.budget), view.width, null);
     line.title = `the budget: ${given.budget} outcomes`;
     const name = element('span', 'budget-name', corner, `budget ${given.budget}`);

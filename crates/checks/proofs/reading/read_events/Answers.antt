@@ -1,4 +1,4 @@
-use Rattle.std.proofs.Common.{◌+◌, ◌<◌, length, sym, ap, ◌∙◌, subst, arith}
+use Rattle.std.proofs.Common.{◌+◌, sym, ap, ◌∙◌, subst, arith}
 use Rattle.edn.specs.Value.{more, none, joined}
 use Rattle.edn.specs.Text.{IsText}
 use Rattle.edn.specs.Elements.{IsLeftBehind}

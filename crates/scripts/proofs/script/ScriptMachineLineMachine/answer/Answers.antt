@@ -1,17 +1,21 @@
-use Rattle.std.proofs.Common.{◌≢◌, ◌∙◌, Option, Some, Result, Ok, Err, OnOk, ap, subst}
-use Rattle.edn.specs.declared.refusal.Refusal.{Refusal}
-use Rattle.edn.specs.declared.refusal.Refusal.TheVariants.{NoMemory}
-use Rattle.machine.specs.Machine.{Machine}
-use Rattle.machine.specs.declared.command.Command.{Command}
-use Rattle.scripts.specs.Command.{Asks}
-use Rattle.scripts.specs.Reply.{MayReply}
-use Rattle.scripts.proofs.Answering.{carried_out}
+use Rattle.std.proofs.Common.{◌≡◌, ◌∙◌, sym, ap, subst}
+use Rattle.std.specs.Prelude.{◌&&◌}
+use Rattle.scripts.specs.Reply.{Script, MayReply}
+use Rattle.scripts.proofs.Answering.{replied, answered_within}
+use Rattle.scripts.proofs.script.ScriptMachineLineMachine.answer.Goals.{then-self-2, else-self-2}
 use Rattle.scripts.proofs.script.ScriptMachineLineMachine.answer.Goals as goal
 
-pub returns-in-Ok-Some : goal.returns-in-Ok-Some
-returns-in-Ok-Some g c =
-    (let asks : Asks c.args.line.now (Ok (Some c.in-Ok-Some.command)) =
-    subst (λ (asked : Result (Option Command) Refusal). asked ≢ Err NoMemory → Asks c.args.line.now asked) (c.in-Ok-Some.is ∙ ap (λ (o : Option Command). let asked : Result (Option Command) Refusal = Ok o in asked) c.in-Ok-Some.field-0-is) c.read_command.ensures (λ q. cc)
-    in
-    subst (λ (m : Machine). OnOk c.carry_out.result (MayReply m c.args.line.now c.carry_out.new.reply.items c.carry_out.new.core.machine)) c.self.view_is
-    (carried_out c.carry_out.result c.args.line.now c.in-Ok-Some.command c.self.inside.core.machine c.carry_out.new.core.machine c.carry_out.new.reply.items asks c.carry_out.ensures))
+pub returns : goal.returns
+returns g c =
+    let at = c.self.inside in
+    let text = c.answer_line.new.reply.items in
+    let machine = c.answer_line.new.core.machine in
+    let is_refused = c.in_ok-is_refused.is_refused in
+    let old : Script = record { machine = at.core.machine; is_strict = at.is_strict; is_closed = at.is_closed } in
+    let new : Script = record { machine = machine; is_strict = at.is_strict; is_closed = c.if-self-2.self } in
+    let closes : c.if-self-2.self ≡ at.is_strict && is_refused = elim c.if-self-2.branch [
+      | then-self-2 w ↦ w.self-is ∙ ap (λ b. b && is_refused) (sym w.if-self-2.true)
+      | else-self-2 w ↦ w.self-is ∙ w.if-self-2.false ∙ ap (λ b. b && is_refused) (sym w.if-self-2.false)
+    ] in
+    subst (λ (s : Script). MayReply s c.args.line.now text new) c.self.view_is
+    (replied old c.args.line.now text machine is_refused c.if-self-2.self c.if-self.false (answered_within at.core.machine machine c.args.line.now text is_refused c.requires.within c.in_ok-is_refused.ensures) closes)

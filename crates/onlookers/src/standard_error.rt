@@ -1,4 +1,4 @@
-//! What is said on a terminal, beside standard output.
+//! What is said on standard error, beside standard output.
 
 use crate::hints::hint_of;
 use crate::moving_line::MovingLine;
@@ -24,15 +24,17 @@ struct Tally {
     refused: u64,
     // The first that was refused, and the number of its line, from 1 on.
     first: Option<(u64, Refusal)>,
+    // Whether that closed the script.
+    is_closed: bool,
 }
 
-/// Says on standard error, where that is a terminal, what may be said beside standard output.
+/// Says on standard error what may be said beside standard output: at the end how many lines of a script were refused, what is
+/// usually the cause of the first refusal, and what may be said beside the verdict.
 ///
-/// How far a check has come stands in one line, which is written over four times a second from the first second on; for a run
-/// of clients there is another such line. At the end it says how many lines of a script were refused, what is usually the cause
-/// of the first refusal, and what may be said beside the verdict. Where standard error is no terminal it says nothing.
+/// Where standard error is a terminal, one line says meanwhile how far a check has come, and is written over four times a second
+/// from the first second on; for a run of clients there is another such line.
 #[derive(Drop)]
-pub struct OnTerminal<'a, X> {
+pub struct OnStandardError<'a, X> {
     rt: &'a X,
     is_terminal: bool,
     // How far a check has come.
@@ -42,11 +44,11 @@ pub struct OnTerminal<'a, X> {
     remark: Cell<Option<Remark>>,
 }
 
-impl<'a, X: Clock + Eprint> OnTerminal<'a, X> {
+impl<'a, X: Clock + Eprint> OnStandardError<'a, X> {
     /// Says nothing yet. Whether standard error is a terminal stands for the whole run. It reads the clock where it is one,
     /// and takes no memory.
     pub fn new(rt: &'a X, is_terminal: bool) -> Self {
-        OnTerminal {
+        OnStandardError {
             rt,
             is_terminal,
             line: MovingLine::new(rt, is_terminal),
@@ -56,6 +58,7 @@ impl<'a, X: Clock + Eprint> OnTerminal<'a, X> {
                 events: 0,
                 refused: 0,
                 first: None,
+                is_closed: false,
             }),
             remark: Cell::new(None),
         }
@@ -86,6 +89,8 @@ impl<'a, X: Clock + Eprint> OnTerminal<'a, X> {
             if line > 0 {
                 self.say(format_args!("what begins in line {line} is no text"));
             }
+        } else if tally.is_closed {
+            self.say(format_args!("line {line} was refused, and a strict script ends there"));
         } else if refused == 1 {
             self.say(format_args!(
                 "1 of {lines} lines was refused, line {line}: the verdict is on the others alone"
@@ -106,9 +111,7 @@ impl<'a, X: Clock + Eprint> OnTerminal<'a, X> {
 
     // Says it in a line of its own.
     fn say<D: Display + Drop>(&self, text: D) {
-        if self.is_terminal {
-            let _ = self.rt.eprintln(text);
-        }
+        let _ = self.rt.eprintln(text);
     }
 }
 
@@ -122,7 +125,7 @@ fn line_of(bytes: &[u8], place: usize) -> u64 {
     (feeds as u64).saturating_add(1)
 }
 
-impl<'a, X: Clock + Eprint> Onlooker for OnTerminal<'a, X> {
+impl<'a, X: Clock + Eprint> Onlooker for OnStandardError<'a, X> {
     fn read(&self, bytes: usize) {
         let all = self.bytes.get().saturating_add(bytes);
         self.bytes.set(all);
@@ -191,11 +194,15 @@ impl<'a, X: Clock + Eprint> Onlooker for OnTerminal<'a, X> {
         }
     }
 
+    fn closed(&self) {
+        self.tally.set(Tally {
+            is_closed: true,
+            ..self.tally.get()
+        });
+    }
+
     fn judged(&self, monitor: &Monitor, verdict: &Verdict) {
         self.line.leave();
-        if !self.is_terminal {
-            return;
-        }
         let remark = if self.tally.get().events == 0 {
             Some(Remark::NoEvent)
         } else {
@@ -205,9 +212,7 @@ impl<'a, X: Clock + Eprint> Onlooker for OnTerminal<'a, X> {
     }
 
     fn ran(&self, monitor: &Monitor, verdict: &Verdict) {
-        if self.is_terminal {
-            self.remark.set(remark_on(monitor, verdict));
-        }
+        self.remark.set(remark_on(monitor, verdict));
     }
 
     fn stopped(&self, refusal: &Refusal) {
