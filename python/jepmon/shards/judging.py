@@ -3,6 +3,7 @@ from __future__ import annotations
 
 import os
 import re
+import subprocess
 from typing import List, NamedTuple, Optional, Sequence, Tuple
 
 from ..program import Options, run_check
@@ -62,9 +63,14 @@ def judge_shard(task: ShardTask) -> Judged:
     for model, of_model in by_model(keys, task.options.model):
         options = task.options._replace(model=model)
         for batch in batches_of(of_model, rests, task.sizes):
-            report, _, _ = run_check(["/dev/stdin", *words(options, task.sizes)], batch.text, task.program)
+            report = checked(batch.text, words(options, task.sizes), task.program)
             statuses += statuses_of(report, batch.keys, batch.places, options)
     return write_result(os.path.join(task.folder, task.name + ".result"), statuses, task.options)
+
+
+def checked(text: bytes, words: List[str], program: str) -> str:
+    """What the program prints of a batch. What it says beside it speaks of keys and events that the history does not have."""
+    return run_check(["/dev/stdin", *words], text, program, stderr=subprocess.DEVNULL)[0]
 
 
 def words(options: Options, sizes: Sizes) -> List[str]:

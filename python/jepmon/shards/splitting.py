@@ -10,13 +10,13 @@ import os
 import shutil
 from typing import BinaryIO, Callable, Dict, Iterator, List, NamedTuple, Sequence
 
-from ..program import Options, run_check
+from ..program import Options
 from .batches import batches_of
 from .by_key import events_of
 from .doubt import Doubt, ShardsError
 from .folder import MANIFEST, MAP, OUT, TEXT, Manifest, Written, read_manifest, read_map, read_report, read_shard, write_manifest
 from .folder import checksum_of, write_report, write_shard
-from .judging import REFUSED, Judged, statuses_of, write_result
+from .judging import REFUSED, Judged, checked, statuses_of, write_result
 from .models import by_model
 from .refusal import first_refusal
 from .report import Verdict, merged, verdict_of
@@ -122,15 +122,9 @@ def judge(path: str, program: str) -> bool:
     checksum, out = checksum_of(text), path[:-len(TEXT)] + OUT if path.endswith(TEXT) else path + OUT
     if read_report(out, checksum) is not None:
         return False
-    report = checked(text, options, program)
+    report = tested_report(checked(text, options.words(), program))
     write_report(out, checksum, report)
     return True
-
-
-def checked(text: bytes, options: Options, program: str) -> str:
-    """What the program prints of a shard."""
-    report, _, _ = run_check(["/dev/stdin", *options.words()], text, program)
-    return tested_report(report)
 
 
 def tested_report(report: str) -> str:
