@@ -7,7 +7,7 @@ import threading
 from typing import Dict, Hashable, List, Optional, Set
 
 from .conclusion import Conclusion, leave_cause, leave_verdict
-from .endings import Exceptions
+from .endings import Endings
 from .exchange import Exchange
 from .hints import hint_of_model, hint_of_refusal, hint_of_unknown
 from .kinds import ABSENT, REGISTERS
@@ -32,11 +32,9 @@ class Telling:
     """One pipe, and so one lock: the order of its lines is the history. The lock is free while replies are awaited. Monitor is its face
     to the test."""
 
-    def __init__(
-        self, exchange: Exchange, record: Record, options: Options, unknown: str, expected: Exceptions, failed: Exceptions
-    ) -> None:
+    def __init__(self, exchange: Exchange, record: Record, options: Options, unknown: str, endings: Endings) -> None:
         self.lock = threading.Lock()
-        self.unknown, self.expected, self.failed = unknown, expected, failed
+        self.unknown, self.endings = unknown, endings
         self.told = Told()
         self.dropped: Dict[int, Unknown] = {}  # keys over their budget that are not told any more, and what was said of them
         self.length = 0  # events that were told
