@@ -92,14 +92,31 @@ class Long(Monitored):
         assert monitor.folder is not None and fault.key is not None
         part = fault.folder.rpartition("/")[2]
         self.assertGreater(int(part[-4:]), 5)
-        self.assertEqual(monitor.close(), f"{fault.reply} of {part}")
+        self.assertEqual(monitor.close().split("\n")[0], f"{fault.reply} of {part}")
         self.assertRegex(fault.hint, f"key {fault.key} of {part} is the object [0-9a-f]+-[0-9]+$")
         name = fault.hint.split()[-1]
         self.assertIn(f"{fault.key} is {name!r}\n", (monitor.folder / part / "names.txt").read_text())
         self.assertIn(name, (monitor.folder / part / "cause.txt").read_text())
         self.assertTrue((monitor.folder / part / "page.html").exists())
         self.assertEqual((monitor.folder / "verdict.txt").read_text(), monitor.close() + "\n")
-        self.assertEqual(self.verdict_by(monitor.folder), monitor.close())
+        self.assertEqual(self.verdict_by(monitor.folder), monitor.close().split("\n")[0])
+
+    def test_two_programs_that_are_illegal(self) -> None:
+        """The first that is found has the verdict, also where the parts are judged again; the other is said beside it."""
+        monitor = LongMonitor(self.program, concurrency=1, out=self.room)
+        register = monitor.fresh()
+        reads = [register.read().__enter__() for _ in range(2)]  # on an object each, of a program each
+        faults = []
+        for value, read in enumerate(reversed(reads), 5):
+            read.value = value
+            with self.assertRaises(Illegal) as caught:
+                read.__exit__(None, None, None)
+            faults.append(caught.exception)
+        self.assertEqual([fault.folder[-9:] for fault in faults], ["part-0002", "part-0002"])
+        self.assertEqual(monitor.close(), "illegal key 0 index 3 of part-0002\nalso illegal key 0 index 3 of part-0001")
+        assert monitor.folder is not None
+        self.assertEqual(self.verdict_by(monitor.folder), "illegal key 0 index 3 of part-0002")
+        self.assertEqual((monitor.folder / "verdict.txt").read_text(), monitor.close() + "\n")
 
     def test_a_lock_that_is_held_while_its_program_is_replaced(self) -> None:
         held: Dict[str, bool] = {}

@@ -90,7 +90,7 @@ class Faults(Monitored):
         with self.assertRaises(Refused) as caught:
             with LongMonitor(self.program, events=40, out=self.room) as monitor:
                 self.write(monitor, 50)
-                child_of(monitor._parts.parts[-1]).kill()
+                child_of(monitor._parts.running[-1]).kill()
                 self.write(monitor)
         self.assertIn("has ended, by signal 9", str(caught.exception))
         self.assertRegex(monitor.close(), "has ended, by signal 9 of part-000[0-9]$")
@@ -104,7 +104,7 @@ class Faults(Monitored):
         with self.assertRaisesRegex(Refused, "has ended, by signal 9"):
             with LongMonitor(self.program, out=self.room) as monitor:
                 self.write(monitor)
-                os.kill(child_of(monitor._parts.parts[0]).pid, signal.SIGKILL)
+                os.kill(child_of(monitor._parts.running[0]).pid, signal.SIGKILL)
         self.assertIn("has ended, by signal 9", monitor.close())
 
     def test_a_program_that_can_not_be_begun_later_on(self) -> None:
@@ -169,7 +169,7 @@ class Memory(Monitored):
             with lock.acquire() as held:
                 pass
             while monitor.parts < 6:
-                telling = monitor._parts.parts[-1].telling
+                telling = monitor._parts.running[-1].telling
                 assert telling is not None
                 if not any(known() is telling for known in tellings):
                     tellings.append(weakref.ref(telling))

@@ -33,6 +33,7 @@ SCRIPT = """#!/bin/sh
 # Judges each part, beside this file, again by the proved program, and joins the verdicts. The run began at {begun}
 cd "$(dirname "$0")" || exit 3
 status=0 verdict=legal
+told=$(head -n 1 verdict.txt)
 for part in part-*; do
   [ -x "$part/judge-again" ] || continue
   said=$("./$part/judge-again" | tail -n 1)
@@ -43,9 +44,10 @@ for part in part-*; do
     unknown*) now=2 ;;
     *) now=3 ;;
   esac
-  # illegal, else what was not judged, else unknown: that of the first part
+  # illegal, else what was not judged, else unknown; of several parts that of the one that the run has named, else of the first
   case $status$now in
     01 | 02 | 03 | 21 | 23 | 31) status=$now verdict="$said of $part" ;;
+    11 | 22 | 33) [ "$said of $part" != "$told" ] || verdict=$told ;;
   esac
 done
 grep -e removed -e 'not written' parts.txt >&2

@@ -121,7 +121,7 @@ class LongMonitor:
     def length(self) -> int:
         """How many events were told."""
         with self._parts.lock:
-            return self._parts.tally.events + sum(part.length for part in self._parts.parts)
+            return self._parts.tally.events + sum(part.length for part in self._parts.untallied)
 
     @property
     def parts(self) -> int:
@@ -142,14 +142,14 @@ class LongMonitor:
     def dropped(self) -> int:
         """How many objects were over their budget, and so were judged up to there."""
         with self._parts.lock:
-            return self._parts.tally.dropped + sum(len(part.dropped) for part in self._parts.parts)
+            return self._parts.tally.dropped + sum(len(part.dropped) for part in self._parts.untallied)
 
     @property
     def counts(self) -> Dict[str, Counter[str]]:
         """How the operations ended, by name: {"read": Counter(ok=4, info=1), ..}. Only an ok is judged, so look at it at the end."""
         with self._parts.lock:
             counts: Dict[str, Counter[str]] = {}
-            for counted in [self._parts.tally.counts, *(part.counts() for part in self._parts.parts)]:
+            for counted in [self._parts.tally.counts, *(part.counts() for part in self._parts.untallied)]:
                 add_counts(counts, counted)
             return counts
 

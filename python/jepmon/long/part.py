@@ -38,7 +38,6 @@ class Part:
         self.waiting = 0  # objects that are not replaced, or not read enough since
         self.is_retired = False
         self.is_shut = False
-        self._closed_length = 0
 
     @property
     def name(self) -> str:
@@ -46,7 +45,7 @@ class Part:
 
     @property
     def length(self) -> int:
-        return self.telling.length if self.telling is not None else self._closed_length
+        return self.telling.length if self.telling is not None else 0
 
     @property
     def failure(self) -> Optional[NotLegal]:
@@ -94,14 +93,7 @@ class Part:
         if self.telling is not None and self.telling.failure is None:
             self.telling.note(kind, text)
 
-    def close(self, ended_by: Optional[BaseException]) -> Telling:
-        """Ends the program. The caller has no lock: it takes as long as jepmon takes for its last replies. What is kept of the part
-        elsewhere, as an object that a client holds, keeps none of its events."""
-        assert self.telling is not None
-        telling = self.telling
-        try:
-            telling.close(ended_by)
-        finally:
-            self._closed_length = telling.length
-            self.telling = None
-        return telling
+    def leave(self) -> None:
+        """Its program was closed. What is kept of the part elsewhere, as an object that a client holds, keeps none of its events."""
+        self.telling = None
+        self.objects, self.makers = [], []

@@ -40,7 +40,8 @@ class Parts:
         self._faults: List[str] = []  # that hold
         self._current: List[Part] = []
         self._retired: List[Part] = []
-        self._shut: List[Part] = []
+        self._shut: List[Part] = []  # in which something is open still
+        self._closing: List[Part] = []
         self._part()  # an option that is refused is said at once
 
     @property
@@ -81,6 +82,7 @@ class Parts:
             due = [part for part in self._shut if part.open == 0] if self._shut else []
             for part in due:
                 self._shut.remove(part)
+                self._closing.append(part)
         for part in due:
             self._close(part, None)
 
@@ -108,6 +110,8 @@ class Parts:
     def _fail(self, part: Part, failure: NotLegal) -> None:
         """The first part that is not legal has the verdict, with the name of its object. No part has it where the clients were broken off."""
         if self.failure is not None and self.failed_part:
+            if failure.status == 1 and part.name != self.failed_part:
+                self.tally.also_illegal[part.name] = failure.reply
             return
         if failure.key is not None and failure.key < len(part.objects):
             named = f"key {failure.key} of {part.name} is the object {part.objects[failure.key].name}"
@@ -124,16 +128,16 @@ class Parts:
                 self._faults.append(text)
             elif kind == END:
                 self._faults.remove(text)
-            for part in self.parts:
+            for part in self.running:
                 part.note(kind, text)
 
     # --- Objects ---
 
     def new_object(self, maker: Handle, room: Room) -> LongObject:
         """The caller has the lock."""
-        for part in list(self._current):
-            self._test(part)
-        part = next((part for part in self._current if part.has_room), None) or self._part()
+        for current in list(self._current):
+            self._test(current)
+        part = next(filter(lambda current: current.has_room, self._current), None) or self._part()
         one = LongObject(self, part, len(part.objects), f"{self._run}-{self._made}", maker.model, room)
         try:
             part.add(one, maker)
@@ -151,9 +155,14 @@ class Parts:
     # --- Parts ---
 
     @property
-    def parts(self) -> List[Part]:
-        """Those that are not closed, in the order in which they began."""
+    def running(self) -> List[Part]:
+        """In the order in which they began."""
         return sorted([*self._shut, *self._retired, *self._current], key=lambda part: part.number)
+
+    @property
+    def untallied(self) -> List[Part]:
+        """Those of which the tally knows nothing yet."""
+        return [*self._closing, *self.running]
 
     def _part(self) -> Part:
         """A new one."""
@@ -172,6 +181,8 @@ class Parts:
 
     def _test(self, part: Part) -> None:
         """Whether it is to be retired, or to be shut. Of retired ones there are as many as of current ones at most."""
+        if self.is_closed:
+            return
         if not part.is_retired and part.is_full:
             part.is_retired = True
             self._current.remove(part)
@@ -188,22 +199,23 @@ class Parts:
         self._shut.append(part)
 
     def _close(self, part: Part, ended_by: Optional[BaseException]) -> None:
-        """The caller has no lock, and has taken it off the lists."""
-        telling = part.telling
+        """Ends its program. The caller has no lock, since that takes as long as jepmon takes for its last replies."""
+        telling, names = part.telling, [one.name for one in part.objects]
         assert telling is not None
         try:
-            part.close(ended_by)
+            telling.close(ended_by)
         finally:
             with self.lock:
+                self._closing.remove(part)
                 self.tally.add(part, telling)
                 if telling.failure is not None:
                     self._fail(part, telling.failure)
                 if self._folder is not None:
                     self._folder.closed(part, telling)
+                part.leave()
         if self._forget is not None and telling.failure is None:
-            for one in part.objects:
-                self._forget(one.name)
-        part.objects, part.makers = [], []
+            for name in names:
+                self._forget(name)
 
     # --- The end ---
 
@@ -211,7 +223,8 @@ class Parts:
         """Closes all parts, and gives the verdict."""
         with self.lock:
             is_first, self.is_closed = not self.is_closed, True
-            parts, self._current, self._retired, self._shut = self.parts, [], [], []
+            parts, self._current, self._retired, self._shut = self.running, [], [], []
+            self._closing += parts
             self._freed.notify_all()
         for part in parts:
             self._close(part, ended_by)

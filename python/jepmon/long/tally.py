@@ -21,6 +21,7 @@ class Tally:
         self.counts: Dict[str, Counter[str]] = {}  # of outcomes, by operation
         self.unjudged = 0  # operations that were not told
         self.undrained = 0  # queues that were judged no more before they were found empty
+        self.also_illegal: Dict[str, str] = {}  # of other parts, which were found illegal before all had ended
         self.dropped = 0  # objects that were over their budget
         self.first_dropped: List[str] = []  # their names, and where
 
@@ -38,6 +39,7 @@ class Tally:
         """The line of the verdict, by itself where all was judged; else what was not, a line each."""
         first = self.first_dropped[0].partition(":")[0] if self.first_dropped else "legal"
         lines = [first if failure is None else failure.reply + (f" of {of}" if of else "")]
+        lines += [f"also {reply} of {part}" for part, reply in self.also_illegal.items()]
         if self.dropped:
             lines.append(f"not judged to their end: {self.dropped} objects that were over their budget, as {self.first_dropped[0]}")
         if self.undrained:
