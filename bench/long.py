@@ -97,8 +97,8 @@ def main():
             store.is_wrong = True
         if events * 20 // given.events > shown[0]:
             shown[0] = events * 20 // given.events
-            print(f"{time.monotonic() - begin:6.0f} s: {monitor.length:,} events, {monitor.parts} programs; {resident(os.getpid())} MB here, "
-                  f"{', '.join(str(resident(pid)) for pid in programs())} MB in jepmon", flush=True)
+            print(f"{time.monotonic() - begin:6.0f} s: {monitor.length:,} events, {monitor.parts} programs; {resident(os.getpid())} MB "
+                  f"here, {', '.join(str(resident(pid)) for pid in programs())} MB in jepmon", flush=True)
 
     shown = [0]
     try:

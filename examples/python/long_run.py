@@ -81,7 +81,7 @@ def watch(monitor: LongMonitor, seconds: float, done: threading.Event) -> None:
 def words() -> argparse.Namespace:
     parser = argparse.ArgumentParser(description=__doc__, formatter_class=argparse.RawDescriptionHelpFormatter)
     parser.add_argument("--seconds", type=float, default=float("inf"), help="until Ctrl-C unless given")
-    parser.add_argument("--stale", type=float, default=float("inf"), metavar="WRITES", help="how many writes the copy gets; all unless given")
+    parser.add_argument("--stale", type=float, default=float("inf"), metavar="WRITES", help="how many the copy gets; all unless given")
     parser.add_argument("--events", type=int, default=1 << 18, help="of one program, after which another one goes on")
     parser.add_argument("--out", metavar="DIR", default="runs/", help="where the folder of the run is made")
     parser.add_argument("--jepmon", metavar="PROGRAM", help="its path, where it is not that of this repository")

@@ -78,7 +78,8 @@ class Long(Monitored):
         assert monitor.folder is not None
         self.assertEqual(self.verdict_by(monitor.folder), "legal")
         self.assertEqual((monitor.folder / "verdict.txt").read_text(), "legal\n")
-        self.assertIn(f"events: {monitor.length} in {monitor.parts} parts, on {len(names)} objects\n", (monitor.folder / "counts.txt").read_text())
+        counted = f"events: {monitor.length} in {monitor.parts} parts, on {len(names)} objects\n"
+        self.assertIn(counted, (monitor.folder / "counts.txt").read_text())
         parts = (monitor.folder / "parts.txt").read_text().splitlines()
         self.assertEqual(len(parts), monitor.parts)
         self.assertTrue(all(line.endswith(" objects: legal") for line in parts), parts)

@@ -108,7 +108,7 @@ class Parts:
         return copy.copy(self.failure)
 
     def _fail(self, part: Part, failure: NotLegal) -> None:
-        """The first part that is not legal has the verdict, with the name of its object. No part has it where the clients were broken off."""
+        """The first part that is not legal has the verdict, with the name of its object, also where the clients were broken off before."""
         if self.failure is not None and self.failed_part:
             if failure.status == 1 and part.name != self.failed_part:
                 self.tally.also_illegal[part.name] = failure.reply
