@@ -25,7 +25,7 @@ if importlib.util.find_spec("jepmon") is None:  # it is not installed: the one o
     sys.path.insert(0, str(pathlib.Path(__file__).resolve().parents[2] / "python"))
 
 from jepmon import LongMonitor, NotLegal  # noqa: E402
-from jepmon.long.handle import Handle  # noqa: E402
+from jepmon.long import Handle  # noqa: E402
 
 CLIENTS = 200
 REGISTERS = 40

@@ -12,9 +12,10 @@
 
 A block that ends is an :ok. An exception in it is an :info: the operation may have taken place, or may yet. `raise Failed` in
 it, or op.fail(), is a :fail: it certainly did not take place. The first event after which the history is not linearizable
-raises Illegal in the thread that told it, and in each later operation of the others; so does a key over its budget (Unknown,
-but with unknown="drop" not), and what jepmon refuses (Refused). Their text has the last events of the key, without operations
-that failed, and what may have been meant. The end of `with Monitor()` raises them again, where nothing else was raised in it.
+raises Illegal in the thread that told it, and in each operation of the others that ends or begins later; so does a key over its
+budget (Unknown, but with unknown="drop" not), and what jepmon refuses (Refused). Their text has the last events of the key, without
+operations that failed, and what may have been meant. The end of `with Monitor()` raises them again, where nothing else was raised
+in it.
 
 jepmon takes an answer of nil to say nothing, so that a store which loses every write would pass. Here a missing key is a value,
 ABSENT: each key of a register begins with it, and a read that answers None tells it. monitor.write(key, ABSENT) is a deletion.

@@ -4,7 +4,7 @@ from __future__ import annotations
 import copy
 import re
 import threading
-from typing import Dict, Hashable, List, Optional, Set
+from typing import Dict, Hashable, List, Optional, Set, Tuple
 
 from .conclusion import Conclusion, leave_cause, leave_verdict
 from .endings import Endings
@@ -248,9 +248,6 @@ class Telling:
     def _not_legal(self, lines: List[Line], replies: List[str]) -> List[Line]:
         """The first of these replies is not legal. Gives what is to be told now, where it is of a key that is dropped; else the test
         ends."""
-        if replies[0].startswith("unknown") and self.unknown == "raise":  # what is illegal behind it is the verdict of them all
-            place = next((place for place, reply in enumerate(replies) if reply.startswith("illegal")), 0)
-            lines, replies = lines[place:], replies[place:]
         line, reply = lines[0], replies[0]
         verdict = VERDICT.fullmatch(reply)
         if verdict is None:
@@ -266,8 +263,20 @@ class Telling:
         unknown = Unknown(reply, key, index, events, self._hint_of_unknown(key), self._record.name)
         if self._is_dropped(key, index, line):
             return self._drop(unknown, lines)
+        self.failure = unknown  # so nothing is told any more
+        lines, replies = self._illegal_behind(lines, replies)
+        if lines:
+            return self._not_legal(lines, replies)
         self._fail(unknown)
         return []
+
+    def _illegal_behind(self, lines: List[Line], replies: List[str]) -> Tuple[List[Line], List[str]]:
+        """From the first reply on that is `illegal`, also to what was written down behind these lines, and not sent yet: the verdict on all
+        that was written down is that one. Nothing, where there is none."""
+        rest = list(self._queue.lines)
+        lines, replies = lines + rest, replies + (self._replies(rest) if rest else [])
+        place = next((place for place, reply in enumerate(replies) if reply.startswith("illegal")), len(lines))
+        return lines[place:], replies[place:]
 
     def _fail(self, failure: NotLegal) -> None:
         """What is not legal is raised by each operation that waits, and by each later one. The run's folder has it before."""

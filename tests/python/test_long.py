@@ -10,8 +10,7 @@ import unittest
 from typing import Dict, List, Optional, Set, Union
 
 from jepmon import Failed, Illegal, LongMonitor, Refused
-from jepmon.long.handle import Handle
-from jepmon.long.objects import LongObject
+from jepmon.long import Handle, LongObject
 from jepmon.values import Value
 from tests.python.monitored import Monitored
 

@@ -2,7 +2,6 @@
 from __future__ import annotations
 
 import io
-import random
 import subprocess
 import threading
 import time
@@ -11,6 +10,7 @@ from typing import Callable, List, Optional
 
 from jepmon import Illegal, Monitor, Unknown
 from jepmon.lines import Line, LineQueue
+from tests.python.live_runs import case_of, fault_of, fault_of_long
 from tests.python.monitored import Monitored
 
 PATIENCE = 120.0  # seconds until a thread that hangs is a failed test
@@ -187,38 +187,31 @@ class Together(Monitored):
         assert monitor.folder is not None
         self.assertEqual(self.verdict_by(monitor.folder), caught.exception.reply)
 
-    def test_many_threads_and_keys_that_are_dropped(self) -> None:
-        """What the log and the folder say again is what the run has said."""
-        for seed in range(3):
-            log, sent = io.StringIO(), []  # type: io.StringIO, List[int]
-            with Monitor(self.program, budget=12, unknown="drop", log=log, out=self.room, expected=(TimeoutError,)) as monitor:
-                replies = monitor._telling._exchange.replies
-                monitor._telling._exchange.replies = (  # type: ignore[method-assign]
-                    lambda lines, timeout=None: sent.append(len(lines)) or replies(lines, timeout))
-                store, held = {}, threading.Lock()
+    def test_many_threads(self) -> None:
+        """What the folder and the log say again is what the run has said; tests/fuzz_live.py does more of them."""
+        for seed in range(12):
+            self.assertIsNone(fault_of(case_of(seed), is_dropped=seed % 3 > 0), seed)
+            self.assertIsNone(fault_of_long(case_of(seed)), seed)
 
-                def client(number: int) -> None:
-                    draws = random.Random(number + 100 * seed)
-                    for value in range(8):
-                        key = draws.randrange(12)
-                        if draws.random() < 0.5:
-                            with monitor.write(key, number * 100 + value):
-                                with held:
-                                    store[key] = number * 100 + value
-                                time.sleep(0.001)
-                                if draws.random() < 0.03:
-                                    raise TimeoutError
-                        else:
-                            with monitor.read(key) as op, held:
-                                op.value = store.get(key)
+    def test_lines_of_many_threads_go_together(self) -> None:
+        sent: List[int] = []
+        with Monitor(self.program) as monitor:
+            replies = monitor._telling._exchange.replies
 
-                monitor.run(client, 50)
-            self.assertGreater(len(monitor.dropped), 0)
-            told = self.judged_again(log, 12)
-            self.assertEqual(told[-1], "legal")
-            self.assertGreater(max(sent), 4, "lines of several threads went together")
-            assert monitor.folder is not None
-            self.assertEqual(self.verdict_by(monitor.folder), monitor.close())
+            def counted(lines: List[str], timeout: Optional[float] = None) -> List[str]:
+                sent.append(len(lines))
+                return replies(lines, timeout)
+
+            monitor._telling._exchange.replies = counted  # type: ignore[method-assign]
+
+            def client(number: int) -> None:
+                for value in range(20):
+                    with monitor.write(number, value):
+                        pass
+
+            monitor.run(client, 50)
+        self.assertEqual(sum(sent), monitor.length + 1, "and the last question for the verdict")
+        self.assertGreater(max(sent), 4)
 
 
 if __name__ == "__main__":

@@ -32,6 +32,7 @@ class Part:
             raise
         record = Record(None, self.folder, settings.clock)
         self.telling: Optional[Telling] = Telling(exchange, record, options, "drop", settings.endings)  # until it is closed
+        self.telling.told.sources.are_new = True
         self.objects: List[LongObject] = []
         self.makers: List[Handle] = []  # of each object
         self.open = 0  # operations
