@@ -118,6 +118,21 @@ class Faults(Monitored):
                 self.write(monitor, 100)
         self.assertRegex(monitor.close(), "^part 2 of the test can't be begun: ")
 
+    def test_a_store_that_can_not_forget(self) -> None:
+        """That is the test's own fault, and raised; the programs are closed all the same, and the verdict stands."""
+        def forget(name: str) -> None:
+            raise ConnectionError(name)
+
+        with self.assertRaises(ConnectionError):
+            with LongMonitor(self.program, concurrency=1, out=self.room, forget=forget) as monitor:
+                register = monitor.fresh()
+                with register.write(1), register.write(2):
+                    pass
+                children = [child_of(part) for part in monitor._parts.running]
+        self.assertEqual([child.returncode for child in children], [0, 0])
+        assert monitor.folder is not None
+        self.assertEqual(((monitor.folder / "verdict.txt").read_text(), monitor.close()), ("legal\n", "legal"))
+
     def test_a_folder_that_can_not_be_made(self) -> None:
         file = self.room / "file"
         file.write_text("")

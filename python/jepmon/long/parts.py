@@ -83,8 +83,7 @@ class Parts:
             for part in due:
                 self._shut.remove(part)
                 self._closing.append(part)
-        for part in due:
-            self._close(part, None)
+        self._close(due, None)
 
     def _wait_for_room(self, one: LongObject) -> None:
         """An operation of an object that a client holds can go to no other part. Some threads are kept for those."""
@@ -198,8 +197,15 @@ class Parts:
         self._retired.remove(part)
         self._shut.append(part)
 
-    def _close(self, part: Part, ended_by: Optional[BaseException]) -> None:
-        """Ends its program. The caller has no lock, since that takes as long as jepmon takes for its last replies."""
+    def _close(self, parts: List[Part], ended_by: Optional[BaseException]) -> None:
+        """Ends their programs. The caller has no lock, since that takes as long as jepmon takes for its last replies."""
+        over = [name for part in parts for name in self._close_one(part, ended_by)]
+        if self._forget is not None:
+            for name in over:
+                self._forget(name)
+
+    def _close_one(self, part: Part, ended_by: Optional[BaseException]) -> List[str]:
+        """Gives the names of its objects, where nobody has to look at them any more."""
         telling, names = part.telling, [one.name for one in part.objects]
         assert telling is not None
         try:
@@ -213,9 +219,7 @@ class Parts:
                 if self._folder is not None:
                     self._folder.closed(part, telling)
                 part.leave()
-        if self._forget is not None and telling.failure is None:
-            for name in names:
-                self._forget(name)
+        return names if telling.failure is None else []
 
     # --- The end ---
 
@@ -226,10 +230,11 @@ class Parts:
             parts, self._current, self._retired, self._shut = self.running, [], [], []
             self._closing += parts
             self._freed.notify_all()
-        for part in parts:
-            self._close(part, ended_by)
-        with self.lock:
-            verdict = self.tally.verdict(self.failure, self.failed_part)
-            if self._folder is not None and is_first:
-                self._folder.conclude(verdict, self.tally, ended_by)
-            return verdict
+        try:
+            self._close(parts, ended_by)
+        finally:
+            with self.lock:
+                verdict = self.tally.verdict(self.failure, self.failed_part)
+                if self._folder is not None and is_first:
+                    self._folder.conclude(verdict, self.tally, ended_by)
+        return verdict
