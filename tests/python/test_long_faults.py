@@ -7,6 +7,7 @@ import pathlib
 import signal
 import subprocess
 import sys
+import threading
 import unittest
 import weakref
 from typing import Dict, List
@@ -78,6 +79,24 @@ class Faults(Monitored):
         with self.assertRaisesRegex(ValueError, "had its block already"):
             op.__enter__()
         self.assertEqual((register.objects, monitor.close()), ([], "legal"))
+
+    def test_closed_by_several_threads(self) -> None:
+        """None of them has a verdict before each program has given its own."""
+        for _ in range(5):
+            monitor = LongMonitor(self.program, concurrency=1, budget=3)
+            register = monitor.fresh()
+            operations = [register.write(value).__enter__() for value in range(4)]
+            for operation in operations:
+                operation.__exit__(None, None, None)
+            child_of(monitor._parts.running[-1]).kill()
+            said: List[str] = []
+            closers = [threading.Thread(target=lambda: said.append(monitor.close())) for _ in range(4)]
+            for closer in closers:
+                closer.start()
+            for closer in closers:
+                closer.join(60)
+            self.assertEqual((len(said), len(set(said))), (4, 1))
+            self.assertIn("by signal 9 of part-0004", said[0])
 
     def test_open_at_its_end(self) -> None:
         monitor = LongMonitor(self.program)

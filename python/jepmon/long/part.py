@@ -50,7 +50,10 @@ class Part:
 
     @property
     def failure(self) -> Optional[NotLegal]:
-        return self.telling.failure if self.telling is not None else None
+        if self.telling is None or self.telling.failure is None:
+            return None
+        with self.telling.lock:  # then it is whole, with what may have been meant
+            return self.telling.failure
 
     @property
     def has_room(self) -> bool:

@@ -1,6 +1,7 @@
 """The parts of a test without an end: which one a new object goes to, when they are replaced, and when they are closed."""
 from __future__ import annotations
 
+import contextlib
 import copy
 import random
 import threading
@@ -199,7 +200,10 @@ class Parts:
 
     def _close(self, parts: List[Part], ended_by: Optional[BaseException]) -> None:
         """Ends their programs. The caller has no lock, since that takes as long as jepmon takes for its last replies."""
-        over = [name for part in parts for name in self._close_one(part, ended_by)]
+        over: List[str] = []
+        with contextlib.ExitStack() as closing:  # each of them, also where Ctrl-C comes meanwhile
+            for part in reversed(parts):
+                closing.callback(lambda part=part: over.extend(self._close_one(part, ended_by)))
         if self._forget is not None:
             for name in over:
                 self._forget(name)
@@ -219,12 +223,13 @@ class Parts:
                 if self._folder is not None:
                     self._folder.closed(part, telling)
                 part.leave()
+                self._freed.notify_all()
         return names if telling.failure is None else []
 
     # --- The end ---
 
     def close(self, ended_by: Optional[BaseException]) -> str:
-        """Closes all parts, and gives the verdict."""
+        """Closes all parts, and gives the verdict, once those are closed too that other threads were about to close."""
         with self.lock:
             is_first, self.is_closed = not self.is_closed, True
             parts, self._current, self._retired, self._shut = self.running, [], [], []
@@ -234,6 +239,8 @@ class Parts:
             self._close(parts, ended_by)
         finally:
             with self.lock:
+                while self._closing:
+                    self._freed.wait()
                 verdict = self.tally.verdict(self.failure, self.failed_part)
                 if self._folder is not None and is_first:
                     self._folder.conclude(verdict, self.tally, ended_by)
