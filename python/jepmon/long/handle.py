@@ -13,9 +13,9 @@ if TYPE_CHECKING:
 
 class Handle(Operations):
     """LongMonitor.fresh makes it. Each block is an operation on one of its objects, whose name is op.name: a change goes to one that
-    is not replaced yet; of two reads one to an object that was, as long as that was not read eight times since, since what a store has
-    lost is seen by reads alone; and a dequeue to one that was, as long as it was not found empty twice. Where each object has its operations
-    open already, a new one comes beside them."""
+    is not replaced yet; of two reads one to an object that was, until it was read eight times since, for what a store has lost is seen by
+    reads alone; and a dequeue to one that was, until it was found empty twice. Where each object has its operations open already, a new
+    one comes beside them."""
 
     def __init__(self, parts: Parts, model: str, room: Room) -> None:
         self.model = model
