@@ -220,7 +220,8 @@ class Memory(Monitored):
         """Over hundreds of programs, with objects that are dropped and operations that time out."""
         store: Dict[str, int] = {}
         taken: List[int] = []
-        with LongMonitor(self.program, events=2000, budget=7, expected=(TimeoutError,), forget=lambda name: store.pop(name, None)) as monitor:
+        with LongMonitor(self.program, events=2000, budget=7, expected=(TimeoutError,),
+                         forget=lambda name: store.pop(name, None)) as monitor:
             registers, value = [monitor.fresh() for _ in range(10)], 0
             while monitor.length < EVENTS:
                 value += 1
