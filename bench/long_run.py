@@ -1,5 +1,5 @@
 #!/usr/bin/env python3
-"""A live test that goes on for so many events, with a fault among the last: `long.py [EVENTS] [--threads N]`, 20,000,000 and 5 unless
+"""A live test that goes on for so many events, with a fault among the last: `long_run.py [EVENTS] [--threads N]`, 20,000,000 and 5 unless
 given.
 
 Clients read and write 60 registers of a LongMonitor, that lie in a dict of this process; one write of two thousand times out, and is put
