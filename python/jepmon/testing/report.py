@@ -1,0 +1,56 @@
+"""What a test of a server says: what it is to do, and what came of it."""
+from __future__ import annotations
+
+from typing import Iterator, List
+
+from .. import command
+from ..run_folder import CAUSE, PAGE, VERDICT
+from .run import Given, Outcome
+from .strikes import KINDS, Plan
+
+
+def heading(given: Given, plan: Plan) -> str:
+    name = given.server.__name__
+    nodes = "one node" if given.nodes == 1 else f"{given.nodes} nodes"
+    strikes = ", ".join(plan.kinds) or "no faults"
+    planted = f"; planted: {given.server.plants[given.plant].text}" if given.plant else ""
+    return (f"{name}, {given.model}: {nodes}, {given.clients} clients, {given.seconds:g} seconds, seed {given.seed}; {strikes}{planted}\n")
+
+
+def text(outcome: Outcome) -> str:
+    """The counts, the folder, and the verdict as the last line."""
+    return "".join(line + "\n" for line in _lines(outcome))
+
+
+def _lines(outcome: Outcome) -> Iterator[str]:
+    if outcome.counts:
+        yield f"{'':<10}{'ok':>10}{'fail':>10}{'info':>10}"
+    for name, counted in sorted(outcome.counts.items()):
+        yield f"{name:<10}" + "".join(f"{counted[kind]:>10,}" for kind in ("ok", "fail", "info"))
+    done = sum(counted["ok"] for counted in outcome.counts.values())
+    timed_out = sum(counted["info"] for counted in outcome.counts.values())
+    if done:
+        yield (f"{done / max(outcome.seconds, 0.001):,.0f} operations a second were ok, "
+               f"{100 * timed_out / (done + timed_out):.1f} % of those that were sent timed out; {outcome.events:,} events")
+    if outcome.strikes:
+        yield "strikes: " + ", ".join(f"{outcome.strikes[kind]} {kind}" for kind in KINDS if outcome.strikes[kind])
+    has_page = (outcome.folder / PAGE).exists()
+    yield f"folder: {outcome.folder}" + (f", its page: {outcome.folder / PAGE}" if has_page else "")
+    if outcome.lost:
+        yield f"lost: {outcome.lost}"
+    yield outcome.verdict or "no verdict"
+
+
+def cause(outcome: Outcome) -> List[str]:
+    """Why it is not legal, as the run's folder has it."""
+    try:
+        return (outcome.folder / CAUSE).read_text(errors="replace").splitlines()
+    except OSError:
+        return []
+
+
+def leave(outcome: Outcome) -> None:
+    """The folder must not say legal where the test does not."""
+    if outcome.reason:
+        verdict = f"{outcome.verdict}; {outcome.reason}" if outcome.verdict else f"no verdict: {outcome.reason}"
+        command.write_file(outcome.folder / VERDICT, verdict + "\n")

@@ -1,0 +1,183 @@
+"""One test: servers start, clients work, faults strike, all is mended, what is left is asked, and a verdict falls."""
+from __future__ import annotations
+
+import contextlib
+import pathlib
+import random
+import time
+from typing import TYPE_CHECKING, Any, Callable, Counter, Dict, Iterator, NamedTuple, Type
+
+from ..kinds import EVENTS
+from ..verdicts import NotLegal, Refused
+from .cluster import Cluster
+from .errors import ServerError
+from .generators import Pace, Phases
+from .server import ALL_STRIKES, Client, Server
+from .strikes import Nemesis, Plan
+from .workloads import WORKS, Work
+
+if TYPE_CHECKING:
+    from ..monitor import Monitor
+    from ..operation import Operation
+
+ROOM = 40_000  # events that are kept for the end of a run
+PATIENCE = 60.0  # seconds in which each question at the end must be answered
+PAUSE = 0.01  # seconds after an operation that was not ok: not thousands of refused connections a second
+
+
+class Given(NamedTuple):
+    """What the command line says."""
+
+    server: Type[Server]
+    model: str
+    plant: str
+    seconds: float
+    clients: int
+    keys: int
+    seed: int
+    nemesis: str
+    rate: float
+    nodes: int
+    least: int
+    out: str
+
+
+class Outcome(NamedTuple):
+    """What came of a test."""
+
+    verdict: str  # legal, illegal .., unknown ..; empty where there is none
+    reason: str  # why there is none, or what else is wrong
+    status: int
+    counts: Dict[str, Counter[str]]
+    events: int
+    seconds: float  # in which clients were at work
+    strikes: Counter[str]
+    lost: int
+    folder: pathlib.Path
+
+
+class Test:
+    """A test that is to be run, once."""
+
+    __test__ = False
+
+    def __init__(self, given: Given, progress: Callable[[float, Monitor, int], None]) -> None:
+        self.given, self._progress = given, progress
+        self.client = given.server.objects[given.model]
+        self.plan = Plan(given.nemesis, given.nodes, given.server.bears.get(given.model, ALL_STRIKES))
+        self.begun = self.ended = 0.0
+        self.struck: Counter[str] = Counter()
+
+    def run(self) -> Outcome:
+        """Ctrl-C goes through, once all is ended. Raises a Refused of jepmon, as where there is no program, and an OSError where
+        nothing can be written."""
+        from ..monitor import Monitor
+
+        given = self.given
+        given.server.test_installed()
+        client = self.client
+        monitor = Monitor(model=given.model, concurrency=given.clients + 1, expected=client.unsure, failed=client.certain, unknown="drop",
+                          out=given.out)
+        assert monitor.folder is not None
+        work = WORKS[given.model](monitor, given.clients, given.keys)
+        reason = ""
+        try:
+            with monitor:
+                self._run(monitor, work)
+        except NotLegal as found:
+            reason = "" if not isinstance(found, Refused) else str(found).split("\n")[0]
+        except ServerError as fault:
+            reason = str(fault)
+        return self._outcome(monitor, work, reason)
+
+    def _run(self, monitor: Monitor, work: Work) -> None:
+        given = self.given
+        assert monitor.folder is not None
+        with Cluster(given.server, given.model, given.plant, given.nodes, monitor.folder, self.plan.needs_links) as cluster:
+            self.begun = time.monotonic()
+            nemesis = Nemesis(monitor, cluster, self.plan.strikes(given.seed, given.seconds), given.seconds)
+            self.struck = nemesis.struck
+            phases = Phases(given.seed)
+
+            def thread(number: int) -> None:
+                try:
+                    if number == given.clients:
+                        nemesis.run()
+                    else:
+                        self._client(monitor, work, cluster, phases, number)
+                except BaseException:
+                    cluster.stopped.set()
+                    raise
+
+            try:
+                monitor.run(thread, given.clients + 1)
+            finally:
+                self.ended = time.monotonic()
+            self._finish(monitor, work, cluster)
+
+    def _client(self, monitor: Monitor, work: Work, cluster: Cluster, phases: Phases, number: int) -> None:
+        """What one client does until the time is up."""
+        given = self.given
+        draws = random.Random(f"client {number} {given.seed}")
+        pace = Pace(given.rate / given.clients, draws)
+        end = self.begun + given.seconds
+        with closing(cluster.server.client(number)) as client:
+            while time.monotonic() < end and monitor.length < EVENTS - ROOM and not cluster.stopped.is_set():
+                phase = phases.at(time.monotonic() - self.begun)
+                pace.wait(phase.speed)
+                if work.step(number, client, draws, phase.changes).outcome != "ok":
+                    time.sleep(PAUSE)
+                if number == 0:
+                    self._progress(time.monotonic() - self.begun, monitor, sum(self.struck.values()))
+
+    def _finish(self, monitor: Monitor, work: Work, cluster: Cluster) -> None:
+        """All is mended by now. Each node must answer what is left to ask."""
+        monitor.note("the faults are over")
+        with contextlib.ExitStack() as over:
+            cluster.wait_until_all_ready()
+            clients = [over.enter_context(closing(cluster.server.client(number))) for number in range(self.given.clients)]
+            turn = iter(range(1 << 62))
+
+            def ask(attempt: Callable[[Any], Operation]) -> Operation:
+                end = time.monotonic() + PATIENCE
+                while True:
+                    number = next(turn) % len(clients)
+                    op = attempt(clients[number])
+                    if op.outcome == "ok" or op.value is None or not op.told:
+                        return op
+                    cluster.test_alive()
+                    if time.monotonic() > end:
+                        raise ServerError(f"once the faults were over a client of {cluster.server.node_of(number).name} got no answer for "
+                                          f"{PATIENCE:.0f} s{cluster.server.node_of(number).said()}")
+                    time.sleep(PAUSE)
+
+            work.finish(ask, ROOM // 4)
+
+    def _outcome(self, monitor: Monitor, work: Work, reason: str) -> Outcome:
+        """The verdict, where enough was ok to have one."""
+        verdict = monitor.close()
+        counts, status = monitor.counts, 0
+        few = [f"{counts.get(name, Counter())['ok']} of {name}" for name in work.names
+               if counts.get(name, Counter())["ok"] < self.given.least]
+        if verdict.startswith("illegal"):
+            status = 1
+        elif reason:
+            verdict, status = "", 3
+        elif few:
+            verdict, status = "", 3
+            reason = f"fewer than {self.given.least} operations were ok ({', '.join(few)}), of which nothing is said"
+        elif work.lost:
+            status, reason = 1, f"{work.lost} messages were acknowledged, and never came; this was counted, and is not proved"
+        elif not verdict.startswith("legal"):
+            status = 2
+        assert monitor.folder is not None
+        return Outcome(verdict, reason, status, counts, monitor.length, max(self.ended - self.begun, 0.0), self.struck, work.lost,
+                       monitor.folder)
+
+
+@contextlib.contextmanager
+def closing(client: Client) -> Iterator[Client]:
+    try:
+        yield client
+    finally:
+        client.close()
