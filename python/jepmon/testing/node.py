@@ -17,7 +17,7 @@ if TYPE_CHECKING:
     from .guard import Guard
 
 ADDRESS = "127.0.0.1"
-GLANCE = 0.05  # seconds between two looks
+GLANCE = 0.1  # seconds between two looks
 LAST_LINES = 3  # of a log, in an error
 
 
@@ -96,7 +96,7 @@ class Node:
                 return
             except Exception as fault:  # whatever it is, it is not ready
                 if time.monotonic() > end:
-                    raise ServerError(f"{self.name} {what} for {seconds:.0f} s ({one_line(fault)}){self.said()}") from fault
+                    raise ServerError(f"{self.name} {what} for {seconds:g} s ({one_line(fault)}){self.said()}") from fault
             if stopped is not None and stopped.is_set():
                 return
             time.sleep(GLANCE)

@@ -126,10 +126,13 @@ class Proxy:
 def source_of(port: int, to: int, pids: Dict[str, int]) -> str:
     """The node that has made a connection from this port, or else `clients`."""
     wanted = f"socket:[{inode_of(port, to)}]"
-    for name, pid in pids.items():
-        for member in family(pid):
-            if wanted in open_files(member):
-                return name
+    if wanted in open_files(os.getppid()):
+        return CLIENTS
+    for only_first in (True, False):  # of most servers one process makes all connections
+        for name, pid in pids.items():
+            for member in [pid] if only_first else family(pid)[1:]:
+                if wanted in open_files(member):
+                    return name
     return CLIENTS
 
 

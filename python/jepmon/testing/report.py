@@ -3,8 +3,7 @@ from __future__ import annotations
 
 from typing import Iterator, List
 
-from .. import command
-from ..run_folder import CAUSE, PAGE, VERDICT
+from ..run_folder import CAUSE, PAGE
 from .run import Given, Outcome
 from .strikes import KINDS, Plan
 
@@ -47,10 +46,3 @@ def cause(outcome: Outcome) -> List[str]:
         return (outcome.folder / CAUSE).read_text(errors="replace").splitlines()
     except OSError:
         return []
-
-
-def leave(outcome: Outcome) -> None:
-    """The folder must not say legal where the test does not."""
-    if outcome.reason:
-        verdict = f"{outcome.verdict}; {outcome.reason}" if outcome.verdict else f"no verdict: {outcome.reason}"
-        command.write_file(outcome.folder / VERDICT, verdict + "\n")

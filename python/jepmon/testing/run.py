@@ -4,13 +4,16 @@ from __future__ import annotations
 import contextlib
 import pathlib
 import random
+import sys
 import time
 from typing import TYPE_CHECKING, Any, Callable, Counter, Dict, Iterator, NamedTuple, Type
 
+from .. import command
 from ..kinds import EVENTS
+from ..run_folder import COUNTS, VERDICT
 from ..verdicts import NotLegal, Refused
 from .cluster import Cluster
-from .errors import ServerError
+from .errors import ServerError, where
 from .generators import Pace, Phases
 from .server import ALL_STRIKES, Client, Server
 from .strikes import Nemesis, Plan
@@ -21,7 +24,6 @@ if TYPE_CHECKING:
     from ..operation import Operation
 
 ROOM = 40_000  # events that are kept for the end of a run
-PATIENCE = 60.0  # seconds in which each question at the end must be answered
 PAUSE = 0.01  # seconds after an operation that was not ok: not thousands of refused connections a second
 
 
@@ -88,7 +90,20 @@ class Test:
             reason = "" if not isinstance(found, Refused) else str(found).split("\n")[0]
         except ServerError as fault:
             reason = str(fault)
-        return self._outcome(monitor, work, reason)
+        except Exception as fault:
+            reason = self._fault(fault)
+        except BaseException:  # Ctrl-C
+            leave(monitor.folder, "" if not monitor.close().startswith("illegal") else monitor.close(), "the test was broken off")
+            raise
+        outcome = self._outcome(monitor, work, reason)
+        leave(outcome.folder, outcome.verdict, outcome.reason)
+        return outcome
+
+    def _fault(self, fault: Exception) -> str:
+        """What an exception says that nobody expected: mostly one of the client, in a file of the user's."""
+        file = getattr(sys.modules.get(self.given.server.__module__), "__file__", None)
+        said = where(fault, pathlib.Path(file) if file else None)
+        return f"a fault of the client: {said}"
 
     def _run(self, monitor: Monitor, work: Work) -> None:
         given = self.given
@@ -139,7 +154,7 @@ class Test:
             turn = iter(range(1 << 62))
 
             def ask(attempt: Callable[[Any], Operation]) -> Operation:
-                end = time.monotonic() + PATIENCE
+                end = time.monotonic() + cluster.server.patience
                 while True:
                     number = next(turn) % len(clients)
                     op = attempt(clients[number])
@@ -147,16 +162,19 @@ class Test:
                         return op
                     cluster.test_alive()
                     if time.monotonic() > end:
-                        raise ServerError(f"once the faults were over a client of {cluster.server.node_of(number).name} got no answer for "
-                                          f"{PATIENCE:.0f} s{cluster.server.node_of(number).said()}")
+                        node = cluster.server.node_of(number)
+                        raise ServerError(f"once the faults were over a client of {node.name} got no answer for "
+                                          f"{cluster.server.patience:g} s{node.said()}")
                     time.sleep(PAUSE)
 
             work.finish(ask, ROOM // 4)
 
     def _outcome(self, monitor: Monitor, work: Work, reason: str) -> Outcome:
         """The verdict, where enough was ok to have one."""
+        assert monitor.folder is not None
         verdict = monitor.close()
         counts, status = monitor.counts, 0
+        reason = reason or not_kept(monitor.folder)
         few = [f"{counts.get(name, Counter())['ok']} of {name}" for name in work.names
                if counts.get(name, Counter())["ok"] < self.given.least]
         if verdict.startswith("illegal"):
@@ -170,9 +188,23 @@ class Test:
             status, reason = 1, f"{work.lost} messages were acknowledged, and never came; this was counted, and is not proved"
         elif not verdict.startswith("legal"):
             status = 2
-        assert monitor.folder is not None
         return Outcome(verdict, reason, status, counts, monitor.length, max(self.ended - self.begun, 0.0), self.struck, work.lost,
                        monitor.folder)
+
+
+def leave(folder: pathlib.Path, verdict: str, reason: str) -> None:
+    """The folder must not say legal where the test does not."""
+    if reason:
+        command.write_file(folder / VERDICT, (f"{verdict}; {reason}" if verdict else f"no verdict: {reason}") + "\n")
+
+
+def not_kept(folder: pathlib.Path) -> str:
+    """Why the run's folder is not whole, as where the disk is full; empty where it is."""
+    try:
+        lost = [line for line in (folder / COUNTS).read_text().splitlines() if "can't be written" in line]
+    except OSError as fault:
+        lost = [f"{folder / COUNTS}: {fault.strerror}"]
+    return "".join(f"what clients did was not kept: {line}" for line in lost[:1])
 
 
 @contextlib.contextmanager

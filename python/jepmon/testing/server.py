@@ -50,7 +50,7 @@ class Server:
     size: int = 1  # how many nodes there are, where --nodes does not say
     sizes: range = range(1, 8)
     in_turn: bool = False  # whether a node is started once the one before is ready
-    patience: float = 60.0  # seconds until a node is ready
+    patience: float = 120.0  # seconds until a node is ready, and until it answers again at the end
 
     def __init__(self, nodes: Sequence[Node], model: str, plant: str) -> None:
         self.nodes, self.model, self.plant = nodes, model, plant

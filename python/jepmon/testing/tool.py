@@ -12,7 +12,7 @@ from .. import command
 from ..errors import OutputError, ProgramError
 from ..verdicts import NotLegal
 from . import report, words
-from .errors import ServerError
+from .errors import ServerError, where
 from .run import Given, Test
 from .words import NAME
 
@@ -41,7 +41,7 @@ def main(arguments: Optional[List[str]] = None) -> int:
     except OSError as fault:
         command.say(NAME, f"{fault.filename or 'a file'}: {fault.strerror}")
     except Exception as fault:
-        command.say(NAME, f"a fault of the test itself: {words.where(fault)}")
+        command.say(NAME, f"a fault of the test itself: {where(fault)}")
     return command.REFUSED
 
 
@@ -57,7 +57,6 @@ def _test(given: Given) -> int:
         outcome = test.run()
     finally:
         progress.end()
-    report.leave(outcome)
     for line in report.cause(outcome):
         command.write_error(line)
     command.write_output([report.text(outcome)])

@@ -6,11 +6,10 @@ import importlib
 import importlib.util
 import pathlib
 import sys
-import traceback
 from typing import Dict, Iterable, List, Optional, Type
 
 from .. import command, kinds
-from .errors import ServerError
+from .errors import ServerError, where
 from .run import Given
 from .server import Server
 from .strikes import KINDS, Plan
@@ -143,11 +142,3 @@ def _of_file(path: pathlib.Path) -> Type[Server]:
         raise ServerError(f"{path}: {server.__name__}.objects names models and their clients, of {', '.join(kinds.MODELS)}; "
                           + (f"not {unknown[0]}" if unknown else "it is empty"))
     return server
-
-
-def where(fault: BaseException, path: Optional[pathlib.Path] = None) -> str:
-    """What an exception says, and the line of the user's file, or else of this package, that it is of."""
-    frames = traceback.extract_tb(fault.__traceback__)
-    own = [frame for frame in frames if path is not None and pathlib.Path(frame.filename).resolve() == path.resolve()]
-    line = "".join(f" ({pathlib.Path(frame.filename).name}, line {frame.lineno})" for frame in (own or list(frames))[-1:])
-    return f"{type(fault).__name__}: {' '.join(str(fault).split())}{line}"

@@ -79,7 +79,8 @@ class SerializableRegister(Register):
 
 class Lock(EtcdClient):
     """A key that its holder makes where there is none, with a lease, so that it goes away where the holder does. A release never is
-    a :fail, since what was not given back goes away by its lease at a later moment."""
+    a :fail, since what was not given back goes away by its lease at a later moment; where it has gone before, another's acquire may
+    have been wrong, and not this."""
 
     certain: Exceptions = ()
     seconds = 30  # of the lease: longer than all that may come between
@@ -108,7 +109,8 @@ class Lock(EtcdClient):
 
     def release(self, key: int) -> bool:
         gone = {"requestDeleteRange": {"key": encoded(f"l{key}")}}
-        return self.transaction(value_is(f"l{key}", self.token), gone)
+        self.transaction(value_is(f"l{key}", self.token), gone)
+        return True
 
 
 class ShortLock(Lock):

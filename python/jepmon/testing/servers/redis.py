@@ -54,7 +54,8 @@ class Set(RedisClient):
 
 
 class Lock(RedisClient):
-    """SET NX PX. A release never is a :fail: what was not given back goes away as the lease runs out, at a later moment."""
+    """SET NX PX. A release never is a :fail: what was not given back goes away as the lease runs out, at a later moment. Where it has
+    run out before, the lock is given back all the same: if somebody has taken it meanwhile, that acquire was wrong, and not this."""
 
     certain: Exceptions = ()
     unsure: Exceptions = (OSError, RedisError)
@@ -72,7 +73,8 @@ class Lock(RedisClient):
             return False
 
     def release(self, key: int) -> bool:
-        return bool(self.redis.call("EVAL", RELEASE, 1, f"l{key}", self.token) == 1)
+        self.redis.call("EVAL", RELEASE, 1, f"l{key}", self.token)
+        return True
 
 
 class ShortLock(Lock):
@@ -88,10 +90,10 @@ class Redis(Server):
     objects = {**CLIENTS}
     size, sizes, in_turn = 2, range(1, 6), True
     plants = {
-        "replica": Plant("reads at a replica, which is a write behind", "register"),
+        "replica": Plant("reads at a replica, which is a write behind", "register", "part"),
         "forgetful": Plant("the server keeps nothing on its disk", "register", "kill:n1", 1),
         "early": Plant("a queue acknowledges what it has not kept", "fifo-queue", "kill:n1", 1),
-        "members": Plant("members are read at a replica, which is a write behind", "set"),
+        "members": Plant("members are read at a replica, which is a write behind", "set", "part"),
         "lease": Plant("the lease is shorter than the work", "mutex", nodes=1),
     }
 
@@ -112,7 +114,7 @@ class Redis(Server):
             connection.close()
 
     def client(self, number: int) -> Client:
-        kind = ShortLock if self.plant == "lease" else CLIENTS[self.model]
+        kind: Type[RedisClient] = ShortLock if self.plant == "lease" else CLIENTS[self.model]
         read_at = self.nodes[1 + number % (len(self.nodes) - 1)] if self.plant in ("replica", "members") else self.nodes[0]
         return kind(self.nodes[0].port, read_at.port)
 

@@ -20,7 +20,7 @@ class SqlError(Exception):
 
 class Answer(NamedTuple):
     rows: List[Tuple[Optional[str], ...]]
-    count: int  # of rows that were changed or selected
+    changed: int  # rows that were changed or selected
 
 
 class Postgres:

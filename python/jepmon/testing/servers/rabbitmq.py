@@ -1,0 +1,135 @@
+"""RabbitMQ: one node, with durable queues, persistent messages that are confirmed, and consumers that get and acknowledge.
+
+It delivers at least once: what was not acknowledged when a connection or the server ended comes again. So a dequeue takes place where a
+message comes for the first time in the whole test; a message that has come before is a :fail.
+
+What an error says: where the connection, or the queue in it, is not there yet, nothing was sent: a :fail. A message that was sent and
+not confirmed is an :info. A get that was not answered is a :fail: what the broker may have sent was not acknowledged, and comes again.
+"""
+from __future__ import annotations
+
+import pathlib
+import shutil
+import threading
+from typing import List, Optional, Set
+
+from ...verdicts import Failed
+from ..errors import ServerError
+from ..node import ADDRESS, Node
+from ..server import Client, Plant, Server
+from ..wire.amqp import Amqp, Message
+
+TIMEOUT = 1.0  # seconds
+PROGRAM = pathlib.Path("/usr/lib/rabbitmq/bin/rabbitmq-server")
+# epmd finds Erlang's nodes. Erlang would start one that outlives the server; this one is of the node's family, and ends with it.
+START = 'epmd & until epmd -names >/dev/null 2>&1; do sleep 0.1; done; exec "$0"'
+
+
+class Came:
+    """Which messages have come to any client."""
+
+    def __init__(self) -> None:
+        self._lock = threading.Lock()
+        self._values: Set[int] = set()
+
+    def first(self, value: int) -> bool:
+        with self._lock:
+            is_first = value not in self._values
+            self._values.add(value)
+        return is_first
+
+
+class Queue(Client):
+    durable = True
+
+    def __init__(self, port: int, came: Came) -> None:
+        self.amqp, self.came = Amqp(port, TIMEOUT), came
+
+    def enqueue(self, key: int, value: int) -> None:
+        self.amqp.publish(f"q{key}", str(value).encode(), durable=self.durable)
+
+    def dequeue(self, key: int) -> Optional[int]:
+        message = self.got(key)
+        if message is None:
+            return None
+        value = int(message.body)
+        is_first = self.came.first(value)
+        try:
+            self.amqp.acknowledge(message)
+        except OSError:
+            self.amqp.close()  # it comes again
+        if not is_first:
+            raise Failed("it has come before")
+        return value
+
+    def got(self, key: int) -> Optional[Message]:
+        try:
+            return self.amqp.get(f"q{key}", durable=self.durable)
+        except OSError as fault:
+            raise Failed(str(fault)) from fault
+
+    def close(self) -> None:
+        self.amqp.close()
+
+
+class EarlyQueue(Queue):
+    durable = False
+
+
+class LateQueue(Queue):
+    """Takes a message that comes for what it is, and acknowledges it when the next one comes."""
+
+    late: Optional[Message] = None
+
+    def dequeue(self, key: int) -> Optional[int]:
+        was_open = self.amqp.stream.is_open
+        message = self.got(key)
+        if self.late is not None and was_open and self.amqp.stream.is_open:
+            self.amqp.acknowledge(self.late)
+        self.late = message
+        return None if message is None else int(message.body)
+
+
+class RabbitMQ(Server):
+    objects = {"unordered-queue": Queue}
+    ports = ("client", "distribution", "epmd")
+    sizes = range(1, 2)
+    patience = 300.0
+    plants = {
+        "early": Plant("messages are confirmed before they are on the disk: they are not persistent", "unordered-queue", "kill:n1"),
+        "twice": Plant("what comes again after a kill is taken for another message", "unordered-queue", "kill:n1"),
+    }
+
+    @classmethod
+    def test_installed(cls) -> None:
+        if not PROGRAM.exists() or shutil.which("epmd") is None:
+            raise ServerError("RabbitMQ is not installed: on Debian, apt-get install rabbitmq-server")
+
+    def __init__(self, *words: object) -> None:
+        super().__init__(*words)  # type: ignore[arg-type]
+        self.came = Came()
+
+    def prepare(self, node: Node) -> None:
+        (node.folder / "plugins").write_text("[].\n")
+        node.environment = {
+            "HOME": str(node.folder), "LANG": "C.UTF-8", "ERL_EPMD_ADDRESS": ADDRESS, "ERL_EPMD_PORT": str(node.ports["epmd"]),
+            "RABBITMQ_NODENAME": f"jepmon{node.ports['client']}@localhost", "RABBITMQ_NODE_IP_ADDRESS": ADDRESS,
+            "RABBITMQ_NODE_PORT": str(node.ports["client"]), "RABBITMQ_DIST_PORT": str(node.ports["distribution"]),
+            "RABBITMQ_MNESIA_BASE": str(node.folder / "data"), "RABBITMQ_LOG_BASE": str(node.folder), "RABBITMQ_LOGS": "-",
+            "RABBITMQ_CONFIG_FILE": str(node.folder / "none"), "RABBITMQ_CONF_ENV_FILE": str(node.folder / "none"),
+            "RABBITMQ_ENABLED_PLUGINS_FILE": str(node.folder / "plugins"), "RABBITMQ_PID_FILE": str(node.folder / "pid"),
+        }
+
+    def command(self, node: Node) -> List[str]:
+        return ["sh", "-c", START, str(PROGRAM)]
+
+    def client(self, number: int) -> Client:
+        kind = {"early": EarlyQueue, "twice": LateQueue}.get(self.plant, Queue)
+        return kind(self.nodes[0].port, self.came)
+
+    def ready(self, node: Node) -> None:
+        amqp = Amqp(node.ports["client"], 5.0)
+        try:
+            amqp.get("ready")
+        finally:
+            amqp.close()
