@@ -28,6 +28,8 @@ NEVER_ANSWERS = ("class Mine(MyServer):\n    patience = 2.0\n    def command(sel
 DISK_IS_FULL = ("class Mine(MyServer):\n    def command(self, node):\n        code = 'import runpy, sys; "
                 "sys.argv[2] = \"/dev/full\"; runpy.run_path(sys.argv.pop(), run_name=\"__main__\")'\n"
                 "        return [sys.executable, '-c', code, str(node.ports['client']), 'x', jepmon.testing.template.__file__]\n")
+PORT_IS_TAKEN = ("import socket\nheld = socket.create_server(('127.0.0.1', 0))\nclass Mine(MyServer):\n    def command(self, node):\n"
+                 "        node.ports['client'] = node.reach['client'] = held.getsockname()[1]\n        return super().command(node)\n")
 CLIENT_IS_WRONG = "class Client(MyClient):\n    def read(self, key):\n        return self.nothing\nclass Mine(MyServer):\n    objects = {'register': Client}\n"
 CLIENT_IS_WRONG += "    def client(self, number):\n        return Client(self.nodes[0].port)\n"
 
@@ -115,6 +117,10 @@ class NoVerdict(Runs):
         self.refused(self.mine(DIES_AT_ONCE), "n1 has died by itself, with status 5; its log is .*which ends: the port is taken$",
                      log="the port is taken")
 
+    def test_one_whose_port_is_taken(self) -> None:
+        self.refused(self.mine(PORT_IS_TAKEN), "n1 has died by itself, with status 1; its log is .*Address already in use",
+                     "--nemesis", "none", log="Address already in use")
+
     def test_one_that_is_no_program(self) -> None:
         self.refused(self.mine(IS_NO_PROGRAM), "n1 can't be started: /nowhere/server: No such file or directory$")
 
@@ -147,7 +153,7 @@ class BrokenOff(Runs):
                                 universal_newlines=True, env=self.environment(), cwd=self.room)
         history = self.room / "runs" / "latest" / "history.edn"
         end = time.monotonic() + PATIENCE
-        while not (history.exists() and "fault-begin" in history.read_text()) and time.monotonic() < end:
+        while not (history.exists() and "begin-fault" in history.read_text()) and time.monotonic() < end:
             time.sleep(0.1)
         test.send_signal(number)
         said = test.communicate(timeout=PATIENCE)[1]

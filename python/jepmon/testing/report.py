@@ -35,9 +35,7 @@ def _lines(outcome: Outcome) -> Iterator[str]:
         yield "strikes: " + ", ".join(f"{outcome.strikes[kind]} {kind}" for kind in KINDS if outcome.strikes[kind])
     has_page = (outcome.folder / PAGE).exists()
     yield f"folder: {outcome.folder}" + (f", its page: {outcome.folder / PAGE}" if has_page else "")
-    if outcome.lost:
-        yield f"lost: {outcome.lost}"
-    yield outcome.verdict or "no verdict"
+    yield (outcome.verdict or "no verdict") + (f", and {outcome.lost} messages are lost" if outcome.lost else "")
 
 
 def cause(outcome: Outcome) -> List[str]:

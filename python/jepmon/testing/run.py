@@ -76,12 +76,11 @@ class Test:
         from ..monitor import Monitor
 
         given = self.given
-        given.server.test_installed()
-        client = self.client
-        monitor = Monitor(model=given.model, concurrency=given.clients + 1, expected=client.unsure, failed=client.certain, unknown="drop",
-                          out=given.out)
+        client, kind = self.client, WORKS[given.model]
+        monitor = Monitor(model=given.model, concurrency=given.clients + 1, budget=kind.budget, expected=client.unsure,
+                          failed=client.certain, unknown="drop", out=given.out)
         assert monitor.folder is not None
-        work = WORKS[given.model](monitor, given.clients, given.keys)
+        work = kind(monitor, given.clients, given.keys)
         reason = ""
         try:
             with monitor:
@@ -185,7 +184,7 @@ class Test:
             verdict, status = "", 3
             reason = f"fewer than {self.given.least} operations were ok ({', '.join(few)}), of which nothing is said"
         elif work.lost:
-            status, reason = 1, f"{work.lost} messages were acknowledged, and never came; this was counted, and is not proved"
+            status, reason = 1, f"{work.lost} messages were acknowledged, and never came: this was counted, and is not proved"
         elif not verdict.startswith("legal"):
             status = 2
         return Outcome(verdict, reason, status, counts, monitor.length, max(self.ended - self.begun, 0.0), self.struck, work.lost,

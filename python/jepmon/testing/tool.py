@@ -50,6 +50,7 @@ def _terminated(number: int, _frame: Optional[FrameType]) -> None:
 
 
 def _test(given: Given) -> int:
+    given.server.test_installed()
     progress = Progress()
     test = Test(given, progress.show)
     command.write_output([report.heading(given, test.plan)])

@@ -23,6 +23,7 @@ class Work:
     must be ok before anything is said."""
 
     names: Tuple[str, ...] = ()
+    budget = 4096
 
     def __init__(self, monitor: Monitor, clients: int, keys: int) -> None:
         self.monitor, self.clients = monitor, clients
@@ -144,6 +145,7 @@ class Queues(Work):
     are in it most of the time: an empty queue has nothing to lose."""
 
     names = ("enqueue", "dequeue")
+    budget = 65_536  # dequeues that timed out may each have taken any message
     CHANGES = 300
     BACKLOG = (8, 14)  # below the first consumers mostly wait, above the second producers do
 
@@ -151,11 +153,12 @@ class Queues(Work):
         super().__init__(monitor, clients, keys)
         producers = max(1, clients // 2)
         span = 65_536 // producers
-        self.queues = [Renewed(monitor, 1, self.CHANGES, producer * span, span) for producer in range(producers)]
+        self.queues = [Renewed(monitor, 1, self.CHANGES, producer * span, span, limit=2) for producer in range(producers)]
         self._lock = threading.Lock()
         self.sent: Dict[int, Set[int]] = collections.defaultdict(set)  # what was taken, by key
         self.got: Dict[int, Set[int]] = collections.defaultdict(set)
         self.unsure: Counter[int] = collections.Counter()  # dequeues that may have taken something
+        self.is_drained = False
 
     def step(self, number: int, client: Any, draws: random.Random, changes: float) -> Operation:
         producer = number // 2 % len(self.queues)
@@ -194,12 +197,14 @@ class Queues(Work):
         for key in (key for queue in self.queues for key in queue.used):
             while room > 0 and ask(lambda client: self.dequeue(client, key)).value is not None:
                 room -= 1
+        self.is_drained = room > 0
 
     @property
     def lost(self) -> int:
         """A dequeue that timed out may have taken a message, so as many may be missing."""
         with self._lock:
-            return sum(max(0, len(self.sent[key] - self.got[key]) - self.unsure[key]) for key in self.sent)
+            missing = [len(sent - self.got[key]) - self.unsure[key] for key, sent in self.sent.items()]
+        return sum(number for number in missing if number > 0) if self.is_drained else 0
 
     def _backlog(self, key: int) -> int:
         with self._lock:

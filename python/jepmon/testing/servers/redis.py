@@ -114,7 +114,9 @@ class Redis(Server):
             connection.close()
 
     def client(self, number: int) -> Client:
-        kind: Type[RedisClient] = ShortLock if self.plant == "lease" else CLIENTS[self.model]
+        kind = CLIENTS[self.model]
+        if self.plant == "lease":
+            kind = ShortLock
         read_at = self.nodes[1 + number % (len(self.nodes) - 1)] if self.plant in ("replica", "members") else self.nodes[0]
         return kind(self.nodes[0].port, read_at.port)
 
