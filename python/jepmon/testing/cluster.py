@@ -21,7 +21,8 @@ SLOW = 0.05  # seconds by which a slow link is slower, each way
 class Cluster:
     """It starts with its block. `links`: whether others reach the nodes by links that can be cut."""
 
-    def __init__(self, kind: Type[Server], model: str, plant: str, size: int, logs: pathlib.Path, links: bool) -> None:
+    def __init__(self, kind: Type[Server], model: str, plant: str, size: int, logs: pathlib.Path, links: bool,
+                 patience: float = 0.0) -> None:
         self._ended = contextlib.ExitStack()
         self.stopped = threading.Event()  # nobody waits any more for a node to be ready
         try:
@@ -39,6 +40,7 @@ class Cluster:
             if self.links is not None:
                 self._ended.callback(self.links.end)
             self.server = kind(self.nodes, model, plant)
+            self.server.patience = patience or self.server.patience
         except BaseException:
             self._ended.close()
             raise

@@ -26,11 +26,12 @@ def _lines(outcome: Outcome) -> Iterator[str]:
         yield f"{'':<10}{'ok':>10}{'fail':>10}{'info':>10}"
     for name, counted in sorted(outcome.counts.items()):
         yield f"{name:<10}" + "".join(f"{counted[kind]:>10,}" for kind in ("ok", "fail", "info"))
-    done = sum(counted["ok"] for counted in outcome.counts.values())
-    timed_out = sum(counted["info"] for counted in outcome.counts.values())
+    done, timed_out = (sum(counted[kind] for counted in outcome.at_work.values()) for kind in ("ok", "info"))
     if done:
-        yield (f"{done / max(outcome.seconds, 0.001):,.0f} operations a second were ok, "
-               f"{100 * timed_out / (done + timed_out):.1f} % of those that were sent timed out; {outcome.events:,} events")
+        yield (f"{done / outcome.seconds:,.0f} operations a second were ok, {100 * timed_out / (done + timed_out):.1f} % of those that "
+               f"were not refused timed out; {outcome.events:,} events")
+    if outcome.is_full:
+        yield f"the history was full after {outcome.seconds:.0f} seconds: take a lower --rate"
     if outcome.strikes:
         yield "strikes: " + ", ".join(f"{outcome.strikes[kind]} {kind}" for kind in KINDS if outcome.strikes[kind])
     has_page = (outcome.folder / PAGE).exists()

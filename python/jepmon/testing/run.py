@@ -24,6 +24,7 @@ if TYPE_CHECKING:
     from ..operation import Operation
 
 ROOM = 40_000  # events that are kept for the end of a run
+MOST_EVENTS = EVENTS - ROOM
 PAUSE = 0.01  # seconds after an operation that was not ok: not thousands of refused connections a second
 
 
@@ -41,6 +42,7 @@ class Given(NamedTuple):
     rate: float
     nodes: int
     least: int
+    patience: float  # 0: the server's own
     out: str
 
 
@@ -52,7 +54,9 @@ class Outcome(NamedTuple):
     status: int
     counts: Dict[str, Counter[str]]
     events: int
-    seconds: float  # in which clients were at work
+    at_work: Dict[str, Counter[str]]  # the counts while clients were at work, without what was asked at the end
+    seconds: float  # in which they were
+    is_full: bool  # whether the history had no room for more, before the time was up
     strikes: Counter[str]
     lost: int
     folder: pathlib.Path
@@ -68,6 +72,8 @@ class Test:
         self.client = given.server.objects[given.model]
         self.plan = Plan(given.nemesis, given.nodes, given.server.bears.get(given.model, ALL_STRIKES))
         self.begun = self.ended = 0.0
+        self.at_work: Dict[str, Counter[str]] = {}
+        self.is_full = False
         self.struck: Counter[str] = Counter()
 
     def run(self) -> Outcome:
@@ -107,7 +113,8 @@ class Test:
     def _run(self, monitor: Monitor, work: Work) -> None:
         given = self.given
         assert monitor.folder is not None
-        with Cluster(given.server, given.model, given.plant, given.nodes, monitor.folder, self.plan.needs_links) as cluster:
+        with Cluster(given.server, given.model, given.plant, given.nodes, monitor.folder, self.plan.needs_links,
+                     given.patience) as cluster:
             self.begun = time.monotonic()
             nemesis = Nemesis(monitor, cluster, self.plan.strikes(given.seed, given.seconds), given.seconds)
             self.struck = nemesis.struck
@@ -126,7 +133,7 @@ class Test:
             try:
                 monitor.run(thread, given.clients + 1)
             finally:
-                self.ended = time.monotonic()
+                self.ended, self.at_work, self.is_full = time.monotonic(), monitor.counts, monitor.length >= MOST_EVENTS
             self._finish(monitor, work, cluster)
 
     def _client(self, monitor: Monitor, work: Work, cluster: Cluster, phases: Phases, number: int) -> None:
@@ -136,7 +143,7 @@ class Test:
         pace = Pace(given.rate / given.clients, draws)
         end = self.begun + given.seconds
         with closing(cluster.server.client(number)) as client:
-            while time.monotonic() < end and monitor.length < EVENTS - ROOM and not cluster.stopped.is_set():
+            while time.monotonic() < end and monitor.length < MOST_EVENTS and not cluster.stopped.is_set():
                 phase = phases.at(time.monotonic() - self.begun)
                 pace.wait(phase.speed)
                 if work.step(number, client, draws, phase.changes).outcome != "ok":
@@ -187,8 +194,8 @@ class Test:
             status, reason = 1, f"{work.lost} messages were acknowledged, and never came: this was counted, and is not proved"
         elif not verdict.startswith("legal"):
             status = 2
-        return Outcome(verdict, reason, status, counts, monitor.length, max(self.ended - self.begun, 0.0), self.struck, work.lost,
-                       monitor.folder)
+        return Outcome(verdict, reason, status, counts, monitor.length, self.at_work, max(self.ended - self.begun, 0.001), self.is_full,
+                       self.struck, work.lost, monitor.folder)
 
 
 def leave(folder: pathlib.Path, verdict: str, reason: str) -> None:

@@ -2,7 +2,7 @@
 from __future__ import annotations
 
 import shutil
-from typing import List, Mapping, NamedTuple, Sequence, Tuple, Type
+from typing import Callable, List, Mapping, NamedTuple, Sequence, Tuple, Type
 
 from ..endings import Exceptions
 from .errors import ServerError
@@ -28,6 +28,25 @@ class Client:
 
     def close(self) -> None:
         """Ends its connection."""
+
+
+class Leases:
+    """Of a lock with a lease: what a client could not give back. It is tried again before the next acquire, which the :info of its
+    release allows, since that may take place at any later moment; so a lock is not held for the rest of its lease."""
+
+    def __init__(self) -> None:
+        self._owed: List[Tuple[int, str]] = []
+
+    def owe(self, key: int, token: str) -> None:
+        self._owed.append((key, token))
+
+    def pay(self, give_back: Callable[[int, str], object], faults: Exceptions) -> None:
+        while self._owed:
+            try:
+                give_back(*self._owed[-1])
+            except faults:
+                return
+            self._owed.pop()
 
 
 class Plant(NamedTuple):

@@ -110,7 +110,6 @@ class Nemesis:
         self._begun = time.monotonic()
         self._end = self._begun + seconds
         self.struck: Counter[str] = Counter()
-        self.first: Optional[float] = None
 
     def run(self) -> None:
         late = 0.0  # by which strikes took longer than planned, as a restart does
@@ -130,7 +129,6 @@ class Nemesis:
     @contextlib.contextmanager
     def _strike(self, kind: str, node: Node) -> Iterator[None]:
         with self._monitor.fault(KINDS[kind].text.format(node.name)):
-            self.first = self.first or time.monotonic()
             self.struck[kind] += 1
             KINDS[kind].begin(self._cluster, node)
             try:

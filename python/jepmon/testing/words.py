@@ -57,7 +57,7 @@ def given(words: Optional[List[str]]) -> Optional[Given]:
     nemesis = parsed.nemesis or (plant.nemesis if plant else "all")
     Plan(nemesis, nodes, tuple(KINDS))  # what can't be is said before anything starts
     return Given(server, model, parsed.plant or "", parsed.time, parsed.clients, parsed.keys, parsed.seed, nemesis, parsed.rate, nodes,
-                 parsed.least, parsed.out)
+                 parsed.least, parsed.patience, parsed.out)
 
 
 def _parser() -> Words:
@@ -76,6 +76,8 @@ def _parser() -> Words:
     parser.add_argument("--nodes", metavar="N", type=_within("nodes", 1, 9), default=0, help="how many, where the server can have several")
     parser.add_argument("--least", metavar="N", type=_within("operations", 1, 1_000_000), default=20,
                         help="of fewer ok of some operation nothing is said (20)")
+    parser.add_argument("--patience", metavar="SECONDS", type=_positive("seconds"), default=0.0,
+                        help="for a node to start, and to answer again at the end, before there is no verdict (120, of RabbitMQ 300)")
     parser.add_argument("--out", metavar="FOLDER", default="runs", help="the run gets a folder of its own there (runs)")
     return parser
 

@@ -13,7 +13,7 @@ from typing import Any, Dict, List, Optional, Type, Union
 
 from ...endings import Exceptions
 from ..node import ADDRESS, Node
-from ..server import Client, Plant, Server
+from ..server import Client, Leases, Plant, Server
 
 TIMEOUT = 1.0  # seconds
 HEARTBEAT, ELECTION = 100, 1000  # milliseconds
@@ -83,13 +83,14 @@ class Lock(EtcdClient):
     have been wrong, and not this."""
 
     certain: Exceptions = ()
-    seconds = 30  # of the lease: longer than all that may come between
+    seconds = 60  # of the lease: longer than all that may come between
 
     def __init__(self, port: int) -> None:
         super().__init__(port)
-        self.token, self.lease = "", 0
+        self.token, self.lease, self.leases = "", 0, Leases()
 
     def acquire(self, key: int) -> bool:
+        self.leases.pay(self.give_back, (OSError,))
         self.token = uuid.uuid4().hex
         try:
             self.lease = self.call("lease/grant", TTL=self.seconds)["ID"]
@@ -101,6 +102,9 @@ class Lock(EtcdClient):
                 return True
         except ConnectionRefusedError:
             return False
+        except OSError:
+            self.leases.owe(key, self.token)
+            raise
         try:
             self.call("lease/revoke", ID=self.lease)  # somebody else holds it
         except OSError:
@@ -108,9 +112,15 @@ class Lock(EtcdClient):
         return False
 
     def release(self, key: int) -> bool:
-        gone = {"requestDeleteRange": {"key": encoded(f"l{key}")}}
-        self.transaction(value_is(f"l{key}", self.token), gone)
+        try:
+            self.give_back(key, self.token)
+        except OSError:
+            self.leases.owe(key, self.token)
+            raise
         return True
+
+    def give_back(self, key: int, token: str) -> None:
+        self.transaction(value_is(f"l{key}", token), {"requestDeleteRange": {"key": encoded(f"l{key}")}})
 
 
 class ShortLock(Lock):

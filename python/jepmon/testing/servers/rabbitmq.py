@@ -118,6 +118,7 @@ class RabbitMQ(Server):
             "RABBITMQ_MNESIA_BASE": str(node.folder / "data"), "RABBITMQ_LOG_BASE": str(node.folder), "RABBITMQ_LOGS": "-",
             "RABBITMQ_CONFIG_FILE": str(node.folder / "none"), "RABBITMQ_CONF_ENV_FILE": str(node.folder / "none"),
             "RABBITMQ_ENABLED_PLUGINS_FILE": str(node.folder / "plugins"), "RABBITMQ_PID_FILE": str(node.folder / "pid"),
+            "RABBITMQ_SERVER_ADDITIONAL_ERL_ARGS": "+S 2:2 +sbwt none +sbwtdcpu none +sbwtdio none",  # it starts with less work
         }
 
     def command(self, node: Node) -> List[str]:

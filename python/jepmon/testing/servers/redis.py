@@ -11,7 +11,7 @@ from typing import Dict, List, Optional, Type
 
 from ...endings import Exceptions
 from ..node import ADDRESS, Node
-from ..server import Client, Plant, Server
+from ..server import Client, Leases, Plant, Server
 from ..wire.resp import Redis as Connection
 from ..wire.resp import RedisError
 
@@ -59,22 +59,33 @@ class Lock(RedisClient):
 
     certain: Exceptions = ()
     unsure: Exceptions = (OSError, RedisError)
-    lease = 20_000  # milliseconds: longer than all that may come between
+    lease = 60_000  # milliseconds: longer than all that may come between
 
     def __init__(self, port: int, read_at: int) -> None:
         super().__init__(port, read_at)
-        self.token = ""
+        self.token, self.leases = "", Leases()
 
     def acquire(self, key: int) -> bool:
+        self.leases.pay(self.give_back, self.unsure)
         self.token = uuid.uuid4().hex
         try:
             return self.redis.call("SET", f"l{key}", self.token, "NX", "PX", self.lease) is not None
         except (ConnectionRefusedError, RedisError):
             return False
+        except OSError:
+            self.leases.owe(key, self.token)
+            raise
 
     def release(self, key: int) -> bool:
-        self.redis.call("EVAL", RELEASE, 1, f"l{key}", self.token)
+        try:
+            self.give_back(key, self.token)
+        except self.unsure:
+            self.leases.owe(key, self.token)
+            raise
         return True
+
+    def give_back(self, key: int, token: str) -> None:
+        self.redis.call("EVAL", RELEASE, 1, f"l{key}", token)
 
 
 class ShortLock(Lock):
