@@ -24,6 +24,7 @@ from program import PROGRAM  # noqa: E402
 
 SECONDS, UNTIL_FOUND = 20, 120
 GOOD = (0, 2)  # on a busy machine so many operations may time out at once that a key is unknown
+PATIENT = ["--least", "3", "--patience", "600"]
 PATIENCE = 1800.0  # seconds, on a busy machine
 AT_ONCE = 2  # tests; each of them mostly waits
 
@@ -77,7 +78,7 @@ def passes(test: Test) -> bool:
 
 def tried(test: Test, room: pathlib.Path) -> Tuple[bool, str]:
     """Runs it, and gives whether it is as it should be, and what it said."""
-    words = [sys.executable, "-m", "jepmon", "test", test.server, *test.words, "--out", str(room / "runs"), "--least", "3", "--patience", "600"]
+    words = [sys.executable, "-m", "jepmon", "test", test.server, *test.words, "--out", str(room / "runs"), *PATIENT]
     environment = {**os.environ, "JEPMON": str(PROGRAM), "PYTHONPATH": str(TOP / "python"), "TMPDIR": str(room)}
     try:
         ran = subprocess.run(words, stdout=subprocess.PIPE, stderr=subprocess.PIPE, universal_newlines=True, timeout=PATIENCE,

@@ -1,7 +1,6 @@
 """Nodes, the links between them, and that none is left behind."""
 from __future__ import annotations
 
-import os
 import pathlib
 import random
 import signal
@@ -11,7 +10,7 @@ import sys
 import tempfile
 import time
 import unittest
-from typing import List
+from typing import Callable, List
 
 from jepmon.testing.errors import ServerError
 from jepmon.testing.family import continue_family, family, kill_family, stop_family
@@ -32,10 +31,10 @@ with socket.create_server(("127.0.0.1", int(sys.argv[1]))) as server:
 """
 
 
-def wait_for(what: "object", seconds: float = PATIENCE) -> bool:
+def wait_for(what: Callable[[], bool], seconds: float = PATIENCE) -> bool:
     end = time.monotonic() + seconds
     while time.monotonic() < end:
-        if what():  # type: ignore[operator]
+        if what():
             return True
         time.sleep(0.02)
     return False
@@ -77,7 +76,8 @@ class Nodes(Room):
     def test_one_that_ends_names_its_log(self) -> None:
         node = self.node("sh", "-c", "echo a port is taken; exit 7")
         node.start()
-        with self.assertRaisesRegex(ServerError, r"^n1 has died by itself, with status 7; its log is .*n1\.log, which ends: a port is taken$"):
+        said = r"^n1 has died by itself, with status 7; its log is .*n1\.log, which ends: a port is taken$"
+        with self.assertRaisesRegex(ServerError, said):
             node.wait_until(node.accepts, PATIENCE, "was not ready")
 
     def test_one_that_is_never_ready_names_its_log(self) -> None:
@@ -128,8 +128,8 @@ class Families(unittest.TestCase):
         with tempfile.TemporaryDirectory() as room:
             folder = pathlib.Path(room, "data")
             folder.mkdir()
-            code = ("import pathlib, subprocess, sys, time; from jepmon.testing.guard import Guard; guard = Guard(pathlib.Path(sys.argv[1])); "
-                    "child = subprocess.Popen(['sleep', '600'], start_new_session=True); guard.watch(child.pid); "
+            code = ("import pathlib, subprocess, sys, time; from jepmon.testing.guard import Guard; "
+                    "guard = Guard(pathlib.Path(sys.argv[1])); child = subprocess.Popen(['sleep', '600'], start_new_session=True); guard.watch(child.pid); "
                     "print(child.pid, flush=True); time.sleep(600)")
             test = subprocess.Popen([sys.executable, "-c", code, str(folder)], stdout=subprocess.PIPE, env=environment())
             assert test.stdout is not None

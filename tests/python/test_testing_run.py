@@ -3,13 +3,16 @@ from __future__ import annotations
 
 import os
 import pathlib
+import re
 import signal
 import subprocess
 import sys
+import tempfile
 import time
 from typing import List, Optional
 
-from jepmon.testing import template
+from jepmon.testing import ServerError, template
+from jepmon.testing.words import given
 from tests.python import TOP
 from tests.python.monitored import Monitored
 
@@ -30,8 +33,9 @@ DISK_IS_FULL = ("class Mine(MyServer):\n    def command(self, node):\n        co
                 "        return [sys.executable, '-c', code, str(node.ports['client']), 'x', jepmon.testing.template.__file__]\n")
 PORT_IS_TAKEN = ("import socket\nheld = socket.create_server(('127.0.0.1', 0))\nclass Mine(MyServer):\n    def command(self, node):\n"
                  "        node.ports['client'] = node.reach['client'] = held.getsockname()[1]\n        return super().command(node)\n")
-CLIENT_IS_WRONG = "class Client(MyClient):\n    def read(self, key):\n        return self.nothing\nclass Mine(MyServer):\n    objects = {'register': Client}\n"
-CLIENT_IS_WRONG += "    def client(self, number):\n        return Client(self.nodes[0].port)\n"
+CLIENT_IS_WRONG = ("class Client(MyClient):\n    def read(self, key):\n        return self.nothing\n"
+                   "class Mine(MyServer):\n    objects = {'register': Client}\n"
+                   "    def client(self, number):\n        return Client(self.nodes[0].port)\n")
 
 
 class Runs(Monitored):
@@ -175,17 +179,37 @@ class BrokenOff(Runs):
 
 class Words(Runs):
     def test_what_is_not_there_is_said(self) -> None:
-        for words, said in ((["mongodb"], "there is no server 'mongodb'; there are redis, "), (["./none.py"], "none.py: there is no such file"),
-                            (["redis", "--plant", "x"], "--plant x: redis has replica, "), (["redis", "--object", "cas-register"], "--object cas-"),
-                            (["redis", "--nodes", "9"], "--nodes 9: redis takes 1 to 5"), (["redis", "--nemesis", "x"], "--nemesis x: it takes"),
-                            (["redis", "--time", "0"], "argument --time: it takes seconds"), ([], "the following arguments are required"),
-                            (["redis", "--clients", "64"], "argument --clients: it takes clients, 1 to 63"),
-                            ([self.mine("x = = 1")], "mine.py can't be used: SyntaxError"), ([self.mine("")], "mine.py has no class"),
-                            ([self.mine("class Mine(MyServer):\n    objects = {'tree': MyClient}\n")], "mine.py: Mine.objects names models")):
+        for words, said in (("mongodb", "there is no server 'mongodb'; there are redis, "),
+                            ("./none.py", "none.py: there is no such file"),
+                            ("redis --plant x", "--plant x: redis has replica, "),
+                            ("redis --object cas-register", "--object cas-register: redis has register, "),
+                            ("redis --object set --plant lease", "--object set: the plant lease is one of a mutex"),
+                            ("redis --nodes 9", "--nodes 9: redis takes 1 to 5"),
+                            ("redis --nemesis x", "--nemesis x: it takes"),
+                            ("redis --time 0", "argument --time: it takes seconds"),
+                            ("redis --clients 64", "argument --clients: it takes clients, 1 to 63"),
+                            ("--time 1", "the following arguments are required")):
             with self.subTest(words):
-                words = [word for word in words]
-                ran = self.ran(*words) if words else subprocess.run(
-                    [sys.executable, "-m", "jepmon", "test"], stdout=subprocess.PIPE, stderr=subprocess.PIPE, universal_newlines=True,
-                    env=self.environment())
-                self.assertEqual((ran.returncode, ran.stdout, len(ran.stderr.splitlines())), (3, "", 1), ran.stderr)
-                self.assertTrue(ran.stderr.startswith(f"test: {said}"), ran.stderr)
+                self.assertRegex(said_of(words.split()), "^" + re.escape(said))
+
+    def test_a_file_that_is_none(self) -> None:
+        for text, said in (("x = = 1", "mine.py can't be used: SyntaxError"), ("", "mine.py has no class that is a jepmon.testing.Server"),
+                           ("1 / 0", r"mine.py can't be used: ZeroDivisionError: division by zero \(mine.py, line 4\)$"),
+                           ("class Mine(MyServer):\n    objects = {'tree': MyClient}\n", "mine.py: Mine.objects names models .*not tree")):
+            with self.subTest(text), tempfile.TemporaryDirectory() as room:
+                path = pathlib.Path(room, "mine.py")
+                path.write_text(IMPORTS + text)
+                self.assertRegex(said_of([str(path)]), said)
+
+    def test_it_is_said_in_one_line(self) -> None:
+        ran = self.ran("mongodb")
+        self.assertEqual((ran.returncode, ran.stdout, len(ran.stderr.splitlines())), (3, "", 1), ran.stderr)
+        self.assertTrue(ran.stderr.startswith("test: there is no server 'mongodb'"), ran.stderr)
+
+
+def said_of(words: List[str]) -> str:
+    try:
+        given(words)
+    except ServerError as fault:
+        return str(fault)
+    return "nothing"

@@ -124,18 +124,19 @@ def server_of(name: str) -> Type[Server]:
 
 def _of_file(path: pathlib.Path) -> Type[Server]:
     """The last class in a file of the user's that is a Server, or which it names `server`."""
-    spec = importlib.util.spec_from_file_location(path.stem, path)
+    name = f"server_in_{path.stem}"  # so that it takes no other module's name
+    spec = importlib.util.spec_from_file_location(name, path)
     if not path.is_file() or spec is None or spec.loader is None:
         raise ServerError(f"{path}: there is no such file")
     module = importlib.util.module_from_spec(spec)
-    sys.modules[path.stem] = module
+    sys.modules[name] = module
     sys.path.insert(0, str(path.resolve().parent))
     try:
         spec.loader.exec_module(module)
     except Exception as fault:
         raise ServerError(f"{path} can't be used: {where(fault, path)}") from fault
     found = [one for one in vars(module).values()
-             if isinstance(one, type) and issubclass(one, Server) and one.__module__ == path.stem]
+             if isinstance(one, type) and issubclass(one, Server) and one.__module__ == name]
     if not found:
         raise ServerError(f"{path} has no class that is a jepmon.testing.Server")
     server: Type[Server] = found[-1]
