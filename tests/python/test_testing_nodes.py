@@ -171,6 +171,12 @@ class LinksOfANode(Room):
         connection.settimeout(PATIENCE)
         self.assertEqual(connection.recv(100), b"two\n")
 
+    def test_who_sends_no_more_is_answered_all_the_same(self) -> None:
+        connection = self.connection()
+        connection.sendall(b"one\n")
+        connection.shutdown(socket.SHUT_WR)
+        self.assertEqual(connection.makefile("rb").read(), b"one\n")
+
     def test_what_is_slow_takes_longer(self) -> None:
         connection = self.connection()
         self.links.slow("n1", [CLIENTS], 0.2)

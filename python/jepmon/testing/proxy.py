@@ -37,7 +37,7 @@ class Way:
         self.delay = 0.0
 
     async def carry(self, source: asyncio.StreamReader, target: asyncio.StreamWriter) -> None:
-        """Until the source ends, or one of both has gone."""
+        """Until the source ends, which the target is told then. An OSError where one of both has gone."""
         while True:
             data = await source.read(CHUNK)
             await self.open.wait()
@@ -45,6 +45,7 @@ class Way:
                 await asyncio.sleep(self.delay)
                 await self.open.wait()
             if not data:
+                target.write_eof()
                 return
             target.write(data)
             await target.drain()
@@ -83,14 +84,14 @@ class Proxy:
             self.listening[port] = await asyncio.start_server(connected, ADDRESS, port)
 
     async def carry(self, reader: asyncio.StreamReader, writer: asyncio.StreamWriter, port: int, to: int, name: str) -> None:
-        """One connection, until one of both sides ends it."""
+        """One connection, until both sides have ended it, or one has gone."""
         other: Optional[asyncio.StreamWriter] = None
         try:
             source = source_of(writer.get_extra_info("peername")[1], port, self.pids)
             answers, other = await asyncio.open_connection(ADDRESS, to)
             both = [asyncio.ensure_future(self.way(source, name).carry(reader, other)),
                     asyncio.ensure_future(self.way(name, source).carry(answers, writer))]
-            await asyncio.wait(both, return_when=asyncio.FIRST_COMPLETED)
+            await asyncio.wait(both, return_when=asyncio.FIRST_EXCEPTION)
             for one in both:
                 one.cancel()
             await asyncio.gather(*both, return_exceptions=True)
