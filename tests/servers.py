@@ -49,7 +49,7 @@ def tests(server: str) -> List[Test]:
 
 def seconds(server: str, plant: str) -> int:
     """What is lost is found by counting, at the end: such a run ends by itself."""
-    return SECONDS if (server, plant) == ("rabbitmq", "early") else UNTIL_FOUND
+    return 2 * SECONDS if (server, plant) == ("rabbitmq", "early") else UNTIL_FOUND
 
 
 def kind_of(server: str) -> Type[Server]:

@@ -28,9 +28,9 @@ NEVER_LISTENS = "class Mine(MyServer):\n    patience = 0.5\n    def command(self
 NEVER_ANSWERS = ("class Mine(MyServer):\n    patience = 2.0\n    def command(self, node):\n        code = 'import socket, sys, time; "
                  "s = socket.create_server((\"127.0.0.1\", int(sys.argv[1])), backlog=9999); time.sleep(600)'\n"
                  "        return [sys.executable, '-c', code, str(node.ports['client'])]\n")
-DISK_IS_FULL = ("class Mine(MyServer):\n    def command(self, node):\n        code = 'import runpy, sys; "
-                "sys.argv[2] = \"/dev/full\"; runpy.run_path(sys.argv.pop(), run_name=\"__main__\")'\n"
-                "        return [sys.executable, '-c', code, str(node.ports['client']), 'x', jepmon.testing.template.__file__]\n")
+DISK_IS_FULL = ("class Mine(MyServer):\n    def command(self, node):\n        code = 'import socket, sys\\nserver = socket.create_server("
+                "(\"127.0.0.1\", int(sys.argv[1])))\\nserver.accept()\\nprint(1, file=open(\"/dev/full\", \"w\"), flush=True)'\n"
+                "        return [sys.executable, '-c', code, str(node.ports['client'])]\n")
 PORT_IS_TAKEN = ("import socket\nheld = socket.create_server(('127.0.0.1', 0))\nclass Mine(MyServer):\n    def command(self, node):\n"
                  "        node.ports['client'] = node.reach['client'] = held.getsockname()[1]\n        return super().command(node)\n")
 CLIENT_IS_WRONG = ("class Client(MyClient):\n    def read(self, key):\n        return self.nothing\n"

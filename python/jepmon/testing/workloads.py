@@ -147,6 +147,7 @@ class Queues(Work):
     names = ("enqueue", "dequeue")
     budget = 65_536  # dequeues that timed out may each have taken any message
     CHANGES = 300
+    SETTLING = 10.0  # seconds in which what is missing may come
     BACKLOG = (8, 14)  # below the first consumers mostly wait, above the second producers do
 
     def __init__(self, monitor: Monitor, clients: int, keys: int) -> None:
@@ -193,10 +194,17 @@ class Queues(Work):
         return op
 
     def finish(self, ask: Asked, room: int) -> None:
-        """Drains each queue: until it says that it is empty."""
-        for key in (key for queue in self.queues for key in queue.used):
-            while room > 0 and ask(lambda client: self.dequeue(client, key)).value is not None:
-                room -= 1
+        """Drains each queue: until it says that it is empty, and has said so for a while where something is missing. What was sent
+        to a connection that is gone comes back only when the server sees that."""
+        self.is_drained = True
+        end = time.monotonic() + self.SETTLING
+        while True:
+            for key in (key for queue in self.queues for key in queue.used):
+                while room > 0 and ask(lambda client: self.dequeue(client, key)).value is not None:
+                    room -= 1
+            if room == 0 or self.lost == 0 or time.monotonic() > end:
+                break
+            time.sleep(1.0)
         self.is_drained = room > 0
 
     @property

@@ -38,7 +38,7 @@ class Amqp:
 
     def publish(self, queue: str, body: bytes, confirmed: bool = True, durable: bool = True) -> None:
         """Sends a message, and waits until the broker has confirmed it: with `durable`, that it is on the disk."""
-        self._prepare(queue, durable)
+        self.declare(queue, durable)
         try:
             self._send(METHOD, method(PUBLISH, struct.pack("!H", 0), short(""), short(queue), bytes([0])))
             mode = struct.pack("!HHQHB", 60, 0, len(body), HAS_DELIVERY_MODE, PERSISTENT if durable else 1)
@@ -52,7 +52,7 @@ class Amqp:
 
     def get(self, queue: str, durable: bool = True) -> Optional[Message]:
         """The first message, which is to be acknowledged; None where there is none."""
-        self._prepare(queue, durable)
+        self.declare(queue, durable)
         try:
             self._send(METHOD, method(GET, struct.pack("!H", 0), short(queue), bytes([WAIT])))
             kind, rest = self._method()
@@ -75,9 +75,8 @@ class Amqp:
         """Lets the broker forget the message. It answers nothing."""
         self._send(METHOD, method(ACK, struct.pack("!Q", message.tag), bytes([0])))
 
-    # --- The connection ---
-
-    def _prepare(self, queue: str, durable: bool) -> None:
+    def declare(self, queue: str, durable: bool = True) -> None:
+        """Lets there be a queue of this name."""
         try:
             if not self.stream.is_open:
                 self._connect()
@@ -89,6 +88,8 @@ class Amqp:
         except OSError as fault:
             self.close()
             raise ConnectionRefusedError(str(fault)) from fault
+
+    # --- The connection ---
 
     def _connect(self) -> None:
         self.stream.open()
