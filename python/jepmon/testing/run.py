@@ -9,7 +9,7 @@ import time
 from typing import TYPE_CHECKING, Any, Callable, Counter, Dict, Iterator, NamedTuple, Type
 
 from .. import command
-from ..kinds import EVENTS
+from ..kinds import BUDGETS, EVENTS
 from ..run_folder import COUNTS, VERDICT
 from ..verdicts import NotLegal, Refused
 from .cluster import Cluster
@@ -83,7 +83,7 @@ class Test:
 
         given = self.given
         client, kind = self.client, WORKS[given.model]
-        monitor = Monitor(model=given.model, concurrency=given.clients + 1, budget=kind.budget, expected=client.unsure,
+        monitor = Monitor(model=given.model, concurrency=given.clients + 1, budget=BUDGETS[-1], expected=client.unsure,
                           failed=client.certain, unknown="drop", out=given.out)
         assert monitor.folder is not None
         work = kind(monitor, given.clients, given.keys)

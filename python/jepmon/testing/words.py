@@ -67,7 +67,7 @@ def _parser() -> Words:
     parser.add_argument("--plant", metavar="NAME", help="a fault of the server that is known, by its name")
     parser.add_argument("--time", metavar="SECONDS", type=_positive("seconds"), default=20.0, help="how long clients are at work (20)")
     parser.add_argument("--clients", metavar="N", type=_within("clients", 1, MOST_CLIENTS), default=5, help="threads of clients (5)")
-    parser.add_argument("--keys", metavar="N", type=_within("keys", 1, 1000), default=3, help="keys that are open to changes at once (3)")
+    parser.add_argument("--keys", metavar="N", type=_within("keys", 1, 1000), default=5, help="keys that are open to changes at once (5)")
     parser.add_argument("--rate", metavar="N", type=_positive("operations a second", zero=True), default=400.0,
                         help="operations a second of all clients; 0 is as many as they can (400)")
     parser.add_argument("--seed", metavar="N", type=int, default=1, help="of what is drawn: operations, phases and strikes (1)")

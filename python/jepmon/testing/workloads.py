@@ -23,7 +23,6 @@ class Work:
     must be ok before anything is said."""
 
     names: Tuple[str, ...] = ()
-    budget = 4096
 
     def __init__(self, monitor: Monitor, clients: int, keys: int) -> None:
         self.monitor, self.clients = monitor, clients
@@ -145,7 +144,6 @@ class Queues(Work):
     are in it most of the time: an empty queue has nothing to lose."""
 
     names = ("enqueue", "dequeue")
-    budget = 65_536  # dequeues that timed out may each have taken any message
     CHANGES = 300
     SETTLING = 10.0  # seconds in which what is missing may come
     BACKLOG = (8, 14)  # below the first consumers mostly wait, above the second producers do
