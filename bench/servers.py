@@ -3,9 +3,11 @@
 
 For each object of a server it prints the operations a second that were ok, as many as its clients can do, without faults and under
 all that the object bears, and the share of what was sent that timed out. For each planted fault: how often of N it was found, and the
-median time from its first effect to `illegal`: from the first strike where there is one, else from the first operation.
+median time from its first effect to `illegal`: from the first strike where there is one, else from the first operation; and the causes
+that were told, with N for each number.
 """
 import argparse
+import collections
 import importlib
 import os
 import pathlib
@@ -54,13 +56,15 @@ def seconds_to_illegal(history):
 
 
 def planted(server, plant, times):
-    took, found = [], 0
+    took, found, causes = [], 0, collections.Counter()
     for seed in range(1, times + 1):
         ran, history = run(server, "--plant", plant, "--time", str(UNTIL_FOUND), "--seed", str(seed))
         if ran.returncode == 1:
             found += 1
             took.append(seconds_to_illegal(history))
-    return f"{found} of {times} | {statistics.median(took):.2f} s" if took else f"0 of {times} | -"
+            causes[re.sub("[0-9]+", "N", ran.stderr.splitlines()[0])] += 1
+    said = "; ".join(f"{count} times: {cause}" for cause, count in causes.most_common())
+    return f"{found} of {times} | {statistics.median(took):.2f} s | {said}" if took else f"0 of {times} | - |"
 
 
 def main():
