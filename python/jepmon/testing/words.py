@@ -6,7 +6,7 @@ import importlib
 import importlib.util
 import pathlib
 import sys
-from typing import Dict, Iterable, List, Optional, Type
+from typing import Dict, Iterable, Iterator, List, Optional, Type
 
 from .. import command, kinds
 from .errors import ServerError, where
@@ -37,6 +37,8 @@ class Words(command.Words):
 def given(words: Optional[List[str]]) -> Optional[Given]:
     """What the words say; None where they ask for the template."""
     parser = _parser()
+    if {"-h", "--help"} & set(sys.argv[1:] if words is None else words):
+        parser.epilog = "\n".join(_described())
     try:
         parsed = parser.parse_args(words)
     except ServerError as fault:
@@ -80,6 +82,16 @@ def _parser() -> Words:
                         help="for a node to start, and to answer again at the end, before there is no verdict (120, of RabbitMQ 300)")
     parser.add_argument("--out", metavar="FOLDER", default="runs", help="the run gets a folder of its own there (runs)")
     return parser
+
+
+def _described() -> Iterator[str]:
+    """What there is of each server."""
+    yield "objects, the first by itself, and faults that are planted:"
+    for name in SERVERS:
+        server = server_of(name)
+        yield f"  {name:<12}{', '.join(server.objects)}"
+        for plant, planted in server.plants.items():
+            yield f"      --plant {plant:<16}{planted.text}"
 
 
 def _positive(name: str, zero: bool = False) -> "type[float]":
