@@ -3,8 +3,8 @@
 It delivers at least once: what was not acknowledged when a connection or the server ended comes again. So a dequeue takes place where a
 message comes for the first time in the whole test; a message that has come before is a :fail.
 
-A queue is declared some time before its first message comes: a durable queue that was declared 1.3 s before a kill was lost with all
-the confirmed messages in it (RabbitMQ 3.10.8).
+A queue is declared some time before its first message comes: durable queues that were declared 0.5 s and 1.3 s before a kill were lost
+with all the confirmed messages in them (RabbitMQ 3.10.8).
 
 What an error says: where the connection, or the queue in it, is not there yet, nothing was sent: a :fail. A message that was sent and
 not confirmed is an :info. A get that was not answered is a :fail: what the broker may have sent was not acknowledged, and comes again.
