@@ -22,6 +22,8 @@ from typing import Dict, List, Optional, Set, Tuple
 
 from .family import family
 
+Link = Tuple[int, int, str]  # the port where others connect, the port of the server, the name of the node
+
 ADDRESS = "127.0.0.1"
 CLIENTS = "clients"
 CHUNK = 1 << 16
@@ -36,24 +38,47 @@ class Way:
         self.open.set()
         self.delay = 0.0
 
-    async def carry(self, source: asyncio.StreamReader, target: asyncio.StreamWriter) -> None:
+    @property
+    def is_struck(self) -> bool:
+        return bool(self.delay) or not self.open.is_set()
+
+
+class Connection:
+    """A connection to a node. By whom it was made is looked up only where something is struck: that costs more than all else, and a
+    busy machine would never come to the end of those that wait."""
+
+    def __init__(self, proxy: Proxy, port: int, link: Link) -> None:
+        self._proxy, self._port, self._link = proxy, port, link
+        self._source = ""
+
+    async def carry(self, source: asyncio.StreamReader, target: asyncio.StreamWriter, is_answer: bool) -> None:
         """Until the source ends, which the target is told then. An OSError where one of both has gone."""
         while True:
             data = await source.read(CHUNK)
-            await self.open.wait()
-            if self.delay:
-                await asyncio.sleep(self.delay)
-                await self.open.wait()
+            await self._pass(is_answer)
             if not data:
                 target.write_eof()
                 return
             target.write(data)
             await target.drain()
 
+    async def _pass(self, is_answer: bool) -> None:
+        """Waits as long as this way is cut, and where it is slow."""
+        while self._proxy.is_struck:
+            self._source = self._source or source_of(self._port, self._link[0], self._proxy.pids)
+            ends = self._source, self._link[2]
+            way = self._proxy.way(*(reversed(ends) if is_answer else ends))
+            if way.open.is_set():
+                await asyncio.sleep(way.delay)
+                if way.open.is_set():
+                    return
+            await way.open.wait()
+
 
 class Proxy:
-    def __init__(self, links: List[Tuple[int, int, str]]) -> None:
+    def __init__(self, links: List[Link]) -> None:
         self.links = links
+        self.is_struck = False  # whether any way is cut or slow
         self.ways: Dict[Tuple[str, str], Way] = {}
         self.pids: Dict[str, int] = {}
         self.listening: Dict[int, asyncio.AbstractServer] = {}
@@ -63,34 +88,37 @@ class Proxy:
     def way(self, source: str, target: str) -> Way:
         return self.ways.setdefault((source, target), Way())
 
-    async def listen(self, port: int, to: int, name: str) -> None:
+    async def listen(self, link: Link) -> None:
         async def connected(reader: asyncio.StreamReader, writer: asyncio.StreamWriter) -> None:
             task = asyncio.current_task()
             assert task is not None
             self.connections.add(task)
             try:
-                await self.carry(reader, writer, port, to, name)
+                await self.carry(reader, writer, link)
             finally:
                 self.connections.discard(task)
 
         while True:
             try:
-                _, probe = await asyncio.open_connection(ADDRESS, to)
+                _, probe = await asyncio.open_connection(ADDRESS, link[1])
                 probe.close()
                 break
             except OSError:
                 await asyncio.sleep(GLANCE)
-        if port not in self.listening:
-            self.listening[port] = await asyncio.start_server(connected, ADDRESS, port)
+        if link[0] not in self.listening:
+            self.listening[link[0]] = await asyncio.start_server(connected, ADDRESS, link[0])
 
-    async def carry(self, reader: asyncio.StreamReader, writer: asyncio.StreamWriter, port: int, to: int, name: str) -> None:
+    async def carry(self, reader: asyncio.StreamReader, writer: asyncio.StreamWriter, link: Link) -> None:
         """One connection, until both sides have ended it, or one has gone."""
         other: Optional[asyncio.StreamWriter] = None
         try:
-            source = source_of(writer.get_extra_info("peername")[1], port, self.pids)
-            answers, other = await asyncio.open_connection(ADDRESS, to)
-            both = [asyncio.ensure_future(self.way(source, name).carry(reader, other)),
-                    asyncio.ensure_future(self.way(name, source).carry(answers, writer))]
+            peer = writer.get_extra_info("peername")
+            if peer is None:
+                return  # it has gone already
+            answers, other = await asyncio.open_connection(ADDRESS, link[1])
+            connection = Connection(self, peer[1], link)
+            both = [asyncio.ensure_future(connection.carry(reader, other, False)),
+                    asyncio.ensure_future(connection.carry(answers, writer, True))]
             await asyncio.wait(both, return_when=asyncio.FIRST_EXCEPTION)
             for one in both:
                 one.cancel()
@@ -111,7 +139,7 @@ class Proxy:
         elif command == "up":
             for link in self.links:
                 if link[2] == rest[0]:
-                    self.waiting[link[0]] = asyncio.ensure_future(self.listen(*link))
+                    self.waiting[link[0]] = asyncio.ensure_future(self.listen(link))
         elif command == "down":
             for port, _, name in self.links:
                 if name == rest[0] and port in self.waiting:
@@ -122,12 +150,14 @@ class Proxy:
             way = self.way(rest[0], rest[1])
             way.delay = float(rest[2]) if command == "slow" else 0.0
             (way.open.clear if command == "cut" else way.open.set)()
+            self.is_struck = any(way.is_struck for way in self.ways.values())
 
 
 def source_of(port: int, to: int, pids: Dict[str, int]) -> str:
     """The node that has made a connection from this port, or else `clients`."""
-    wanted = f"socket:[{inode_of(port, to)}]"
-    if wanted in open_files(os.getppid()):
+    inode = inode_of(port, to)
+    wanted = f"socket:[{inode}]"
+    if not inode or wanted in open_files(os.getppid()):
         return CLIENTS
     for only_first in (True, False):  # of most servers one process makes all connections
         for name, pid in pids.items():
@@ -147,7 +177,7 @@ def inode_of(port: int, to: int) -> str:
                         return fields[9]
         except (OSError, IndexError):
             pass
-    return "none"
+    return ""  # it has gone already
 
 
 def open_files(pid: int) -> Set[str]:
@@ -163,7 +193,7 @@ def open_files(pid: int) -> Set[str]:
     return found
 
 
-async def serve(links: List[Tuple[int, int, str]]) -> None:
+async def serve(links: List[Link]) -> None:
     proxy = Proxy(links)
     loop = asyncio.get_running_loop()
     lines = asyncio.StreamReader()
