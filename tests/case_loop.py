@@ -34,8 +34,9 @@ def shortened(value: object) -> str:
     return text if len(text) < 2000 else text[:1500] + " .. " + text[-400:]
 
 
-def run_cases(title: str, cases: List[Case], names: List[str]) -> int:
-    """Runs the cases of these names, or all where none is named, and prints what each came to. The exit status."""
+def run_cases(title: str, cases: List[Case], names: List[str], skipped: int = 0) -> int:
+    """Runs the cases of these names, or all where none is named, and prints what each came to, and how many more were skipped. The exit
+    status."""
     unknown = sorted(set(names) - {name for name, _ in cases})
     failed = len(unknown)
     for name in unknown:
@@ -46,9 +47,9 @@ def run_cases(title: str, cases: List[Case], names: List[str]) -> int:
             faults = run()
         except Exception as fault:  # a case that can't be run has failed
             faults = [repr(fault)]
-        print(f"{title} {name}: {'ok' if not faults else 'FAILED'}")
+        print(f"{title} {name}: {'ok' if not faults else 'FAILED'}", flush=True)
         for line in faults:
             print(f"  {line}")
         failed += bool(faults)
-    print(f"{len(cases) + len(unknown) - failed} passed, {failed} failed")
+    print(f"{len(cases) + len(unknown) - failed} passed, {failed} failed" + (f", {skipped} skipped" if skipped else ""), flush=True)
     return 1 if failed else 0

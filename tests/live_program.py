@@ -55,7 +55,8 @@ def the_program_ends() -> None:
     with monitor.write(0, 1):
         pass
     os.kill(child_of(monitor).pid, signal.SIGKILL)
-    error = raised(Refused, monitor.write(0, 2).__enter__)
+    operation = monitor.write(0, 2).__enter__()  # its invocation is sent with its completion
+    error = raised(Refused, lambda: operation.__exit__(None, None, None))
     assert str(error).endswith("--budget 4096 has ended, by signal 9"), error
     assert monitor.close() == str(error)
     assert isinstance(error, NotLegal)

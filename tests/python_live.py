@@ -8,12 +8,13 @@ import sys
 from typing import List
 
 import live_examples
+import live_long
 import live_objects
 import live_outcomes
 import live_program
 
-LIMIT = 300  # seconds for all of them
-TESTS = [*live_objects.TESTS, *live_outcomes.TESTS, *live_program.TESTS, *live_examples.TESTS]
+LIMIT = 1200  # seconds for all of them, on a machine that does much else
+TESTS = [*live_objects.TESTS, *live_outcomes.TESTS, *live_program.TESTS, *live_long.TESTS, *live_examples.TESTS]
 
 
 def main(names: List[str]) -> int:

@@ -10,15 +10,16 @@ from typing import TYPE_CHECKING
 if TYPE_CHECKING:
     from .keys import Keys
     from .kinds import ABSENT
+    from .long import LongMonitor
     from .monitor import Monitor
     from .operation import Operation
     from .verdicts import Failed, Illegal, NotLegal, Refused, Unknown
 
 __version__ = "1.1.0"
-__all__ = ["ABSENT", "Failed", "Illegal", "Keys", "Monitor", "NotLegal", "Operation", "Refused", "Unknown"]
+__all__ = ["ABSENT", "Failed", "Illegal", "Keys", "LongMonitor", "Monitor", "NotLegal", "Operation", "Refused", "Unknown"]
 
 # Where each name is; its module is loaded at first use, so that the tools begin fast.
-_MODULES = {"ABSENT": "kinds", "Keys": "keys", "Monitor": "monitor", "Operation": "operation", "Failed": "verdicts",
+_MODULES = {"ABSENT": "kinds", "Keys": "keys", "LongMonitor": "long", "Monitor": "monitor", "Operation": "operation", "Failed": "verdicts",
             "Illegal": "verdicts", "NotLegal": "verdicts", "Refused": "verdicts", "Unknown": "verdicts"}
 
 

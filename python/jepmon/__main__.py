@@ -1,4 +1,4 @@
-"""The tools by one name: python3 -m jepmon judge|explain|from-jepsen|from-json WORD.."""
+"""The tools by one name: python3 -m jepmon judge|shards|explain|from-jepsen|from-json WORD.."""
 from __future__ import annotations
 
 import importlib
@@ -7,6 +7,7 @@ from typing import List
 
 TOOLS = {
     "judge": "judges a recorded history, and says why it is illegal",
+    "shards": "a history as shards in a folder, which are judged elsewhere, and joined",
     "explain": "runs a check, and shows the file's own events beside its last line",
     "from-jepsen": "turns a recorded Jepsen history into one that jepmon reads",
     "from-json": "turns JSON lines into a history that jepmon reads",

@@ -5,24 +5,31 @@ import collections
 import copy
 import signal
 import threading
-from typing import TYPE_CHECKING, Callable, Deque, List
+from typing import Callable, Deque, List, Optional, Protocol
 
-from .verdicts import Refused
-
-if TYPE_CHECKING:
-    from .telling import Telling
+from .verdicts import NotLegal, Refused
 
 GLANCE = 0.05  # seconds between two looks at clients that go on: Ctrl-C that comes just before a wait is seen at its end
 
 
-def run_clients(telling: Telling, work: Callable[[int], object], threads: int) -> None:
+class Test(Protocol):
+    """What clients are run by."""
+
+    failure: Optional[NotLegal]
+    broken_off: Optional[Refused]  # while clients are waited for, of which one has raised an exception
+
+    def settle(self, number: int) -> None:
+        """Lets the operations of this thread be those of the client of this number."""
+
+
+def run_clients(test: Test, work: Callable[[int], object], threads: int) -> None:
     """What Monitor.run does."""
     faults: Deque[BaseException] = collections.deque()
 
     def client(number: int) -> None:
         signal.pthread_sigmask(signal.SIG_SETMASK, mask)
         try:
-            telling.settle(number)
+            test.settle(number)
             work(number)
         except BaseException as fault:  # whatever it is, it is raised below
             faults.append(fault)
@@ -41,25 +48,25 @@ def run_clients(telling: Telling, work: Callable[[int], object], threads: int) -
         for thread in started:
             while thread.is_alive():
                 thread.join(GLANCE)
-                if faults and telling.broken_off is None:
-                    telling.broken_off = Refused(f"the test was broken off: another client has raised {faults[0]!r}")
+                if faults and test.broken_off is None:
+                    test.broken_off = Refused(f"the test was broken off: another client has raised {faults[0]!r}")
     except BaseException:
-        telling.failure = telling.failure or Refused("the test was broken off")
+        test.failure = test.failure or Refused("the test was broken off")
         raise
     finally:
         for thread in started:
             thread.join()
-        telling.broken_off = None
-    raise_first(telling, faults)
+        test.broken_off = None
+    raise_first(test, faults)
 
 
-def raise_first(telling: Telling, faults: Deque[BaseException]) -> None:
+def raise_first(test: Test, faults: Deque[BaseException]) -> None:
     """Raises what is not legal, else what a client has raised first. Keeps none: an exception holds all that its frames do."""
     first = faults[0] if faults else None
     faults.clear()
     try:
-        if telling.failure is not None:
-            raise copy.copy(telling.failure)
+        if test.failure is not None:
+            raise copy.copy(test.failure)
         if first is not None:
             raise first
     finally:

@@ -16,8 +16,8 @@ from typing import BinaryIO, Callable, Iterable, NoReturn, Optional, TextIO, Typ
 from .errors import OutputError, ProgramError
 from .names import printable
 
-__all__ = ["INTERRUPTED", "OutputError", "REFUSED", "Words", "collect_seldom", "run", "say", "standard_error", "standard_input", "tool",
-           "write_error", "write_file", "write_output"]
+__all__ = ["INTERRUPTED", "OutputError", "REFUSED", "Words", "collect_seldom", "copy_file", "run", "say", "standard_error", "standard_input",
+           "tool", "write_error", "write_file", "write_output"]
 
 REFUSED = 3  # the status of whatever is no verdict
 INTERRUPTED = 130
@@ -101,19 +101,31 @@ def abandon_output() -> None:
 
 def write_file(path: Union[str, "os.PathLike[str]"], data: Union[str, bytes]) -> None:
     """Writes a file. It has its name only once it is whole; where that fails, what had the name before is as it was."""
+    whole = data.encode() if isinstance(data, str) else data
+    _write_to(path, lambda file: file.write(whole))
+
+
+def copy_file(source: str, path: Union[str, "os.PathLike[str]"]) -> None:
+    """Copies a file. It has its name only once it is whole."""
+    import shutil
+
+    with open(source, "rb") as found:
+        _write_to(path, lambda file: shutil.copyfileobj(found, file, 1 << 20))
+
+
+def _write_to(path: Union[str, "os.PathLike[str]"], write: Callable[[BinaryIO], object]) -> None:
     import tempfile
 
-    whole = data.encode() if isinstance(data, str) else data
     named, path = path, os.path.realpath(path)  # of a link what it leads to
     made: Optional[str] = None
     try:
         if os.path.exists(path) and not os.path.isfile(path):  # a device or a pipe is written as it is
             with open(path, "wb") as file:
-                file.write(whole)
+                write(file)
             return
         number, made = tempfile.mkstemp(prefix=os.path.basename(path) + ".", dir=os.path.dirname(path))
         with open(number, "wb") as file:
-            file.write(whole)
+            write(file)
         os.chmod(made, 0o666 & ~_umask())
         os.replace(made, path)
         made = None

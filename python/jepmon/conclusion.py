@@ -42,12 +42,16 @@ def leave_cause(folder: RunFolder, conclusion: Conclusion) -> None:
 
 def counts_text(conclusion: Conclusion, lost: Optional[str]) -> str:
     """How many operations ended how, and what else is to be known of the run."""
-    lines: List[str] = [f"events: {conclusion.length}"]
-    for name, counted in sorted(conclusion.counts.items()):
-        lines.append(f"{name}: " + ", ".join(f"{counted[outcome]} {outcome}" for outcome in ("ok", "fail", "info")))
+    lines: List[str] = [f"events: {conclusion.length}", *count_lines(conclusion.counts)]
     lines += [f"dropped: {unknown.reply}" for unknown in conclusion.dropped.values()]
     if conclusion.ended_by is not None and not isinstance(conclusion.ended_by, NotLegal):
         lines.append(f"the test was ended by {conclusion.ended_by!r}")
     if lost is not None:
         lines.append(lost)
     return "\n".join(lines) + "\n"
+
+
+def count_lines(counts: Dict[str, Counter[str]]) -> List[str]:
+    """How many operations ended how, a line for each name."""
+    return [f"{name}: " + ", ".join(f"{counted[outcome]} {outcome}" for outcome in ("ok", "fail", "info"))
+            for name, counted in sorted(counts.items())]

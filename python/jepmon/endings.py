@@ -1,24 +1,32 @@
 """How an exception in the block of an operation ends it: as a :fail, as an :info, and whether it goes further."""
 from __future__ import annotations
 
-from typing import Optional, Tuple, Type
+from typing import NamedTuple, Optional, Tuple, Type
 
 from .verdicts import Failed
 
 Exceptions = Tuple[Type[BaseException], ...]
 
 
-def test_exceptions(expected: Exceptions, failed: Exceptions) -> None:
-    """That what is named can be told apart: a class in both would be both."""
+class Endings(NamedTuple):
+    """Which exceptions end an operation and go no further."""
+
+    expected: Exceptions  # as an :info
+    failed: Exceptions  # as a :fail
+
+
+def endings(expected: Exceptions, failed: Exceptions) -> Endings:
+    """Those that are named, where they can be told apart: a class in both would be both."""
     for name, classes in (("expected", expected), ("failed", failed)):
         if not isinstance(classes, tuple) or not all(isinstance(one, type) and issubclass(one, BaseException) for one in classes):
             raise TypeError(f"{name} is a tuple of classes of exceptions, as (TimeoutError,), not {classes!r}")
     both = [one.__name__ for one in failed if one in expected]
     if both:
         raise ValueError(f"{both[0]} is in expected and in failed: an operation that it ends took place perhaps, or certainly not")
+    return Endings(expected, failed)
 
 
-def outcome_of(error: BaseException, expected: Exceptions, failed: Exceptions) -> Optional[str]:
+def outcome_of(error: BaseException, ends: Endings) -> Optional[str]:
     """The outcome by which an exception ends an operation and goes no further: "fail" or "info"; None for one that goes on.
 
     Where it is of classes in both, the more special one decides: with failed=(ConnectionRefusedError,) and expected=(OSError,) a
@@ -26,8 +34,8 @@ def outcome_of(error: BaseException, expected: Exceptions, failed: Exceptions) -
     the cautious one: an :info makes no false alarm."""
     if isinstance(error, Failed):
         return "fail"
-    as_info = [one for one in expected if isinstance(error, one)]
-    as_fail = [one for one in failed if isinstance(error, one)]
+    as_info = [one for one in ends.expected if isinstance(error, one)]
+    as_fail = [one for one in ends.failed if isinstance(error, one)]
     if any(all(issubclass(one, other) for other in as_info) for one in as_fail):
         return "fail"
     return "info" if as_info or as_fail else None

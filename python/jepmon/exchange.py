@@ -2,6 +2,7 @@
 from __future__ import annotations
 
 import os
+import threading
 from typing import List, Optional, Union
 
 from .hints import hint_of_refusal
@@ -12,9 +13,10 @@ PATIENCE = 10.0  # seconds for what is not worth more, as another model that is 
 
 
 class Exchange:
-    """A running `jepmon script`: a line goes in, and the reply to it comes out. One thread at a time may use it."""
+    """A running `jepmon script`: lines go in, and the reply to each comes out. One thread at a time may use it."""
 
     def __init__(self, words: List[str], timeout: float, program: Union[str, os.PathLike[str], None]) -> None:
+        self._lock = threading.Lock()
         try:
             self.program = find_program(os.fspath(program) if program is not None else None)
         except ProgramError as fault:
@@ -26,23 +28,27 @@ class Exchange:
                 raise fault.__cause__ from None
             raise refused(fault) from None
 
-    def reply(self, line: str, timeout: Optional[float] = None) -> str:
-        """Sends a line, and waits for the reply to it. Refused where the program has ended, or gives none in time."""
+    def replies(self, lines: List[str], timeout: Optional[float] = None) -> List[str]:
+        """Sends lines, and waits for the reply to each. Refused where the program has ended, or gives none in time."""
         try:
-            return self._script.reply(line, timeout)
+            with self._lock:
+                return self._script.replies(lines, timeout)
         except ProgramError as fault:
             raise refused(fault) from None
 
-    def is_legal_as(self, key: int, model: str) -> bool:
-        """Whether what the key has seen is legal by this model. The verdict has fallen, so the program is free to judge it anew."""
+    def is_legal_as(self, key: int, index: int, model: str) -> bool:
+        """Whether what the key has seen up to this event is legal by this model. The verdict has fallen, so the program is free to judge
+        it anew."""
         try:
-            reply = self.reply(f"[:model {key} :{model}]", PATIENCE)
+            reply = self.replies([f"[:rewind {index + 1}]", f"[:model {key} :{model}]"], PATIENCE)[1]
         except Refused:
             return False
         return not reply.startswith((f"illegal key {key} ", f"unknown key {key} ", "refused "))
 
     def end(self) -> None:
-        self._script.end()
+        """Ends the program, once the replies have come that are awaited."""
+        with self._lock:
+            self._script.end()
 
 
 def refused(fault: ProgramError) -> Refused:

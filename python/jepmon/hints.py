@@ -6,10 +6,10 @@ from typing import AbstractSet, Callable
 from .kinds import MODELS
 
 HINTS = {  # beside a refusal, by its name
-    "HistoryFull": "a history has 1048576 events at most: at a quiet moment go on with a new Monitor and new keys",
+    "HistoryFull": "a history has 1048576 events at most; a LongMonitor goes on with one after another",
     "BadBudget": "a budget is a number from 1 to 65536",
     "BadConcurrency": "the concurrency is a number from 1 to 64",
-    "NoMemory": "the memory did not suffice: take a smaller budget, or go on with a new Monitor sooner",
+    "NoMemory": "the memory did not suffice: take a smaller budget, or a LongMonitor with fewer events of a part",
     "TooLong": "a line has 65536 bytes at most: let the sets that are read be smaller",
 }
 UNKNOWN = (

@@ -12,9 +12,10 @@
 
 A block that ends is an :ok. An exception in it is an :info: the operation may have taken place, or may yet. `raise Failed` in
 it, or op.fail(), is a :fail: it certainly did not take place. The first event after which the history is not linearizable
-raises Illegal in the thread that told it, and in each later operation of the others; so does a key over its budget (Unknown,
-but with unknown="drop" not), and what jepmon refuses (Refused). Their text has the last events of the key, without operations
-that failed, and what may have been meant. The end of `with Monitor()` raises them again, where nothing else was raised in it.
+raises Illegal in the thread that told it, and in each operation of the others that ends or begins later; so does a key over its
+budget (Unknown, but with unknown="drop" not), and what jepmon refuses (Refused). Their text has the last events of the key, without
+operations that failed, and what may have been meant. The end of `with Monitor()` raises them again, where nothing else was raised
+in it.
 
 jepmon takes an answer of nil to say nothing, so that a store which loses every write would pass. Here a missing key is a value,
 ABSENT: each key of a register begins with it, and a read that answers None tells it. monitor.write(key, ABSENT) is a deletion.
@@ -36,7 +37,7 @@ from types import TracebackType
 from typing import Callable, Counter, Dict, Hashable, Iterator, Optional, TextIO, Type, Union
 
 from .clients import run_clients
-from .endings import Exceptions, test_exceptions
+from .endings import Exceptions, endings
 from .exchange import Exchange
 from .keys import Keys
 from .kinds import ABSENT
@@ -44,7 +45,7 @@ from .notes import BEGIN, END, NOTE, folded
 from .operation import Operation
 from .program import Options
 from .record import Record
-from .run_folder import RunFolder
+from .run_folder import RunFolder, new_folder
 from .telling import Telling
 from .values import integer, key_of, told
 from .verdicts import NotLegal, Unknown
@@ -90,18 +91,18 @@ class Monitor:
     ) -> None:
         if unknown not in ("raise", "drop"):
             raise ValueError(f"unknown is 'raise' or 'drop', not {unknown!r}")
-        test_exceptions(expected, failed)
+        ends = endings(expected, failed)
         options = Options(concurrency, model, budget)
         begun, clock = datetime.datetime.now().astimezone(), time.monotonic_ns()
         exchange = Exchange(options.words(), timeout, program)
         try:
-            folder = None if out is None else RunFolder(out, begun, options, exchange.program)
+            folder = None if out is None else run_folder(out, begun, options, exchange.program)
         except BaseException:
             exchange.end()
             raise
         self.concurrency = concurrency
         self.folder: Optional[pathlib.Path] = folder.path if folder is not None else None  # of this run
-        self._telling = Telling(exchange, Record(log, folder, clock), options, unknown, expected, failed)
+        self._telling = Telling(exchange, Record(log, folder, clock), options, unknown, ends)
 
     # --- Operations, each a block ---
 
@@ -183,7 +184,7 @@ class Monitor:
 
     @property
     def length(self) -> int:
-        """How many events jepmon has taken."""
+        """How many events were told."""
         return self._telling.length
 
     @property
@@ -227,3 +228,9 @@ class Monitor:
         self._telling.close(error)
         if error is None and self.failure is not None:
             raise copy.copy(self.failure)
+
+
+def run_folder(out: Union[str, os.PathLike[str]], begun: datetime.datetime, options: Options, program: str) -> RunFolder:
+    """A new folder for the run."""
+    with new_folder(out, begun) as path:
+        return RunFolder(path, begun, options, program)

@@ -2,22 +2,34 @@
 from __future__ import annotations
 
 from types import TracebackType
-from typing import TYPE_CHECKING, Any, Optional, Type
+from typing import Any, Optional, Protocol, Type
 
-from .endings import outcome_of
+from .endings import Endings, outcome_of
 from .values import Value, integer, key_of, members, told
 from .verdicts import NotLegal
 
-if TYPE_CHECKING:
-    from .telling import Telling
-
 UNSET: Any = object()
+
+
+class Teller(Protocol):
+    """Whom operations tell of."""
+
+    endings: Endings
+
+    def invoke(self, name: str, key: int, part: str) -> Optional[int]:
+        """The thread of jepmon that it is on; none where it was not told."""
+
+    def complete(self, kind: str, thread: int, name: str, key: int, part: str, invoked: str) -> None:
+        """The operation on this thread ends so."""
+
+    def is_register(self, key: int) -> bool:
+        """Whether the answers of its reads are integers."""
 
 
 class Operation:
     """Each block has its own; the methods of Monitor make them."""
 
-    def __init__(self, telling: Telling, name: str, key: int, part: str = "nil") -> None:
+    def __init__(self, telling: Teller, name: str, key: int, part: str = "nil") -> None:
         self.key = key_of(key)
         self.value: Value = UNSET  # of a read or a dequeue: what it answered
         self.outcome: Optional[str] = None  # "ok", "fail" or "info", once the block has ended
@@ -48,7 +60,7 @@ class Operation:
         if error is None:
             self._end(self._outcome())
             return False
-        outcome = outcome_of(error, self._telling.expected, self._telling.failed)
+        outcome = outcome_of(error, self._telling.endings)
         try:
             self._end(outcome or "info")
         except NotLegal:

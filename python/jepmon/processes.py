@@ -21,7 +21,8 @@ class Processes:
     def take(self) -> int:
         """A thread for an operation: it is not free until give_back."""
         if not self._free:
-            raise ValueError(f"more than {self.concurrency} operations are open at once: raise concurrency, 64 at most")
+            raise ValueError(f"more than {self.concurrency} operations are open at once: raise concurrency, 64 at most, or take a "
+                             "LongMonitor")
         home = self._homes.setdefault(threading.get_ident(), len(self._homes) % self.concurrency)
         thread = home if home in self._free else max(self._free)
         self._free.remove(thread)

@@ -184,11 +184,15 @@ class Script:
 
     def reply(self, line: str, timeout: Optional[float] = None) -> str:
         """Sends a line, and waits for the reply to it. A ProgramError where it has ended, or gives none in time."""
+        return self.replies([line], timeout)[0]
+
+    def replies(self, lines: List[str], timeout: Optional[float] = None) -> List[str]:
+        """Sends these lines together, and waits for the reply to each. They are few, so that their replies fit into a pipe."""
         seconds = self._timeout if timeout is None else min(timeout, self._timeout)
         deadline = time.monotonic() + seconds
         try:
-            self._send(line.encode() + b"\n", deadline)
-            return self._receive(deadline)
+            self._send(("\n".join(lines) + "\n").encode(), deadline)
+            return [self._receive(deadline) for _ in lines]
         except (BrokenPipeError, EOFError):
             raise self._ended() from None
         except TimeoutError:

@@ -21,7 +21,7 @@ import os
 import pathlib
 import shutil
 import sys
-from typing import Optional, Union
+from typing import Iterator, Optional, Union
 
 from .program import Options
 
@@ -35,35 +35,21 @@ exec "${{JEPMON:-jepmon}}" {again}
 
 
 class RunFolder:
-    """An OSError says that it can't be made. Once it is there, what can't be written is lost, and that is said once, on standard
-    error: a test goes on without."""
+    """A folder that is there already, and empty. An OSError says that it can't be begun. After that, what can't be written is lost, and
+    that is said once, on standard error: a test goes on without."""
 
-    def __init__(
-        self, out: Union[str, os.PathLike[str]], begun: datetime.datetime, options: Options, program: str
-    ) -> None:
+    def __init__(self, path: pathlib.Path, begun: datetime.datetime, options: Options, program: str) -> None:
         self.options, self.program, self.begun = options, program, begun
         self.lost: Optional[str] = None  # what could not be written first, and why
         self.is_script = False  # whether the history has lines that `jepmon check` does not take
         self._size = 0  # of the history, in whole lines
-        try:
-            path = new_folder(pathlib.Path(out), begun)
-            self.name = str(path)  # as it is shown
-            self.path = path.absolute()  # the test may go to another folder
-            self._begin()
-        except OSError as fault:
-            raise OSError(fault.errno, f"the folder of a run can't be made: {fault.strerror}", os.fspath(out)) from None
-
-    def _begin(self) -> None:
-        try:
-            with contextlib.ExitStack() as on_fault:
-                self._history = on_fault.enter_context(open(self.path / HISTORY, "xb", buffering=0))
-                self._append(f"; what clients did in a live test, from {self.begun.isoformat()} on; :time is in nanoseconds from then")
-                write_whole(self.path / AGAIN, self._script(), executable=True)
-                link_latest(self.path)
-                on_fault.pop_all()
-        except OSError:
-            shutil.rmtree(self.path, ignore_errors=True)
-            raise
+        self.name = str(path)  # as it is shown
+        self.path = path.absolute()  # the test may go to another folder
+        with contextlib.ExitStack() as on_fault:
+            self._history = on_fault.enter_context(open(self.path / HISTORY, "xb", buffering=0))
+            self._append(f"; what clients did in a live test, from {self.begun.isoformat()} on; :time is in nanoseconds from then")
+            write_whole(self.path / AGAIN, self._script(), executable=True)
+            on_fault.pop_all()
 
     # --- The history ---
 
@@ -125,8 +111,23 @@ class RunFolder:
             print(f"jepmon: {self.lost}; the test goes on without", file=sys.stderr)
 
 
-def new_folder(out: pathlib.Path, begun: datetime.datetime) -> pathlib.Path:
-    """A folder named by the time, which no other run has."""
+@contextlib.contextmanager
+def new_folder(out: Union[str, os.PathLike[str]], begun: datetime.datetime) -> Iterator[pathlib.Path]:
+    """A folder named by the time, which no other run has, for the block to fill; then `latest` names it. An OSError of the block leaves
+    none."""
+    try:
+        path = _made_folder(pathlib.Path(out), begun)
+        try:
+            yield path
+            link_latest(path)
+        except OSError:
+            shutil.rmtree(path, ignore_errors=True)
+            raise
+    except OSError as fault:
+        raise OSError(fault.errno, f"the folder of a run can't be made: {fault.strerror}", os.fspath(out)) from None
+
+
+def _made_folder(out: pathlib.Path, begun: datetime.datetime) -> pathlib.Path:
     out.mkdir(parents=True, exist_ok=True)
     stem = begun.strftime("%Y%m%dT%H%M%S.") + f"{begun.microsecond // 1000:03}"
     number = 1
@@ -141,6 +142,7 @@ def new_folder(out: pathlib.Path, begun: datetime.datetime) -> pathlib.Path:
 
 def link_latest(path: pathlib.Path) -> None:
     """Lets the link `latest` beside the folder name it."""
+    path = path.absolute()
     made = path.parent / f".{LATEST}-{path.name}"
     made.symlink_to(path.name)
     try:

@@ -16,7 +16,7 @@ from .history import Event, Operation, of_key, operations
 from .program import Options, ProgramError, Report, check
 from .shrinking import ways
 from .shrinking.kept import kept
-from .shrinking.part import events_of, text_of, without
+from .shrinking.part import as_asked, events_of, text_of, without
 from .shrinking.units import Unit, dragging, with_dragged
 
 
@@ -49,7 +49,7 @@ def smallest(events: Sequence[Event], report: Report, options: Options, program:
     if left is None or search.is_late() and len(left.operations) == len(whole):
         return None
     made = events_of(left.operations)
-    return Part(made, text_of(made, own.concurrency), own, len(whole), len(left.operations), left.values, search.checks,
+    return Part(made, text_of(made, own.concurrency), as_asked(own), len(whole), len(left.operations), left.values, search.checks,
                 not search.is_late())
 
 
@@ -147,7 +147,7 @@ class Search:
         events = events_of(part)
         self.checks += 1
         try:
-            report = check(text_of(events, self.options.concurrency).encode(), self.options, self.program, timeout=limit)
+            report = check(text_of(events, self.options.concurrency).encode(), as_asked(self.options), self.program, timeout=limit)
         except ProgramError:
             if time.monotonic() - began >= limit:
                 return False

@@ -16,6 +16,7 @@ class Sources:
     """Learns each event as it is told, and says of an answer that is illegal what is strange in it."""
 
     def __init__(self) -> None:
+        self.are_new = False  # whether no store can have held anything under its keys before
         self._brought: Counter[Tuple[int, str]] = collections.Counter()  # how often, by what did not fail
         self._failed: Dict[Tuple[int, str], str] = {}  # the last operation that failed, in words
         self._began: Dict[int, int] = {}  # the index at which a process has invoked
@@ -47,5 +48,7 @@ class Sources:
             return f"{value} was {self._failed[key, value]}: did it take place? Then it is an info, or the store's fault"
         if self._brought[key, value] > 0 or value == str(ABSENT):
             return ""
+        if self.are_new:
+            return f"no operation that was told brought {value} in"
         begin = "" if name == "dequeue" else f" monitor.begin({key}, value)"
         return f"no operation that was told brought {value} in: did key {key} hold it before?{begin}"

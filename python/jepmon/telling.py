@@ -4,13 +4,14 @@ from __future__ import annotations
 import copy
 import re
 import threading
-from typing import Dict, Hashable, NoReturn, Optional, Set
+from typing import Dict, Hashable, List, Optional, Set, Tuple
 
 from .conclusion import Conclusion, leave_cause, leave_verdict
-from .endings import Exceptions
+from .endings import Endings
 from .exchange import Exchange
 from .hints import hint_of_model, hint_of_refusal, hint_of_unknown
 from .kinds import ABSENT, REGISTERS
+from .lines import End, Line, LineQueue
 from .notes import BEGIN
 from .processes import Processes
 from .program import Options
@@ -19,6 +20,7 @@ from .told import Told
 from .values import integer
 from .verdicts import Illegal, NotLegal, Refused, Unknown
 
+BROKEN_OFF = "the exchange with jepmon was broken off"
 VERDICT = re.compile(r"(illegal|unknown) key ([0-9]+) index ([0-9]+)")
 
 
@@ -27,20 +29,21 @@ def event_line(kind: str, process: int, name: str, key: int, part: str) -> str:
 
 
 class Telling:
-    """One pipe, and so one lock: the order of its lines is the history. Monitor is its face to the test."""
+    """One pipe, and so one lock: the order of its lines is the history. The lock is free while replies are awaited. Monitor is its face
+    to the test."""
 
-    def __init__(
-        self, exchange: Exchange, record: Record, options: Options, unknown: str, expected: Exceptions, failed: Exceptions
-    ) -> None:
+    def __init__(self, exchange: Exchange, record: Record, options: Options, unknown: str, endings: Endings) -> None:
         self.lock = threading.Lock()
-        self.unknown, self.expected, self.failed = unknown, expected, failed
+        self.unknown, self.endings = unknown, endings
         self.told = Told()
         self.dropped: Dict[int, Unknown] = {}  # keys over their budget that are not told any more, and what was said of them
-        self.length = 0  # events that jepmon has taken
+        self.length = 0  # events that were told
         self.failure: Optional[NotLegal] = None
         self.broken_off: Optional[Refused] = None  # while clients are waited for, of which one has raised an exception
         self.verdict: Optional[str] = None
         self._exchange, self._record, self._options = exchange, record, options
+        self._queue = LineQueue(self.lock)
+        self._closing, self._is_closing = threading.Lock(), False
         self._processes = Processes(options.concurrency)
         self.numbers: Dict[Hashable, int] = {}  # that stand for other things
         self._models: Dict[int, str] = {}  # of keys that have another one
@@ -65,12 +68,12 @@ class Telling:
                 return None
             thread = self._processes.take()
             self.told.begin(key, name)
-            self._tell("invoke", self._processes.process(thread), name, key, part)
+            self._invoke(thread, name, key, part)
             return thread
 
     def complete(self, kind: str, thread: int, name: str, key: int, part: str, invoked: str) -> None:
         with self.lock:
-            self.told.end(key, name, self._complete(kind, thread, name, key, part, invoked))
+            self._complete(kind, thread, name, key, part, invoked)
 
     def begin(self, key: int, part: str) -> None:
         with self.lock:
@@ -88,49 +91,46 @@ class Telling:
         if key not in self._begun:
             self._begun.add(key)
             thread = self._processes.take()
-            self._tell("invoke", self._processes.process(thread), "write", key, part)
-            self._complete("ok", thread, "write", key, part, part)
+            self._invoke(thread, "write", key, part)
+            self._complete("ok", thread, "write", key, part, part, counts=False)
 
-    def _complete(self, kind: str, thread: int, name: str, key: int, part: str, invoked: str) -> str:
-        """Tells a completion, and gives the outcome that was told."""
+    def _invoke(self, thread: int, name: str, key: int, part: str) -> None:
+        """An invocation is sent with the next completion: it changes no verdict, so nothing is found later by it."""
+        self._queue.put(self._event("invoke", self._processes.process(thread), name, key, part))
+
+    def _complete(self, kind: str, thread: int, name: str, key: int, part: str, invoked: str, counts: bool = True) -> None:
+        """Tells a completion, and waits for its reply. Its thread is free only then, so that no event of it follows in the queue."""
         process = self._processes.process(thread)
-        self._processes.give_back(thread)
-        if kind == "ok" and key in self.dropped:
-            return self._complete_dropped(thread, name, key, invoked, event_line("ok", self._kept(process), name, key, part))
-        if kind == "info":
-            self._processes.go_on(thread)
-        try:
-            self._tell(kind, process, name, key, part)
-        except Unknown as unknown:
-            if unknown.key is None or unknown.index is None or not self._is_dropped(unknown.key, unknown.index, key):
-                raise
-            self._drop(unknown, key)
-            return self._complete_dropped(thread, name, key, invoked, "")
-        return kind
+        end = End(kind, thread, process, name, invoked, counts)
+        line = self._event(kind, process, name, key, part, end)
+        self._ask(line)
 
     # --- Keys over their budget ---
 
-    def _is_dropped(self, at_key: int, index: int, key: Optional[int]) -> bool:
-        """Whether an `unknown` of at_key is that of the last event, of this key, and ends nothing."""
-        return self.unknown == "drop" and (at_key, index) == (key, self.length - 1)
+    def _is_dropped(self, at_key: int, index: int, line: Line) -> bool:
+        """Whether an `unknown` of at_key is that of this line's event, and ends nothing."""
+        return self.unknown == "drop" and (at_key, index) == (line.key, line.index)
 
-    def _drop(self, unknown: Unknown, key: int) -> None:
-        """Takes the last event back, the ok that met too many outcomes. So the key is legal up to there, with its operation open,
-        and the verdict is that of the other keys again."""
-        self.failure = None
-        self.dropped[key] = copy.copy(unknown)  # without the frames that it was raised in
-        self.length -= 1
-        self.told.take_back(key)
-        self._ask(f"[:rewind {self.length}]")
+    def _drop(self, unknown: Unknown, lines: List[Line]) -> List[Line]:
+        """Takes back the ok that met too many outcomes, the first of the lines, and what was told behind it; gives what is to be told
+        in its place. So the key is legal up to there, with its operation open, and the verdict is that of the other keys again."""
+        assert unknown.key is not None
+        self.dropped[unknown.key] = unknown
+        for line in [*lines, *self._queue.lines]:
+            if line.end is not None and line.end.kind == "ok" and line.key == unknown.key:
+                self._lose(line, line.end)
+        again = [Line(f"[:rewind {lines[0].index}]"), *lines]
+        for line in [*again, *self._queue.lines]:  # those in the queue stand in the log already, and were taken back there too
+            self._record.write(line.text, "")
+        return again
 
-    def _complete_dropped(self, thread: int, name: str, key: int, invoked: str, kept: str) -> str:
+    def _lose(self, line: Line, end: End) -> None:
         """Of a key that was dropped an ok is told as an :info, which brings no further outcomes. The run's folder has the ok, as
         it happened, in which the process goes on."""
-        process = self._processes.process(thread)
-        self._processes.go_on(thread)
-        self._tell("info", process, name, key, invoked, kept)
-        self._behind[thread] = self._behind.get(thread, 0) + self._processes.concurrency
-        return "info"
+        assert line.key is not None
+        end.kind, end.is_lost = "info", True
+        line.text = event_line("info", end.process, end.name, line.key, end.invoked)
+        self.told.replace(line.key, line.index, line.text)
 
     def _kept(self, process: int) -> int:
         """The process as the run's folder has it."""
@@ -165,63 +165,125 @@ class Telling:
             raise copy.copy(self.broken_off)
 
     def _test_not_ended(self) -> None:
-        if self.verdict is not None:
+        if self.verdict is not None or self._is_closing and self.failure is None:
             raise ValueError("the monitor is closed")
         if self.failure is not None:
             raise copy.copy(self.failure)
 
-    def _tell(self, kind: str, process: int, name: str, key: int, part: str, kept: Optional[str] = None) -> None:
-        """Tells an event. What is kept of it in the run's folder is the same, where nothing else is named."""
+    def _event(self, kind: str, process: int, name: str, key: int, part: str, end: Optional[End] = None) -> Line:
+        """The line of the next event, once it is written down."""
         self._test_not_ended()
-        line = event_line(kind, process, name, key, part)
-        if kept is None:
-            kept = event_line(kind, self._kept(process), name, key, part) if self._behind else line
-        self.told.tell(kind, process, name, key, part, self.length, line)
+        line = Line(event_line(kind, process, name, key, part), key, self.length, end)
+        kept = event_line(kind, self._kept(process), name, key, part) if self._behind else line.text
+        self.told.tell(kind, process, name, key, part, line.index, line.text)
         self.length += 1
-        self._ask(line, key, kept)
-        if kind == "fail":
-            self.told.forget(key, process)
+        if end is not None and kind == "ok" and key in self.dropped:
+            self._lose(line, end)
+        self._write_down(line.text, kept)
+        return line
 
-    def _command(self, line: str) -> None:
-        self._record.needs_script()
-        self._ask(line, None, line)
-
-    def _ask(self, line: str, key: Optional[int] = None, kept: str = "") -> None:
-        """Sends a line and waits for its reply. Raises what is not legal, also where it was found before."""
+    def _command(self, text: str) -> None:
         self._test_not_ended()
+        self._record.needs_script()
+        self._write_down(text, text)
+        self._ask(Line(text))
+
+    def _write_down(self, text: str, kept: str) -> None:
         try:
-            self._record.write(line, kept)
-            reply = self._exchange.reply(line)
+            self._record.write(text, kept)
+        except BaseException:  # as Ctrl-C: it is not known what of the line stands where
+            self.failure = Refused(BROKEN_OFF, folder=self._record.name)
+            raise
+
+    def _ask(self, line: Line) -> None:
+        """Has the line sent, with all that is queued, and waits for its reply. Raises what is not legal, also where it was found
+        before."""
+        self._queue.ask(line, self._answer)
+        if self.failure is not None:
+            raise copy.copy(self.failure)
+
+    def _answer(self, lines: List[Line]) -> None:
+        """Has lines judged that are to be told together, and ends what they complete."""
+        while lines and self.failure is None:
+            replies = self._replies(lines)
+            legal = next((place for place, reply in enumerate(replies) if reply != "legal"), len(replies))
+            for line in lines[:legal]:
+                self._end(line)
+            lines = self._not_legal(lines[legal:], replies[legal:]) if legal < len(replies) else []
+
+    def _replies(self, lines: List[Line]) -> List[str]:
+        """The replies, for which it waits without the lock; none where the exchange fails."""
+        failure: Optional[NotLegal] = None
+        self.lock.release()
+        try:
+            return self._exchange.replies([line.text for line in lines])
         except Refused as refused:
             failure = copy.copy(refused)  # without the frames that it was raised in
-        except BaseException:  # as Ctrl-C: the reply to this line may come yet, so no later one can be told from it
-            self.failure = Refused("the exchange with jepmon was broken off", folder=self._record.name)
+            return []
+        except BaseException:  # as Ctrl-C: no later reply can be told from those that may come yet
+            failure = Refused(BROKEN_OFF)
             raise
-        else:
-            if reply != "legal":
-                self._stop(reply, line, key)
-            return
-        self._fail(failure)
+        finally:
+            self.lock.acquire()
+            if failure is not None and self.failure is None:
+                self._fail(failure)
 
-    def _stop(self, reply: str, line: str, key: Optional[int]) -> NoReturn:
+    def _end(self, line: Line) -> None:
+        """A completion was judged: its thread is free again."""
+        end = line.end
+        if end is None or line.key is None:
+            return
+        if end.kind == "info":
+            self._processes.go_on(end.thread)
+        elif end.kind == "fail":
+            self.told.forget(line.key, end.process)
+        if end.is_lost:
+            self._behind[end.thread] = self._behind.get(end.thread, 0) + self._processes.concurrency
+        self._processes.give_back(end.thread)
+        if end.counts:
+            self.told.end(line.key, end.name, end.kind)
+
+    # --- What is not legal ---
+
+    def _not_legal(self, lines: List[Line], replies: List[str]) -> List[Line]:
+        """The first of these replies is not legal. Gives what is to be told now, where it is of a key that is dropped; else the test
+        ends."""
+        line, reply = lines[0], replies[0]
         verdict = VERDICT.fullmatch(reply)
         if verdict is None:
-            events = self.told.last_events(key, self.length - 1)
-            self._fail(Refused(f"{reply}: {line[:200]}", key, None, events, hint_of_refusal(reply)))
-        at_key, index = int(verdict.group(2)), int(verdict.group(3))
-        events = self.told.last_events(at_key, index)
+            events = self.told.last_events(line.key, line.index)
+            self._fail(Refused(f"{reply}: {line.text[:200]}", line.key, None, events, hint_of_refusal(reply)))
+            return []
+        key, index = int(verdict.group(2)), int(verdict.group(3))
+        events = self.told.last_events(key, index)
         if verdict.group(1) == "illegal":
-            self.failure = Illegal(reply, at_key, index, events, folder=self._record.name)
-            self._fail(Illegal(reply, at_key, index, events, self._hint_of_illegal(at_key, line)))
-        self._fail(Unknown(reply, at_key, index, events, self._hint_of_unknown(at_key)), self._is_dropped(at_key, index, key))
+            self.failure = Illegal(reply, key, index, events, folder=self._record.name)
+            self._fail(Illegal(reply, key, index, events, self._hint_of_illegal(key, index, line.text)))
+            return []
+        unknown = Unknown(reply, key, index, events, self._hint_of_unknown(key), self._record.name)
+        if self._is_dropped(key, index, line):
+            return self._drop(unknown, lines)
+        self.failure = unknown  # so nothing is told any more
+        lines, replies = self._illegal_behind(lines, replies)
+        if lines:
+            return self._not_legal(lines, replies)
+        self._fail(unknown)
+        return []
 
-    def _fail(self, failure: NotLegal, ends_nothing: bool = False) -> NoReturn:
-        """Raises what is not legal, here and in each later operation, once the run's folder has it."""
+    def _illegal_behind(self, lines: List[Line], replies: List[str]) -> Tuple[List[Line], List[str]]:
+        """From the first reply on that is `illegal`, also to what was written down behind these lines, and not sent yet: the verdict on all
+        that was written down is that one. Nothing, where there is none."""
+        rest = list(self._queue.lines)
+        lines, replies = lines + rest, replies + (self._replies(rest) if rest else [])
+        place = next((place for place, reply in enumerate(replies) if reply.startswith("illegal")), len(lines))
+        return lines[place:], replies[place:]
+
+    def _fail(self, failure: NotLegal) -> None:
+        """What is not legal is raised by each operation that waits, and by each later one. The run's folder has it before."""
         failure.folder = self._record.name
         self.failure = failure
-        if not ends_nothing and self._record.folder is not None:
+        if self._record.folder is not None:
             leave_verdict(self._record.folder, self._conclusion(None))
-        raise copy.copy(failure)
 
     def _conclusion(self, ended_by: Optional[BaseException]) -> Conclusion:
         failure = self.failure or next(iter(self.dropped.values()), None)
@@ -237,9 +299,9 @@ class Telling:
             leave_verdict(self._record.folder, conclusion)
             leave_cause(self._record.folder, conclusion)
 
-    def _hint_of_illegal(self, key: int, line: str) -> str:
+    def _hint_of_illegal(self, key: int, index: int, line: str) -> str:
         model, names = self.model_of(key), self.told.names(key)
-        other = hint_of_model(key, model, names, lambda other: self._exchange.is_legal_as(key, other))
+        other = hint_of_model(key, model, names, lambda other: self._exchange.is_legal_as(key, index, other))
         return "\n".join(hint for hint in (self.told.sources.hint(line), other) if hint)
 
     def _hint_of_unknown(self, key: int) -> str:
@@ -250,8 +312,9 @@ class Telling:
 
     def close(self, ended_by: Optional[BaseException]) -> str:
         """Ends the program, and gives the final verdict."""
-        with self.lock:
+        with self._closing, self.lock:
             if self.verdict is None:
+                self._is_closing = True  # no other line follows
                 try:
                     self.verdict = self._last_verdict()
                 finally:
@@ -260,8 +323,9 @@ class Telling:
             return self.verdict
 
     def _last_verdict(self) -> str:
-        try:
-            self._ask("[:verdict]")
-        except NotLegal as failure:
-            return failure.reply
+        if self.failure is None:
+            self._write_down("[:verdict]", "")
+            self._queue.ask(Line("[:verdict]"), self._answer)
+        if self.failure is not None:
+            return self.failure.reply
         return next((unknown.reply for unknown in self.dropped.values()), "legal")

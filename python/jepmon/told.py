@@ -30,9 +30,12 @@ class Told:
         events.append((index, process, line))
         self.sources.tell(kind, process, name, key, part, index)
 
-    def take_back(self, key: int) -> None:
-        """Forgets the last event of the key."""
-        self._events[key].pop()
+    def replace(self, key: int, index: int, line: str) -> None:
+        """The event of this index was told otherwise."""
+        events = self._events[key]
+        for place, (at, process, _) in enumerate(events):
+            if at == index:
+                events[place] = index, process, line
 
     def forget(self, key: int, process: int) -> None:
         """Takes an operation that failed out of the events that are shown: what did not take place explains nothing."""
@@ -41,9 +44,9 @@ class Told:
             events.remove(event)
 
     def last_events(self, key: Optional[int], index: int) -> Tuple[str, ...]:
-        """The last events of the key, each a line for people; the one of this index is marked."""
+        """The last events of the key up to this index, each a line for people; the one of this index is marked."""
         events = self._events.get(key, ()) if key is not None else ()
-        return tuple(readable(f"  {at} {'<--' if at == index else '   '} {line}") for at, _, line in events)
+        return tuple(readable(f"  {at} {'<--' if at == index else '   '} {line}") for at, _, line in events if at <= index)
 
     # --- Operations ---
 

@@ -5,7 +5,7 @@ import unittest
 from typing import Type
 
 from jepmon import Failed, Illegal, Monitor
-from jepmon.endings import Exceptions, outcome_of, test_exceptions as examine
+from jepmon.endings import Endings, Exceptions, endings, outcome_of
 from tests.python.monitored import Monitored
 
 
@@ -27,7 +27,7 @@ class Both(Special, Other):
 
 class Outcomes(unittest.TestCase):
     def of(self, kind: Type[BaseException], expected: Exceptions, failed: Exceptions) -> str:
-        return outcome_of(kind(), expected, failed) or "goes on"
+        return outcome_of(kind(), Endings(expected, failed)) or "goes on"
 
     def test_one_that_is_in_neither_goes_on(self) -> None:
         self.assertEqual(self.of(KeyError, (OSError,), (Error,)), "goes on")
@@ -53,12 +53,12 @@ class Outcomes(unittest.TestCase):
 
     def test_a_class_in_both_is_refused(self) -> None:
         with self.assertRaisesRegex(ValueError, "OSError is in expected and in failed"):
-            examine((TimeoutError, OSError), (OSError,))
+            endings((TimeoutError, OSError), (OSError,))
 
     def test_what_is_no_tuple_of_exceptions_is_refused(self) -> None:
         for wrong in ([OSError], OSError, (OSError(),), ("OSError",)):
             with self.assertRaisesRegex(TypeError, "failed is a tuple of classes of exceptions"):
-                examine((), wrong)  # type: ignore[arg-type]
+                endings((), wrong)  # type: ignore[arg-type]
 
 
 class Told(Monitored):

@@ -7,7 +7,7 @@ from typing import Any, Callable, Iterable, List, Mapping, NamedTuple, Optional,
 from ..history import Event, Operation
 from ..objects import State
 from ..program import Options, ProgramError, check
-from ..shrinking.part import text_of
+from ..shrinking.part import as_asked, text_of
 from ..walk import UNBOUNDED, WORK, GaveUp, Stop, Walk, Walker
 from .names import Names
 
@@ -133,7 +133,7 @@ class Case(NamedTuple):
             return False
         text = text_of(self.front[:-1] + [completion], self.options.concurrency)
         try:
-            return check(text.encode(), self.options, self.program, timeout=left).word == "legal"
+            return check(text.encode(), as_asked(self.options), self.program, timeout=left).word == "legal"
         except ProgramError:
             if time.monotonic() >= self.until:
                 return False

@@ -7,7 +7,7 @@ from typing import Dict, List, NamedTuple, Optional, Tuple
 from ..history import Event, Operation, operations
 from ..kinds import BUDGETS
 from ..program import Options, ProgramError, check
-from ..shrinking.part import text_of
+from ..shrinking.part import as_asked, text_of
 from ..walk import GaveUp, TooMany, Walker
 from .case import Found, Mention
 from .names import NOUNS, Names, client, listed
@@ -146,7 +146,7 @@ def with_greatest_budget(over: Over) -> str:
         return ""
     try:
         text = text_of(over.whole, over.options.concurrency)
-        report = check(text.encode(), over.options._replace(budget=GREATEST), over.program, timeout=limit)
+        report = check(text.encode(), as_asked(over.options)._replace(budget=GREATEST), over.program, timeout=limit)
     except ProgramError:
         if time.monotonic() - began < limit:
             raise

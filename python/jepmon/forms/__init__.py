@@ -4,3 +4,7 @@ from __future__ import annotations
 
 class Refused(Exception):
     """A history can't be judged, for the reason that is told in one line."""
+
+
+class Beyond(Refused):
+    """One check does not take so much; shards of it may be judged."""

@@ -6,9 +6,9 @@ from typing import Iterator, List, Mapping, NamedTuple, Optional, Sequence
 
 from ..from_jepsen import Refusal, Turned, turn
 from ..from_jepsen.events import Event
-from ..from_jepsen.refusal import NoKey
+from ..from_jepsen.refusal import NoKey, TooMany
 from ..notes import Fault
-from . import Refused, faults
+from . import Beyond, Refused, faults
 
 INDEX = re.compile(r", :jepsen-index [0-9]+")
 NO_KEYS = "its values have no keys: all of it is one object, key 0"
@@ -37,11 +37,13 @@ def turned(text: str, key: Optional[str], nil_is_absent: bool) -> FromJepsen:
                 raise
             found = turn(text, "0", nil_is_absent)
             notes.append(NO_KEYS)
+    except TooMany as refusal:
+        raise Beyond(str(refusal)) from refusal
     except Refusal as refusal:
         raise Refused(str(refusal)) from refusal
     lines = [0] * found.begun + [event.line if isinstance(event, Event) else 0 for event in found.history.events]
     return FromJepsen(found.text(), found.models, found.names.keys, found.names.values, lines,
-                      faults.of_nemesis(found.history.nemesis, found.begun), notes + list(_notes(found)))
+                      faults.of_nemesis(found.history.nemesis, found.begun), notes + list(notes_of(found)))
 
 
 def with_lines(text: str, lines: Sequence[int], file_lines: Sequence[int]) -> str:
@@ -54,7 +56,7 @@ def _line_of(line: int, file_lines: Sequence[int]) -> str:
     return f", :line {file_lines[line - 1]}" if line else ""
 
 
-def _notes(found: Turned) -> Iterator[str]:
+def notes_of(found: Turned) -> Iterator[str]:
     """What was left out or changed."""
     if found.history.left_out:
         yield "left out: " + ", ".join(f"{count} of {process}" for process, count in found.history.left_out.items())

@@ -43,6 +43,17 @@ class KeyFacts:
         self.reads_of_sets = 0
 
 
+def possible(facts: KeyFacts) -> List[str]:
+    """The models that one key may have: those with all its operations and answers, the stricter ones first."""
+    models = [model for model, operations in kinds.MODELS.items() if facts.names <= operations]
+    if facts.names == {"read"}:
+        if facts.reads_of_sets:
+            return ["set"]
+        if facts.reads > facts.reads_of_nil:
+            models.remove("set")
+    return models
+
+
 class Facts:
     """What the events of a history tell."""
 

@@ -90,7 +90,7 @@ def _from_jepsen(form: str, text: str, options: Options, notes: List[str], file_
     try:
         made = jepsen.turned(text, options.key, options.nil_is_absent)
     except Refused as refusal:
-        raise Refused(_with_lines(str(refusal), file_lines)) from refusal
+        raise type(refusal)(_with_lines(str(refusal), file_lines)) from refusal
     if file_lines:
         made = made._replace(text=jepsen.with_lines(made.text, made.lines, file_lines))
     found = own.read(made.text)

@@ -28,6 +28,7 @@ from .. import edn, faults, kinds
 from ..edn import Many, Value, canonical, integer, shown, spelling
 from .events import Event, Fault, History, Left, is_pair, tuple_of
 from .refusal import NoKey, Refusal, refuse
+from .spool import Spool
 
 DRAIN = ":drain"
 TYPES = frozenset(f":{kind}" for kind in kinds.EVENT_TYPES)
@@ -43,10 +44,10 @@ class Collector:
     """Goes through the elements of a history, and keeps what jepmon takes in jepmon's form."""
 
     def __init__(self, lone_key: Optional[str], nil_is_absent: bool) -> None:
-        self.lone_key = lone_key
+        self.lone_key = None if lone_key is None else canonical(lone_key)
         self.nil_is_absent = nil_is_absent
         self.open: Dict[int, Event] = {}
-        self.history = History()
+        self.history = History(Spool())
         self.known: Dict[Tuple[str, str, Value], Tuple[Value, Value]] = {}  # the key and part of values that came, by :type and :f
 
     def collect(self, pieces: Iterable[str]) -> History:
@@ -64,9 +65,9 @@ class Collector:
             raise Refusal(str(fault)) from fault
         if count == 0:
             raise Refusal("there is no event in it: the file is empty")
-        if not self.history.clients() and self.history.drained:
+        if not self.history.keys and self.history.drained:
             raise Refusal("its clients did nothing but drains by which nothing came out: there is nothing to judge")
-        if not self.history.clients():
+        if not self.history.keys:
             raise Refusal(f"none of its {count} events is of a client: there is nothing to judge")
         return self.history
 
@@ -118,7 +119,7 @@ class Collector:
         if name == DRAIN:
             self.history.drained.add(key)
         else:
-            self.history.events.append(event)
+            self.history.add(event)
 
     def key_and_part(self, line: int, kind: str, name: str, value: Value) -> Tuple[Value, Value]:
         """The key and the part of an event's value, which is read once where it comes again and again."""
@@ -151,7 +152,7 @@ class Collector:
             part = invoked.part if kind == ":fail" else part
         elif name not in WITHOUT_PART and not self.repeats(invoked, value):
             self.history.notes[f"{kind} of {name} with another value than their invocation, whose value stands"] += 1
-        self.history.events.append(Event(kind, process, name, invoked.key, part, index, line))
+        self.history.add(Event(kind, process, name, invoked.key, part, index, line))
 
     def answer(self, line: int, invoked: Event, value: Value) -> Value:
         """The answer that an :ok tells, which is of the invocation's key."""
@@ -182,7 +183,8 @@ class Collector:
             part = taken if ended == ":ok" else "nil"
             if ended == ":ok":
                 self.history.notes["values that came out by :drain, each written as a dequeue at its :ok"] += 1
-            self.history.events += [dequeue, dequeue._replace(kind=ended, part=part)]
+            self.history.add(dequeue)
+            self.history.add(dequeue._replace(kind=ended, part=part))
 
     def repeats(self, invoked: Event, value: Value) -> bool:
         known = self.known.get((":invoke", invoked.name, value))

@@ -2,9 +2,10 @@
 from __future__ import annotations
 
 import collections
-from typing import Counter, List, NamedTuple, Optional, Set, Tuple, Union
+from typing import Counter, Dict, Iterator, List, NamedTuple, Optional, Protocol, Set, Tuple, Union
 
-from ..edn import Many, Value, fields_of
+from ..edn import Many, Value, fields_of, integer
+from ..lives import Lives
 
 
 class Event(NamedTuple):
@@ -35,18 +36,72 @@ class Left(NamedTuple):
     time: int  # as it states it, else 0
 
 
+class KeySeen:
+    """What the events of a key tell of what it is."""
+
+    __slots__ = ("line", "names", "reads", "reads_of_nil", "has_sets", "integer")
+
+    def __init__(self, line: int) -> None:
+        self.line = line  # of its first event
+        self.names: Set[str] = set()
+        self.reads = 0  # that were answered
+        self.reads_of_nil = 0
+        self.has_sets = False  # whether one was answered by a collection
+        self.integer: Optional[Tuple[int, Value]] = None  # the line and the answer of the first that was answered by an integer
+
+    def answer(self, line: int, part: Value) -> None:
+        self.reads += 1
+        self.reads_of_nil += part == "nil"
+        self.has_sets = self.has_sets or isinstance(part, Many)
+        if self.integer is None and integer(part) is not None:
+            self.integer = line, part
+
+
+class Kept(Protocol):
+    """Where events are kept, to be given again."""
+
+    def append(self, event: Union[Event, Fault]) -> None: ...
+
+    def __len__(self) -> int: ...
+
+    def __iter__(self) -> Iterator[Union[Event, Fault]]: ...
+
+
 class History:
     """What was read: the events in their order, and what is to be told of them."""
 
-    def __init__(self) -> None:
-        self.events: List[Union[Event, Fault]] = []
+    def __init__(self, events: Kept) -> None:
+        self.events = events
+        self.keys: Dict[Value, KeySeen] = {}
+        self.outcomes: Counter[Tuple[str, str]] = collections.Counter()  # events by their operation and type
+        self.lives = Lives()
+        self.most_open = 0  # operations at once
         self.left_out: Counter[str] = collections.Counter()
         self.nemesis: List[Left] = []
         self.notes: Counter[str] = collections.Counter()
         self.drained: Set[Value] = set()  # the keys that have drains
+        self._open = 0
 
-    def clients(self) -> List[Event]:
-        return [event for event in self.events if isinstance(event, Event)]
+    def add(self, event: Event) -> None:
+        """The next event of a client."""
+        kind, process, name, key, part, _, line = event
+        seen = self.keys.get(key)
+        if seen is None:
+            seen = self.keys[key] = KeySeen(line)
+        seen.names.add(name)
+        self.outcomes[name, kind] += 1
+        if kind == ":invoke":
+            self._open += 1
+            self.most_open = max(self.most_open, self._open)
+        else:
+            self._open -= 1
+            if kind == ":ok" and name == ":read":
+                seen.answer(line, part)
+        self.lives.tell(process, kind == ":info")
+        self.events.append(event)
+
+    def clients(self) -> Iterator[Event]:
+        return (event for event in self.events if isinstance(event, Event))
 
 
 def tuple_of(value: Value) -> Optional[Tuple[Value, Value]]:

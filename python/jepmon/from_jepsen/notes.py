@@ -1,7 +1,6 @@
 """What is to be told of a history that was turned, and how to have it judged."""
 from __future__ import annotations
 
-import collections
 from typing import Iterator, Set
 
 from ..edn import Value
@@ -39,7 +38,7 @@ def advice(history: History, models: Models, writer: Writer) -> Iterator[str]:
 
 def notes_of_outcomes(history: History) -> Iterator[str]:
     """How the operations ended, by their names. Only what is :ok is judged."""
-    counts = collections.Counter((event.name, event.kind) for event in history.clients())
+    counts = history.outcomes
     for name in sorted({name for name, _ in counts}):
         yield f"{name[1:]}: " + ", ".join(f"{counts[name, kind]} {kind[1:]}" for kind in (":ok", ":fail", ":info"))
     if not any(kind == ":ok" for _, kind in counts):
@@ -48,12 +47,11 @@ def notes_of_outcomes(history: History) -> Iterator[str]:
 
 def notes_of_nil(history: History, sets: Set[Value]) -> Iterator[str]:
     """What answers of nil mean to jepmon."""
-    reads = [event for event in history.clients() if event.kind == ":ok" and event.name == ":read"]
-    of_nil = [event for event in reads if event.part == "nil"]
-    of_sets = sum(event.key in sets for event in of_nil)
+    of_sets = sum(seen.reads_of_nil for key, seen in history.keys.items() if key in sets)
     if of_sets:
         yield f"reads of a set answered by nil (it fits no set, so they are illegal): {of_sets}"
-    count, whole = len(of_nil) - of_sets, len(reads) - sum(event.key in sets for event in reads)
+    others = [seen for key, seen in history.keys.items() if key not in sets]
+    count, whole = sum(seen.reads_of_nil for seen in others), sum(seen.reads for seen in others)
     if count == whole > 0:
         yield f"NOTHING IS SAID OF WHAT A REGISTER HOLDS: each read is answered by nil, which fits whatever it holds: {whole}"
     elif count > 0:
@@ -64,7 +62,7 @@ def notes_of_nil(history: History, sets: Set[Value]) -> Iterator[str]:
 
 def notes_of_absent(history: History, writer: Writer) -> Iterator[str]:
     """What became of nil where it is what a missing key answers."""
-    reads = [event for event in history.clients() if event.kind == ":ok" and event.name == ":read"]
-    answers = [event.part for event in reads if event.key in writer.registers]
-    yield f"a missing key is {writer.absent}, which {answers.count('nil')} of {len(answers)} reads of a register answered"
+    seen = [history.keys[key] for key in writer.registers]
+    yield (f"a missing key is {writer.absent}, which {sum(each.reads_of_nil for each in seen)} of {sum(each.reads for each in seen)} reads "
+           "of a register answered")
     yield f"a write of it to each register comes first: {2 * len(writer.registers)} events"

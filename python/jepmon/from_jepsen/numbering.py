@@ -1,37 +1,48 @@
 """Numbers for keys and values that are no integers within jepmon's limits."""
 from __future__ import annotations
 
-import itertools
-from typing import Dict, Iterator, List
+from typing import Callable, Dict, Iterable, Iterator, List, Set
 
 from ..edn import Value, integer, shown
-from ..kinds import VALUES
 
+LOW = 1 << 20  # integers from the least on
 NUMBER = r"[+-]?[0-9]{1,100}(\.[0-9]{0,100})?([eE][+-]?[0-9]{1,3})?[MN]?"
 
 
 class Numbering:
     """Integers stay as they are where all of them are within the limits; else each thing gets a number at first sight."""
 
-    def __init__(self, things: Iterator[Value], limits: range) -> None:
-        seen = dict.fromkeys(things)
-        numbers = [integer(thing) for thing in seen]
-        self.stays = all(number is not None and number in limits for number in numbers)
-        self.numbers: Dict[Value, int] = {thing: i for i, thing in enumerate(seen)}
-        if self.stays:
-            self.numbers = {thing: number for thing, number in zip(seen, numbers) if number is not None}
+    def __init__(self, things: Callable[[], Iterable[Value]], limits: range) -> None:
+        self._limits = limits
+        self._low: Set[int] = set()  # the least integers that stay
+        self._numbers: Dict[Value, int] = {}
+        self.stays = all(map(self._may_stay, things()))
+        if not self.stays:
+            for thing in things():
+                self._numbers.setdefault(thing, len(self._numbers))
+
+    def _may_stay(self, thing: Value) -> bool:
+        number = integer(thing)
+        if number is None or number not in self._limits:
+            return False
+        if number < self._limits.start + LOW:
+            self._low.add(number)
+        return True
+
+    def number(self, thing: Value) -> int:
+        return int(integer(thing) or 0) if self.stays else self._numbers[thing]
 
     def __call__(self, thing: Value) -> str:
-        return str(self.numbers[thing])
+        """The number of a thing, whose spelling is canonical, as it is written."""
+        return thing if self.stays and isinstance(thing, str) else str(self.number(thing))
 
     def another(self) -> int:
         """A number that nothing has."""
-        taken = set(self.numbers.values())
-        return next(number for number in (VALUES if self.stays else itertools.count(len(taken))) if number not in taken)
+        return next(number for number in self._limits if number not in self._low) if self.stays else len(self._numbers)
 
     def names(self) -> Dict[int, str]:
         """What the numbers stand for, where things were numbered."""
-        return {} if self.stays else {number: shown(thing) for thing, number in self.numbers.items()}
+        return {number: shown(thing) for thing, number in self._numbers.items()}
 
     def told(self, what: str) -> Iterator[str]:
         """The table, where things were numbered, and what in it may be the same to the store."""
@@ -48,7 +59,7 @@ class Numbering:
         import re
 
         groups: Dict[decimal.Decimal, List[Value]] = {}
-        for thing in self.numbers:
+        for thing in self._numbers:
             if isinstance(thing, str) and re.fullmatch(NUMBER, thing):
                 try:
                     groups.setdefault(decimal.Decimal(thing.rstrip("MN")), []).append(thing)

@@ -5,69 +5,55 @@ After an :info of process p its thread goes on as process p + threads. Jepsen ha
 from __future__ import annotations
 
 import heapq
-from typing import Dict, List, NamedTuple, Sequence
+from typing import Dict, NamedTuple
 
-from ..kinds import THREADS
-from .events import Event
-from .refusal import Refusal
+from .events import Event, History
+from .refusal import TooMany
 
 
 class Processes(NamedTuple):
-    """The threads that jepmon needs, and the process of each event of a client, in their order."""
+    """The threads that a history needs, and whether its processes are numbered anew."""
 
     threads: int
-    numbers: List[int]
     renumbered: bool
 
 
-def processes_of(events: Sequence[Event]) -> Processes:
-    """Jepsen's own processes with the fewest threads that they fit, or others where they fit none that jepmon has."""
-    for threads in range(1, THREADS + 1):
-        if keeps_rule(events, threads):
-            return Processes(threads, [event.process for event in events], False)
-    most = most_open(events)
-    if most > THREADS:
-        raise Refusal(f"{most} operations are open at once, and jepmon has {THREADS} threads")
-    return Processes(most, on_threads(events, most), True)
+def processes_of(history: History, most: int) -> Processes:
+    """Jepsen's own processes with the fewest threads that they fit, or others where they fit none; at most so many threads."""
+    threads = history.lives.fewest()
+    if threads is not None and threads <= most:
+        return Processes(threads, False)
+    if history.most_open > most:
+        raise TooMany(f"{history.most_open} operations are open at once, and jepmon has {most} threads")
+    return Processes(history.most_open, True)
 
 
-def keeps_rule(events: Sequence[Event], threads: int) -> bool:
-    """Whether each event is of its thread's current process: at first its own number, and p + threads after an :info of p."""
-    current = list(range(threads))
-    for event in events:
-        thread = event.process % threads
-        if current[thread] != event.process:
-            return False
-        if event.kind == ":info":
-            current[thread] += threads
-    return True
+class OwnProcesses:
+    """For each event the process that it has."""
+
+    def process_of(self, event: Event) -> int:
+        return event.process
 
 
-def most_open(events: Sequence[Event]) -> int:
-    """The most operations that are open at once."""
-    now = most = 0
-    for event in events:
-        now += 1 if event.kind == ":invoke" else -1
-        most = max(most, now)
-    return most
-
-
-def on_threads(events: Sequence[Event], threads: int) -> List[int]:
-    """For each event its process where there are so many threads, of which each operation gets the lowest that is free.
+class OnThreads(OwnProcesses):
+    """For each event, one after another, its process where there are so many threads, of which each operation gets the lowest that is free.
 
     Which process did an operation says nothing to linearizability; only what was open at once does.
     """
-    current = list(range(threads))
-    free = list(range(threads))
-    thread_of: Dict[int, int] = {}
-    processes = []
-    for event in events:
+
+    def __init__(self, threads: int) -> None:
+        self._threads = threads
+        self._current = list(range(threads))
+        self._free = list(range(threads))
+        self._thread_of: Dict[int, int] = {}
+
+    def process_of(self, event: Event) -> int:
         if event.kind == ":invoke":
-            thread_of[event.process] = heapq.heappop(free)
-        thread = thread_of[event.process]
-        processes.append(current[thread])
+            self._thread_of[event.process] = heapq.heappop(self._free)
+            return self._current[self._thread_of[event.process]]
+        thread = self._thread_of.pop(event.process)
+        heapq.heappush(self._free, thread)
+        process = self._current[thread]
         if event.kind == ":info":
-            current[thread] += threads
-        if event.kind != ":invoke":
-            heapq.heappush(free, thread_of.pop(event.process))
-    return processes
+            self._current[thread] += self._threads
+        return process

@@ -8,6 +8,10 @@ class Refusal(Exception):
     """The history can't be turned, for the reason that is told."""
 
 
+class TooMany(Refusal):
+    """One check does not take so many keys, or operations that are open at once."""
+
+
 class NoKey(Refusal):
     """A value has no key of its own, and none was named."""
 

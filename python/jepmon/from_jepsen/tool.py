@@ -12,6 +12,7 @@ else stands there (times, errors, exceptions) is dropped, whatever it is. A :dra
   --key K           for a history without independent keys: every value v becomes [K v]
   --nil-is-absent   nil is what a missing key answers, and no read that says nothing: it becomes a number of its own, and a
                     write of it comes first for each key that is a register, by process 0, before the history's own events
+  --shards          for jepmon-judge --jobs and jepmon-shards: any number of keys, and of operations that are open at once
 
 Standard error says what was left out, how the operations ended, and the least --concurrency and the --model by which jepmon
 can judge the rest. Keys and values that are no integers within jepmon's limits are numbered, and the numbering is told there
@@ -31,6 +32,7 @@ from ..edn import integer
 from ..kinds import KEYS
 from .refusal import Refusal
 from .turn import Turned, turn
+from .write import OF_SHARDS, Limits
 
 NAME = "from-jepsen"
 NOTHING = "from-jepsen: nothing was turned; standard error says why\n"
@@ -46,6 +48,7 @@ def words() -> argparse.Namespace:
     parser.add_argument("file", nargs="?", default="-", metavar="FILE", help="Jepsen's history.edn; without it standard input")
     parser.add_argument("--key", metavar="K", help="the history has no keys: each of its values is of key K, 0 to 65535")
     parser.add_argument("--nil-is-absent", action="store_true", help="nil is what a missing key answers, and is judged")
+    parser.add_argument("--shards", action="store_true", help="for shards: any number of keys, and of operations that are open at once")
     try:
         given = parser.parse_args()
         if given.key is not None and integer(given.key) not in KEYS:
@@ -56,11 +59,12 @@ def words() -> argparse.Namespace:
 
 
 def turned(given: argparse.Namespace) -> Turned:
+    limits = OF_SHARDS if given.shards else Limits()
     try:
         if given.file == "-":
-            return turn(command.standard_input(), given.key, given.nil_is_absent)
+            return turn(command.standard_input(), given.key, given.nil_is_absent, limits)
         with open(given.file, "rb") as file:
-            return turn(file, given.key, given.nil_is_absent)
+            return turn(file, given.key, given.nil_is_absent, limits)
     except OSError as fault:
         raise Refusal(f"it can't be read: {fault.strerror}") from fault
 

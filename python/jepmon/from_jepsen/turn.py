@@ -9,7 +9,7 @@ from .collect import Collector
 from .models import common, models_of_keys
 from .notes import advice, notes
 from .source import Source, texts
-from .write import Writer
+from .write import Limits, Writer
 
 
 class Turned:
@@ -38,18 +38,19 @@ class Turned:
         return "".join(self.lines())
 
 
-def turn(source: Source, key: Optional[str] = None, nil_is_absent: bool = False) -> Turned:
+def turn(source: Source, key: Optional[str] = None, nil_is_absent: bool = False, limits: Limits = Limits()) -> Turned:
     """Turns a Jepsen history: its text, its bytes, or a file that is open for reading bytes.
 
     key            for a history without independent keys: every value v becomes [key v]
     nil_is_absent  nil is what a missing key answers, and no read that says nothing
+    limits         what is refused beyond: what one check does not take, or nothing where shards are made of it (OF_SHARDS)
     """
     told: List[str] = []
     history = Collector(key, nil_is_absent).collect(texts(source, told.append))
     models = models_of_keys(history)
     if nil_is_absent:  # what begins with a write is no set
         models = {key: [model for model in possible if model in REGISTERS] or possible for key, possible in models.items()}
-    writer = Writer(history, models, nil_is_absent)
+    writer = Writer(history, models, nil_is_absent, limits)
     told += notes(history, writer)
-    by_number = {writer.keys.numbers[key]: possible for key, possible in models.items()}
+    by_number = {writer.keys.number(key): possible for key, possible in models.items()}
     return Turned(writer, by_number, common(models), told, list(advice(history, models, writer)))

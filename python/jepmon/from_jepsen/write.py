@@ -1,16 +1,26 @@
 """Writes the events of a Jepsen history in jepmon's form."""
 from __future__ import annotations
 
-from typing import Dict, Iterator, Sequence, Tuple
+from typing import Dict, Iterator, NamedTuple, Sequence, Tuple
 
 from ..edn import Many, Value
-from ..kinds import KEYS, REGISTERS, VALUES
+from ..kinds import KEYS, REGISTERS, THREADS, VALUES
 from ..names import ABSENT, Names
 from .events import Event, Fault, History
 from .models import Models
 from .numbering import Numbering
-from .processes import processes_of
-from .refusal import Refusal
+from .processes import OnThreads, OwnProcesses, processes_of
+from .refusal import TooMany
+
+
+class Limits(NamedTuple):
+    """What may be written: that which one check takes, or what shards of it may have."""
+
+    keys: range = KEYS
+    threads: int = THREADS
+
+
+OF_SHARDS = Limits(range(1 << 63), 1 << 20)
 
 MOST_KNOWN = 10_000  # operations whose texts are remembered
 
@@ -18,19 +28,24 @@ MOST_KNOWN = 10_000  # operations whose texts are remembered
 class Writer:
     """Writes the events of a history in jepmon's form, and after them in comments what numbers stand for."""
 
-    def __init__(self, history: History, models: Models, nil_is_absent: bool) -> None:
-        clients = history.clients()
+    def __init__(self, history: History, models: Models, nil_is_absent: bool, limits: Limits) -> None:
         self.history = history
         self.registers = {key for key, possible in models.items() if nil_is_absent and possible[0] in REGISTERS}
         self.sets = {key for key, possible in models.items() if possible == ["set"]}
-        self.keys = Numbering((event.key for event in clients), KEYS)
-        values = (value for event in clients for value in values_of(event, event.key in self.sets))
-        self.values = Numbering((value for value in values if value != "nil"), VALUES)
+        self.keys = Numbering(lambda: history.keys, limits.keys)
+        self.values = Numbering(self._values, VALUES)
         self.absent = str(self.values.another()) if nil_is_absent else "nil"
-        self.processes = processes_of(clients)
+        self.processes = processes_of(history, limits.threads)
         self.known: Dict[Tuple[str, str, Value, Value], str] = {}  # the texts of operations that come again and again
-        if len(self.keys.numbers) > len(KEYS):
-            raise Refusal(f"it has {len(self.keys.numbers)} keys, and jepmon takes {len(KEYS)}")
+        if len(history.keys) > limits.keys.stop:
+            raise TooMany(f"it has {len(history.keys)} keys, and jepmon takes {limits.keys.stop}")
+
+    def _values(self) -> Iterator[Value]:
+        """The values of all events."""
+        for event in self.history.clients():
+            for value in values_of(event, event.key in self.sets):
+                if value != "nil":
+                    yield value
 
     def names(self) -> Names:
         """What the numbers stand for."""
@@ -40,15 +55,15 @@ class Writer:
         return Names(self.keys.names(), values)
 
     def lines(self) -> Iterator[str]:
-        for key in (key for key in self.keys.numbers if key in self.registers):
+        for key in (key for key in self.history.keys if key in self.registers):
             for kind in (":invoke", ":ok"):
                 yield f"{{:type {kind}, :process 0, :f :write, :value [{self.keys(key)} {self.absent}]}}\n"
-        processes = iter(self.processes.numbers)
+        processes = OnThreads(self.processes.threads) if self.processes.renumbered else OwnProcesses()
         for event in self.history.events:
             if isinstance(event, Fault):
                 yield f"{{:type :info, :process :nemesis, {event.text}, :jepsen-index {event.own_index}}}\n"
             else:
-                yield self.line(event, next(processes))
+                yield self.line(event, processes.process_of(event))
         yield from self.names().comments()
 
     def line(self, event: Event, process: int) -> str:

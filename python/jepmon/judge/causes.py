@@ -28,11 +28,11 @@ class Shown(NamedTuple):
     lines: List[str]  # for a terminal: bars, and the cause in words
 
 
-def shown(found: Recorded, task: Task, report: Report, with_cause: bool) -> Optional[Shown]:
-    """What there is to show of a verdict that is illegal or unknown."""
+def shown(found: Recorded, task: Task, report: Report, with_cause: bool, events: Optional[Sequence[Event]] = None) -> Optional[Shown]:
+    """What there is to show of a verdict that is illegal or unknown. The events of the bad key are found, where they are not given."""
     if report.word not in ("illegal", "unknown") or report.key is None:
         return None
-    events = of_key(found, report.key)
+    events = of_key(found, report.key) if events is None else events
     options = task.options._replace(model=task.choice.of(report.key), budget=task.budgets.get(report.key, task.options.budget))
     key = Shown(events, options, None, [])
     if not with_cause:

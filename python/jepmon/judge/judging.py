@@ -1,6 +1,7 @@
 """Has a history judged by the program: by `jepmon check` where all keys are of one kind, else by `jepmon script`."""
 from __future__ import annotations
 
+import os
 import re
 import shlex
 import subprocess
@@ -20,6 +21,7 @@ class Task(NamedTuple):
     choice: Choice
     budgets: Dict[int, int]  # of keys that have one of their own
     options: Options  # its model is the common one, where there is one
+    in_shards: bool = False
 
     @property
     def commands(self) -> List[str]:
@@ -33,6 +35,10 @@ class Task(NamedTuple):
 
     def again(self, file: str) -> str:
         """The command that judges it again from this file, which has the commands too."""
+        if self.in_shards:
+            words = [f"--concurrency {self.options.concurrency}", f"--budget {self.options.budget}"]
+            words += [f"--model {self.choice.common}"] if self.choice.common else []
+            return f"jepmon-judge {shlex.quote(file)} --jobs {os.cpu_count() or 1} {' '.join(words)}"
         if self.commands:
             return f"jepmon script {' '.join(self.script_words)} < {shlex.quote(file)}"
         return f"jepmon check {shlex.quote(file)} {' '.join(self.options.words())}"

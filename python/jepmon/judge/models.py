@@ -5,7 +5,7 @@ from typing import Dict, List, Mapping, NamedTuple, Optional, Sequence
 
 from .. import kinds
 from ..forms import Refused
-from ..forms.own import Facts, KeyFacts, concurrency_of
+from ..forms.own import Facts, KeyFacts, concurrency_of, possible
 
 __all__ = ["ALIKE", "Choice", "chosen", "clients_of", "concurrency_of", "possible"]
 ALIKE = {"fifo-queue": "unordered-queue"}  # a stricter model, and the one with the same operations
@@ -20,17 +20,6 @@ class Choice(NamedTuple):
 
     def of(self, key: int) -> str:
         return self.common or self.models[key]
-
-
-def possible(facts: KeyFacts) -> List[str]:
-    """The models that one key may have: those with all its operations and answers, the stricter ones first."""
-    models = [model for model, operations in kinds.MODELS.items() if facts.names <= operations]
-    if facts.names == {"read"}:
-        if facts.reads_of_sets:
-            return ["set"]
-        if facts.reads > facts.reads_of_nil:
-            models.remove("set")
-    return models
 
 
 def chosen(facts: Facts, given: Optional[str], stated: Mapping[int, str], known: Mapping[int, Sequence[str]]) -> Choice:

@@ -4,7 +4,7 @@ from __future__ import annotations
 import os
 import pathlib
 import stat
-from typing import Dict, List, Optional
+from typing import Dict, List, Mapping, Optional
 
 from .. import command
 from ..forms import Refused
@@ -53,9 +53,12 @@ class Folder:
             path.mkdir()
             self._made.insert(0, path)
 
-    def put(self, files: Dict[str, Optional[str]]) -> None:
-        """Writes these files, the verdict last; those without a text are removed, as an earlier run may have left them."""
+    def put(self, files: Dict[str, Optional[str]], copies: Mapping[str, str] = {}) -> None:
+        """Writes these files, the verdict last; those without a text are removed, as an earlier run may have left them. Copies are made
+        of files that are elsewhere."""
         remove(self.path / VERDICT)
+        for name, path in copies.items():
+            command.copy_file(path, self.path / name)
         for name, text in sorted(files.items(), key=lambda file: file[0] == VERDICT):
             if text is None:
                 remove(self.path / name)

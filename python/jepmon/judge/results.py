@@ -1,7 +1,7 @@
 """What --html and --out write: the page, and the folder with the history as judged and all that came of it."""
 from __future__ import annotations
 
-from typing import Dict, NamedTuple, Optional
+from typing import Dict, Mapping, NamedTuple, Optional
 
 from .. import command
 from ..forms import faults
@@ -23,6 +23,7 @@ class Results(NamedTuple):
     task: Task
     report: Report
     key: Optional[causes.Shown]
+    copies: Mapping[str, str] = {}  # files that are whole already: their names in the folder, and where they are
 
 
 def write(page: Optional[Page], folder: Optional[Folder], results: Results) -> None:
@@ -36,7 +37,7 @@ def write(page: Optional[Page], folder: Optional[Folder], results: Results) -> N
         page.put(text)
         command.say(NAME, f"the page is {page.name}")
     if folder is not None:
-        folder.put(files(results, text))
+        folder.put({name: each for name, each in files(results, text).items() if name not in results.copies}, results.copies)
         command.say(NAME, f"what came of it is in {folder.path}")
 
 
@@ -63,5 +64,8 @@ def files(results: Results, page: Optional[str]) -> Dict[str, Optional[str]]:
 
 def again(task: Task) -> str:
     """The script that judges the history again."""
+    if task.in_shards:
+        return ("#!/bin/sh\n# Judges history.edn, beside this file, again: in shards, each by the proved program.\n"
+                f'cd "$(dirname "$0")" || exit 3\nexec {task.again(HISTORY)} --no-cause\n')
     return ("#!/bin/sh\n# Judges history.edn, beside this file, again by the proved program.\n"
             f'cd "$(dirname "$0")" || exit 3\nexec "${{JEPMON:-jepmon}}"{task.again(HISTORY)[len("jepmon"):]}\n')

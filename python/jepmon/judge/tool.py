@@ -10,11 +10,11 @@ from typing import List, Optional
 
 from .. import command
 from ..errors import OutputError, ProgramError
-from ..forms import Refused, files
+from ..forms import Beyond, Refused, files
 from ..forms.recorded import Options as Said
 from ..forms.recorded import Recorded, recorded
 from ..program import CURE, Options, find_program
-from . import causes, hints, models, results, words
+from . import by_shards, causes, hints, large, models, results, words
 from .judging import Task, judged
 from .outputs import Folder, Page
 from .words import NAME, Given
@@ -68,7 +68,20 @@ def _judge(given: Given) -> int:
 
 
 def _judge_to(given: Given, page: Optional[Page], folder: Optional[Folder]) -> int:
+    long = large.large(given)
+    if long is not None:
+        return by_shards.judge(given, long, page, folder)
     source = files.found(given.history)
+    try:
+        return _judge_whole(source, given, page, folder)
+    except Beyond as beyond:
+        long = large.beyond(given, str(beyond))
+        if long is None:
+            raise Refused(f"{source.name}: {beyond}; --jobs N judges it in shards, which take more") from beyond
+    return by_shards.judge(given, long, page, folder)
+
+
+def _judge_whole(source: files.Source, given: Given, page: Optional[Page], folder: Optional[Folder]) -> int:
     for note in source.notes:
         say(note)
     if len(source.text) > LARGE:
@@ -77,6 +90,8 @@ def _judge_to(given: Given, page: Optional[Page], folder: Optional[Folder]) -> i
     try:
         found = recorded(source, said)
         task = _task(found, given)
+    except Beyond:
+        raise
     except Refused as refusal:
         raise Refused(f"{source.name}: {refusal}") from refusal
     for line in hints.found(source, found, task):

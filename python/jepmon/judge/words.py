@@ -9,11 +9,13 @@ from .. import __version__, command, kinds
 from ..forms import Refused
 
 NAME = "judge"
+MOST_JOBS = 1024
 DESCRIPTION = """Judges a recorded history: finds out its form, the model and the concurrency, has it judged by the proved program, and tells the cause.
 
   {tool} store/latest                    a Jepsen store; or a file, also compressed by gzip
   {tool} history.jsonl --html page.html  JSON, CSV or a log, and a page that shows the cause
   some-test | {tool} --out judged        standard input; what came of it goes to a folder
+  {tool} history.edn --jobs 4            in shards by key, on four processes: of any length, and any number of keys and clients
 
 The report and the verdict go to standard output, the verdict last. What was found, hints and the cause go to standard error; they
 are not proved. Exit status: 0 legal, 1 illegal, 2 unknown, 3 where there is no verdict.
@@ -33,6 +35,9 @@ class Given(NamedTuple):
     html: Optional[str]
     out: Optional[str]
     cause: bool
+    jobs: Optional[int]
+    dask: Optional[str]
+    temporary: Optional[str]
 
 
 class Words(command.Words):
@@ -59,12 +64,19 @@ def given(words: Optional[List[str]]) -> Given:
     parser.add_argument("history", nargs="?", metavar="HISTORY", help="a file or a folder; - or nothing is standard input")
     parser.add_argument("--model", metavar="NAME", choices=tuple(kinds.MODELS),
                         help="the object that each key is, in place of the one found: " + ", ".join(kinds.MODELS))
-    parser.add_argument("--concurrency", metavar="N", type=number("a number of threads", range(1, kinds.THREADS + 1)),
-                        help="the threads of the clients, in place of the number found")
+    parser.add_argument("--concurrency", metavar="N", type=number("a number of threads", range(1, kinds.PROCESSES.stop)),
+                        help="the threads of the clients, in place of the number found; more than 64 are judged in shards")
     parser.add_argument("--budget", metavar="N", type=number("a number of ends", kinds.BUDGETS), default=4096,
                         help="ends of a key that are kept apart (4096)")
     parser.add_argument("--workers", metavar="N", type=number("a number of threads", range(1, kinds.THREADS + 1)),
                         help="threads that judge keys side by side")
+    parser.add_argument("--jobs", metavar="N", type=number("a number of processes", range(1, MOST_JOBS + 1)),
+                        help="judge in shards by key, on so many processes; a history that one check does not take is judged so on all "
+                        "processors")
+    parser.add_argument("--dask", metavar="ADDRESS", help="judge the shards on the Dask cluster whose scheduler is there, as "
+                        "tcp://HOST:8786; its workers need the program, and distributed must be installed here")
+    parser.add_argument("--temporary", metavar="DIR", help="the folder for temporary files of shards, which take as much room as "
+                        "the history at most")
     parser.add_argument("--key", metavar="K", type=number("a key", kinds.KEYS),
                         help="the history has no keys: each value in it is of key K")
     parser.add_argument("--nil-is-absent", action="store_true", help="nil is what a missing key answers, and is judged")
@@ -81,4 +93,4 @@ def given(words: Optional[List[str]]) -> Given:
         raise Refused(f"{fault}; see {command.tool(NAME)} --help") from fault
     key = None if parsed.key is None else str(parsed.key)
     return Given(parsed.history or "-", parsed.model, parsed.concurrency, parsed.budget, parsed.workers, key, parsed.nil_is_absent,
-                 parsed.html, parsed.out, parsed.cause)
+                 parsed.html, parsed.out, parsed.cause, parsed.jobs, parsed.dask, parsed.temporary)

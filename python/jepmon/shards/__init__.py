@@ -7,8 +7,16 @@ docs/SHARDS.md says why the report is, byte for byte, the one that one check wit
 """
 from __future__ import annotations
 
-from .checking import check
+from .checking import check, opened
 from .doubt import ShardsError
 from .progress import Progress
+from .session import Refused, Session
 
-__all__ = ["Progress", "ShardsError", "check"]
+__all__ = ["Progress", "Refused", "Session", "ShardsError", "check", "main", "opened"]
+
+
+def main() -> int:
+    """The tool `jepmon-shards`."""
+    from .tool import main as tool
+
+    return tool()

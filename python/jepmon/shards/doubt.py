@@ -1,11 +1,13 @@
 """What goes wrong in a check by shards."""
 from __future__ import annotations
 
+from ..errors import ProgramError
+
 
 class Doubt(Exception):
     """Something that is refused, or that is not read on the quick way. The exact way says which. The text is for the case that it
     finds nothing, which is a fault of this package or of the program."""
 
 
-class ShardsError(Exception):
+class ShardsError(ProgramError):
     """No verdict can be given, for this reason of one line: no room on a disk, a process that was killed, a file that is gone."""

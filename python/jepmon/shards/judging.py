@@ -3,12 +3,14 @@ from __future__ import annotations
 
 import os
 import re
+import subprocess
 from typing import List, NamedTuple, Optional, Sequence, Tuple
 
 from ..program import Options, run_check
 from .batches import NOWHERE, Batch, KeyMap, batches_of
 from .by_key import events_of
 from .doubt import Doubt, ShardsError
+from .models import by_model
 from .routing import Source
 from .sizes import Sizes
 
@@ -26,10 +28,11 @@ class Status(NamedTuple):
     events: int
     status: str  # "alive", "dead", "over"; or "full", "wide": alive up to there, where the program's limits are met
     place: Optional[int]
+    model: str
 
-    def line(self, options: Options) -> str:
+    def line(self, budget: int) -> str:
         found = "" if self.place is None else f" {self.place}"
-        return f"key {self.key} model {options.model} budget {options.budget} events {self.events} status {self.status}{found}"
+        return f"key {self.key} model {self.model} budget {budget} events {self.events} status {self.status}{found}"
 
 
 class ShardTask(NamedTuple):
@@ -56,10 +59,18 @@ class Judged(NamedTuple):
 def judge_shard(task: ShardTask) -> Judged:
     """The second pass over a shard."""
     statuses: List[Status] = []
-    for batch in batches_of(*events_of(task.sources, task.shard, task.sizes.events), task.sizes):
-        report, _, _ = run_check(["/dev/stdin", *words(task.options, task.sizes)], batch.text, task.program)
-        statuses += statuses_of(report, batch.keys, batch.places, task.options)
+    keys, rests = events_of(task.sources, task.shard, task.sizes.events)
+    for model, of_model in by_model(keys, task.options.model):
+        options = task.options._replace(model=model)
+        for batch in batches_of(of_model, rests, task.sizes):
+            report = checked(batch.text, words(options, task.sizes), task.program)
+            statuses += statuses_of(report, batch.keys, batch.places, options)
     return write_result(os.path.join(task.folder, task.name + ".result"), statuses, task.options)
+
+
+def checked(text: bytes, words: List[str], program: str) -> str:
+    """What the program prints of a batch. What it says beside it speaks of keys and events that the history does not have."""
+    return run_check(["/dev/stdin", *words], text, program, stderr=subprocess.DEVNULL)[0]
 
 
 def words(options: Options, sizes: Sizes) -> List[str]:
@@ -83,25 +94,25 @@ def statuses_of(report: str, keys: Sequence[KeyMap], places: Sequence[int], opti
         match = STATUS.fullmatch(line, len(begin))
         if not line.startswith(begin) or match is None:
             raise Doubt(f"jepmon's report on a shard has {line!r} in place of {begin!r}")
-        found.append(status_of(key, match.group(1), match.group(2), places[at], places))
+        found.append(status_of(key, match.group(1), match.group(2), places[at], places, options.model))
         at += key.judged
     return found
 
 
-def status_of(key: KeyMap, status: str, index: Optional[str], first: int, places: Sequence[int]) -> Status:
+def status_of(key: KeyMap, status: str, index: Optional[str], first: int, places: Sequence[int], model: str) -> Status:
     if status == "alive":
-        return Status(first, key.key, key.events, key.cut or "alive", key.cut_place if key.cut else None)
+        return Status(first, key.key, key.events, key.cut or "alive", key.cut_place if key.cut else None, model)
     place = places[int(index)] if index is not None and int(index) < len(places) else NOWHERE
     if place == NOWHERE:
         raise Doubt(f"jepmon's report on a shard says {status} {index}, which is no event of the history")
-    return Status(first, key.key, key.events, status, place)
+    return Status(first, key.key, key.events, status, place, model)
 
 
 def write_result(path: str, statuses: List[Status], options: Options) -> Judged:
     """Writes a line for each key, in the order of their first events, which stand in front of each line."""
     statuses.sort()
     with open(path, "w") as file:
-        file.writelines(f"{status.first:020d} {status.line(options)}\n" for status in statuses)
+        file.writelines(f"{status.first:020d} {status.line(options.budget)}\n" for status in statuses)
     dead = [(status.place or 0, status.key) for status in statuses if status.status == "dead"]
     undecided = [(status.place or 0, status.key) for status in statuses if status.status not in ("alive", "dead")]
     return Judged(path, len(statuses), min(dead, default=None), min(undecided, default=None))

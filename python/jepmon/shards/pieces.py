@@ -9,14 +9,19 @@ the first that is, in the order of the history, would complete in its key what h
 """
 from __future__ import annotations
 
+import operator
 import os
-from typing import BinaryIO, Dict, Iterator, List, NamedTuple, Optional, Sequence
+from typing import Any, BinaryIO, Dict, Iterator, List, NamedTuple, Optional, Sequence
 
 from ..kinds import INDICES
 from .doubt import Doubt
 from .lines import UNSEEN, Heads, Row, idle, rows_of
 from .routing import Router, Source
 from .sizes import Sizes
+from .tally import Counting, Tally
+
+
+CODE = operator.itemgetter(0)  # of a head
 
 
 class PieceTask(NamedTuple):
@@ -41,28 +46,30 @@ class Piece(NamedTuple):
     base: Optional[int]  # the index of its first event, if any is stated
     starts: Dict[int, int]  # of a thread: the state before its first event
     ends: Dict[int, int]  # of a thread: the state after its last event
+    tally: Tally
 
 
 def read_piece(task: PieceTask) -> Piece:
     """The first pass over a piece."""
     path = os.path.join(task.folder, f"{task.begin}.piece")
-    router = Router(task.shards)
+    counting = Counting()
+    router = Router(task.shards, counting=counting)
     events = PieceEvents(task.concurrency, router)
     slabs: List[int] = []
     held = 0
     with open(path, "wb") as file:
         for block in blocks_of(task):
             events.take(rows_of(block))
-            router.settle()
             held += len(block)
             if held >= task.sizes.slab:
                 slabs.append(router.write(file))
                 events.forget()
+                counting.forget()
                 held = 0
         if held:
             slabs.append(router.write(file))
     ends = {thread: state for thread, state in events.states.items() if state != UNSEEN}
-    return Piece(path, slabs, router.written, events.count, events.base, events.starts, ends)
+    return Piece(path, slabs, router.written, events.count, events.base, events.starts, ends, counting.tally(events.count))
 
 
 class PieceEvents:
@@ -77,22 +84,27 @@ class PieceEvents:
         self._router = router
 
     def take(self, rows: Sequence[Row]) -> None:
-        """The loop over all events of a history: what stands in it costs most."""
-        heads, router, states, place = self._heads, self._router, self.states, self.count
-        for stated, text, key, part, _ in rows:
-            if stated or not text:
-                if stated:
-                    self._test_index(int(stated), place)
-                if not text:  # of a fault
-                    place += 1
-                    continue
-            code, thread, before, after = heads[text]
+        """Takes the next events: column by column, since what is done for each event of a history costs most."""
+        if not rows:
+            return
+        columns: List[Sequence[Any]] = list(zip(*rows))
+        stated, texts, keys, parts = columns[:4]
+        places: Sequence[int] = range(self.count, self.count + len(rows))
+        self.count += len(rows)
+        if any(stated):
+            for place, index in zip(places, stated):
+                if index:
+                    self._test_index(int(index), place)
+        if not all(texts):  # without the faults
+            kept = [at for at, text in enumerate(texts) if text]
+            texts, keys, parts, places = ([column[at] for at in kept] for column in (texts, keys, parts, places))
+        heads = list(map(self._heads.__getitem__, texts))
+        states = self.states
+        for _, thread, before, after in heads:
             if states[thread] != before:
                 self._begin(thread, before)
             states[thread] = after
-            router[key]((key, part, code, place))
-            place += 1
-        self.count = place
+        self._router.route(keys, parts, list(map(CODE, heads)), places)
 
     def forget(self) -> None:
         """Forgets how heads are spelled, of which a long history has many."""

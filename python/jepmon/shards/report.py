@@ -5,7 +5,7 @@ import contextlib
 import heapq
 import os
 import re
-from typing import IO, BinaryIO, Iterable, Iterator, List, Optional, Sequence, Tuple
+from typing import IO, BinaryIO, Iterable, Iterator, List, NamedTuple, Optional, Sequence
 
 from .judging import Found, Judged
 from .sizes import Sizes
@@ -33,15 +33,25 @@ def lines_of(names: Sequence[str]) -> Iterator[bytes]:
         os.unlink(name)
 
 
-def verdict_of(judged: Iterable[Judged]) -> Tuple[str, str, Optional[Found], int]:
-    """The line of the verdict, its first word, the event and the key that it names, and the exit status."""
+class Verdict(NamedTuple):
+    """What all results together say."""
+
+    line: str
+    word: str
+    found: Optional[Found]  # the event and the key that it names
+    status: int
+    keys: int  # in the history
+
+
+def verdict_of(judged: Iterable[Judged]) -> Verdict:
     results = list(judged)
+    keys = sum(result.keys for result in results)
     for word, found, status in (("illegal", [result.dead for result in results], 1),
                                 ("unknown", [result.undecided for result in results], 2)):
         least = min((one for one in found if one is not None), default=None)
         if least is not None:
-            return f"{word} key {least[1]} index {least[0]}", word, least, status
-    return "legal", "legal", None, 0
+            return Verdict(f"{word} key {least[1]} index {least[0]}", word, least, status, keys)
+    return Verdict("legal", "legal", None, 0, keys)
 
 
 def write_report(lines: Iterable[bytes], verdict: str, out: BinaryIO) -> None:

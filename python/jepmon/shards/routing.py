@@ -6,11 +6,13 @@ the slab's directory: of each shard where its segment begins, the bytes of its k
 from __future__ import annotations
 
 import array
+import operator
 import zlib
-from typing import Any, BinaryIO, Callable, Dict, Iterator, List, NamedTuple, Sequence, Tuple
+from typing import Any, BinaryIO, Callable, Iterator, List, NamedTuple, Optional, Sequence, Tuple
 
-Put = Callable[[Tuple[bytes, bytes, int, int]], None]
-FIELDS = 4  # of an event in a bucket: key, part, code and place; of a shard in a directory
+from .tally import Counting
+
+FIELDS = 4  # of a shard in a directory
 NUMBERS = "Q"
 WIDTH = array.array(NUMBERS).itemsize
 
@@ -33,35 +35,38 @@ class Source(NamedTuple):
     base: int
 
 
-class Router(Dict[bytes, Put]):
-    """Gives for each key what takes its events: their key, part, code and place."""
+class Router:
+    """Takes events by the shards of their keys."""
 
-    def __init__(self, shards: int, level: int = 0) -> None:
-        super().__init__()
-        self._level = level
-        self._buckets: List[List[Any]] = [[] for _ in range(shards)]
+    def __init__(self, shards: int, level: int = 0, counting: Optional[Counting] = None) -> None:
+        self._level, self._counting = level, counting
+        self._routed: List[List[int]] = [[] for _ in range(shards)]  # of each shard, which events
+        self._puts = [routed.append for routed in self._routed]
         self._keys: List[List[bytes]] = [[] for _ in range(shards)]
         self._parts: List[List[bytes]] = [[] for _ in range(shards)]
         self._codes = [array.array(NUMBERS) for _ in range(shards)]
         self._places = [array.array(NUMBERS) for _ in range(shards)]
         self.written = [0] * shards  # bytes of each shard
 
-    def __missing__(self, key: bytes) -> Put:
-        put = self[key] = self._buckets[shard_of(key, len(self._buckets), self._level)].extend
-        return put
-
-    def settle(self) -> None:
-        """Takes the events out of the buckets: called often, so that these are small."""
-        for bucket, keys, parts, codes, places in zip(self._buckets, self._keys, self._parts, self._codes, self._places):
-            if bucket:
-                keys.append(b" ".join(bucket[0::FIELDS]))
-                parts.append(b"\n".join(bucket[1::FIELDS]))
-                codes.extend(bucket[2::FIELDS])
-                places.extend(bucket[3::FIELDS])
-                bucket.clear()
+    def route(self, keys: Sequence[bytes], parts: Sequence[bytes], codes: Sequence[int], places: Sequence[int]) -> None:
+        """Takes these events: few at once, so that they stay near. What is asked of each event costs most, so it is asked of columns."""
+        puts = self._puts
+        for at, shard in enumerate(shards_of_keys(keys, len(puts), self._level)):
+            puts[shard](at)
+        for shard, routed in enumerate(self._routed):
+            if routed:
+                pick = picker(routed)
+                of_shard = pick(codes)
+                self._keys[shard].append(b" ".join(pick(keys)))
+                self._parts[shard].append(b"\n".join(pick(parts)))
+                self._codes[shard].extend(of_shard)
+                self._places[shard].extend(pick(places))
+                if self._counting is not None:
+                    self._counting.take(of_shard, self._parts[shard][-1])
+                routed.clear()
 
     def write(self, file: BinaryIO) -> int:
-        """Writes what is settled as a slab, and forgets it: where its directory is."""
+        """Writes what was routed as a slab, and forgets it: where its directory is."""
         directory = array.array(NUMBERS)
         for shard, codes in enumerate(self._codes):
             keys, parts = b" ".join(self._keys[shard]), b"\n".join(self._parts[shard])
@@ -73,15 +78,25 @@ class Router(Dict[bytes, Put]):
             self.written[shard] += len(keys) + len(parts) + 2 * WIDTH * len(codes)
             self._keys[shard], self._parts[shard] = [], []
             self._codes[shard], self._places[shard] = array.array(NUMBERS), array.array(NUMBERS)
-        self.clear()
         at = file.tell()
         file.write(directory.tobytes())
         return at
 
 
-def shard_of(key: bytes, shards: int, level: int) -> int:
-    """The shard of a key. On each level those that share one shard above are spread anew."""
-    return zlib.crc32(key + b" level %d" % level if level else key) % shards
+def picker(places: Sequence[int]) -> Callable[[Sequence[Any]], Tuple[Any, ...]]:
+    """What takes from a column what stands at these places, of which there is one at least."""
+    if len(places) == 1:
+        return lambda column: (column[places[0]],)
+    found: Callable[[Sequence[Any]], Tuple[Any, ...]] = operator.itemgetter(*places)
+    return found
+
+
+def shards_of_keys(keys: Sequence[bytes], shards: int, level: int) -> List[int]:
+    """The shard of each key. On each level those that share one shard above are spread anew."""
+    if level:
+        return [zlib.crc32(key + b" level %d" % level) % shards for key in keys]
+    crc32 = zlib.crc32
+    return [crc32(key) % shards for key in keys]
 
 
 def directory_of(file: BinaryIO, slab: int, shard: int) -> Tuple[int, int, int, int]:

@@ -2,13 +2,14 @@
 from __future__ import annotations
 
 import os
-from typing import Iterator, List, NamedTuple
+from typing import Iterator, List, NamedTuple, Tuple
 
 from ..program import Options
 from .pieces import Piece, PieceTask, follow, read_piece
 from .progress import Progress
 from .routing import Router, Source, segments_of
 from .sizes import Sizes
+from .tally import Tally, total
 from .team import Team, in_order
 
 
@@ -38,10 +39,11 @@ class Divided(NamedTuple):
     written: List[int]
 
 
-def shards_of(path: str, length: int, options: Options, folder: str, team: Team, sizes: Sizes, progress: Progress) -> List[Shard]:
-    """The shards of a history, whose events are written to this folder. A Doubt where something is refused."""
+def shards_of(path: str, length: int, options: Options, folder: str, team: Team, sizes: Sizes,
+              progress: Progress) -> Tuple[List[Shard], Tally]:
+    """The shards of a history, whose events are written to this folder, and what its events are. A Doubt where something is refused."""
     if length == 0:
-        return []
+        return [], Tally()
     step, count = sizes.piece_length(length), sizes.shard_count(length)
     tasks = [PieceTask(path, begin, min(begin + step, length), options.concurrency, count, folder, sizes)
              for begin in range(0, length, step)]
@@ -49,7 +51,7 @@ def shards_of(path: str, length: int, options: Options, folder: str, team: Team,
     sources = follow(pieces)
     sums = [sum(of_shard) for of_shard in zip(*(piece.written for piece in pieces))]
     shards = [Shard(sources, number, f"{number}", written, 0, True) for number, written in enumerate(sums) if written]
-    return divided(shards, folder, team, sizes, progress)
+    return divided(shards, folder, team, sizes, progress), total(piece.tally for piece in pieces)
 
 
 def divided(shards: List[Shard], folder: str, team: Team, sizes: Sizes, progress: Progress) -> List[Shard]:
@@ -80,9 +82,7 @@ def divide(division: Division) -> Divided:
     held = 0
     with open(path, "wb") as file:
         for segment in segments_of(shard.sources, shard.number):
-            for key, part, code, place in zip(segment.keys, segment.parts, segment.codes, segment.places):
-                router[key]((key, part, code, place + segment.base))
-            router.settle()
+            router.route(segment.keys, segment.parts, segment.codes, list(map(segment.base.__add__, segment.places)))
             held += len(segment.keys)
             if held >= division.sizes.slab_events:
                 slabs.append(router.write(file))

@@ -1,9 +1,12 @@
 """A part of a history: some operations of a key, as events and as a history by itself."""
 from __future__ import annotations
 
-from typing import AbstractSet, Any, Iterable, List, Sequence
+import heapq
+from typing import AbstractSet, Any, Dict, Iterable, List, Sequence
 
 from ..history import Event, Operation
+from ..kinds import KEYS, THREADS
+from ..program import Options
 
 
 def without(operations: Sequence[Operation], out: AbstractSet[int], values: AbstractSet[int]) -> List[Operation]:
@@ -27,19 +30,55 @@ def events_of(operations: Iterable[Operation]) -> List[Event]:
 
 def text_of(events: Iterable[Event], concurrency: int) -> str:
     """The events as a history by itself. Each client has a process of its own number at first, and after each :info the one that is
-    greater by the concurrency: the same as in the history, but for operations that timed out and are not among these."""
-    process = list(range(concurrency))
-    lines: List[str] = []
-    for event in events:
-        client = event.process % concurrency
-        lines.append(f"{{{line_of(event, process[client])}, :original-index {event.index}}}\n")
+    greater by the concurrency: the same as in the history, but for operations that timed out and are not among these. Of a history with
+    more clients than one check takes each operation gets a thread that is free."""
+    clients: Clients = Clients(concurrency) if concurrency <= THREADS else FreeThreads()
+    return "".join(f"{{{line_of(event, clients.process_of(event))}, :original-index {event.index}}}\n" for event in events)
+
+
+def as_asked(options: Options) -> Options:
+    """The options by which the program is asked about a text of `text_of`."""
+    return options._replace(concurrency=min(options.concurrency, THREADS))
+
+
+class Clients:
+    """The processes of events in a history by itself."""
+
+    def __init__(self, concurrency: int) -> None:
+        self.concurrency = concurrency
+        self._process = list(range(concurrency))
+
+    def thread_of(self, event: Event) -> int:
+        return event.process % self.concurrency
+
+    def process_of(self, event: Event) -> int:
+        thread = self.thread_of(event)
+        process = self._process[thread]
         if event.kind == "info":
-            process[client] += concurrency
-    return "".join(lines)
+            self._process[thread] += self.concurrency
+        return process
+
+
+class FreeThreads(Clients):
+    """Those where each operation has one of the threads that a check takes, so long as no more are open."""
+
+    def __init__(self) -> None:
+        super().__init__(THREADS)
+        self._free = list(range(THREADS))
+        self._open: Dict[int, int] = {}  # the thread of a process
+
+    def thread_of(self, event: Event) -> int:
+        if event.kind == "invoke":
+            self._open[event.process] = heapq.heappop(self._free)
+            return self._open[event.process]
+        thread = self._open.pop(event.process)
+        heapq.heappush(self._free, thread)
+        return thread
 
 
 def line_of(event: Event, process: int) -> str:
-    return f":type :{event.kind}, :process {process}, :f :{event.name}, :value [{event.key} {spelled(event.value)}]"
+    key = event.key if event.key in KEYS else 0  # of a history with more keys than one check takes
+    return f":type :{event.kind}, :process {process}, :f :{event.name}, :value [{key} {spelled(event.value)}]"
 
 
 def spelled(value: Any) -> str:

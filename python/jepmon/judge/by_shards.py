@@ -1,0 +1,256 @@
+"""Judges a history beyond the limits of one check: by jepmon.shards, with what is told of it beside the report."""
+from __future__ import annotations
+
+import contextlib
+import functools
+import os
+import sys
+from typing import Iterator, List, NamedTuple, Optional, Sequence
+
+from .. import command, kinds, shards
+from ..errors import ProgramError
+from ..explain.event import Options as Explained
+from ..explain.said import said as explained
+from ..forms import Refused
+from ..forms.own import Facts
+from ..forms.recorded import Recorded
+from ..from_jepsen import Turned
+from ..history import Event
+from ..program import KeyLine, Options, Report, check
+from ..shards.checking import key_line
+from ..shards.cluster import judged_on
+from ..shards.judging import Judged
+from ..shards.models import EACH
+from ..shards.report import KEY_LINE, Verdict
+from ..shards.source import History
+from ..shards.splitting import judged_elsewhere
+from ..shards.tally import Tally
+from ..shrinking.part import as_asked, text_of
+from . import causes, large_key, results, turned
+from .hints import MOST_EVENTS, PATIENCE, counted
+from .judging import Task
+from .large import Large
+from .models import ALIKE, Choice
+from .outputs import Folder, Page
+from .words import NAME, Given
+
+CHUNK = 1 << 18  # characters of the report that are written at once
+CUT = {"full": f"key {{}} has more than {kinds.EVENTS:,} events, and is judged up to event {{}}, no further",
+       "wide": f"key {{}} has more than {kinds.THREADS} operations open at once, and is judged up to event {{}}, no further"}
+
+
+def say(line: str) -> None:
+    command.say(NAME, line)
+
+
+class Asked(NamedTuple):
+    """A history as it goes to shards: in jepmon's own form, and what it was made from where that was another one."""
+
+    history: History
+    concurrency: Optional[int]  # None: it is found
+    made: Optional[Turned]
+
+
+def asked(given: Given, found: Large) -> Asked:
+    if found.is_own and given.key is None and not given.nil_is_absent:
+        return Asked(found.history, given.concurrency, None)
+    made, notes = turned.turned(given, found)
+    for note in notes:
+        say(note)
+    return Asked(made.lines(), given.concurrency or made.concurrency, made)
+
+
+@contextlib.contextmanager
+def opened(given: Given, found: Large, history: Asked) -> Iterator[shards.Session]:
+    """The shards of a history, read."""
+    options = Options(history.concurrency or 2, given.model or "register", given.budget)
+    with shards.opened(history.history, options, given.jobs, temporary=given.temporary, progress=shards.Progress(sys.stderr),
+                       finds_threads=history.concurrency is None) as session:
+        try:
+            session.read()
+        except shards.Refused as refused:
+            for hint in hints_of_refusal(found, str(refused), session.options):
+                say(hint)
+            raise
+        if session.tally.events == 0:
+            raise Refused(f"{found.name}: there is no event in it: nothing was judged")
+        yield session
+
+
+def judge(given: Given, found: Large, page: Optional[Page], folder: Optional[Folder]) -> int:
+    """Judges it, writes what was asked for, and gives the exit status."""
+    if found.reason:
+        say(f"{found.name}: {found.reason}; it is judged in shards, {processes(given.jobs or os.cpu_count() or 1)}")
+    history = asked(given, found)
+    try:
+        with opened(given, found, history) as session:
+            return _judge(given, found, history, session, page, folder)
+    except shards.Refused as refused:
+        command.write_output([f"{refused}\n"])
+        return command.REFUSED
+
+
+def _judge(given: Given, found: Large, history: Asked, session: shards.Session, page: Optional[Page], folder: Optional[Folder]) -> int:
+    choice = chosen(session.tally, given.model, history.made)
+    options = session.options._replace(model=choice.common or EACH)
+    path = os.path.join(session.tools.folder, "report.txt")
+    with open(path, "wb") as file:
+        verdict = session.report(judged(given, session, options), file)
+    report = report_of(path, verdict)
+    task = Task("", of_bad_key(choice, report), {}, options, in_shards=True)
+    for line in said(found, history, session.tally, verdict, task):
+        say(line)
+    command.write_output(texts_of(path))
+    for line in nil_hints(session.tally, choice):
+        say(line)
+    recorded = turned.recorded(history.made) if history.made is not None else Recorded("", "", Facts(), is_own=True)
+    key = shown(recorded, task, report, given.cause, bad_events(session, report, found, history))
+    if page is not None or folder is not None:
+        copies = {results.HISTORY: session.file.path, results.REPORT: path} if folder is not None else {}
+        results.write(page, folder, results.Results(found.name, recorded, task, report, key, copies))
+    return verdict.status
+
+
+def bad_events(session: shards.Session, report: Report, found: Large, history: Asked) -> List[Event]:
+    """The events of the bad key, where it was judged to its end, with their lines in the file that was given."""
+    if report.key is None or not report.keys or report.keys[0].status in CUT:
+        return []
+    if history.made is None:
+        return large_key.events_of(session, report.key, found.path)
+    return turned.with_lines(history.made, large_key.events_of(session, report.key, None), found.path)
+
+
+def judged(given: Given, session: shards.Session, options: Options) -> List[Judged]:
+    """What comes of the shards: here, or on the cluster that is named."""
+    if given.dask is None:
+        return session.judged(options)
+    engine = functools.partial(judged_on, given.dask, threads=session.tools.sizes.threads, program=session.tools.program)
+    return judged_elsewhere(session, options, engine)
+
+
+def shown(recorded: Recorded, task: Task, report: Report, with_cause: bool, events: Sequence[Event]) -> Optional[causes.Shown]:
+    """What there is to show of the bad key, and tells it."""
+    line = report.keys[0] if report.keys else None
+    if line is None or line.status in CUT:
+        if line is not None:
+            say(CUT[line.status].format(line.key, line.index))
+        return None
+    if report.word == "illegal" and with_cause:
+        for hint in hints_of_order(events, task.options, line):
+            say(hint)
+    key = causes.shown(recorded, task, report, with_cause, events)
+    for text in key.lines if key else []:
+        command.write_error(text)
+    return key
+
+
+# --- The report ---
+
+
+def texts_of(path: str) -> Iterator[str]:
+    with open(path, encoding="ascii") as file:
+        yield from iter(lambda: file.read(CHUNK), "")
+
+
+def report_of(path: str, verdict: Verdict) -> Report:
+    """The report with the line of the bad key alone."""
+    event, key = verdict.found or (None, None)
+    line = next((line for line in lines_of(path) if line.startswith(f"key {key} ")), None) if key is not None else None
+    keys: List[KeyLine] = [key_line(line)] if line is not None and KEY_LINE.fullmatch(line) else []
+    text = "".join(f"{each}\n" for each in (line, verdict.line) if each is not None)
+    return Report(text, keys, verdict.line, verdict.word, key, event, verdict.status, "")
+
+
+def lines_of(path: str) -> Iterator[str]:
+    with open(path, encoding="ascii") as file:
+        for line in file:
+            yield line.rstrip("\n")
+
+
+# --- The model ---
+
+
+def chosen(tally: Tally, model: Optional[str], made: Optional[Turned] = None) -> Choice:
+    """The model of all keys: the one that is given, else the strictest that has all operations and answers that there are."""
+    if model is not None:
+        return Choice({}, model, "as --model says")
+    if made is not None and made.model is not None:
+        return Choice({}, made.model, by_operations(made.model, tally.names()))
+    names, answers = tally.names(), tally.number_of("read", "ok") - tally.reads_of_nil() - tally.sets
+    models = tally.models()
+    found = "set" if names == ["read"] and tally.sets else models[0] if models else ""
+    if not found or found in kinds.REGISTERS and tally.sets or found == "set" and answers > 0:
+        if made is not None and made.history.drained:
+            raise Refused("its keys are of several kinds, and of some all was drained, which has no order; say --model NAME")
+        return Choice({}, None, f"its keys are of several kinds, each judged by its own operations: {', '.join(names)}")
+    return Choice({}, found, by_operations(found, names))
+
+
+def of_bad_key(choice: Choice, report: Report) -> Choice:
+    """The choice with the model of the bad key, where each key has its own."""
+    if choice.common is not None or not report.keys:
+        return choice
+    return choice._replace(models={report.keys[0].key: report.keys[0].model})
+
+
+def by_operations(model: str, names: Sequence[str]) -> str:
+    """Why it is this model."""
+    other = ALIKE.get(model)
+    more = f"; the stricter of two: where no order was promised, say --model {other}" if other else ""
+    return f"by its operations: {', '.join(names)}{more}"
+
+
+# --- What is told ---
+
+
+def processes(number: int) -> str:
+    return f"by {number} processes side by side" if number > 1 else "by one process"
+
+
+def said(found: Large, history: Asked, tally: Tally, verdict: Verdict, task: Task) -> Iterator[str]:
+    """What the history was found to be."""
+    form = "jepmon's own form" if history.made is None else "Jepsen's form"
+    yield (f"{found.name}: {form}, {counted(tally.events, 'event')}, concurrency {task.options.concurrency:,}, "
+           f"{counted(verdict.keys, 'key')}")
+    outcomes = tally.outcomes()
+    for name in tally.names():
+        yield f"{name}: " + ", ".join(f"{outcomes[f'{name} {kind}']} {kind}" for kind in ("ok", "fail", "info"))
+    if not any(outcome.endswith(" ok") for outcome in outcomes):
+        yield "no operation is ok: nothing was judged"
+    yield f"model {task.choice.common}, {task.choice.reason}" if task.choice.common else task.choice.reason
+    if history.made is None and found.path is not None:
+        yield f"judged in shards: {task.again(found.path)}"
+    else:
+        yield f"judged in shards: {task.again('FILE')}, where FILE is history.edn of --out DIR"
+
+
+def nil_hints(tally: Tally, choice: Choice) -> Iterator[str]:
+    """Reads of a register that are answered by nil say nothing, unless nil is what a missing key answers."""
+    reads, of_nil = tally.number_of("read", "ok"), tally.reads_of_nil()
+    if choice.common not in kinds.REGISTERS or of_nil == 0:
+        return
+    if of_nil == reads:
+        yield f"NOTHING IS SAID OF WHAT A REGISTER HOLDS: each read is answered by nil, which fits whatever it holds: {of_nil}"
+    else:
+        yield f"reads answered by nil, which fits whatever a register holds: {of_nil} of {reads}"
+    yield "where nil is what a missing key answers, say --nil-is-absent, and they are judged"
+
+
+def hints_of_refusal(found: Large, line: str, options: Options) -> Iterator[str]:
+    """Why an event is refused, where it is near the front of a file of jepmon's own form."""
+    index = line.rpartition(" event ")[2]
+    if found.path is not None and found.is_own and index.isdigit() and int(index) < MOST_EVENTS and options.concurrency <= kinds.THREADS:
+        yield from explained(line, large_key.front_lines(found.path, int(index) + 1), Explained(options.concurrency, options.model))
+
+
+def hints_of_order(events: Sequence[Event], options: Options, line: KeyLine) -> Iterator[str]:
+    """Where a key that is illegal would be legal by a model with the same operations."""
+    other = ALIKE.get(line.model)
+    if other is None:
+        return
+    try:
+        asked = check(text_of(events, options.concurrency).encode(), as_asked(options)._replace(model=other), timeout=PATIENCE)
+    except ProgramError:
+        return
+    if asked.word == "legal":
+        yield f"key {line.key} is judged as a {line.model}, and is legal as an {other}: where no order was promised, say --model {other}"

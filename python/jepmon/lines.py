@@ -1,0 +1,97 @@
+"""The lines that the threads of a live test tell, in one order. While one thread awaits replies the others queue their lines, and the
+next one sends all of them together; an invocation, which changes no verdict, waits in the queue for the next line that is awaited."""
+from __future__ import annotations
+
+import _thread
+import threading
+from typing import Callable, List, Optional
+
+
+class End:
+    """What a completion ends."""
+
+    __slots__ = ("kind", "thread", "process", "name", "invoked", "counts", "is_lost")
+
+    def __init__(self, kind: str, thread: int, process: int, name: str, invoked: str, counts: bool) -> None:
+        self.kind = kind  # "ok", "fail" or "info", as it is told
+        self.thread, self.process, self.name = thread, process, name
+        self.invoked = invoked  # the part of its invocation
+        self.counts = counts  # not the write by which a key begins
+        self.is_lost = False  # whether it is an ok that is told as an info
+
+
+class Line:
+    """An event, or a command, which has no key."""
+
+    __slots__ = ("text", "key", "index", "end", "is_answered", "_ready", "_leads")
+
+    def __init__(self, text: str, key: Optional[int] = None, index: int = -1, end: Optional[End] = None) -> None:
+        self.text, self.key, self.index, self.end = text, key, index, end
+        self.is_answered = False
+        self._ready: Optional[_thread.LockType] = None  # is free once it is answered, or its thread leads
+        self._leads = False
+
+
+Answer = Callable[[List[Line]], None]
+
+
+class LineQueue:
+    """The caller has the lock, and has it again when a call returns."""
+
+    def __init__(self, lock: threading.Lock) -> None:
+        self.lines: List[Line] = []  # those that nobody has sent yet
+        self._lock = lock
+        self._is_led = False
+
+    def put(self, line: Line) -> None:
+        """Queues a line that nobody waits for."""
+        self.lines.append(line)
+
+    def ask(self, line: Line, answer: Answer) -> None:
+        """Queues a line, and returns when it was answered: by this thread, or by the one that leads. `answer` has the lines answered
+        that are next; it is called with the lock, and lets it go while it awaits replies."""
+        self.lines.append(line)
+        try:
+            if self._is_led:
+                self._wait(line)
+            if not line.is_answered:
+                self._is_led = line._leads = True
+                self._lead(answer)
+        except BaseException:  # as Ctrl-C: the line is told all the same, and the others must not wait for this thread
+            self._leave(line)
+            raise
+
+    def _wait(self, line: Line) -> None:
+        line._ready = _thread.allocate_lock()
+        line._ready.acquire()
+        self._lock.release()
+        try:
+            line._ready.acquire()
+        finally:
+            self._lock.acquire()
+
+    def _lead(self, answer: Answer) -> None:
+        lines, self.lines = self.lines, []
+        try:
+            answer(lines)
+        finally:
+            for line in lines:
+                line.is_answered = True
+                if line._ready is not None:
+                    line._ready.release()
+            self._hand_over()
+
+    def _hand_over(self) -> None:
+        """Lets the first thread that waits lead, if one does."""
+        for line in self.lines:
+            if line._ready is not None:
+                line._leads = True
+                line._ready.release()
+                return
+        self._is_led = False
+
+    def _leave(self, line: Line) -> None:
+        if not line.is_answered:
+            line._ready = None
+            if line._leads:
+                self._hand_over()

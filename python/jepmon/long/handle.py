@@ -1,0 +1,68 @@
+"""A handle of a test without an end: it goes on as long as the test, while the objects behind it are replaced."""
+from __future__ import annotations
+
+from typing import TYPE_CHECKING, List, Optional
+
+from .limits import Room
+from .objects import LongObject, Operations
+
+if TYPE_CHECKING:
+    from .operation import LongOperation
+    from .parts import Parts
+
+
+class Handle(Operations):
+    """LongMonitor.fresh makes it. Each block is an operation on one of its objects, whose name is op.name: a change goes to one that
+    is not replaced yet; of two reads one to an object that was, until it was read eight times since, for what a store has lost is seen by
+    reads alone; and a dequeue to one that was, until it was found empty twice. Where each object has its operations open already, a new
+    one comes beside them."""
+
+    def __init__(self, parts: Parts, model: str, room: Room) -> None:
+        self.model = model
+        self._parts, self._room = parts, room
+        self._current: List[LongObject] = []
+        self._replaced: List[LongObject] = []  # that are read once more
+
+    def _operation(self, name: str, part: str = "nil") -> LongOperation:
+        from .operation import LongOperation
+
+        return LongOperation(self._parts, self, name, part)
+
+    def release(self) -> LongOperation:
+        """Which of its locks would be given back?"""
+        raise ValueError("a lock is released with the object of its acquire: op.object.release(), where op was the acquire")
+
+    @property
+    def objects(self) -> List[LongObject]:
+        """Those that are still judged. At the end of the test, when its faults are over, read each of them once more."""
+        return self._parts.objects_of(self)
+
+    # --- The caller has the lock of the test ---
+
+    def choose(self, name: str) -> LongObject:
+        """The object of the next operation."""
+        self._replace()
+        if self._replaced and (name == "dequeue" or name == "read" and self._parts.draws.random() < 0.5):
+            one = self._drawn(self._replaced)
+            if one is not None:
+                return one
+        return self._drawn(self._current) or self._new()
+
+    def _replace(self) -> None:
+        if any(one.is_replaced for one in self._current):
+            self._replaced += [one for one in self._current if one.is_replaced]
+            self._current = [one for one in self._current if not one.is_replaced]
+        if any(one.is_over or one.is_read_enough for one in self._replaced):
+            for one in self._replaced:
+                one.part.waiting -= one.is_over or one.is_read_enough
+            self._replaced = [one for one in self._replaced if not (one.is_over or one.is_read_enough)]
+
+    def _drawn(self, objects: List[LongObject]) -> Optional[LongObject]:
+        """One that has room, from a place that is drawn; None where none has."""
+        place = self._parts.draws.randrange(len(objects)) if objects else 0
+        return next((one for one in objects[place:] + objects[:place] if one.has_room), None)
+
+    def _new(self) -> LongObject:
+        one = self._parts.new_object(self, self._room)
+        self._current.append(one)
+        return one

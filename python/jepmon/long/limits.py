@@ -1,0 +1,44 @@
+"""How much of one program a test without an end uses, and how much of one object."""
+from __future__ import annotations
+
+from typing import NamedTuple
+
+from .. import kinds
+
+MOST_EVENTS = kinds.EVENTS // 4 * 3  # so that a quarter more is left for what is read once more, and for what is open then
+
+
+class Limits(NamedTuple):
+    """Of one part of a test, which is one program."""
+
+    events: int  # after so many its objects are replaced
+    keys: int
+    threads: int  # operations that are open at once
+
+    @property
+    def last_events(self) -> int:
+        """After so many nothing more begins on an object that was replaced."""
+        return self.events + self.events // 4
+
+    @property
+    def share(self) -> int:
+        """Operations that are open at once by handles; the others are for objects that a client holds, as a lock to be released."""
+        return max(1, self.threads // 4 * 3)
+
+
+class Room(NamedTuple):
+    """Of one object, for the default budget (docs/GUIDE.md, Budgets)."""
+
+    timeouts: int  # after so many operations that timed out, and may yet take place, it is written to no more
+    at_once: int  # operations that are open, or have timed out
+
+
+def limits(events: int, keys: int, threads: int) -> Limits:
+    for name, given, most in (("events", events, MOST_EVENTS), ("keys", keys, len(kinds.KEYS)), ("concurrency", threads, kinds.THREADS)):
+        if isinstance(given, bool) or not isinstance(given, int) or not 1 <= given <= most:
+            raise ValueError(f"{name} of a part is a number from 1 to {most}, not {given!r}")
+    return Limits(events, keys, threads)
+
+
+def room(model: str) -> Room:
+    return Room(8, 12) if model == "mutex" else Room(3, 6)

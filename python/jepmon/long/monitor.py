@@ -1,0 +1,171 @@
+"""A live test without an end.
+
+    from jepmon import LongMonitor
+
+    with LongMonitor() as monitor:
+        register = monitor.fresh("register")
+
+        def client(number):
+            while time.monotonic() < end:
+                with register.write(number) as op:       # the block is the operation
+                    store.put(op.name, number)           # the name of the object that the handle has now
+                with register.read() as op:
+                    op.value = store.get(op.name)
+
+        monitor.run(client, 200)
+
+A handle goes on as long as the test. The object behind it is replaced from time to time by one of a new name, which the store has
+never seen; an operation ends on the object on which it began, so nothing stops for it. It is replaced where the program that judges
+it has had its events (new objects then go to a new program), where too many of its operations timed out, and where it is over its budget;
+and where all of its operations are taken, or all threads of its program, another one comes beside it. By locality a history is
+linearizable where each object's is, so the verdicts of the programs, one after another and side by side, are that of the test.
+"""
+from __future__ import annotations
+
+import contextlib
+import copy
+import datetime
+import os
+import pathlib
+import time
+from types import TracebackType
+from typing import Callable, Counter, Dict, Iterator, Optional, Type, Union
+
+from ..clients import run_clients
+from ..endings import Exceptions, endings
+from ..kinds import MODELS
+from ..notes import BEGIN, END, NOTE, folded
+from ..verdicts import NotLegal
+from .folder import LongFolder
+from .handle import Handle
+from .limits import limits, room
+from .parts import Parts
+from .settings import Settings
+from .tally import add_counts
+
+EVENTS = 1 << 18
+
+
+class LongMonitor:
+    """As Monitor, for any number of events, objects and clients. Any number of threads may use it, and coroutines. Of the words those that
+    Monitor has mean the same; a key over its budget is always left, and counted.
+
+    out      a folder, as "runs/": the run gets one of its own there, with a folder for each part, which is all that one program has judged
+    keep     so many legal parts stay in it, the newest; None: all. A part has some 20 megabytes
+    forget   is called with the name of each object that is judged no more, so that the store may delete it
+    events   after so many of a part its objects are replaced: the memory of the test goes with it
+    keys     objects of a part
+    """
+
+    def __init__(
+        self,
+        program: Union[str, "os.PathLike[str]", None] = None,
+        model: str = "register",
+        concurrency: int = 64,
+        budget: int = 4096,
+        expected: Exceptions = (),
+        timeout: float = 60.0,
+        failed: Exceptions = (),
+        out: Union[str, "os.PathLike[str]", None] = None,
+        keep: Optional[int] = None,
+        forget: Optional[Callable[[str], object]] = None,
+        events: int = EVENTS,
+        keys: int = 1 << 16,
+    ) -> None:
+        if keep is not None and keep < 0:
+            raise ValueError(f"keep is a number of parts, not {keep}")
+        begun, clock = datetime.datetime.now().astimezone(), time.monotonic_ns()
+        settings = Settings(program, model, budget, timeout, endings(expected, failed), begun, clock)
+        folder = LongFolder(out, begun, keep) if out is not None else None
+        self._model, self._folder = model, folder
+        self._parts = Parts(settings, limits(events, keys, concurrency), folder, forget)
+
+    def fresh(self, model: Optional[str] = None) -> Handle:
+        """A new object, as a handle. Its operations are blocks, as those of Monitor; its lock is released by op.object.release(), where op
+        was its acquire."""
+        model = self._model if model is None else model
+        if model not in MODELS:
+            raise ValueError(f"a model is one of {', '.join(MODELS)}, not {model!r}")
+        return Handle(self._parts, model, room(model))
+
+    # --- Clients and faults ---
+
+    def run(self, work: Callable[[int], object], threads: int) -> None:
+        """Does work(0) to work(threads - 1), each in a thread of its own. Raises what is not legal, else what one raised first. An
+        exception in one of them, and Ctrl-C, end each other one at its next operation or fault."""
+        run_clients(self._parts, work, threads)
+
+    def note(self, text: str) -> None:
+        """Notes a fault of a moment, as "kill n1", in the run's folder. It is judged nowhere."""
+        self._parts.note(NOTE, folded(text))
+
+    @contextlib.contextmanager
+    def fault(self, text: str) -> Iterator[None]:
+        """Notes a fault that holds as long as this block, as "cut n1 off". Where the test has ended it does not begin, and raises
+        what an operation would."""
+        text = folded(text)
+        self._parts.note(BEGIN, text)
+        try:
+            yield
+        finally:
+            self._parts.note(END, text)
+
+    # --- What has come of it ---
+
+    @property
+    def folder(self) -> Optional[pathlib.Path]:
+        """Of this run."""
+        return self._folder.path if self._folder is not None else None
+
+    @property
+    def length(self) -> int:
+        """How many events were told."""
+        with self._parts.lock:
+            return self._parts.tally.events + sum(part.length for part in self._parts.untallied)
+
+    @property
+    def parts(self) -> int:
+        """How many programs were begun."""
+        return self._parts.begun
+
+    @property
+    def failure(self) -> Optional[NotLegal]:
+        """What is not legal, once it was found."""
+        return self._parts.failure
+
+    @property
+    def unjudged(self) -> int:
+        """How many operations were not told, since their object was judged no more where they began."""
+        return self._parts.tally.unjudged
+
+    @property
+    def dropped(self) -> int:
+        """How many objects were over their budget, and so were judged up to there."""
+        with self._parts.lock:
+            return self._parts.tally.dropped + sum(len(part.dropped) for part in self._parts.untallied)
+
+    @property
+    def counts(self) -> Dict[str, Counter[str]]:
+        """How the operations ended, by name: {"read": Counter(ok=4, info=1), ..}. Only an ok is judged, so look at it at the end."""
+        with self._parts.lock:
+            counts: Dict[str, Counter[str]] = {}
+            for counted in [self._parts.tally.counts, *(part.counts() for part in self._parts.untallied)]:
+                add_counts(counts, counted)
+            return counts
+
+    # --- The end ---
+
+    def close(self) -> str:
+        """Ends the programs. Gives the final verdict: `legal` where all was judged and is; else the first reply that was not, with its
+        part, and, each on a line, what was not judged."""
+        return self._parts.close(None)
+
+    def __enter__(self) -> LongMonitor:
+        return self
+
+    def __exit__(
+        self, kind: Optional[Type[BaseException]], error: Optional[BaseException], trace: Optional[TracebackType]
+    ) -> None:
+        self._parts.close(error)
+        if error is None and self.failure is not None:
+            raise copy.copy(self.failure)

@@ -1,0 +1,106 @@
+"""An object of a test without an end: one key of one program, under a name that the store has not seen."""
+from __future__ import annotations
+
+from typing import TYPE_CHECKING, Optional
+
+from ..kinds import QUEUES
+from ..values import integer, told
+from .limits import Room
+
+if TYPE_CHECKING:
+    from .operation import LongOperation
+    from .part import Part
+    from .parts import Parts
+
+ANSWERS = 8  # so often an object that was replaced is read once more
+EMPTY = 2  # so often a queue that was replaced is found empty
+
+
+class Operations:
+    """The operations of an object, each a block; whoever has them says which object it is."""
+
+    def _operation(self, name: str, part: str = "nil") -> LongOperation:
+        raise NotImplementedError
+
+    def read(self) -> LongOperation:
+        """Of a register: set op.value to an integer, or None where it is missing. Of a set: to its members."""
+        return self._operation("read")
+
+    def write(self, value: Optional[int]) -> LongOperation:
+        return self._operation("write", integer(told(value)))
+
+    def cas(self, old: Optional[int], new: Optional[int]) -> LongOperation:
+        """Sets it to new where it is old. Where the store says that it was not: op.fail()."""
+        return self._operation("cas", f"[{integer(told(old))} {integer(told(new))}]")
+
+    def add(self, value: int) -> LongOperation:
+        return self._operation("add", integer(value))
+
+    def enqueue(self, value: int) -> LongOperation:
+        return self._operation("enqueue", integer(value))
+
+    def dequeue(self) -> LongOperation:
+        """Set op.value to the integer that came. None, for an empty queue, counts as op.fail()."""
+        return self._operation("dequeue")
+
+    def acquire(self) -> LongOperation:
+        """Takes a lock. Where somebody else holds it: op.fail(). Release it by op.object.release()."""
+        return self._operation("acquire")
+
+
+class LongObject(Operations):
+    """An object, as long as it is judged. A handle chooses among some; what belongs together is done with one of them: the release of
+    a lock with the object of its acquire, a cas with that of the read before it. The numbers change under the lock of the test."""
+
+    def __init__(self, parts: Parts, part: Part, key: int, name: str, model: str, room: Room) -> None:
+        self.part, self.key, self.name, self.model = part, key, name, model
+        self.open = 0  # operations
+        self.timeouts = 0  # operations that may yet take place
+        self._parts, self._room = parts, room
+        self._answers = 0  # since it was replaced
+
+    def release(self) -> LongOperation:
+        """Gives back a lock that was taken of this object."""
+        return self._operation("release")
+
+    def _operation(self, name: str, part: str = "nil") -> LongOperation:
+        from .operation import LongOperation
+
+        return LongOperation(self._parts, self, name, part)
+
+    # --- The caller has the lock of the test ---
+
+    def choose(self, _name: str) -> LongObject:
+        return self
+
+    @property
+    def is_over(self) -> bool:
+        """Whether it is judged no more."""
+        return self.part.is_shut or self.key in self.part.dropped
+
+    @property
+    def is_replaced(self) -> bool:
+        """Whether it is written to no more."""
+        return self.part.is_retired or self.timeouts >= self._room.timeouts or self.is_over
+
+    @property
+    def is_read_enough(self) -> bool:
+        """Since it was replaced. A lock has nothing to read."""
+        return self._answers >= (EMPTY if self.model in QUEUES else ANSWERS) or self.model == "mutex"
+
+    @property
+    def is_undrained(self) -> bool:
+        """Whether it is a queue that may hold something yet."""
+        return self.model in QUEUES and not self.is_read_enough and self.key not in self.part.dropped
+
+    @property
+    def has_room(self) -> bool:
+        """For an operation of a handle."""
+        return self.part.has_room and (self.open == 0 or self.open + self.timeouts < self._room.at_once)
+
+    def ended(self, name: str, outcome: Optional[str]) -> None:
+        """An operation of it has ended so."""
+        if outcome == "info" and name != "read":
+            self.timeouts += 1
+        if (name, outcome) in (("read", "ok"), ("dequeue", "fail")) and self.is_replaced:  # a queue is read to its end
+            self._answers += 1

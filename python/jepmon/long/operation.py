@@ -1,0 +1,101 @@
+"""One operation of a test without an end, from the beginning of its block to the end."""
+from __future__ import annotations
+
+from types import TracebackType
+from typing import TYPE_CHECKING, Optional, Type, Union
+
+from ..kinds import REGISTERS
+from ..operation import UNSET, Operation
+from ..values import Value
+from ..verdicts import NotLegal
+
+if TYPE_CHECKING:
+    from .handle import Handle
+    from .objects import LongObject
+    from .parts import Parts
+
+
+class LongOperation:
+    """As Operation. Its object is chosen where the block begins, and it ends there, whatever has come in its place."""
+
+    def __init__(self, parts: Parts, chooser: Union[Handle, LongObject], name: str, part: str) -> None:
+        self.value: Value = UNSET  # of a read or a dequeue: what it answered
+        self.outcome: Optional[str] = None  # "ok", "fail" or "info", once the block has ended
+        self.told = False  # whether jepmon was told of it: not where its object was judged no more
+        self._parts, self._chooser, self._name, self._part = parts, chooser, name, part
+        self._object: Optional[LongObject] = None
+        self._inner: Optional[Operation] = None
+        self._said: Optional[str] = None
+
+    @property
+    def object(self) -> LongObject:
+        """What it is done with, once the block has begun."""
+        if self._object is None:
+            raise ValueError("an operation has its object in its block alone")
+        return self._object
+
+    @property
+    def name(self) -> str:
+        """By which the store is to know the object."""
+        return self.object.name
+
+    def fail(self) -> None:
+        """The operation certainly did not take place."""
+        self._said = "fail"
+
+    def info(self) -> None:
+        """The operation may have taken place, or may yet, as after a timeout that raised nothing."""
+        self._said = "info"
+
+    def __enter__(self) -> LongOperation:
+        if self._object is not None:
+            raise ValueError(f"this {self._name} has had its block already: make one for each block")
+        one, telling = self._parts.begin(self._chooser, self._name)
+        self._object = one
+        self._inner = Operation(telling or Nobody(self._parts, one.model), self._name, one.key, self._part)
+        try:
+            self._inner.__enter__()
+            self.told = self._inner.told
+            return self
+        except NotLegal:
+            self._end()
+        except BaseException:
+            self._end()
+            raise
+        raise self._parts.not_legal()
+
+    def __exit__(
+        self, kind: Optional[Type[BaseException]], error: Optional[BaseException], trace: Optional[TracebackType]
+    ) -> bool:
+        inner = self._inner
+        assert inner is not None, "no block has begun"
+        inner.value, inner._said = self.value, self._said
+        try:
+            return inner.__exit__(kind, error, trace)
+        except NotLegal:
+            pass
+        finally:
+            self.outcome = inner.outcome
+            self._end()
+        raise self._parts.not_legal()
+
+    def _end(self) -> None:
+        inner, self._inner = self._inner, None  # an operation that a client keeps does not keep its program's events
+        if inner is not None and not isinstance(inner._telling, Nobody):
+            self._parts.end(self.object, self._name, self.outcome, self.told)
+
+
+class Nobody:
+    """In the place of a program that was closed: nothing is told, and operations end as they would."""
+
+    def __init__(self, parts: Parts, model: str) -> None:
+        self.endings, self._model = parts.endings, model
+
+    def invoke(self, name: str, key: int, part: str) -> Optional[int]:
+        return None
+
+    def complete(self, kind: str, thread: int, name: str, key: int, part: str, invoked: str) -> None:
+        raise AssertionError("no invocation was told")
+
+    def is_register(self, key: int) -> bool:
+        return self._model in REGISTERS

@@ -1,0 +1,103 @@
+"""One part of a test without an end: a program, and the objects that it judges."""
+from __future__ import annotations
+
+from typing import TYPE_CHECKING, Counter, Dict, List, Optional
+
+from ..exchange import Exchange
+from ..program import Options
+from ..record import Record
+from ..telling import Telling
+from ..verdicts import NotLegal, Unknown
+
+if TYPE_CHECKING:
+    from .folder import LongFolder
+    from .handle import Handle
+    from .limits import Limits
+    from .objects import LongObject
+    from .settings import Settings
+
+
+class Part:
+    """It is current; then retired, where each of its objects is replaced, and read a few times more; then shut, where nothing begins any
+    more; and closed, with its program, once nothing is open. The caller has the lock of the test, but where it is said."""
+
+    def __init__(self, number: int, settings: Settings, limits: Limits, folders: Optional[LongFolder]) -> None:
+        self.number, self.limits, self.model = number, limits, settings.model
+        options = Options(limits.threads, settings.model, settings.budget)
+        exchange = Exchange(options.words(), settings.timeout, settings.program)
+        try:
+            self.folder = folders.part(self.name, options, exchange.program) if folders is not None else None
+        except BaseException:
+            exchange.end()
+            raise
+        record = Record(None, self.folder, settings.clock)
+        self.telling: Optional[Telling] = Telling(exchange, record, options, "drop", settings.endings)  # until it is closed
+        self.telling.told.sources.are_new = True
+        self.objects: List[LongObject] = []
+        self.makers: List[Handle] = []  # of each object
+        self.open = 0  # operations
+        self.waiting = 0  # objects that are not replaced, or not read enough since
+        self.is_retired = False
+        self.is_shut = False
+
+    @property
+    def name(self) -> str:
+        return f"part-{self.number:04}"
+
+    @property
+    def length(self) -> int:
+        return self.telling.length if self.telling is not None else 0
+
+    @property
+    def failure(self) -> Optional[NotLegal]:
+        if self.telling is None or self.telling.failure is None:
+            return None
+        with self.telling.lock:  # then it is whole, with what may have been meant
+            return self.telling.failure
+
+    @property
+    def has_room(self) -> bool:
+        """For an operation of a handle."""
+        return self.open < self.limits.share
+
+    @property
+    def is_full(self) -> bool:
+        """Whether its objects are to be replaced."""
+        return self.length >= self.limits.events or len(self.objects) >= self.limits.keys
+
+    @property
+    def is_done(self) -> bool:
+        """Whether nothing more has to begin: its objects were read enough, or it has no place for more events."""
+        return self.is_retired and (self.waiting == 0 or self.length >= self.limits.last_events)
+
+    @property
+    def dropped(self) -> Dict[int, Unknown]:
+        """Objects that are over their budget, by key."""
+        return self.telling.dropped if self.telling is not None else {}
+
+    def counts(self) -> Dict[str, Counter[str]]:
+        """How its operations ended, by name."""
+        if self.telling is None:
+            return {}
+        with self.telling.lock:
+            return self.telling.told.counts()
+
+    def add(self, one: LongObject, maker: Handle) -> None:
+        assert self.telling is not None
+        if one.model != self.model:
+            self.telling.set_model(one.key, one.model)
+        with self.telling.lock:
+            self.telling.numbers[one.name] = one.key  # for the part's folder
+        self.objects.append(one)
+        self.makers.append(maker)
+        self.waiting += 1
+
+    def note(self, kind: str, text: str) -> None:
+        """Notes a fault, as long as there is something to be judged."""
+        if self.telling is not None and self.telling.failure is None:
+            self.telling.note(kind, text)
+
+    def leave(self) -> None:
+        """Its program was closed. What is kept of the part elsewhere, as an object that a client holds, keeps none of its events."""
+        self.telling = None
+        self.objects, self.makers = [], []

@@ -1,0 +1,20 @@
+"""What each part of a test without an end is begun with."""
+from __future__ import annotations
+
+import datetime
+import os
+from typing import NamedTuple, Union
+
+from ..endings import Endings
+
+
+class Settings(NamedTuple):
+    """Of each program, and of the run."""
+
+    program: Union[str, "os.PathLike[str]", None]
+    model: str
+    budget: int
+    timeout: float
+    endings: Endings
+    begun: datetime.datetime
+    clock: int  # by time.monotonic_ns, at which the run began

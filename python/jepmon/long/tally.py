@@ -1,0 +1,54 @@
+"""What has come of the parts of a test that are closed, in so many words as one of a day or of a minute has."""
+from __future__ import annotations
+
+import collections
+from typing import Counter, Dict, List, Optional
+
+from ..telling import Telling
+from ..verdicts import NotLegal
+from .part import Part
+
+FEW = 10  # objects that are named
+
+
+class Tally:
+    """The caller has the lock of the test."""
+
+    def __init__(self) -> None:
+        self.parts = 0
+        self.events = 0
+        self.objects = 0
+        self.counts: Dict[str, Counter[str]] = {}  # of outcomes, by operation
+        self.unjudged = 0  # operations that were not told
+        self.undrained = 0  # queues that were judged no more before they were found empty
+        self.also_illegal: Dict[str, str] = {}  # of other parts, which were found illegal before all had ended
+        self.dropped = 0  # objects that were over their budget
+        self.first_dropped: List[str] = []  # their names, and where
+
+    def add(self, part: Part, telling: Telling) -> None:
+        """A part was closed."""
+        self.parts += 1
+        self.events += telling.length
+        self.objects += len(part.objects)
+        add_counts(self.counts, telling.told.counts())
+        self.dropped += len(telling.dropped)
+        for key, unknown in list(telling.dropped.items())[:FEW - len(self.first_dropped)]:
+            self.first_dropped.append(f"{unknown.reply} of {part.name}: {part.objects[key].name}")
+
+    def verdict(self, failure: Optional[NotLegal], of: str) -> str:
+        """The line of the verdict, by itself where all was judged; else what was not, a line each."""
+        first = self.first_dropped[0].partition(":")[0] if self.first_dropped else "legal"
+        lines = [first if failure is None else failure.reply + (f" of {of}" if of else "")]
+        lines += [f"also {reply} of {part}" for part, reply in self.also_illegal.items()]
+        if self.dropped:
+            lines.append(f"not judged to their end: {self.dropped} objects that were over their budget, as {self.first_dropped[0]}")
+        if self.undrained:
+            lines.append(f"not judged to their end: {self.undrained} queues that may hold messages yet; let consumers keep up")
+        if self.unjudged:
+            lines.append(f"not judged: {self.unjudged} operations, which began on an object when it was judged no more")
+        return "\n".join(lines)
+
+
+def add_counts(counts: Dict[str, Counter[str]], more: Dict[str, Counter[str]]) -> None:
+    for name, outcomes in more.items():
+        counts.setdefault(name, collections.Counter()).update(outcomes)

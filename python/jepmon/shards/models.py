@@ -1,0 +1,47 @@
+"""The model of each key of a shard, where the keys of a history are of several kinds."""
+from __future__ import annotations
+
+from typing import Dict, Iterator, Tuple
+
+from ..forms.own import KeyFacts, possible
+from .by_key import FIELDS, Events
+from .doubt import ShardsError
+from .lines import of_code
+
+EACH = "each"  # in the place of a model: each key is what its own operations and answers say
+
+
+def by_model(keys: Dict[bytes, Events], model: str) -> Iterator[Tuple[str, Dict[bytes, Events]]]:
+    """The keys by their models; all of them are of one, but where it is each key's own."""
+    if model != EACH:
+        yield model, keys
+        return
+    groups: Dict[str, Dict[bytes, Events]] = {}
+    for key in list(keys):
+        events = keys.pop(key)
+        groups.setdefault(model_of(key.decode(), events), {})[key] = events
+    yield from groups.items()
+
+
+def model_of(key: str, events: Events) -> str:
+    """The model of a key: the strictest that has all its operations and answers."""
+    facts = facts_of(events)
+    models = possible(facts)
+    if not models:
+        names = " and ".join(sorted(facts.names))
+        raise ShardsError(f"key {key} has {names}, which no object has together; --model NAME judges it all the same")
+    if models == ["set"] and facts.reads > facts.reads_of_nil + facts.reads_of_sets:
+        raise ShardsError(f"key {key} has adds, and reads answered by integers: this is a counter, which jepmon does not judge")
+    return models[0]
+
+
+def facts_of(events: Events) -> KeyFacts:
+    facts = KeyFacts()
+    for part, code in zip(events[0::FIELDS], events[1::FIELDS]):
+        kind, _, name = of_code(code)
+        facts.names.add(name.decode())
+        if kind == b"ok" and name == b"read":
+            facts.reads += 1
+            facts.reads_of_nil += part == b"nil"
+            facts.reads_of_sets += part.startswith(b"#")
+    return facts

@@ -1,0 +1,146 @@
+"""A check of one history, step by step: its file is read by shards, then these are judged, and what is known of them is joined.
+
+What is read quickly and is in doubt is read exactly, once: then it is refused, or the same events stand in a file of their own, plainly
+written, with which the check goes on.
+"""
+from __future__ import annotations
+
+import os
+from typing import Any, BinaryIO, List, NamedTuple, Optional, Sequence
+
+from ..program import Options
+from .batches import batches_of
+from .by_key import FIELDS, events_of
+from .doubt import Doubt, ShardsError
+from .judging import Judged, ShardTask, judge_shard
+from .lines import of_code
+from .progress import Progress
+from .refusal import first_refusal
+from .report import Verdict, merged, verdict_of, write_report
+from .shard import Shard, shards_of
+from .sizes import Sizes
+from .source import File, file_of
+from .tally import Tally
+from .team import Team
+from .threads import FRONT, fewest_threads
+
+
+class Refused(Exception):
+    """The line of a refusal."""
+
+
+class Tools(NamedTuple):
+    """What a check works with."""
+
+    program: str
+    folder: str  # for temporary files
+    team: Team
+    sizes: Sizes
+    progress: Progress
+
+
+class KeyEvent(NamedTuple):
+    """An event of one key, with its index in the history."""
+
+    place: int
+    kind: str
+    process: int
+    name: str
+    part: str
+
+
+class Session:
+    """One history."""
+
+    def __init__(self, file: File, options: Options, tools: Tools, finds_threads: bool = False) -> None:
+        self.file, self.options, self.tools = file, options, tools
+        self.original = file
+        self.tally = Tally()
+        self.shards: List[Shard] = []
+        self._finds_threads = finds_threads
+        self._has_read = self._is_plain = False
+        if finds_threads:
+            self._find_threads(FRONT)
+
+    def read(self) -> None:
+        """The first pass; Refused where an event is, as far as that is seen without the program."""
+        while not self._has_read:
+            file, tools = self.file, self.tools
+            try:
+                sizes = tools.sizes.for_jobs(file.length, tools.team.jobs)
+                self.shards, self.tally = shards_of(file.path, file.length, self.options, tools.folder, tools.team, sizes, tools.progress)
+                self._has_read = True
+            except Doubt as doubt:
+                if not self._finds_threads or not self._find_threads(file.length):
+                    self.read_exactly(doubt)
+        self._test_unchanged()
+
+    def judged(self, options: Options) -> List[Judged]:
+        """The second pass: what the program says of the shards, by these options."""
+        while True:
+            self.read()
+            tasks = [ShardTask(shard.sources, shard.number, shard.name, self.tools.folder, options, self.tools.program, self.tools.sizes)
+                     for shard in self.shards]
+            try:
+                found = self.tools.progress.over("judged", self.tools.team.run(judge_shard, tasks), len(tasks))
+                return [judged for _, judged in found]
+            except Doubt as doubt:
+                self.read_exactly(doubt)
+
+    def report(self, judged: Sequence[Judged], out: BinaryIO) -> Verdict:
+        """Writes the report, and gives the verdict."""
+        verdict = verdict_of(judged)
+        write_report(merged([result.path for result in judged], self.tools.folder, self.tools.sizes), verdict.line, out)
+        return verdict
+
+    def events_of(self, key: int) -> List[KeyEvent]:
+        """The events of a key, as far as they are judged."""
+        name = b"%d" % key
+        for shard in self.shards:
+            keys, rests = events_of(shard.sources, shard.number, self.tools.sizes.events)
+            if name in keys:
+                events = keys[name]
+                batch = next(batches_of({name: events}, {name: rests[name]} if name in rests else {}, self.tools.sizes))
+                return [key_event(*events[at:at + FIELDS]) for at in range(0, batch.keys[0].judged * FIELDS, FIELDS)]
+        return []
+
+    def read_exactly(self, doubt: Doubt) -> None:
+        """Reads the history exactly: Refused, or it goes on with a file of the same events."""
+        if self._is_plain:
+            raise ShardsError(f"jepmon and this package differ on this history, which is not judged: {doubt}") from doubt
+        self.tools.team.stop()
+        self.tools.progress.say("reads event by event")
+        path = os.path.join(self.tools.folder, "plain.edn")
+        with open(path, "wb") as plain:
+            line = first_refusal(self.file.path, self.options.concurrency, plain)
+        self.tools.progress.clear()
+        self._test_unchanged()
+        if line is not None:
+            raise Refused(line)
+        self.file, self._is_plain, self._has_read = file_of(path), True, False
+
+    def _find_threads(self, length: int) -> bool:
+        """Finds the concurrency by so much of the history; whether it is another one then."""
+        self._finds_threads = length < self.file.length
+        found: Optional[int] = fewest_threads(self.file.path, min(length, self.file.length), self.tools.sizes)
+        before = self.options.concurrency
+        self.options = self.options._replace(concurrency=before if found is None else found)
+        return self.options.concurrency != before
+
+    def _test_unchanged(self) -> None:
+        if not self.file.is_unchanged():
+            raise ShardsError(f"{self.file.path} has changed while it was read: nothing is judged")
+
+
+def key_event(part: bytes, code: int, place: int) -> KeyEvent:
+    kind, process, name = of_code(code)
+    return KeyEvent(place, kind.decode(), process, name.decode(), part.decode())
+
+
+def value_of(part: str) -> Any:
+    """A part in Python: None, an integer, the two of a cas, the set that a read answers."""
+    if part.startswith("#{"):
+        return frozenset(map(int, part[2:-1].split()))
+    if part.startswith("["):
+        return tuple(map(int, part[1:-1].split()))
+    return None if part == "nil" else int(part)

@@ -1,0 +1,82 @@
+"""What the events of a history are, counted in the first pass: how many of each type and operation, and how many parts are nil."""
+from __future__ import annotations
+
+import collections
+from typing import Counter, Dict, Iterable, List, NamedTuple, Sequence
+
+from ..kinds import MODELS, OPERATIONS, WITHOUT_PART
+from .lines import KIND_BITS, NAME_BITS, of_code
+
+SORT = (1 << KIND_BITS + NAME_BITS) - 1  # of a code: the type and the operation, without the process
+
+
+class Tally(NamedTuple):
+    """The counts of a history."""
+
+    events: int = 0  # those of the nemesis too
+    sorts: Dict[int, int] = {}  # of the events of clients: by type and operation, as a code without a process
+    nils: int = 0  # parts of theirs that are nil
+    sets: int = 0  # parts of theirs that are sets
+
+    def number_of(self, name: str, kind: str) -> int:
+        """How many events there are of this operation and type."""
+        return sum(number for sort, number in self.sorts.items() if of_code(sort)[::2] == (kind.encode(), name.encode()))
+
+    def outcomes(self) -> Counter[str]:
+        """How operations ended, as "read ok"."""
+        ended = {f"{name} {kind}": self.number_of(name, kind) for name in self.names() for kind in ("ok", "fail", "info")}
+        return collections.Counter({outcome: number for outcome, number in ended.items() if number})
+
+    def names(self) -> List[str]:
+        """The operations that there are."""
+        found = {of_code(sort)[2].decode() for sort in self.sorts}
+        return sorted(found)
+
+    def models(self) -> List[str]:
+        """The models that have all these operations, the stricter ones first."""
+        return [model for model, operations in MODELS.items() if operations.issuperset(self.names())]
+
+    def reads_of_nil(self) -> int:
+        """How many reads were answered by nil: the parts that are nil, but for those that each event of some operations has."""
+        always = sum(self.number_of(name, kind) for name in WITHOUT_PART for kind in ("invoke", "fail", "info"))
+        always += sum(self.number_of(name, "ok") for name in WITHOUT_PART if name in ("acquire", "release"))
+        return self.nils - always
+
+
+def total(tallies: Iterable[Tally]) -> Tally:
+    """The counts of several parts of a history."""
+    events = nils = sets = 0
+    sorts: Counter[int] = collections.Counter()
+    for tally in tallies:
+        events, nils, sets = events + tally.events, nils + tally.nils, sets + tally.sets
+        sorts.update(tally.sorts)
+    return Tally(events, dict(sorts), nils, sets)
+
+
+class Counting:
+    """Counts events as they go by."""
+
+    def __init__(self) -> None:
+        self._codes: Counter[int] = collections.Counter()
+        self._sorts: Counter[int] = collections.Counter()
+        self._nils = 0
+        self._sets = 0
+
+    def take(self, codes: Sequence[int], parts: bytes) -> None:
+        """Counts events of clients: their codes, and their parts, one a line."""
+        self._codes.update(codes)
+        self._nils += parts.count(b"nil")
+        self._sets += parts.count(b"#")
+
+    def forget(self) -> None:
+        """Forgets the codes, of which a long history has many, for the sorts."""
+        for code, number in self._codes.items():
+            self._sorts[code & SORT] += number
+        self._codes.clear()
+
+    def tally(self, events: int) -> Tally:
+        self.forget()
+        return Tally(events, dict(self._sorts), self._nils, self._sets)
+
+
+assert len(OPERATIONS) <= 1 << NAME_BITS

@@ -1,0 +1,41 @@
+"""How many threads the processes of a file have, by its front or by all of it (see jepmon.lives)."""
+from __future__ import annotations
+
+from typing import Dict, Iterable, Optional, Tuple
+
+from ..lives import Lives
+from .doubt import Doubt
+from .lines import HEAD, Row, rows_of
+from .pieces import PieceTask, blocks_of
+from .sizes import Sizes
+
+FRONT = 4 << 20  # bytes of the front that is looked at first
+
+
+class Heads(Dict[bytes, Tuple[int, bool]]):
+    """The process of an event, and whether it crashes, by the head of its line."""
+
+    def __missing__(self, text: bytes) -> Tuple[int, bool]:
+        match = HEAD.fullmatch(text)
+        if match is None:
+            raise Doubt
+        head = self[text] = int(match.group(2)), match.group(1) == b"info"
+        return head
+
+
+def tell(lives: Lives, rows: Iterable[Row]) -> None:
+    heads = Heads()
+    for _, text, _, _, _ in rows:
+        if text:
+            lives.tell(*heads[text])
+
+
+def fewest_threads(path: str, length: int, sizes: Sizes = Sizes()) -> Optional[int]:
+    """The fewest threads that fit the events that begin within so much of a file; None where none do, or the lines can't be read here."""
+    lives = Lives()
+    try:
+        for block in blocks_of(PieceTask(path, 0, length, 1, 1, "", sizes)):
+            tell(lives, rows_of(block))
+    except Doubt:
+        return None
+    return lives.fewest()
