@@ -1,5 +1,5 @@
 """A redis-server of its own for an example, on a free port of this machine alone, and a client of it. It needs `redis-server`
-on the PATH, and no package.
+on the PATH. `jepmon-test redis` does more: this is what a test of your own begins with.
 
     with Server() as primary, Server(primary) as replica:
         client = Client(primary.port)
@@ -14,68 +14,18 @@ import tempfile
 import time
 import traceback
 from types import TracebackType
-from typing import Any, Callable, Optional, Type, Union
+from typing import Callable, Optional, Type
+
+from jepmon.testing.wire.resp import Redis as Client
+from jepmon.testing.wire.resp import RedisError
+
+__all__ = ["Client", "NotInstalled", "RedisError", "Server", "status_of"]
 
 ADDRESS = "127.0.0.1"
 
 
 class NotInstalled(Exception):
     """There is no redis-server on the PATH."""
-
-
-class RedisError(Exception):
-    """An answer of the server that is an error."""
-
-
-class Client:
-    """A connection. After a timeout it is made anew, so that a late answer is not taken for the next one. It tries nothing again,
-    so that a ConnectionRefusedError says that nothing was sent."""
-
-    def __init__(self, port: int, timeout: float = 0.5) -> None:
-        self.port, self.timeout = port, timeout
-        self.stream: Any = None
-
-    def call(self, *words: Union[str, int]) -> Any:
-        """The server's answer to a command: an integer, bytes, a list of them, or None."""
-        try:
-            if self.stream is None:
-                self.stream = socket.create_connection((ADDRESS, self.port), self.timeout).makefile("rwb")
-            self.stream.write(request(words))
-            self.stream.flush()
-            return self.answer()
-        except OSError:
-            self.close()
-            raise
-
-    def answer(self) -> Any:
-        line = self.stream.readline()
-        if not line.endswith(b"\r\n"):
-            raise ConnectionError("the server has closed the connection")
-        kind, rest = line[:1], line[1:-2]
-        if kind == b"-":
-            raise RedisError(rest.decode())
-        if kind == b"+":
-            return rest
-        number = int(rest)
-        if kind == b":" or number < 0:
-            return number if kind == b":" else None
-        if kind == b"*":
-            return [self.answer() for _ in range(number)]
-        return self.stream.read(number + 2)[:-2]
-
-    def close(self) -> None:
-        stream, self.stream = self.stream, None
-        if stream is not None:
-            try:
-                stream.close()
-            except OSError:
-                pass
-
-
-def request(words: Any) -> bytes:
-    """A command in the protocol of Redis: its words, each with its length."""
-    parts = [str(word).encode() for word in words]
-    return b"*%d\r\n" % len(parts) + b"".join(b"$%d\r\n%s\r\n" % (len(part), part) for part in parts)
 
 
 class Server:

@@ -5,12 +5,14 @@ import importlib
 import sys
 from typing import List
 
+MODULES = {"test": "testing"}  # where a tool has another name than its module
 TOOLS = {
     "judge": "judges a recorded history, and says why it is illegal",
     "shards": "a history as shards in a folder, which are judged elsewhere, and joined",
     "explain": "runs a check, and shows the file's own events beside its last line",
     "from-jepsen": "turns a recorded Jepsen history into one that jepmon reads",
     "from-json": "turns JSON lines into a history that jepmon reads",
+    "test": "tests a real server under faults, judged live",
 }
 
 
@@ -33,7 +35,7 @@ def main(words: List[str]) -> int:
         sys.stderr.write(f"jepmon: {named}; there are {', '.join(TOOLS)}\n")
         return 3
     sys.argv = [sys.argv[0], *words[1:]]
-    module = importlib.import_module("jepmon." + words[0].replace("-", "_"))
+    module = importlib.import_module("jepmon." + MODULES.get(words[0], words[0].replace("-", "_")))
     status: int = module.main()
     return status
 

@@ -135,7 +135,8 @@ def run_check(words: List[str], raw: Optional[bytes] = None, program: Optional[s
 
 def report_of(output: str, error: str, status: int) -> Report:
     """What a check has printed, taken apart. Where its output is empty, the refusal is on standard error."""
-    lines = output.splitlines() or error.splitlines() or ["refused"]
+    refusals = [line for line in error.splitlines() if line.startswith("refused ")]  # what is usually the cause stands behind it
+    lines = output.splitlines() or refusals or error.splitlines() or ["refused"]
     keys = [key_line(match) for match in map(KEY_LINE.fullmatch, lines) if match]
     found = VERDICT.match(lines[-1])
     key = int(found.group(1)) if found and found.group(1) else None

@@ -200,6 +200,7 @@ class Together(Monitored):
 
             def counted(lines: List[str], timeout: Optional[float] = None) -> List[str]:
                 sent.append(len(lines))
+                time.sleep(0.002)  # so long that others have lines
                 return replies(lines, timeout)
 
             monitor._telling._exchange.replies = counted  # type: ignore[method-assign]

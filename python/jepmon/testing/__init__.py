@@ -1,0 +1,24 @@
+"""`jepmon-test`: real servers under real faults, judged live by the proved program; and what a server of one's own needs for it.
+
+    from jepmon.testing import Client, Server        # as in template.py, which `jepmon-test template` prints
+
+server.py   what a server is to the test; servers/ has Redis, etcd, PostgreSQL and RabbitMQ, and wire/ their protocols
+cluster.py  the nodes (node.py), the links between them (links.py, proxy.py), and that none is left behind (guard.py)
+strikes.py  what is done to them, and when
+run.py      a whole test: workloads.py says what clients do, generators.py when
+"""
+from __future__ import annotations
+
+from typing import List, Optional
+
+from .errors import ServerError
+from .node import ADDRESS, Node
+from .server import Client, Plant, Server
+
+__all__ = ["ADDRESS", "Client", "Node", "Plant", "Server", "ServerError", "main"]
+
+
+def main(words: Optional[List[str]] = None) -> int:
+    from .tool import main as test
+
+    return test(words)

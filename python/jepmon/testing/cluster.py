@@ -1,0 +1,128 @@
+"""The nodes of a test: in a folder of their own, with ports of their own, all gone when it ends."""
+from __future__ import annotations
+
+import contextlib
+import os
+import pathlib
+import random
+import tempfile
+import threading
+from types import TracebackType
+from typing import List, Optional, Type
+
+from .guard import Guard
+from .links import CLIENTS, Links
+from .node import Node, Ports
+from .server import Server
+
+SLOW = 0.05  # seconds by which a slow link is slower, each way
+
+
+class Cluster:
+    """It starts with its block. `links`: whether others reach the nodes by links that can be cut."""
+
+    def __init__(self, kind: Type[Server], model: str, plant: str, size: int, logs: pathlib.Path, links: bool,
+                 patience: float = 0.0) -> None:
+        self._ended = contextlib.ExitStack()
+        self.stopped = threading.Event()  # nobody waits any more for a node to be ready
+        try:
+            folder = pathlib.Path(tempfile.mkdtemp(prefix="jepmon-test-"))
+            folder.chmod(0o755)  # a node's user reaches its own folder in it
+            guard = Guard(folder)
+            self._ended.callback(guard.end)
+            ports = Ports(random.Random(os.urandom(8)))
+            self.nodes: List[Node] = []
+            for number in range(size):
+                name = f"n{number + 1}"
+                (folder / name).mkdir()
+                self.nodes.append(Node(number, folder / name, logs / f"{name}.log", {port: ports.free() for port in kind.ports}, guard))
+            self.links: Optional[Links] = Links(self.nodes, ports) if links else None
+            if self.links is not None:
+                self._ended.callback(self.links.end)
+            self.server = kind(self.nodes, model, plant)
+            self.server.patience = patience or self.server.patience
+        except BaseException:
+            self._ended.close()
+            raise
+
+    def __enter__(self) -> Cluster:
+        try:
+            for node in self.nodes:
+                self.server.prepare(node)
+                node.words = self.server.command(node)
+                self._start(node)
+                if self.server.in_turn:
+                    self.wait_until_ready(node)
+            self.wait_until_all_ready()
+            self.server.begun()
+        except BaseException:
+            self.end()
+            raise
+        return self
+
+    def __exit__(
+        self, kind: Optional[Type[BaseException]], error: Optional[BaseException], trace: Optional[TracebackType]
+    ) -> None:
+        self.end()
+
+    def end(self) -> None:
+        """Kills all nodes and removes their folders."""
+        for node in self.nodes:
+            node.kill()
+        self._ended.close()
+
+    def _start(self, node: Node) -> None:
+        node.start()
+        if self.links is not None:
+            self.links.started(node)
+            self.links.up(node)
+
+    def wait_until_ready(self, node: Node) -> None:
+        node.wait_until(lambda: self.server.ready(node), self.server.patience, "was not ready", self.stopped)
+
+    # --- What strikes do ---
+
+    def kill(self, node: Node) -> None:
+        node.kill()
+        if self.links is not None:
+            self.links.down(node)
+
+    def restart(self, node: Node) -> None:
+        """It is ready some time later: while the others are cut off it may have to wait for them."""
+        self._start(node)
+
+    def pause(self, node: Node) -> None:
+        node.pause()
+
+    def go_on(self, node: Node) -> None:
+        node.go_on()
+
+    def cut(self, node: Node) -> None:
+        """Clients do not reach it any more; other nodes do."""
+        self._links().cut(node.name, [CLIENTS])
+
+    def part(self, node: Node) -> None:
+        """The other nodes do not reach it any more; clients do."""
+        self._links().cut(node.name, self._others(node))
+
+    def slow(self, node: Node) -> None:
+        self._links().slow(node.name, [CLIENTS, *self._others(node)], SLOW)
+
+    def mend(self, node: Node) -> None:
+        self._links().open(node.name, [CLIENTS, *self._others(node)])
+
+    def _links(self) -> Links:
+        assert self.links is not None, "a strike on links in a cluster without any"
+        return self.links
+
+    def _others(self, node: Node) -> List[str]:
+        return [other.name for other in self.nodes if other is not node]
+
+    def test_alive(self) -> None:
+        for node in self.nodes:
+            node.test_alive()
+
+    def wait_until_all_ready(self) -> None:
+        """Where nothing strikes any more."""
+        for node in self.nodes:
+            self.wait_until_ready(node)

@@ -1,0 +1,18 @@
+"""What ends a test of a server without a verdict: one line, and status 3."""
+from __future__ import annotations
+
+import pathlib
+import traceback
+from typing import Optional
+
+
+class ServerError(Exception):
+    """A server is missing, does not start, has died by itself, or does not answer; or the command line asks for what is not there."""
+
+
+def where(fault: BaseException, path: Optional[pathlib.Path] = None) -> str:
+    """What an exception says, and the line of the user's file, or else of this package, that it is of."""
+    frames = traceback.extract_tb(fault.__traceback__)
+    own = [frame for frame in frames if path is not None and pathlib.Path(frame.filename).resolve() == path.resolve()]
+    line = "".join(f" ({pathlib.Path(frame.filename).name}, line {frame.lineno})" for frame in (own or list(frames))[-1:])
+    return f"{type(fault).__name__}: {' '.join(str(fault).split())}{line}"

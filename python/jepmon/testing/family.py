@@ -1,0 +1,59 @@
+"""A process and all that it has started: servers like PostgreSQL and RabbitMQ are many processes, each in a session of its own."""
+from __future__ import annotations
+
+import os
+import signal
+from typing import Dict, List
+
+ROUNDS = 8  # in which a family that forks is stopped
+
+
+def family(pid: int) -> List[int]:
+    """The process and all its descendants, parents first."""
+    children: Dict[int, List[int]] = {}
+    for name in os.listdir("/proc"):
+        if name.isdigit():
+            children.setdefault(parent_of(int(name)), []).append(int(name))
+    found = [pid]
+    for member in found:
+        found += children.get(member, [])
+    return found
+
+
+def parent_of(pid: int) -> int:
+    """The parent, or -1 where there is no such process."""
+    try:
+        with open(f"/proc/{pid}/stat", encoding="ascii", errors="replace") as file:
+            return int(file.read().rpartition(")")[2].split()[1])
+    except (OSError, IndexError, ValueError):
+        return -1
+
+
+def stop_family(pid: int) -> List[int]:
+    """Stops each of them (SIGSTOP) before any of them can start one more."""
+    members: List[int] = []
+    for _ in range(ROUNDS):
+        found = family(pid)
+        if found == members:
+            break
+        members = found
+        _send(members, signal.SIGSTOP)
+    return members
+
+
+def continue_family(pid: int) -> None:
+    """Lets each of them go on, children first: a parent that found them stopped may do something about it."""
+    _send(list(reversed(family(pid))), signal.SIGCONT)
+
+
+def kill_family(pid: int) -> None:
+    """Kills all of them (SIGKILL) at about one moment."""
+    _send(stop_family(pid), signal.SIGKILL)
+
+
+def _send(pids: List[int], number: signal.Signals) -> None:
+    for pid in pids:
+        try:
+            os.kill(pid, number)
+        except (ProcessLookupError, PermissionError):
+            pass

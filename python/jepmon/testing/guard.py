@@ -1,0 +1,71 @@
+"""Leaves no server behind, however the test ends: a process of its own, which kills what is still there when the test has gone.
+
+It reads lines, `+ PID`, `- PID` and `folder PATH`, and acts when its standard input ends: also where the test was killed by SIGKILL.
+"""
+from __future__ import annotations
+
+import os
+import pathlib
+import shutil
+import subprocess
+import sys
+from typing import List, Set
+
+from .family import kill_family
+
+
+class Guard:
+    """The test's side of it."""
+
+    def __init__(self, folder: pathlib.Path) -> None:
+        self._process = subprocess.Popen(module("guard"), stdin=subprocess.PIPE, start_new_session=True, env=environment())
+        self._tell(f"folder {folder}")
+
+    def watch(self, pid: int) -> None:
+        self._tell(f"+ {pid}")
+
+    def leave(self, pid: int) -> None:
+        self._tell(f"- {pid}")
+
+    def end(self) -> None:
+        """Whatever is still watched is killed, and the folder removed, before this returns."""
+        assert self._process.stdin is not None
+        self._process.stdin.close()
+        self._process.wait()
+
+    def _tell(self, line: str) -> None:
+        assert self._process.stdin is not None
+        self._process.stdin.write(line.encode() + b"\n")
+        self._process.stdin.flush()
+
+
+def module(name: str) -> List[str]:
+    """The words that run a module of this package as a process."""
+    return [sys.executable, "-m", f"{__package__}.{name}"]
+
+
+def environment() -> "dict[str, str]":
+    """The environment in which this package is found."""
+    top = str(pathlib.Path(__file__).resolve().parents[2])
+    return {**os.environ, "PYTHONPATH": os.pathsep.join(part for part in (top, os.environ.get("PYTHONPATH", "")) if part)}
+
+
+def main() -> None:
+    watched: Set[int] = set()
+    folders: List[str] = []
+    for line in sys.stdin:
+        sign, _, rest = line.rstrip("\n").partition(" ")
+        if sign == "folder":
+            folders.append(rest)
+        elif sign == "+":
+            watched.add(int(rest))
+        else:
+            watched.discard(int(rest))
+    for pid in watched:
+        kill_family(pid)
+    for folder in folders:
+        shutil.rmtree(folder, ignore_errors=True)
+
+
+if __name__ == "__main__":
+    main()

@@ -1,0 +1,178 @@
+"""A node: one server process, or a family of them, with a folder, ports and a log of its own. It may be killed, paused and started."""
+from __future__ import annotations
+
+import os
+import pathlib
+import random
+import socket
+import subprocess
+import threading
+import time
+from typing import TYPE_CHECKING, Callable, Dict, List, Optional, Sequence
+
+from .errors import ServerError
+from .family import continue_family, kill_family, stop_family
+
+if TYPE_CHECKING:
+    from .guard import Guard
+
+ADDRESS = "127.0.0.1"
+GLANCE = 0.1  # seconds between two looks
+LAST_LINES = 3  # of a log, in an error
+
+
+class Node:
+    """`ports` are where the server listens, by the names that its Server class gives; `reach` where others reach it: through the
+    link that may be cut, where there is one. `folder` is for its data, and stays when it is killed."""
+
+    def __init__(self, number: int, folder: pathlib.Path, log: pathlib.Path, ports: Dict[str, int], guard: Guard) -> None:
+        self.number, self.name, self.folder, self.log, self.ports = number, f"n{number + 1}", folder, log, ports
+        self.reach = dict(ports)
+        self.user: Optional[str] = None  # by whom it is run, where it must not be root
+        self.environment: Dict[str, str] = {}
+        self.words: List[str] = []
+        self._guard = guard
+        self._process: Optional["subprocess.Popen[bytes]"] = None
+        self._lock = threading.RLock()
+
+    @property
+    def port(self) -> int:
+        """Where clients reach it."""
+        return self.reach["client"]
+
+    @property
+    def pid(self) -> Optional[int]:
+        return self._process.pid if self._process is not None else None
+
+    # --- Its process ---
+
+    def start(self) -> None:
+        """Starts it; it may take some time until it answers."""
+        with self._lock, open(self.log, "ab") as log:
+            try:
+                process = subprocess.Popen(
+                    as_user(self.user, self.words), stdin=subprocess.DEVNULL, stdout=log, stderr=subprocess.STDOUT, start_new_session=True,
+                    cwd=self.folder, env={**os.environ, **self.environment})
+            except OSError as fault:
+                raise ServerError(f"{self.name} can't be started: {self.words[0]}: {fault.strerror}") from fault
+            self._process = process
+            self._guard.watch(process.pid)
+
+    def kill(self) -> None:
+        """By SIGKILL, all its processes at once, so that none can write anything down any more."""
+        with self._lock:
+            if self._process is not None:
+                kill_family(self._process.pid)
+                self._process.wait()
+                self._guard.leave(self._process.pid)
+                self._process = None
+
+    def pause(self) -> None:
+        with self._lock:
+            if self._process is not None:
+                stop_family(self._process.pid)
+
+    def go_on(self) -> None:
+        with self._lock:
+            if self._process is not None:
+                continue_family(self._process.pid)
+
+    def test_alive(self) -> None:
+        """Raises where it has ended without being told to."""
+        with self._lock:
+            status = self._process.poll() if self._process is not None else None
+        if status is not None:
+            raise ServerError(f"{self.name} has died by itself, {ended(status)}{self.said()}")
+
+    # --- Waiting ---
+
+    def wait_until(self, ready: Callable[[], object], seconds: float, what: str, stopped: Optional[threading.Event] = None) -> None:
+        """Tries until it does not raise. Raises where the time is up, or the node has died."""
+        end = time.monotonic() + seconds
+        while True:
+            self.test_alive()
+            try:
+                ready()
+                return
+            except Exception as fault:  # whatever it is, it is not ready
+                if time.monotonic() > end:
+                    raise ServerError(f"{self.name} {what} for {seconds:g} s ({one_line(fault)}){self.said()}") from fault
+            if stopped is not None and stopped.is_set():
+                return
+            time.sleep(GLANCE)
+
+    def accepts(self, name: str = "client") -> None:
+        """Raises an OSError where it does not listen at this port."""
+        socket.create_connection((ADDRESS, self.ports[name]), 1.0).close()
+
+    def said(self) -> str:
+        """Where its log is, and its last lines, for an error."""
+        try:
+            lines = self.log.read_text(errors="replace").split("\n")
+        except OSError:
+            lines = []
+        last = [line.strip()[:160] for line in lines if line.strip()][-LAST_LINES:]
+        return f"; its log is {self.log}" + (f", which ends: {' | '.join(last)}" if last else ", which is empty")
+
+
+def as_user(user: Optional[str], words: Sequence[str]) -> List[str]:
+    """The words that run a program as this user, where it is root who starts it."""
+    given_up = [] if user is None or os.geteuid() != 0 else ["setpriv", f"--reuid={user}", f"--regid={user}", "--clear-groups", "--"]
+    return [*given_up, *words]
+
+
+def ended(status: int) -> str:
+    return f"by signal {-status}" if status < 0 else f"with status {status}"
+
+
+def one_line(fault: BaseException) -> str:
+    return " ".join(f"{type(fault).__name__}: {fault}".split())[:200].rstrip(": ")
+
+
+class Ports:
+    """Free ports below those that the system gives to outgoing connections: one of these could take the port of a server that is
+    down, also the connection by which a client tries to reach it."""
+
+    def __init__(self, draws: random.Random) -> None:
+        self._draws = draws
+        self._given: List[int] = []
+        self._from, self._to = 10_000, lowest_outgoing()
+
+    def free(self) -> int:
+        for _ in range(1000):
+            port = self._draws.randrange(self._from, self._to)
+            if port not in self._given and is_free(port):
+                self._given.append(port)
+                return port
+        raise ServerError(f"no port of 1000 from {self._from} to {self._to} is free on this machine")
+
+
+def lowest_outgoing() -> int:
+    try:
+        lowest = int(pathlib.Path("/proc/sys/net/ipv4/ip_local_port_range").read_text().split()[0])
+    except (OSError, ValueError, IndexError):
+        return 32_768
+    return lowest if lowest > 12_000 else 65_536
+
+
+def is_free(port: int) -> bool:
+    with socket.socket() as probe:
+        probe.setsockopt(socket.SOL_SOCKET, socket.SO_REUSEADDR, 1)
+        try:
+            probe.bind((ADDRESS, port))
+            return True
+        except OSError:
+            return False
+
+
+def completed(words: Sequence[str], log: pathlib.Path, user: Optional[str] = None, environment: Optional[Dict[str, str]] = None) -> None:
+    """Runs a program to its end, as one that lays out a server's folder. Its output goes to the log."""
+    with open(log, "ab") as file:
+        try:
+            ran = subprocess.run(as_user(user, words), stdin=subprocess.DEVNULL, stdout=file, stderr=subprocess.STDOUT, cwd="/",
+                                 env={**os.environ, **(environment or {})})
+        except OSError as fault:
+            raise ServerError(f"{words[0]} can't be started: {fault.strerror}") from fault
+    if ran.returncode != 0:
+        text = log.read_text(errors="replace").strip().split("\n")[-1]
+        raise ServerError(f"{os.path.basename(words[0])} ended {ended(ran.returncode)}; its log is {log}, which ends: {text[:160]}")

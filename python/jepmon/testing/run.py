@@ -1,0 +1,221 @@
+"""One test: servers start, clients work, faults strike, all is mended, what is left is asked, and a verdict falls."""
+from __future__ import annotations
+
+import contextlib
+import pathlib
+import random
+import sys
+import time
+from typing import TYPE_CHECKING, Any, Callable, Counter, Dict, Iterator, NamedTuple, Type
+
+from .. import command
+from ..kinds import BUDGETS, EVENTS
+from ..run_folder import COUNTS, VERDICT
+from ..verdicts import NotLegal, Refused
+from .cluster import Cluster
+from .errors import ServerError, where
+from .generators import Pace, Phases
+from .server import ALL_STRIKES, Client, Server
+from .strikes import Nemesis, Plan
+from .workloads import WORKS, Work
+
+if TYPE_CHECKING:
+    from ..monitor import Monitor
+    from ..operation import Operation
+
+ROOM = 40_000  # events that are kept for the end of a run
+MOST_EVENTS = EVENTS - ROOM
+PAUSE = 0.01  # seconds after an operation that was not ok: not thousands of refused connections a second
+
+
+class Given(NamedTuple):
+    """What the command line says."""
+
+    server: Type[Server]
+    model: str
+    plant: str
+    seconds: float
+    clients: int
+    keys: int
+    seed: int
+    nemesis: str
+    rate: float
+    nodes: int
+    least: int
+    patience: float  # 0: the server's own
+    out: str
+
+
+class Outcome(NamedTuple):
+    """What came of a test."""
+
+    verdict: str  # legal, illegal .., unknown ..; empty where there is none
+    reason: str  # why there is none, or what else is wrong
+    status: int
+    counts: Dict[str, Counter[str]]
+    events: int
+    at_work: Dict[str, Counter[str]]  # the counts while clients were at work, without what was asked at the end
+    seconds: float  # in which they were
+    is_full: bool  # whether the history had no room for more, before the time was up
+    strikes: Counter[str]
+    lost: int
+    folder: pathlib.Path
+
+
+class Test:
+    """A test that is to be run, once."""
+
+    __test__ = False
+
+    def __init__(self, given: Given, progress: Callable[[float, Monitor, int], None]) -> None:
+        self.given, self._progress = given, progress
+        self.client = given.server.objects[given.model]
+        self.plan = Plan(given.nemesis, given.nodes, given.server.bears.get(given.model, ALL_STRIKES))
+        self.begun = self.ended = 0.0
+        self.at_work: Dict[str, Counter[str]] = {}
+        self.is_full = False
+        self.struck: Counter[str] = Counter()
+
+    def run(self) -> Outcome:
+        """Ctrl-C goes through, once all is ended. Raises a Refused of jepmon, as where there is no program, and an OSError where
+        nothing can be written."""
+        from ..monitor import Monitor
+
+        given = self.given
+        client, kind = self.client, WORKS[given.model]
+        monitor = Monitor(model=given.model, concurrency=given.clients + 1, budget=BUDGETS[-1], expected=client.unsure,
+                          failed=client.certain, unknown="drop", out=given.out)
+        assert monitor.folder is not None
+        work = kind(monitor, given.clients, given.keys)
+        reason = ""
+        try:
+            with monitor:
+                self._run(monitor, work)
+        except NotLegal as found:
+            reason = "" if not isinstance(found, Refused) else str(found).split("\n")[0]
+        except ServerError as fault:
+            reason = str(fault)
+        except Exception as fault:
+            reason = self._fault(fault)
+        except BaseException:  # Ctrl-C
+            leave(monitor.folder, "" if not monitor.close().startswith("illegal") else monitor.close(), "the test was broken off")
+            raise
+        outcome = self._outcome(monitor, work, reason)
+        leave(outcome.folder, outcome.verdict, outcome.reason)
+        return outcome
+
+    def _fault(self, fault: Exception) -> str:
+        """What an exception says that nobody expected: mostly one of the client, in a file of the user's."""
+        file = getattr(sys.modules.get(self.given.server.__module__), "__file__", None)
+        said = where(fault, pathlib.Path(file) if file else None)
+        return f"a fault of the client: {said}"
+
+    def _run(self, monitor: Monitor, work: Work) -> None:
+        given = self.given
+        assert monitor.folder is not None
+        with Cluster(given.server, given.model, given.plant, given.nodes, monitor.folder, self.plan.needs_links,
+                     given.patience) as cluster:
+            self.begun = time.monotonic()
+            nemesis = Nemesis(monitor, cluster, self.plan.strikes(given.seed, given.seconds), given.seconds)
+            self.struck = nemesis.struck
+            phases = Phases(given.seed)
+
+            def thread(number: int) -> None:
+                try:
+                    if number == given.clients:
+                        nemesis.run()
+                    else:
+                        self._client(monitor, work, cluster, phases, number)
+                except BaseException:
+                    cluster.stopped.set()
+                    raise
+
+            try:
+                monitor.run(thread, given.clients + 1)
+            finally:
+                self.ended, self.at_work, self.is_full = time.monotonic(), monitor.counts, monitor.length >= MOST_EVENTS
+            self._finish(monitor, work, cluster)
+
+    def _client(self, monitor: Monitor, work: Work, cluster: Cluster, phases: Phases, number: int) -> None:
+        """What one client does until the time is up."""
+        given = self.given
+        draws = random.Random(f"client {number} {given.seed}")
+        pace = Pace(given.rate / given.clients, draws)
+        end = self.begun + given.seconds
+        with closing(cluster.server.client(number)) as client:
+            while time.monotonic() < end and monitor.length < MOST_EVENTS and not cluster.stopped.is_set():
+                phase = phases.at(time.monotonic() - self.begun)
+                pace.wait(phase.speed)
+                if work.step(number, client, draws, phase.changes).outcome != "ok":
+                    time.sleep(PAUSE)
+                if number == 0:
+                    self._progress(time.monotonic() - self.begun, monitor, sum(self.struck.values()))
+
+    def _finish(self, monitor: Monitor, work: Work, cluster: Cluster) -> None:
+        """All is mended by now. Each node must answer what is left to ask."""
+        monitor.note("the faults are over")
+        with contextlib.ExitStack() as over:
+            cluster.wait_until_all_ready()
+            clients = [over.enter_context(closing(cluster.server.client(number))) for number in range(self.given.clients)]
+            turn = iter(range(1 << 62))
+
+            def ask(attempt: Callable[[Any], Operation]) -> Operation:
+                end = time.monotonic() + cluster.server.patience
+                while True:
+                    number = next(turn) % len(clients)
+                    op = attempt(clients[number])
+                    if op.outcome == "ok" or op.value is None or not op.told:
+                        return op
+                    cluster.test_alive()
+                    if time.monotonic() > end:
+                        node = cluster.server.node_of(number)
+                        raise ServerError(f"once the faults were over a client of {node.name} got no answer for "
+                                          f"{cluster.server.patience:g} s{node.said()}")
+                    time.sleep(PAUSE)
+
+            work.finish(ask, ROOM // 4)
+
+    def _outcome(self, monitor: Monitor, work: Work, reason: str) -> Outcome:
+        """The verdict, where enough was ok to have one."""
+        assert monitor.folder is not None
+        verdict = monitor.close()
+        counts, status = monitor.counts, 0
+        reason = reason or not_kept(monitor.folder)
+        few = [f"{counts.get(name, Counter())['ok']} of {name}" for name in work.names
+               if counts.get(name, Counter())["ok"] < self.given.least]
+        if verdict.startswith("illegal"):
+            status = 1
+        elif reason:
+            verdict, status = "", 3
+        elif few:
+            verdict, status = "", 3
+            reason = f"fewer than {self.given.least} operations were ok ({', '.join(few)}), of which nothing is said"
+        elif work.lost:
+            status, reason = 1, f"{work.lost} messages were acknowledged, and never came: this was counted, and is not proved"
+        elif not verdict.startswith("legal"):
+            status = 2
+        return Outcome(verdict, reason, status, counts, monitor.length, self.at_work, max(self.ended - self.begun, 0.001), self.is_full,
+                       self.struck, work.lost, monitor.folder)
+
+
+def leave(folder: pathlib.Path, verdict: str, reason: str) -> None:
+    """The folder must not say legal where the test does not."""
+    if reason:
+        command.write_file(folder / VERDICT, (f"{verdict}; {reason}" if verdict else f"no verdict: {reason}") + "\n")
+
+
+def not_kept(folder: pathlib.Path) -> str:
+    """Why the run's folder is not whole, as where the disk is full; empty where it is."""
+    try:
+        lost = [line for line in (folder / COUNTS).read_text().splitlines() if "can't be written" in line]
+    except OSError as fault:
+        lost = [f"{folder / COUNTS}: {fault.strerror}"]
+    return "".join(f"what clients did was not kept: {line}" for line in lost[:1])
+
+
+@contextlib.contextmanager
+def closing(client: Client) -> Iterator[Client]:
+    try:
+        yield client
+    finally:
+        client.close()

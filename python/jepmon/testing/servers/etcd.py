@@ -1,0 +1,180 @@
+"""etcd: three members, of which each client asks one, over HTTP by the JSON gateway of version 3.
+
+What an error says: a refused connection sent nothing, a :fail. Whatever else is no answer, a timeout or a status that is not 200, is an
+:info: a member that says `request timed out`, `leader changed` or `no leader` may have sent on what it was asked before.
+"""
+from __future__ import annotations
+
+import base64
+import http.client
+import json
+import uuid
+from typing import Any, Dict, List, Optional, Type, Union
+
+from ...endings import Exceptions
+from ..node import ADDRESS, Node
+from ..server import Client, Leases, Plant, Server
+
+TIMEOUT = 1.0  # seconds
+HEARTBEAT, ELECTION = 100, 1000  # milliseconds
+
+
+class NoAnswer(OSError):
+    """The member did not answer that it was done."""
+
+
+class EtcdClient(Client):
+    serializable = False  # reads ask the one member alone
+
+    def __init__(self, port: int) -> None:
+        self.port = port
+        self.connection: Optional[http.client.HTTPConnection] = None
+
+    def call(self, path: str, timeout: float = TIMEOUT, **body: Any) -> Any:
+        try:
+            if self.connection is None:
+                self.connection = http.client.HTTPConnection(ADDRESS, self.port, timeout=timeout)
+                self.connection.connect()  # by itself: what is refused here was not sent
+            self.connection.request("POST", f"/v3/{path}", json.dumps(body))
+            answer = self.connection.getresponse()
+            text = answer.read()
+            if answer.status == 200:
+                return json.loads(text)
+        except (OSError, http.client.HTTPException, ValueError) as fault:
+            self.close()
+            if isinstance(fault, OSError):
+                raise
+            raise NoAnswer(str(fault)) from fault
+        raise NoAnswer(f"status {answer.status}: {text[:200]!r}")
+
+    def get(self, name: str) -> Optional[str]:
+        found = self.call("kv/range", key=encoded(name), serializable=self.serializable).get("kvs")
+        return decoded(found[0]["value"]) if found else None
+
+    def transaction(self, compare: Dict[str, Any], success: Dict[str, Any]) -> bool:
+        """Does it where what is compared holds. Gives whether it did."""
+        return bool(self.call("kv/txn", compare=[compare], success=[success]).get("succeeded", False))
+
+    def close(self) -> None:
+        if self.connection is not None:
+            self.connection.close()
+            self.connection = None
+
+
+class Register(EtcdClient):
+    def read(self, key: int) -> Optional[int]:
+        value = self.get(f"r{key}")
+        return None if value is None else int(value)
+
+    def write(self, key: int, value: int) -> None:
+        self.call("kv/put", key=encoded(f"r{key}"), value=encoded(value))
+
+    def cas(self, key: int, old: int, new: int) -> bool:
+        return self.transaction(value_is(f"r{key}", old), put(f"r{key}", new))
+
+
+class SerializableRegister(Register):
+    serializable = True
+
+
+class Lock(EtcdClient):
+    """A key that its holder makes where there is none, with a lease, so that it goes away where the holder does. A release never is
+    a :fail, since what was not given back goes away by its lease at a later moment; where it has gone before, another's acquire may
+    have been wrong, and not this."""
+
+    certain: Exceptions = ()
+    seconds = 60  # of the lease: longer than all that may come between
+
+    def __init__(self, port: int) -> None:
+        super().__init__(port)
+        self.token, self.lease, self.leases = "", 0, Leases()
+
+    def acquire(self, key: int) -> bool:
+        self.leases.pay(self.give_back, (OSError,))
+        self.token = uuid.uuid4().hex
+        try:
+            self.lease = self.call("lease/grant", TTL=self.seconds)["ID"]
+        except OSError:
+            return False  # nothing was asked of the lock yet
+        missing = {"key": encoded(f"l{key}"), "target": "CREATE", "result": "EQUAL", "create_revision": 0}
+        try:
+            if self.transaction(missing, put(f"l{key}", self.token, lease=self.lease)):
+                return True
+        except ConnectionRefusedError:
+            return False
+        except OSError:
+            self.leases.owe(key, self.token)
+            raise
+        try:
+            self.call("lease/revoke", ID=self.lease)  # somebody else holds it
+        except OSError:
+            pass  # it goes away by itself
+        return False
+
+    def release(self, key: int) -> bool:
+        try:
+            self.give_back(key, self.token)
+        except OSError:
+            self.leases.owe(key, self.token)
+            raise
+        return True
+
+    def give_back(self, key: int, token: str) -> None:
+        self.transaction(value_is(f"l{key}", token), {"requestDeleteRange": {"key": encoded(f"l{key}")}})
+
+
+class ShortLock(Lock):
+    seconds, work = 1, 4.0
+
+
+CLIENTS: Dict[str, Type[EtcdClient]] = {"cas-register": Register, "register": Register, "mutex": Lock}
+PLANTED: Dict[str, Type[EtcdClient]] = {"serializable": SerializableRegister, "lease": ShortLock}
+
+
+class Etcd(Server):
+    programs = {"etcd": "etcd-server"}
+    objects = CLIENTS
+    ports = ("client", "peer")
+    size, sizes = 3, range(1, 8)
+    plants = {
+        "serializable": Plant("reads are serializable: a member answers without asking the others", "cas-register", "pause,part"),
+        "lease": Plant("the lease is shorter than the work", "mutex"),
+    }
+
+    def command(self, node: Node) -> List[str]:
+        members = ",".join(f"{other.name}={url(other.reach['peer'])}" for other in self.nodes)
+        return ["etcd", "--name", node.name, "--data-dir", str(node.folder / "data"), "--initial-cluster", members,
+                "--listen-client-urls", url(node.ports["client"]), "--advertise-client-urls", url(node.port),
+                "--listen-peer-urls", url(node.ports["peer"]), "--initial-advertise-peer-urls", url(node.reach["peer"]),
+                "--heartbeat-interval", str(HEARTBEAT), "--election-timeout", str(ELECTION)]
+
+    def ready(self, node: Node) -> None:
+        """Once it has a leader: a read that asks it is answered."""
+        client = Register(node.ports["client"])
+        try:
+            client.read(0)
+        finally:
+            client.close()
+
+    def client(self, number: int) -> Client:
+        return PLANTED.get(self.plant, CLIENTS[self.model])(self.node_of(number).port)
+
+
+def url(port: int) -> str:
+    return f"http://{ADDRESS}:{port}"
+
+
+def encoded(word: Union[str, int]) -> str:
+    return base64.b64encode(str(word).encode()).decode()
+
+
+def decoded(word: str) -> str:
+    return base64.b64decode(word).decode()
+
+
+def value_is(name: str, value: Union[str, int]) -> Dict[str, Any]:
+    return {"key": encoded(name), "target": "VALUE", "result": "EQUAL", "value": encoded(value)}
+
+
+def put(name: str, value: Union[str, int], **more: Any) -> Dict[str, Any]:
+    return {"requestPut": {"key": encoded(name), "value": encoded(value), **more}}

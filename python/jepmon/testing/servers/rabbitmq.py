@@ -1,0 +1,172 @@
+"""RabbitMQ: one node, with durable queues, persistent messages that are confirmed, and consumers that get and acknowledge.
+
+It delivers at least once: what was not acknowledged when a connection or the server ended comes again. So a dequeue takes place where a
+message comes for the first time in the whole test; a message that has come before is a :fail.
+
+A queue is declared some time before its first message comes: durable queues that were declared 0.5 s and 1.3 s before a kill were lost
+with all the confirmed messages in them (RabbitMQ 3.10.8).
+
+What an error says: where the connection, or the queue in it, is not there yet, nothing was sent: a :fail. A message that was sent and
+not confirmed is an :info. A get that was not answered is a :fail: what the broker may have sent was not acknowledged, and comes again.
+"""
+from __future__ import annotations
+
+import pathlib
+import shutil
+import threading
+import time
+from typing import Dict, List, Optional, Set, Tuple, Type
+
+from ...verdicts import Failed
+from ..errors import ServerError
+from ..node import ADDRESS, Node
+from ..server import Client, Plant, Server
+from ..wire.amqp import Amqp, Message
+
+TIMEOUT = 1.0  # seconds
+PROGRAM = pathlib.Path("/usr/lib/rabbitmq/bin/rabbitmq-server")
+# epmd finds Erlang's nodes. Erlang would start one that outlives the server; this one is of the node's family, and ends with it.
+START = 'epmd & until epmd -names >/dev/null 2>&1; do sleep 0.1; done; exec "$0"'
+
+
+class Came:
+    """Which messages have come to any client."""
+
+    def __init__(self) -> None:
+        self._lock = threading.Lock()
+        self._values: Set[int] = set()
+
+    def first(self, value: int) -> bool:
+        with self._lock:
+            is_first = value not in self._values
+            self._values.add(value)
+        return is_first
+
+
+class Names:
+    """The queues of the keys, in the order in which keys come, so that those of the next ones can be declared before."""
+
+    AHEAD, SETTLED = 32, 5.0  # queues, and seconds until the first ones are used
+
+    def __init__(self) -> None:
+        self._lock = threading.Lock()
+        self._numbers: Dict[int, int] = {}  # by key
+
+    def of(self, key: int) -> Tuple[str, Optional[str]]:
+        """The queue of the key, and where it is new the one that is to be declared for a later key."""
+        with self._lock:
+            is_new = key not in self._numbers
+            number = self._numbers.setdefault(key, len(self._numbers))
+        return f"q{number}", f"q{number + self.AHEAD}" if is_new else None
+
+
+class Queue(Client):
+    durable = True
+
+    def __init__(self, port: int, came: Came, names: Names) -> None:
+        self.amqp, self.came, self.names = Amqp(port, TIMEOUT), came, names
+
+    def queue(self, key: int) -> str:
+        name, ahead = self.names.of(key)
+        if ahead is not None:
+            self.amqp.declare(ahead, self.durable)
+        return name
+
+    def enqueue(self, key: int, value: int) -> None:
+        self.amqp.publish(self.queue(key), str(value).encode(), durable=self.durable)
+
+    def dequeue(self, key: int) -> Optional[int]:
+        message = self.got(key)
+        if message is None:
+            return None
+        value = int(message.body)
+        is_first = self.came.first(value)
+        try:
+            self.amqp.acknowledge(message)
+        except OSError:
+            self.amqp.close()  # it comes again
+        if not is_first:
+            raise Failed("it has come before")
+        return value
+
+    def got(self, key: int) -> Optional[Message]:
+        try:
+            return self.amqp.get(self.queue(key), durable=self.durable)
+        except OSError as fault:
+            raise Failed(str(fault)) from fault
+
+    def close(self) -> None:
+        self.amqp.close()
+
+
+class EarlyQueue(Queue):
+    durable = False
+
+
+class LateQueue(Queue):
+    """Takes a message that comes for what it is, and acknowledges it when the next one comes."""
+
+    late: Optional[Message] = None
+
+    def dequeue(self, key: int) -> Optional[int]:
+        was_open = self.amqp.stream.is_open
+        message = self.got(key)
+        if self.late is not None and was_open and self.amqp.stream.is_open:
+            self.amqp.acknowledge(self.late)
+        self.late = message
+        return None if message is None else int(message.body)
+
+
+PLANTED: Dict[str, Type[Queue]] = {"early": EarlyQueue, "twice": LateQueue}
+
+
+class RabbitMQ(Server):
+    objects = {"unordered-queue": Queue}
+    ports = ("client", "distribution", "epmd")
+    sizes = range(1, 2)
+    patience = 300.0
+    plants = {
+        "early": Plant("messages are confirmed before they are on the disk: they are not persistent", "unordered-queue", "kill:n1"),
+        "twice": Plant("what comes again after a kill is taken for another message", "unordered-queue", "kill:n1"),
+    }
+
+    @classmethod
+    def test_installed(cls) -> None:
+        if not PROGRAM.exists() or shutil.which("epmd") is None:
+            raise ServerError("RabbitMQ is not installed: on Debian, apt-get install rabbitmq-server")
+
+    def __init__(self, *words: object) -> None:
+        super().__init__(*words)  # type: ignore[arg-type]
+        self.came, self.names = Came(), Names()
+
+    def prepare(self, node: Node) -> None:
+        (node.folder / "plugins").write_text("[].\n")
+        node.environment = {
+            "HOME": str(node.folder), "LANG": "C.UTF-8", "ERL_EPMD_ADDRESS": ADDRESS, "ERL_EPMD_PORT": str(node.ports["epmd"]),
+            "RABBITMQ_NODENAME": f"jepmon{node.ports['client']}@localhost", "RABBITMQ_NODE_IP_ADDRESS": ADDRESS,
+            "RABBITMQ_NODE_PORT": str(node.ports["client"]), "RABBITMQ_DIST_PORT": str(node.ports["distribution"]),
+            "RABBITMQ_MNESIA_BASE": str(node.folder / "data"), "RABBITMQ_LOG_BASE": str(node.folder), "RABBITMQ_LOGS": "-",
+            "RABBITMQ_CONFIG_FILE": str(node.folder / "none"), "RABBITMQ_CONF_ENV_FILE": str(node.folder / "none"),
+            "RABBITMQ_ENABLED_PLUGINS_FILE": str(node.folder / "plugins"), "RABBITMQ_PID_FILE": str(node.folder / "pid"),
+            "RABBITMQ_SERVER_ADDITIONAL_ERL_ARGS": "+S 2:2 +sbwt none +sbwtdcpu none +sbwtdio none",  # it starts with less work
+        }
+
+    def command(self, node: Node) -> List[str]:
+        return ["sh", "-c", START, str(PROGRAM)]
+
+    def client(self, number: int) -> Client:
+        return PLANTED.get(self.plant, Queue)(self.nodes[0].port, self.came, self.names)
+
+    def begun(self) -> None:
+        amqp = Amqp(self.nodes[0].port, self.patience)
+        for number in range(Names.AHEAD):
+            amqp.declare(f"q{number}", self.plant != "early")
+        amqp.close()
+        time.sleep(Names.SETTLED)
+
+    def ready(self, node: Node) -> None:
+        amqp = Amqp(node.ports["client"], 5.0)
+        try:
+            amqp.get("ready")
+        finally:
+            amqp.close()

@@ -1,0 +1,139 @@
+"""Redis: a primary, and replicas of it. Clients speak to the primary, which writes each command to its file before it answers
+(`appendonly yes`; `appendfsync no` is enough: what was given to the kernel outlives the kill of a process, and no machine fails here).
+
+What an error says: a refused connection sent nothing, and an error as an answer says that the command was not done (`LOADING`,
+`READONLY`, `MISCONF`): both are a :fail. A timeout, or a connection that was cut, is an :info.
+"""
+from __future__ import annotations
+
+import uuid
+from typing import Dict, List, Optional, Type
+
+from ...endings import Exceptions
+from ..node import ADDRESS, Node
+from ..server import Client, Leases, Plant, Server
+from ..wire.resp import Redis as Connection
+from ..wire.resp import RedisError
+
+RELEASE = "if redis.call('get', KEYS[1]) == ARGV[1] then return redis.call('del', KEYS[1]) else return 0 end"
+
+
+class RedisClient(Client):
+    certain: Exceptions = (ConnectionRefusedError, RedisError)
+
+    def __init__(self, port: int, read_at: int) -> None:
+        self.redis, self.reads = Connection(port), Connection(read_at)
+
+    def close(self) -> None:
+        self.redis.close()
+        self.reads.close()
+
+
+class Register(RedisClient):
+    def read(self, key: int) -> Optional[int]:
+        return integer(self.reads.call("GET", f"r{key}"))
+
+    def write(self, key: int, value: int) -> None:
+        self.redis.call("SET", f"r{key}", value)
+
+
+class Queue(RedisClient):
+    def enqueue(self, key: int, value: int) -> None:
+        self.redis.call("LPUSH", f"q{key}", value)
+
+    def dequeue(self, key: int) -> Optional[int]:
+        return integer(self.redis.call("RPOP", f"q{key}"))
+
+
+class Set(RedisClient):
+    def add(self, key: int, value: int) -> None:
+        self.redis.call("SADD", f"s{key}", value)
+
+    def read(self, key: int) -> List[int]:
+        return [int(member) for member in self.reads.call("SMEMBERS", f"s{key}")]
+
+
+class Lock(RedisClient):
+    """SET NX PX. A release never is a :fail: what was not given back goes away as the lease runs out, at a later moment. Where it has
+    run out before, the lock is given back all the same: if somebody has taken it meanwhile, that acquire was wrong, and not this."""
+
+    certain: Exceptions = ()
+    unsure: Exceptions = (OSError, RedisError)
+    lease = 60_000  # milliseconds: longer than all that may come between
+
+    def __init__(self, port: int, read_at: int) -> None:
+        super().__init__(port, read_at)
+        self.token, self.leases = "", Leases()
+
+    def acquire(self, key: int) -> bool:
+        self.leases.pay(self.give_back, self.unsure)
+        self.token = uuid.uuid4().hex
+        try:
+            return self.redis.call("SET", f"l{key}", self.token, "NX", "PX", self.lease) is not None
+        except (ConnectionRefusedError, RedisError):
+            return False
+        except OSError:
+            self.leases.owe(key, self.token)
+            raise
+
+    def release(self, key: int) -> bool:
+        try:
+            self.give_back(key, self.token)
+        except self.unsure:
+            self.leases.owe(key, self.token)
+            raise
+        return True
+
+    def give_back(self, key: int, token: str) -> None:
+        self.redis.call("EVAL", RELEASE, 1, f"l{key}", token)
+
+
+class ShortLock(Lock):
+    lease, work = 20, 0.04
+
+
+
+CLIENTS: Dict[str, Type[RedisClient]] = {"register": Register, "mutex": Lock, "fifo-queue": Queue, "set": Set}
+
+
+class Redis(Server):
+    programs = {"redis-server": "redis-server"}
+    objects = {**CLIENTS}
+    size, sizes, in_turn = 2, range(1, 6), True
+    plants = {
+        "replica": Plant("reads at a replica, which is a write behind", "register", "part"),
+        "forgetful": Plant("the server keeps nothing on its disk", "register", "kill:n1", 1),
+        "early": Plant("a queue acknowledges what it has not kept", "fifo-queue", "kill:n1", 1),
+        "members": Plant("members are read at a replica, which is a write behind", "set", "part"),
+        "lease": Plant("the lease is shorter than the work", "mutex", nodes=1),
+    }
+
+    def command(self, node: Node) -> List[str]:
+        keeps = "no" if self.plant in ("forgetful", "early") else "yes"
+        words = ["redis-server", "--port", str(node.ports["client"]), "--bind", ADDRESS, "--dir", str(node.folder), "--save", "",
+                 "--appendonly", keeps, "--appendfsync", "no", "--repl-diskless-sync-delay", "0", "--repl-timeout", "5"]
+        return words + (["--replicaof", ADDRESS, str(self.nodes[0].port)] if node.number else [])
+
+    def ready(self, node: Node) -> None:
+        """Once it answers, and where it is a replica has what its primary has."""
+        connection = Connection(node.ports["client"])
+        try:
+            wanted = b"master_link_status:up" if node.number else b"role:master"
+            if wanted not in connection.call("INFO", "replication"):
+                raise RedisError("it has no link to its primary")
+        finally:
+            connection.close()
+
+    def client(self, number: int) -> Client:
+        kind = CLIENTS[self.model]
+        if self.plant == "lease":
+            kind = ShortLock
+        read_at = self.nodes[1 + number % (len(self.nodes) - 1)] if self.plant in ("replica", "members") else self.nodes[0]
+        return kind(self.nodes[0].port, read_at.port)
+
+    def node_of(self, number: int) -> Node:
+        return self.nodes[0]
+
+
+def integer(answer: Optional[bytes]) -> Optional[int]:
+    return None if answer is None else int(answer)

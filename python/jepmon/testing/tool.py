@@ -1,0 +1,86 @@
+"""`jepmon-test SERVER`: from the command line to the exit status."""
+from __future__ import annotations
+
+import pathlib
+import signal
+import sys
+import threading
+from types import FrameType
+from typing import TYPE_CHECKING, List, Optional
+
+from .. import command
+from ..errors import OutputError, ProgramError
+from ..verdicts import NotLegal
+from . import report, words
+from .errors import ServerError, where
+from .run import Given, Test
+from .words import NAME
+
+if TYPE_CHECKING:
+    from ..monitor import Monitor
+
+
+def main(arguments: Optional[List[str]] = None) -> int:
+    """Tests the server that the words of the command line name. Gives the exit status."""
+    try:
+        for number in (signal.SIGTERM, signal.SIGHUP):
+            if threading.current_thread() is threading.main_thread():
+                signal.signal(number, _terminated)
+        given = words.given(arguments)
+        if given is None:
+            command.write_output([(pathlib.Path(__file__).parent / "template.py").read_text()])
+            return 0
+        return _test(given)
+    except (ServerError, ProgramError, OutputError, FileNotFoundError) as fault:
+        command.say(NAME, str(fault))
+    except NotLegal as fault:
+        command.say(NAME, str(fault).split("\n")[0])
+    except KeyboardInterrupt:
+        command.say(NAME, "interrupted: no server is left")
+        return command.INTERRUPTED
+    except OSError as fault:
+        command.say(NAME, f"{fault.filename or 'a file'}: {fault.strerror}")
+    except Exception as fault:
+        command.say(NAME, f"a fault of the test itself: {where(fault)}")
+    return command.REFUSED
+
+
+def _terminated(number: int, _frame: Optional[FrameType]) -> None:
+    sys.exit(128 + number)
+
+
+def _test(given: Given) -> int:
+    given.server.test_installed()
+    progress = Progress()
+    test = Test(given, progress.show)
+    command.write_output([report.heading(given, test.plan)])
+    try:
+        outcome = test.run()
+    finally:
+        progress.end()
+    for line in report.cause(outcome):
+        command.write_error(line)
+    command.write_output([report.text(outcome)])
+    if outcome.reason:
+        command.say(NAME, outcome.reason)
+    return outcome.status
+
+
+class Progress:
+    """A line on a terminal, renewed each second."""
+
+    def __init__(self) -> None:
+        self._shown = 0.0
+        self._is_on = sys.stderr is not None and sys.stderr.isatty()
+
+    def show(self, seconds: float, monitor: Monitor, strikes: int) -> None:
+        if self._is_on and seconds - self._shown >= 1.0:
+            self._shown = seconds
+            sys.stderr.write(f"\r\x1b[K{seconds:4.0f} s: {monitor.length:,} events, {strikes} strikes, "
+                             + ("legal so far" if monitor.failure is None else "not legal"))
+            sys.stderr.flush()
+
+    def end(self) -> None:
+        if self._shown:
+            sys.stderr.write("\r\x1b[K")
+            sys.stderr.flush()

@@ -1,0 +1,1 @@
+"""The protocols of servers, as far as their clients need them."""

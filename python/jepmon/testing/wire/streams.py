@@ -1,0 +1,67 @@
+"""A connection that is made when it is needed, and made anew after a fault, so that a late answer is not taken for the next one.
+It tries nothing again, so that a ConnectionRefusedError says that nothing was sent."""
+from __future__ import annotations
+
+import socket
+import time
+from typing import Optional
+
+from ..node import ADDRESS
+
+
+class Stream:
+    def __init__(self, port: int, seconds: float) -> None:
+        self._port, self._seconds = port, seconds
+        self._socket: Optional[socket.socket] = None
+        self._got = b""
+        self._end = 0.0
+
+    @property
+    def is_open(self) -> bool:
+        return self._socket is not None
+
+    def open(self) -> None:
+        """Connects. The time for what follows begins."""
+        self.close()
+        self.begin()
+        self._socket = socket.create_connection((ADDRESS, self._port), self._seconds)
+        self._socket.setsockopt(socket.IPPROTO_TCP, socket.TCP_NODELAY, 1)
+
+    def begin(self) -> None:
+        """The time for one operation, with all that it sends and awaits, begins."""
+        self._end = time.monotonic() + self._seconds
+
+    def send(self, data: bytes) -> None:
+        self._ready().sendall(data)
+
+    def line(self) -> bytes:
+        """Up to the next line feed, without the end of the line."""
+        while b"\n" not in self._got:
+            self._more()
+        line, _, self._got = self._got.partition(b"\n")
+        return line.rstrip(b"\r")
+
+    def exactly(self, length: int) -> bytes:
+        while len(self._got) < length:
+            self._more()
+        data, self._got = self._got[:length], self._got[length:]
+        return data
+
+    def _more(self) -> None:
+        data = self._ready().recv(1 << 16)
+        if not data:
+            raise ConnectionError("the server has closed the connection")
+        self._got += data
+
+    def _ready(self) -> socket.socket:
+        left = self._end - time.monotonic()
+        if self._socket is None or left <= 0:
+            raise TimeoutError("no answer in time")
+        self._socket.settimeout(left)
+        return self._socket
+
+    def close(self) -> None:
+        self._got = b""
+        if self._socket is not None:
+            self._socket.close()
+            self._socket = None

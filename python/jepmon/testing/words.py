@@ -1,0 +1,159 @@
+"""The command line of jepmon-test."""
+from __future__ import annotations
+
+import argparse
+import importlib
+import importlib.util
+import pathlib
+import sys
+from typing import Dict, Iterable, Iterator, List, Optional, Type
+
+from .. import command, kinds
+from .errors import ServerError, where
+from .run import Given
+from .server import Server
+from .strikes import KINDS, Plan
+
+NAME = "test"
+SERVERS: Dict[str, str] = {"redis": "Redis", "etcd": "Etcd", "postgresql": "PostgreSQL", "rabbitmq": "RabbitMQ"}
+TEMPLATE = "template"
+MOST_CLIENTS = kinds.THREADS - 1
+DESCRIPTION = """Starts a server, lets clients use it while faults strike, and has it judged live by the proved program.
+
+  {tool} etcd                           three nodes, killed, paused and cut off, for 20 seconds
+  {tool} redis --object mutex           the lock SET NX PX
+  {tool} redis --plant lease            a fault that is known, and is found
+  {tool} template > mine.py             one file that tests a server of yours; then: {tool} ./mine.py
+
+The servers are Debian's, in folders and at ports of their own, and end with the test. Exit status: 0 legal, 1 illegal, or messages
+were lost, 2 unknown, 3 where there is no verdict.
+"""
+
+
+class Words(command.Words):
+    refusal = ServerError
+
+
+def given(words: Optional[List[str]]) -> Optional[Given]:
+    """What the words say; None where they ask for the template."""
+    parser = _parser()
+    if {"-h", "--help"} & set(sys.argv[1:] if words is None else words):
+        parser.epilog = "\n".join(_described())
+    try:
+        parsed = parser.parse_args(words)
+    except ServerError as fault:
+        raise ServerError(f"{fault}; see {command.tool(NAME)} --help") from fault
+    if parsed.server == TEMPLATE:
+        return None
+    server = server_of(parsed.server)
+    plant = server.plants.get(parsed.plant) if parsed.plant else None
+    if parsed.plant and plant is None:
+        raise ServerError(f"--plant {parsed.plant}: {parsed.server} has {_listed(server.plants) or 'none'}")
+    model = parsed.object or (plant.model if plant else next(iter(server.objects)))
+    if model not in server.objects or plant and plant.model != model:
+        raise ServerError(f"--object {model}: {parsed.server} has {_listed(server.objects)}" if not plant else
+                          f"--object {model}: the plant {parsed.plant} is one of a {plant.model}")
+    nodes = parsed.nodes or (plant.nodes if plant else 0) or server.size
+    if nodes not in server.sizes:
+        raise ServerError(f"--nodes {nodes}: {parsed.server} takes {server.sizes[0]} to {server.sizes[-1]}")
+    nemesis = parsed.nemesis or (plant.nemesis if plant else "all")
+    Plan(nemesis, nodes, tuple(KINDS))  # what can't be is said before anything starts
+    return Given(server, model, parsed.plant or "", parsed.time, parsed.clients, parsed.keys, parsed.seed, nemesis, parsed.rate, nodes,
+                 parsed.least, parsed.patience, parsed.out)
+
+
+def _parser() -> Words:
+    parser = Words(prog=NAME, description=DESCRIPTION.format(tool=command.tool(NAME)), formatter_class=argparse.RawDescriptionHelpFormatter)
+    parser.add_argument("server", metavar="SERVER", help=f"{', '.join(SERVERS)}, or a Python file that has a Server; {TEMPLATE} prints one")
+    parser.add_argument("--object", metavar="MODEL", choices=tuple(kinds.MODELS), help="what each key is: " + ", ".join(kinds.MODELS))
+    parser.add_argument("--plant", metavar="NAME", help="a fault of the server that is known, by its name")
+    parser.add_argument("--time", metavar="SECONDS", type=_positive("seconds"), default=20.0, help="how long clients are at work (20)")
+    parser.add_argument("--clients", metavar="N", type=_within("clients", 1, MOST_CLIENTS), default=5, help="threads of clients (5)")
+    parser.add_argument("--keys", metavar="N", type=_within("keys", 1, 1000), default=5, help="keys that are open to changes at once (5)")
+    parser.add_argument("--rate", metavar="N", type=_positive("operations a second", zero=True), default=400.0,
+                        help="operations a second of all clients; 0 is as many as they can (400)")
+    parser.add_argument("--seed", metavar="N", type=int, default=1, help="of what is drawn: operations, phases and strikes (1)")
+    parser.add_argument("--nemesis", metavar="STRIKES", help=f"all, none, or some of {', '.join(KINDS)}, as kill,pause; or a schedule, "
+                        "as kill:n1@3+0.5,pause@6: at 3 seconds, for half a second (all)")
+    parser.add_argument("--nodes", metavar="N", type=_within("nodes", 1, 9), default=0, help="how many, where the server can have several")
+    parser.add_argument("--least", metavar="N", type=_within("operations", 1, 1_000_000), default=20,
+                        help="of fewer ok of some operation nothing is said (20)")
+    parser.add_argument("--patience", metavar="SECONDS", type=_positive("seconds"), default=0.0,
+                        help="for a node to start, and to answer again at the end, before there is no verdict (120, of RabbitMQ 300)")
+    parser.add_argument("--out", metavar="FOLDER", default="runs", help="the run gets a folder of its own there (runs)")
+    return parser
+
+
+def _described() -> Iterator[str]:
+    """What there is of each server."""
+    yield "objects, the first by itself, and faults that are planted:"
+    for name in SERVERS:
+        server = server_of(name)
+        yield f"  {name:<12}{', '.join(server.objects)}"
+        for plant, planted in server.plants.items():
+            yield f"      --plant {plant:<16}{planted.text}"
+
+
+def _positive(name: str, zero: bool = False) -> "type[float]":
+    def parsed(word: str) -> float:
+        try:
+            value = float(word)
+        except ValueError:
+            value = -1.0
+        if not (0 < value <= 1_000_000 or zero and value == 0):
+            raise argparse.ArgumentTypeError(f"it takes {name}, not {word!r}")
+        return value
+    return parsed  # type: ignore[return-value]
+
+
+def _within(name: str, least: int, most: int) -> "type[int]":
+    def parsed(word: str) -> int:
+        try:
+            value = int(word)
+        except ValueError:
+            value = least - 1
+        if not least <= value <= most:
+            raise argparse.ArgumentTypeError(f"it takes {name}, {least} to {most}")
+        return value
+    return parsed  # type: ignore[return-value]
+
+
+def _listed(names: Iterable[str]) -> str:
+    return ", ".join(names)
+
+
+# --- The server that is named ---
+
+
+def server_of(name: str) -> Type[Server]:
+    if name in SERVERS:
+        found: Type[Server] = getattr(importlib.import_module(f"{__package__}.servers.{name}"), SERVERS[name])
+        return found
+    if not name.endswith(".py"):
+        raise ServerError(f"there is no server {name!r}; there are {', '.join(SERVERS)}, and a file of yours, as ./mine.py")
+    return _of_file(pathlib.Path(name))
+
+
+def _of_file(path: pathlib.Path) -> Type[Server]:
+    """The last class in a file of the user's that is a Server, or which it names `server`."""
+    name = f"server_in_{path.stem}"  # so that it takes no other module's name
+    spec = importlib.util.spec_from_file_location(name, path)
+    if not path.is_file() or spec is None or spec.loader is None:
+        raise ServerError(f"{path}: there is no such file")
+    module = importlib.util.module_from_spec(spec)
+    sys.modules[name] = module
+    sys.path.insert(0, str(path.resolve().parent))
+    try:
+        spec.loader.exec_module(module)
+    except Exception as fault:
+        raise ServerError(f"{path} can't be used: {where(fault, path)}") from fault
+    found = [one for one in vars(module).values()
+             if isinstance(one, type) and issubclass(one, Server) and one.__module__ == name]
+    if not found:
+        raise ServerError(f"{path} has no class that is a jepmon.testing.Server")
+    server: Type[Server] = found[-1]
+    unknown = [model for model in server.objects if model not in kinds.MODELS]
+    if not server.objects or unknown:
+        raise ServerError(f"{path}: {server.__name__}.objects names models and their clients, of {', '.join(kinds.MODELS)}; "
+                          + (f"not {unknown[0]}" if unknown else "it is empty"))
+    return server

@@ -1,0 +1,215 @@
+"""jepmon-test as a whole, on the template's own server, which needs nothing but Python; and on servers that are wrong in some way."""
+from __future__ import annotations
+
+import os
+import pathlib
+import re
+import signal
+import subprocess
+import sys
+import tempfile
+import time
+from typing import List, Optional
+
+from jepmon.testing import ServerError, template
+from jepmon.testing.words import given
+from tests.python import TOP
+from tests.python.monitored import Monitored
+
+PATIENCE = 240.0  # seconds, on a busy machine
+IMPORTS = "import sys\nfrom jepmon.testing.template import MyClient, MyServer\nimport jepmon.testing.template\n"
+TEMPLATE = pathlib.Path(template.__file__)
+
+# Servers, each with one fault.
+DIES_AT_ONCE = "class Mine(MyServer):\n    def command(self, node):\n        return ['sh', '-c', 'echo the port is taken; exit 5']\n"
+IS_MISSING = "class Mine(MyServer):\n    programs = {'no-such-server': 'some-package'}\n"
+IS_NO_PROGRAM = "class Mine(MyServer):\n    def command(self, node):\n        return ['/nowhere/server']\n"
+NEVER_LISTENS = "class Mine(MyServer):\n    patience = 0.5\n    def command(self, node):\n        return ['sleep', '600']\n"
+NEVER_ANSWERS = ("class Mine(MyServer):\n    patience = 2.0\n    def command(self, node):\n        code = 'import socket, sys, time; "
+                 "s = socket.create_server((\"127.0.0.1\", int(sys.argv[1])), backlog=9999); time.sleep(600)'\n"
+                 "        return [sys.executable, '-c', code, str(node.ports['client'])]\n")
+DISK_IS_FULL = ("class Mine(MyServer):\n    def command(self, node):\n        code = 'import socket, sys\\nserver = socket.create_server("
+                "(\"127.0.0.1\", int(sys.argv[1])))\\nserver.accept()\\nprint(1, file=open(\"/dev/full\", \"w\"), flush=True)'\n"
+                "        return [sys.executable, '-c', code, str(node.ports['client'])]\n")
+PORT_IS_TAKEN = ("import socket\nheld = socket.create_server(('127.0.0.1', 0))\nclass Mine(MyServer):\n    def command(self, node):\n"
+                 "        node.ports['client'] = node.reach['client'] = held.getsockname()[1]\n        return super().command(node)\n")
+CLIENT_IS_WRONG = ("class Client(MyClient):\n    def read(self, key):\n        return self.nothing\n"
+                   "class Mine(MyServer):\n    objects = {'register': Client}\n"
+                   "    def client(self, number):\n        return Client(self.nodes[0].port)\n")
+
+
+class Runs(Monitored):
+    def words(self, server: str, *words: str) -> List[str]:
+        return [sys.executable, "-m", "jepmon", "test", server, "--out", str(self.room / "runs"), *words]
+
+    def environment(self) -> "dict[str, str]":
+        (self.room / "tmp").mkdir(exist_ok=True)
+        return {**os.environ, "JEPMON": self.program, "PYTHONPATH": str(TOP / "python"), "TMPDIR": str(self.room / "tmp")}
+
+    def ran(self, server: str, *words: str) -> "subprocess.CompletedProcess[str]":
+        ran = subprocess.run(self.words(server, *words), stdout=subprocess.PIPE, stderr=subprocess.PIPE, universal_newlines=True,
+                             timeout=PATIENCE, env=self.environment(), cwd=self.room)
+        self.nothing_is_left()
+        return ran
+
+    def mine(self, text: str) -> str:
+        (self.room / "mine.py").write_text(IMPORTS + text)
+        return "./mine.py"
+
+    def nothing_is_left(self) -> None:
+        """No process of a server, and no folder of one."""
+        self.assertEqual(self.left(), [])
+        self.assertEqual(os.listdir(self.room / "tmp"), [])
+
+    def left(self) -> List[str]:
+        found = []
+        for path in pathlib.Path("/proc").glob("[0-9]*/cmdline"):
+            try:
+                words = path.read_bytes().decode(errors="replace").replace("\0", " ")
+            except OSError:
+                continue
+            if str(self.room / "tmp") in words:
+                found.append(words)
+        return found
+
+    def verdict_file(self) -> str:
+        return (self.room / "runs" / "latest" / "verdict.txt").read_text().strip()
+
+
+class TheTemplate(Runs):
+    def test_it_is_printed_and_runs(self) -> None:
+        printed = subprocess.run(self.words("template"), stdout=subprocess.PIPE, env=self.environment())
+        self.assertEqual((printed.returncode, printed.stdout), (0, TEMPLATE.read_bytes()))
+        (self.room / "mine.py").write_bytes(printed.stdout)
+        ran = self.ran("./mine.py", "--time", "4", "--least", "5", "--nemesis", "kill@1+0.3,pause@2+0.3,cut@3+0.3")
+        self.assertEqual((ran.returncode, ran.stderr), (0, ""), ran.stdout)
+        self.assertEqual(ran.stdout.splitlines()[-1], "legal")
+        history = (self.room / "runs" / "latest" / "history.edn").read_text()
+        self.assertIn("n1 is down, by kill -9", history)
+        self.assertEqual(self.verdict_by(self.room / "runs" / "latest"), "legal")
+
+    def test_the_planted_fault_is_found(self) -> None:
+        ran = self.ran(str(TEMPLATE), "--time", "60", "--plant", "forgetful")
+        self.assertEqual(ran.returncode, 1, ran.stdout + ran.stderr)
+        self.assertRegex(ran.stdout.splitlines()[-1], "^illegal key ")
+        self.assertRegex(ran.stderr.splitlines()[0], r"^Client \d+ read ABSENT from key \d+, which could not hold ABSENT any more\.$")
+        self.assertIn("by kill -9", (self.room / "runs" / "latest" / "page.html").read_text())
+
+    def test_it_is_short(self) -> None:
+        """What a user writes: all but the server that stands for the user's own."""
+        self.assertLess(TEMPLATE.read_text().index("# --- The server"), len(TEMPLATE.read_text()))
+        self.assertLess(len(TEMPLATE.read_text().splitlines()), 60)
+
+
+class NoVerdict(Runs):
+    def refused(self, server: str, said: str, *words: str, log: Optional[str] = None) -> None:
+        ran = self.ran(server, "--time", "2", *words)
+        self.assertEqual(ran.returncode, 3, ran.stdout + ran.stderr)
+        self.assertEqual(len(ran.stderr.splitlines()), 1, ran.stderr)
+        self.assertRegex(ran.stderr, f"^test: {said}")
+        self.assertNotIn("\nlegal", ran.stdout)
+        if log is not None:
+            path = ran.stderr.partition("its log is ")[2].partition(",")[0].strip()
+            self.assertIn(log, (self.room / path).read_text())
+        if (self.room / "runs").exists():
+            self.assertRegex(self.verdict_file(), "^no verdict: ")
+
+    def test_one_that_is_not_installed(self) -> None:
+        self.refused(self.mine(IS_MISSING), "no-such-server is not installed: on Debian, apt-get install some-package$")
+
+    def test_one_that_dies_at_once(self) -> None:
+        self.refused(self.mine(DIES_AT_ONCE), "n1 has died by itself, with status 5; its log is .*which ends: the port is taken$",
+                     log="the port is taken")
+
+    def test_one_whose_port_is_taken(self) -> None:
+        self.refused(self.mine(PORT_IS_TAKEN), "n1 has died by itself, with status 1; its log is .*Address already in use",
+                     "--nemesis", "none", log="Address already in use")
+
+    def test_one_that_is_no_program(self) -> None:
+        self.refused(self.mine(IS_NO_PROGRAM), "n1 can't be started: /nowhere/server: No such file or directory$")
+
+    def test_one_that_never_listens(self) -> None:
+        self.refused(self.mine(NEVER_LISTENS), r"n1 was not ready for 0\.5 s \(.*; its log is ", log="")
+
+    def test_one_that_never_answers(self) -> None:
+        self.refused(self.mine(NEVER_ANSWERS), "once the faults were over a client of n1 got no answer for 2 s; its log is ", "--nemesis",
+                     "none", log="")
+
+    def test_one_whose_disk_is_full(self) -> None:
+        self.refused(self.mine(DISK_IS_FULL), "n1 has died by itself, with status 1; its log is .*No space left on device$",
+                     "--nemesis", "none", log="No space left on device")
+
+    def test_a_client_that_is_wrong(self) -> None:
+        self.refused(self.mine(CLIENT_IS_WRONG), r"a fault of the client: AttributeError: .*nothing.* \(mine\.py, line 6\)$")
+
+    def test_too_little_was_ok(self) -> None:
+        self.refused(str(TEMPLATE), r"fewer than 100000 operations were ok \(\d+ of read, \d+ of write\)", "--nemesis", "none", "--least",
+                     "100000")
+
+    def test_a_folder_that_can_not_be_made(self) -> None:
+        ran = self.ran(str(TEMPLATE), "--out", "/dev/null/runs")
+        self.assertEqual((ran.returncode, ran.stderr), (3, "test: /dev/null/runs: the folder of a run can't be made: Not a directory\n"))
+
+
+class BrokenOff(Runs):
+    def broken_off(self, number: signal.Signals) -> "tuple[int, str]":
+        test = subprocess.Popen(self.words(str(TEMPLATE), "--time", "600"), stdout=subprocess.PIPE, stderr=subprocess.PIPE,
+                                universal_newlines=True, env=self.environment(), cwd=self.room)
+        history = self.room / "runs" / "latest" / "history.edn"
+        end = time.monotonic() + PATIENCE
+        while not (history.exists() and "begin-fault" in history.read_text()) and time.monotonic() < end:
+            time.sleep(0.1)
+        test.send_signal(number)
+        said = test.communicate(timeout=PATIENCE)[1]
+        return test.returncode, said
+
+    def test_by_ctrl_c(self) -> None:
+        status, said = self.broken_off(signal.SIGINT)
+        self.assertEqual((status, said), (130, "test: interrupted: no server is left\n"))
+        self.nothing_is_left()
+
+    def test_by_a_kill(self) -> None:
+        """Then nobody says anything, and all is gone a little later."""
+        self.assertEqual(self.broken_off(signal.SIGKILL)[0], -9)
+        end = time.monotonic() + PATIENCE
+        while (self.left() or os.listdir(self.room / "tmp")) and time.monotonic() < end:
+            time.sleep(0.1)
+        self.nothing_is_left()
+
+
+class Words(Runs):
+    def test_what_is_not_there_is_said(self) -> None:
+        for words, said in (("mongodb", "there is no server 'mongodb'; there are redis, "),
+                            ("./none.py", "none.py: there is no such file"),
+                            ("redis --plant x", "--plant x: redis has replica, "),
+                            ("redis --object cas-register", "--object cas-register: redis has register, "),
+                            ("redis --object set --plant lease", "--object set: the plant lease is one of a mutex"),
+                            ("redis --nodes 9", "--nodes 9: redis takes 1 to 5"),
+                            ("redis --nemesis x", "--nemesis x: it takes"),
+                            ("redis --time 0", "argument --time: it takes seconds"),
+                            ("redis --clients 64", "argument --clients: it takes clients, 1 to 63"),
+                            ("--time 1", "the following arguments are required")):
+            with self.subTest(words):
+                self.assertRegex(said_of(words.split()), "^" + re.escape(said))
+
+    def test_a_file_that_is_none(self) -> None:
+        for text, said in (("x = = 1", "mine.py can't be used: SyntaxError"), ("", "mine.py has no class that is a jepmon.testing.Server"),
+                           ("1 / 0", r"mine.py can't be used: ZeroDivisionError: division by zero \(mine.py, line 4\)$"),
+                           ("class Mine(MyServer):\n    objects = {'tree': MyClient}\n", "mine.py: Mine.objects names models .*not tree")):
+            with self.subTest(text), tempfile.TemporaryDirectory() as room:
+                path = pathlib.Path(room, "mine.py")
+                path.write_text(IMPORTS + text)
+                self.assertRegex(said_of([str(path)]), said)
+
+    def test_it_is_said_in_one_line(self) -> None:
+        ran = self.ran("mongodb")
+        self.assertEqual((ran.returncode, ran.stdout, len(ran.stderr.splitlines())), (3, "", 1), ran.stderr)
+        self.assertTrue(ran.stderr.startswith("test: there is no server 'mongodb'"), ran.stderr)
+
+
+def said_of(words: List[str]) -> str:
+    try:
+        given(words)
+    except ServerError as fault:
+        return str(fault)
+    return "nothing"

@@ -1,0 +1,180 @@
+"""The clients of servers, on answers that were worked out by hand."""
+from __future__ import annotations
+
+import socket
+import struct
+import threading
+import time
+import unittest
+from typing import Callable, List
+
+from jepmon.testing.node import ADDRESS
+from jepmon.testing.wire.amqp import Amqp, method, short
+from jepmon.testing.wire.postgres import Postgres, SqlError, values
+from jepmon.testing.wire.resp import Redis, RedisError, request
+from jepmon.testing.wire.streams import Stream
+
+PATIENCE = 60.0
+
+
+class Scripted(unittest.TestCase):
+    def server(self, *answers: bytes) -> int:
+        """A server that answers each thing that it is sent by the next of these, and then ends the connection. Its port."""
+        self.asked: List[bytes] = []
+        listening = socket.create_server((ADDRESS, 0))
+        self.addCleanup(listening.close)
+
+        def serve() -> None:
+            connection = listening.accept()[0]
+            with connection:
+                for answer in answers:
+                    self.asked.append(connection.recv(1 << 16))
+                    connection.sendall(answer)
+
+        thread = threading.Thread(target=serve, daemon=True)
+        thread.start()
+        port: int = listening.getsockname()[1]
+        return port
+
+
+class OfRedis(Scripted):
+    def test_a_command_has_the_length_of_each_word(self) -> None:
+        self.assertEqual(request("SET", "k", 12), b"*3\r\n$3\r\nSET\r\n$1\r\nk\r\n$2\r\n12\r\n")
+
+    def test_each_kind_of_answer(self) -> None:
+        redis = Redis(self.server(b"$2\r\n12\r\n", b"*2\r\n$1\r\na\r\n:7\r\n", b"$-1\r\n", b"-READONLY no\r\n", b""), PATIENCE)
+        self.addCleanup(redis.close)
+        self.assertEqual([redis.call("GET", "k"), redis.call("GET", "k"), redis.call("GET", "k")], [b"12", [b"a", 7], None])
+        with self.assertRaisesRegex(RedisError, "READONLY no"):
+            redis.call("SET", "k", 1)
+        with self.assertRaisesRegex(ConnectionError, "closed"):
+            redis.call("GET", "k")
+        self.assertFalse(redis.stream.is_open)
+
+
+class OfStreams(Scripted):
+    def test_an_operation_has_its_time_as_a_whole(self) -> None:
+        listening = socket.create_server((ADDRESS, 0))  # it takes connections, and says nothing
+        self.addCleanup(listening.close)
+        stream = Stream(listening.getsockname()[1], 0.2)
+        stream.open()
+        self.addCleanup(stream.close)
+        begun = time.monotonic()
+        with self.assertRaises(OSError):
+            stream.line()
+        self.assertGreaterEqual(time.monotonic() - begun, 0.15)
+        with self.assertRaises(TimeoutError):
+            stream.send(b"more")
+
+    def test_nothing_listens(self) -> None:
+        with socket.socket() as free:
+            free.bind((ADDRESS, 0))
+            port = free.getsockname()[1]
+        for ask in (lambda: Redis(port).call("PING"), lambda: Postgres(port, "x", 1.0).query("SELECT 1"), lambda: Amqp(port, 1.0).get("q")):
+            with self.assertRaises(ConnectionRefusedError):
+                ask()
+
+
+def packet(kind: bytes, data: bytes) -> bytes:
+    return kind + struct.pack("!i", len(data) + 4) + data
+
+
+LOGIN = packet(b"R", b"\0\0\0\0") + packet(b"S", b"server_version\x0015\0") + packet(b"Z", b"I")
+READY = packet(b"Z", b"I")
+
+
+def row(*fields: bytes) -> bytes:
+    return packet(b"D", struct.pack("!h", len(fields)) + b"".join(struct.pack("!i", len(field)) + field for field in fields))
+
+
+class OfPostgres(Scripted):
+    def sql(self, *answers: bytes) -> Postgres:
+        sql = Postgres(self.server(*answers), "someone", PATIENCE)
+        self.addCleanup(sql.close)
+        return sql
+
+    def test_rows(self) -> None:
+        sql = self.sql(LOGIN, packet(b"T", b"") + row(b"12") + packet(b"C", b"SELECT 1\0") + READY)
+        self.assertEqual(sql.query("SELECT v"), ([("12",)], 1))
+        self.assertTrue(self.asked[0].endswith(b"user\0someone\0database\0postgres\0\0"))
+
+    def test_an_error_leaves_the_session(self) -> None:
+        error = packet(b"E", b"SERROR\0C40001\0Mcould not serialize\0\0")
+        sql = self.sql(LOGIN, error + READY, packet(b"C", b"ROLLBACK\0") + READY)
+        with self.assertRaises(SqlError) as raised:
+            sql.query("UPDATE")
+        self.assertEqual((raised.exception.state, str(raised.exception)), ("40001", "40001 could not serialize"))
+        self.assertEqual(sql.query("ROLLBACK").rows, [])
+        self.assertEqual(sql.connected, 1)
+
+    def test_the_end_of_a_session_is_no_answer(self) -> None:
+        sql = self.sql(LOGIN, packet(b"E", b"SFATAL\0C57P01\0Mterminating connection\0\0"))
+        with self.assertRaisesRegex(ConnectionError, "57P01") as raised:
+            sql.query("COMMIT")
+        self.assertNotIsInstance(raised.exception, ConnectionRefusedError)
+
+    def test_a_server_that_starts_has_sent_nothing_on(self) -> None:
+        with self.assertRaisesRegex(ConnectionRefusedError, "57P03"):
+            self.sql(packet(b"E", b"SFATAL\0C57P03\0Mthe database system is starting up\0\0")).query("SELECT 1")
+
+    def test_a_field_may_be_null(self) -> None:
+        self.assertEqual(values(struct.pack("!hi", 2, -1) + struct.pack("!i", 1) + b"x"), (None, "x"))
+
+
+def frame(kind: int, data: bytes) -> bytes:
+    return struct.pack("!BHI", kind, 1, len(data)) + data + b"\xce"
+
+
+def said(first: int, second: int, *parts: bytes) -> bytes:
+    return frame(1, method((first, second), *parts))
+
+
+GREETING = (said(10, 10), said(10, 30), said(10, 41), said(20, 11), said(85, 11), said(50, 11))
+
+
+class OfAmqp(Scripted):
+    """Each answer follows the whole of what was asked, so that what is asked at once has one answer."""
+
+    def amqp(self, *answers: bytes) -> Amqp:
+        listening = socket.create_server((ADDRESS, 0))
+        self.addCleanup(listening.close)
+        both = b"".join((*GREETING, *answers))
+
+        def serve() -> None:
+            with listening.accept()[0] as connection:
+                connection.sendall(both)
+                while connection.recv(1 << 16):
+                    pass
+
+        threading.Thread(target=serve, daemon=True).start()
+        amqp = Amqp(listening.getsockname()[1], PATIENCE)
+        self.addCleanup(amqp.close)
+        return amqp
+
+    def test_a_message_comes(self) -> None:
+        got = said(60, 71, struct.pack("!Q", 9), b"\0", short(""), short("q"), struct.pack("!I", 0))
+        amqp = self.amqp(got, frame(8, b""), frame(2, struct.pack("!HHQH", 60, 0, 2, 0)), frame(3, b"12"), said(60, 72, short("")))
+        self.assertEqual(amqp.get("q"), (9, b"12"))
+        self.assertIsNone(amqp.get("q"))
+
+    def test_a_message_is_confirmed(self) -> None:
+        self.amqp(said(60, 80, struct.pack("!QB", 1, 0))).publish("q", b"12")
+
+    def test_a_message_that_is_refused(self) -> None:
+        with self.assertRaisesRegex(ConnectionError, "did not take"):
+            self.amqp(said(60, 120, struct.pack("!QB", 1, 0))).publish("q", b"12")
+
+    def test_a_channel_that_is_closed_says_why(self) -> None:
+        closed = said(20, 40, struct.pack("!H", 404), short("NOT_FOUND"), struct.pack("!HH", 60, 40))
+        with self.assertRaisesRegex(ConnectionError, "NOT_FOUND") as raised:
+            self.amqp(closed).publish("q", b"12")
+        self.assertNotIsInstance(raised.exception, ConnectionRefusedError)  # the message was sent
+
+    def test_what_comes_before_has_sent_no_message(self) -> None:
+        ask: Callable[[], object] = lambda: Amqp(self.server(b"HTTP/1.1 400 Bad Request\r\n\r\n"), PATIENCE).publish("q", b"12")
+        with self.assertRaises(ConnectionRefusedError):
+            ask()
+
+
+if __name__ == "__main__":
+    unittest.main()

@@ -1,0 +1,114 @@
+#!/usr/bin/env python3
+"""Runs jepmon-test on real servers: each under faults for 20 seconds, which must be legal, and each planted fault until it is found. It
+ends with 'N passed, M failed', or 'N passed, M failed, K skipped' where a server is not installed (tests/setup installs them). With
+words, it runs the tests of these servers alone, as redis; a word like redis/lease runs one of them.
+"""
+from __future__ import annotations
+
+import concurrent.futures
+import importlib
+import os
+import pathlib
+import shutil
+import subprocess
+import sys
+import tempfile
+from typing import List, NamedTuple, Optional, Tuple, Type
+
+TOP = pathlib.Path(__file__).resolve().parent.parent
+sys.path.insert(0, str(TOP / "python"))
+
+from jepmon.testing import Server, ServerError  # noqa: E402
+from jepmon.testing.words import SERVERS  # noqa: E402
+from program import PROGRAM  # noqa: E402
+
+SECONDS, UNTIL_FOUND = 20, 120
+GOOD = (0, 2)  # on a busy machine so many operations may time out at once that a key is unknown
+PATIENT = ["--least", "3", "--patience", "600"]
+PATIENCE = 1800.0  # seconds, on a busy machine
+AT_ONCE = 2  # tests; each of them mostly waits
+
+
+class Test(NamedTuple):
+    server: str
+    what: str  # an object, or a planted fault
+    words: List[str]
+    statuses: Tuple[int, ...]
+
+    @property
+    def name(self) -> str:
+        return f"{self.server}/{self.what}"
+
+
+def tests(server: str) -> List[Test]:
+    """Each object of the server under faults, and each fault that is planted in it."""
+    kind = kind_of(server)
+    found = [Test(server, model, ["--object", model, "--time", str(SECONDS)], GOOD) for model in kind.objects]
+    return found + [Test(server, plant, ["--plant", plant, "--time", str(seconds(server, plant))], (1,)) for plant in kind.plants]
+
+
+def seconds(server: str, plant: str) -> int:
+    """What is lost is found by counting, at the end: such a run ends by itself."""
+    return 2 * SECONDS if (server, plant) == ("rabbitmq", "early") else UNTIL_FOUND
+
+
+def kind_of(server: str) -> Type[Server]:
+    kind: Type[Server] = getattr(importlib.import_module(f"jepmon.testing.servers.{server}"), SERVERS[server])
+    return kind
+
+
+def missing(server: str) -> Optional[str]:
+    try:
+        kind_of(server).test_installed()
+    except ServerError as fault:
+        return str(fault)
+    return None
+
+
+def passes(test: Test) -> bool:
+    room = pathlib.Path(tempfile.mkdtemp(prefix="servers-"))
+    room.chmod(0o755)
+    try:
+        good, text = tried(test, room)
+    finally:
+        shutil.rmtree(room, ignore_errors=True)
+    print(f"{test.name}: {text}", flush=True)
+    return good
+
+
+def tried(test: Test, room: pathlib.Path) -> Tuple[bool, str]:
+    """Runs it, and gives whether it is as it should be, and what it said."""
+    words = [sys.executable, "-m", "jepmon", "test", test.server, *test.words, "--out", str(room / "runs"), *PATIENT]
+    environment = {**os.environ, "JEPMON": str(PROGRAM), "PYTHONPATH": str(TOP / "python"), "TMPDIR": str(room)}
+    try:
+        ran = subprocess.run(words, stdout=subprocess.PIPE, stderr=subprocess.PIPE, universal_newlines=True, timeout=PATIENCE,
+                             env=environment)
+    except subprocess.TimeoutExpired as fault:
+        return False, f"FAILED: it did not end within {PATIENCE:.0f} s\n{fault.stdout}"
+    lines = ran.stdout.splitlines()
+    left = [name for name in os.listdir(room) if name != "runs"]
+    if ran.returncode in test.statuses and not left:
+        return True, f"ok: {lines[-1]}{': ' + ran.stderr.splitlines()[0] if ran.stderr else ''}"
+    logs = [f"--- {log.name}\n" + "\n".join(log.read_text(errors="replace").splitlines()[-20:])
+            for log in sorted((room / "runs").glob("latest/*.log"))]
+    return False, "\n".join([f"FAILED: status {ran.returncode}; left: {left}", ran.stdout, ran.stderr, *logs])
+
+
+def main(wanted: List[str]) -> int:
+    passed = failed = skipped = 0
+    for server in SERVERS:
+        chosen = [test for test in tests(server) if not wanted or server in wanted or test.name in wanted]
+        lacks = missing(server) if chosen else None
+        if lacks is not None:
+            print(f"skipped: {server}: {lacks}")
+            skipped += len(chosen)
+            continue
+        with concurrent.futures.ThreadPoolExecutor(AT_ONCE) as pool:
+            good = sum(pool.map(passes, chosen))
+        passed, failed = passed + good, failed + len(chosen) - good
+    print(f"{passed} passed, {failed} failed" + (f", {skipped} skipped" if skipped else ""))
+    return 1 if failed else 0
+
+
+if __name__ == "__main__":
+    sys.exit(main(sys.argv[1:]))
