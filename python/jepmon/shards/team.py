@@ -61,10 +61,10 @@ class Member:
 
     def kill(self) -> None:
         """Ends it, and the program that it runs."""
-        self.connection.close()
         with contextlib.suppress(ProcessLookupError):
             os.killpg(self.process.pid, signal.SIGKILL)
         self.process.wait()
+        self.connection.close()
 
 
 class Team:

@@ -30,5 +30,5 @@ def serve(number: int) -> None:
             while True:
                 function, task = connection.recv()
                 connection.send(answer(function, task))
-        except (EOFError, BrokenPipeError):  # the team is no more
+        except (EOFError, ConnectionError):  # the team is no more
             return
