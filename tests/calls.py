@@ -1,6 +1,6 @@
 #!/usr/bin/env python3
-"""Compares the table of public calls in docs/PROOFS.md, "Each public call", with the sources: each call of each crate
-must stand in it once, and none that is not there; and a call must stand among those that refuse something exactly where it gives
+"""Compares the tables of public calls in docs/CALLS.md with the sources: each call of each crate must stand in them
+once, and none that is not there; and a call must stand among those that refuse something exactly where it gives
 back a Result. A row of calls that may want memory must name tests in which they succeed, and these tests must be there. Prints what
 differs, and ends with 'N passed, M failed', one for each crate.
 
@@ -77,10 +77,9 @@ def public_calls(crate):
     return found
 
 
-def rows_of_table():
-    """The rows of the table, each with its crate and the cells that follow."""
-    text = (TOP / "docs" / "PROOFS.md").read_text()
-    for row in text.split("## Each public call", 1)[1].split("\n## ", 1)[0].splitlines():
+def rows_of_tables():
+    """The rows of the tables, each with its crate and the cells that follow."""
+    for row in (TOP / "docs" / "CALLS.md").read_text().splitlines():
         cells = [cell.strip() for cell in row.strip().removeprefix("|").removesuffix("|").split("|")]
         crate = re.fullmatch(r"`(\w+)`", cells[0])
         if crate and crate.group(1) in CRATES:
@@ -88,9 +87,9 @@ def rows_of_table():
 
 
 def told():
-    """What the table says of each crate: the calls of each row, with whether the row says that they may refuse."""
+    """What the tables say of each crate: the calls of each row, with whether the row says that they may refuse."""
     found = {}
-    for crate, (calls, refusals, *_) in rows_of_table():
+    for crate, (calls, refusals, *_) in rows_of_tables():
         found.setdefault(crate, []).extend((call, not refusals.startswith("none")) for call in spelled(calls))
     return found
 
@@ -105,7 +104,7 @@ def spelled(cell):
 
 def rows_of_memory():
     """Of each row its crate, its calls, whether they may want memory, and where they are seen to succeed."""
-    return [(crate, calls, memory, seen) for crate, (calls, _, memory, _, seen) in rows_of_table()]
+    return [(crate, calls, memory, seen) for crate, (calls, _, memory, _, seen) in rows_of_tables()]
 
 
 def tests_of(crate):
@@ -141,7 +140,7 @@ def main():
         faults += [f"says of {name} that it refuses something" for name, refuses in named if name in calls and refuses > calls[name]]
         failed += bool(faults)
         for fault in faults:
-            print(f"docs/PROOFS.md, 'Each public call', {crate}: {fault}")
+            print(f"docs/CALLS.md, {crate}: {fault}")
     print(f"{len(CRATES) - failed} passed, {failed} failed")
     return 1 if failed else 0
 

@@ -1,6 +1,6 @@
 #!/usr/bin/env python3
 """Compares the clauses of public calls with docs/DEFINITIONS.md: each definition of this repository that such a clause cites
-must be named there, in backticks. And each wrong body that docs/PROOFS.md names, as `crate`: `name`, must be there. Prints what
+must be named there, in backticks. And each wrong body that docs/WRONG_BODIES.md names, as `crate`: `name`, must be there. Prints what
 is left out, and ends with 'N passed, M failed', one for each crate that is compared and one for the wrong bodies.
 
 A call is public where its crate's root gives it: an item of a `pub mod`, or one that `pub use` names. What a clause cites
@@ -90,10 +90,9 @@ def left_out(crate, names):
 
 
 def bodies_gone():
-    """The wrong bodies that docs/PROOFS.md names and that are not there, each as the path where it should be."""
+    """The wrong bodies that docs/WRONG_BODIES.md names and that are not there, each as the path where it should be."""
     gone = []
-    section = (TOP / "docs" / "PROOFS.md").read_text().split("## Wrong bodies", 1)[1].split("\n## ", 1)[0]
-    for line in section.splitlines():
+    for line in (TOP / "docs" / "WRONG_BODIES.md").read_text().splitlines():
         for crates, edits in re.findall(r"((?:`\w+`(?:, )?)+): ((?:`\w+`(?:, )?)+)", line):
             paths = [f"crates/{crate}/must-fail/{edit}.edit" for crate in WORD.findall(crates) for edit in WORD.findall(edits)]
             gone += [path for path in paths if not (TOP / path).exists()]
@@ -111,7 +110,7 @@ def main():
     gone = bodies_gone()
     failed += bool(gone)
     for path in gone:
-        print(f"docs/PROOFS.md names a wrong body that is not there: {path}")
+        print(f"docs/WRONG_BODIES.md names a wrong body that is not there: {path}")
     print(f"{len(compared) + 1 - failed} passed, {failed} failed")
     return 1 if failed else 0
 
