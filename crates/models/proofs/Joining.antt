@@ -162,8 +162,8 @@ put_in_sides xs at v is before behind =
     (λ y h. let o = in_one (drop at xs) (apart_behind xs at is) y h in let above = behind o.0 o.1 in let from : o.0.from ≤ℤ y = o.2 in omega (arith, ints, above, from)))
     ∙ ap (put_in v) (sym (both_sides xs at))
 
-pub sum_with : (xs : List Span) (at : ℕ) (v : ℤ) → sum_of (integers_in (take at xs) ++ v ∷ integers_in (drop at xs)) ≡ (sum_of (integers_in xs) + mixed v) % 2 ^ 64
-sum_with xs at v = sum_of-between (integers_in (take at xs)) (integers_in (drop at xs)) v ∙ ap (λ l. (sum_of l + mixed v) % 2 ^ 64) (sym (both_sides xs at))
+pub sum_with : (xs : List Span) (at : ℕ) (v : ℤ) → sum_of (integers_in (take at xs) ++ v ∷ integers_in (drop at xs)) ≡ (sum_of (integers_in xs) + mixed v) % 2 ^ 128
+sum_with xs at v = sum_of-between (integers_in (take at xs)) (integers_in (drop at xs)) v ∙ ap (λ l. (sum_of l + mixed v) % 2 ^ 128) (sym (both_sides xs at))
 
 -- and the spans are apart still
 pub apart_with : (xs : List Span) (before behind : ℕ) (span : Span) → StandApart xs → before ≤ behind → span.from ≤ℤ span.to

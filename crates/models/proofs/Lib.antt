@@ -13,3 +13,5 @@ pub mod InSpans
 pub mod Joining
 pub mod Alike
 pub mod Rolling
+pub mod Fronts
+pub mod Past

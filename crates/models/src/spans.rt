@@ -26,7 +26,7 @@ struct Span {
 #[derive(Drop)]
 pub struct Spans {
     spans: Vec<Span>,
-    sum: u64,
+    sum: u128,
 }
 
 impl Model for Spans {

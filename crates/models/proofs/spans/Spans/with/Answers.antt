@@ -72,8 +72,8 @@ invariant_of-result c =
     record {
       apart = subst StandApart (sym (made i))
           (apart_with old c.start_of-before.result.0 c.end_of-behind.result.0 (joined_of i) (apart i) (omega (arith, b, e)) (omega (arith, ints, low, high)) c.start_of-before.ensures.apart c.end_of-behind.ensures.apart);
-      sums = ap (λ (n : ℕ). (n + c.mixed.result) % 2 ^ 64) (c.self.invariant.sums ∙ ap (λ l. sum_of (integers_in l)) (sym c.as_slice-old.ensures.value))
-          ∙ ap (λ (n : ℕ). (sum_of (integers_in old) + n) % 2 ^ 64) c.mixed.ensures ∙ sym (sum_with old c.place_of-at.result passed) ∙ ap sum_of (sym (now i));
+      sums = ap (λ (n : ℕ). (n + c.mixed.result) % 2 ^ 128) (c.self.invariant.sums ∙ ap (λ l. sum_of (integers_in l)) (sym c.as_slice-old.ensures.value))
+          ∙ ap (λ (n : ℕ). (sum_of (integers_in old) + n) % 2 ^ 128) c.mixed.ensures ∙ sym (sum_with old c.place_of-at.result passed) ∙ ap sum_of (sym (now i));
     }
 
 pub returns : goal.returns
