@@ -1,7 +1,7 @@
 //! The outcomes of a dequeue without an order; and copies, comparisons and names.
 use models::{
-    Answer, FifoQueue, Found, Items, Members, ModelKind, Multiset, Name, Op, Part, SeqObject, Spans,
-    UnorderedQueue, fits,
+    Answer, FifoQueue, Found, Items, Members, ModelKind, Multiset, Name, Op, Part, SeqObject,
+    Spans, UnorderedQueue, fits,
 };
 use std::alloc::{AllocError, Global};
 use std::test::Fail;

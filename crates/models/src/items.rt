@@ -13,6 +13,7 @@ use std::marker::Model;
 
 // What a place weighs more than the one behind it, up to a multiple of 2^128, and the number that takes that off again.
 const RATIO: u128 = 47026247687942121848144207491837523525;
+
 const BACK: u128 = 10455382779074951524300553632856583309;
 
 /// Integers, the front first. What two queues have in common they share. Beside them stands their sum, each by the weight of its

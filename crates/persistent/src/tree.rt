@@ -153,12 +153,7 @@ fn parted(alloc: Global, values: &[i64], at: usize, value: i64) -> Result<Tree, 
 }
 
 // The three rows, one behind the other. The one in the middle is divided, where it has two halves.
-fn fork_around(
-    alloc: Global,
-    left: Tree,
-    middle: &Tree,
-    right: Tree,
-) -> Result<Tree, AllocError>
+fn fork_around(alloc: Global, left: Tree, middle: &Tree, right: Tree) -> Result<Tree, AllocError>
     requires left { 0 < length left }
     requires middle { 0 < length middle.now }
     requires right { 0 < length right }

@@ -1,4 +1,4 @@
-use Rattle.std.proofs.Common.{rules, ◌≡◌, ◌+◌, ◌-◌, ◌<◌, ◌%◌, ◌^◌, ℕ, pos, get_or, length, remove, sym, ◌∙◌, ap, subst, FitsSigned, to_z, of_z, w64}
+use Rattle.std.proofs.Common.{rules, ◌≡◌, ◌+◌, ◌-◌, ◌<◌, ◌%◌, ◌^◌, ℕ, pos, get_or, length, remove, sym, ◌∙◌, ap, subst, FitsSigned, w64}
 use Rattle.std.proofs.lemmas.Int.{to_z-of_z}
 use Rattle.models.specs.Multisets.{NeverFalls}
 use Rattle.models.specs.Sums.{mixed, sum_of}

@@ -1,4 +1,4 @@
-use Rattle.std.proofs.Common.{◌≡◌, ◌++◌, length, sym, ap, ◌∙◌}
+use Rattle.std.proofs.Common.{length, sym, ap, ◌∙◌}
 use Rattle.persistent.specs.declared.tree.Pair.{Pair}
 use Rattle.persistent.specs.Trees.{integers_of}
 use Rattle.persistent.proofs.Rows.{part_of_right}

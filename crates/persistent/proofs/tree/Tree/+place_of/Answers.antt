@@ -1,4 +1,4 @@
-use Rattle.std.proofs.Common.{rules, FitsSigned, ◌≡◌, ◌+◌, ◌-◌, ◌<◌, ◌++◌, ◌<ℤ◌, ◌≤ℤ◌, ℕ, pos, get_or, length, sym, ap, subst, ◌∙◌, to_z, of_z, w64, arith, length-append}
+use Rattle.std.proofs.Common.{rules, FitsSigned, ◌≡◌, ◌+◌, ◌<◌, ◌++◌, ◌<ℤ◌, ◌≤ℤ◌, ℕ, pos, get_or, length, sym, ap, subst, ◌∙◌, to_z, of_z, w64, arith, length-append}
 use Rattle.std.proofs.lemmas.Int.{to_z-of_z}
 use Rattle.persistent.specs.declared.tree.Pair.{Pair}
 use Rattle.persistent.specs.Trees.{integers_of, IsWhole}

@@ -1,4 +1,4 @@
-use Rattle.std.proofs.Common.{rules, ◌≡◌, ◌+◌, ◌++◌, ◌≤◌, true, length, take, sym, ap, ◌∙◌, arith}
+use Rattle.std.proofs.Common.{rules, ◌≡◌, ◌++◌, true, take, sym, ap, ◌∙◌, arith}
 use Rattle.std.proofs.lemmas.Bool.{true≢false}
 use Rattle.persistent.proofs.Rows.{take_part, same_pieces}
 use Rattle.persistent.proofs.tree.Tree.same.Goals as goal
@@ -11,9 +11,9 @@ returns-then-not-begin_alike c =
     let less = c.min-many.ensures in (
       (λ t. absurd (true≢false (sym t))),
       (λ e.
-      let alike : c.begin_alike.result ≡ true = c.begin_alike.ensures.1 (same_pieces c.args.self.now c.args.other.now ours.result.now theirs.result.now c.parts.at many ours.ensures.within ours.ensures.part (omega (arith, less))
-      theirs.ensures.within theirs.ensures.part (omega (arith, less)) e) in
-      absurd (cc)),
+          let alike : c.begin_alike.result ≡ true = c.begin_alike.ensures.1 (same_pieces c.args.self.now c.args.other.now ours.result.now theirs.result.now c.parts.at many ours.ensures.within ours.ensures.part (omega (arith, less))
+          theirs.ensures.within theirs.ensures.part (omega (arith, less)) e) in
+          absurd (cc)),
     )
 
 pub parts-preserved : goal.parts-preserved
