@@ -15,3 +15,4 @@ pub mod Alike
 pub mod Rolling
 pub mod Fronts
 pub mod Past
+pub mod Crossing

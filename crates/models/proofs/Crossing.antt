@@ -1,0 +1,18 @@
+-- The states of queues may go to another thread, and threads may share one: what they share is counted for threads.
+use denote.Param.Send.{IsSend, IsSync, sendable}
+use Rattle.std.proofs.Crossing.{crosses}
+use Rattle.persistent.proofs.tree.Tree.TheLaws.TheKnot as tree
+use Rattle.models.specs.contracts.items.Items as items
+use Rattle.models.specs.contracts.multiset.Multiset as multiset
+
+pub items_send : IsSend items.the_row
+items_send = search (sendable, crosses, tree.crosses) depth 60
+
+pub items_sync : IsSync items.the_row
+items_sync = search (sendable, crosses, tree.crosses) depth 60
+
+pub multiset_send : IsSend multiset.the_row
+multiset_send = search (sendable, crosses, tree.crosses) depth 60
+
+pub multiset_sync : IsSync multiset.the_row
+multiset_sync = search (sendable, crosses, tree.crosses) depth 60
