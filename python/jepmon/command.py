@@ -51,7 +51,7 @@ def write_error(line: str) -> None:
         if sys.stderr is not None:
             print(printable(line), file=sys.stderr)
     except OSError:  # nobody reads it
-        pass
+        abandon(sys.stderr)
 
 
 def standard_error() -> TextIO:
@@ -75,7 +75,7 @@ def write_output(texts: Iterable[str]) -> None:
             _write_whole(sys.stdout, text)
         sys.stdout.flush()
     except OSError as fault:
-        abandon_output()
+        abandon(sys.stdout)
         raise OutputError(f"the output can't be written: {fault.strerror}") from fault
 
 
@@ -91,10 +91,10 @@ def _write_whole(stream: TextIO, text: str) -> None:
         rest = rest[raw.write(rest) or 0:]
 
 
-def abandon_output() -> None:
-    """What standard output still holds goes nowhere, so that Python has nothing to say of it as it ends."""
+def abandon(stream: TextIO) -> None:
+    """What standard output or standard error still holds goes nowhere, so that Python has nothing to say of it as it ends."""
     try:
-        os.dup2(os.open(os.devnull, os.O_WRONLY), sys.stdout.fileno())
+        os.dup2(os.open(os.devnull, os.O_WRONLY), stream.fileno())
     except (OSError, ValueError):
         pass
 
