@@ -54,7 +54,7 @@ def _turn(arguments: Optional[List[str]]) -> int:
 
 def _found(arguments: Optional[List[str]]) -> Recorded:
     called = command.tool(NAME)
-    parser = Words(prog=NAME, description=(__doc__ or "").format(tool=called), formatter_class=argparse.RawDescriptionHelpFormatter)
+    parser = Words(prog=called, description=(__doc__ or "").format(tool=called), formatter_class=argparse.RawDescriptionHelpFormatter)
     parser.add_argument("file", nargs="?", default="-", metavar="FILE", help="a history of JSON or CSV, or a log; - for standard input")
     parser.add_argument("--key", metavar="K", type=number("a key", KEYS), help="the history has no keys: each value is of key K")
     parser.add_argument("--nil-is-absent", action="store_true", help="null is what a missing key answers, and is judged")

@@ -39,7 +39,7 @@ def say(line: str) -> None:
 
 def parser() -> argparse.ArgumentParser:
     description = (__doc__ or "").format(tool=command.tool(NAME))
-    made = Words(prog=NAME, description=description, formatter_class=argparse.RawDescriptionHelpFormatter)
+    made = Words(prog=command.tool(NAME), description=description, formatter_class=argparse.RawDescriptionHelpFormatter)
     made.add_argument("file", metavar="FILE", help="a recorded history, - for standard input")
     for option in OPTIONS:
         made.add_argument(option, metavar="X", help="as of jepmon check")

@@ -44,7 +44,7 @@ class Words(command.Words):
 
 def words() -> argparse.Namespace:
     called = command.tool(NAME)
-    parser = Words(prog=NAME, description=(__doc__ or "").format(tool=called), formatter_class=argparse.RawDescriptionHelpFormatter)
+    parser = Words(prog=called, description=(__doc__ or "").format(tool=called), formatter_class=argparse.RawDescriptionHelpFormatter)
     parser.add_argument("file", nargs="?", default="-", metavar="FILE", help="Jepsen's history.edn; without it standard input")
     parser.add_argument("--key", metavar="K", help="the history has no keys: each of its values is of key K, 0 to 65535")
     parser.add_argument("--nil-is-absent", action="store_true", help="nil is what a missing key answers, and is judged")

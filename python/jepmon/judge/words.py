@@ -60,7 +60,8 @@ def number(name: str, limits: range) -> "type[int]":
 
 
 def given(words: Optional[List[str]]) -> Given:
-    parser = Words(prog=NAME, description=DESCRIPTION.format(tool=command.tool(NAME)), formatter_class=argparse.RawDescriptionHelpFormatter)
+    called = command.tool(NAME)
+    parser = Words(prog=called, description=DESCRIPTION.format(tool=called), formatter_class=argparse.RawDescriptionHelpFormatter)
     parser.add_argument("history", nargs="?", metavar="HISTORY", help="a file or a folder; - or nothing is standard input")
     parser.add_argument("--model", metavar="NAME", choices=tuple(kinds.MODELS),
                         help="the object that each key is, in place of the one found: " + ", ".join(kinds.MODELS))

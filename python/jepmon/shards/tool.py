@@ -46,7 +46,7 @@ class Words(command.Words):
 
 def words() -> argparse.Namespace:
     called = command.tool(NAME)
-    parser = Words(prog=NAME, description=DESCRIPTION.format(tool=called), formatter_class=argparse.RawDescriptionHelpFormatter)
+    parser = Words(prog=called, description=DESCRIPTION.format(tool=called), formatter_class=argparse.RawDescriptionHelpFormatter)
     tools = parser.add_subparsers(dest="word", metavar="split|judge|join", required=True)
     of_split = tools.add_parser("split", help="write the shards of a history into a folder")
     of_split.add_argument("history", metavar="HISTORY", help="a file or a folder; - is standard input")

@@ -63,7 +63,8 @@ def given(words: Optional[List[str]]) -> Optional[Given]:
 
 
 def _parser() -> Words:
-    parser = Words(prog=NAME, description=DESCRIPTION.format(tool=command.tool(NAME)), formatter_class=argparse.RawDescriptionHelpFormatter)
+    called = command.tool(NAME)
+    parser = Words(prog=called, description=DESCRIPTION.format(tool=called), formatter_class=argparse.RawDescriptionHelpFormatter)
     parser.add_argument("server", metavar="SERVER", help=f"{', '.join(SERVERS)}, or a Python file that has a Server; {TEMPLATE} prints one")
     parser.add_argument("--object", metavar="MODEL", choices=tuple(kinds.MODELS), help="what each key is: " + ", ".join(kinds.MODELS))
     parser.add_argument("--plant", metavar="NAME", help="a fault of the server that is known, by its name")
