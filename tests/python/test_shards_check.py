@@ -65,6 +65,11 @@ class SameAsCheck(unittest.TestCase):
             told, found = program.check(b"", options), shards.check(b"", options, 1)
             self.assertEqual((told.verdict.split(":")[0], told.status, told.text), (found.verdict, found.status, found.text))
 
+    def test_places_of_unreadable_texts(self) -> None:
+        """The longest front that is a text ends before a discard whose element can't be read, or with an atom of it."""
+        for text in (b"#_ :", b"#_:", b"1 #_\n\n; c\n)", b"#_ #_ :", b"#_ [1 :", b"#_ 1.5", b"1 #_ ; c\n", b"; c\n:", b":", b"1.5", b"#_", b"]", b"[#_ :]"):
+            self.assertEqual(shards.check(text, Options(), 1).text, program.check(text, Options()).text, text)
+
     def test_a_file_that_can_not_be_read(self) -> None:
         self.assertEqual(shards.check("no/such/file", Options(), 1).text, "refused 20 ReadFailed\n")
 

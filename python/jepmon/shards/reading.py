@@ -131,8 +131,9 @@ class Reader:
         token = match.group() if match else b""
         is_atom, value = atom_of(token)
         if not is_atom:
-            if needed == 0:
-                self.good = self.at + longest_atom(token)
+            length = longest_atom(token)
+            if needed == 0 and length > 0:  # behind a discard the front ends with an atom, or before the discard
+                self.good = self.at + length
             raise Unreadable(self.good)
         self.at += len(token)
         return value
