@@ -23,6 +23,7 @@ from jepmon.testing.words import SERVERS  # noqa: E402
 from program import PROGRAM  # noqa: E402
 
 SECONDS, UNTIL_FOUND = 20, 120
+NONE = 3  # the status of what came to no verdict
 GOOD = (0, 2)  # on a busy machine so many operations may time out at once that a key is unknown
 PATIENT = ["--least", "3", "--patience", "600"]
 PATIENCE = 1800.0  # seconds, on a busy machine
@@ -66,32 +67,41 @@ def missing(server: str) -> Optional[str]:
 
 
 def passes(test: Test) -> bool:
-    room = pathlib.Path(tempfile.mkdtemp(prefix="servers-"))
-    room.chmod(0o755)
-    try:
-        good, text = tried(test, room)
-    finally:
-        shutil.rmtree(room, ignore_errors=True)
+    """Whether it is as it should be. What came to no verdict, as where a server did not start in time, and a fault that was not met are
+    tried once more, and that is said; a verdict that is wrong is not."""
+    good, status, text = run(test)
+    if status not in test.statuses and status != 1:
+        print(f"{test.name}: once more, after\n{text}", flush=True)
+        good, status, text = run(test)
     print(f"{test.name}: {text}", flush=True)
     return good
 
 
-def tried(test: Test, room: pathlib.Path) -> Tuple[bool, str]:
-    """Runs it, and gives whether it is as it should be, and what it said."""
+def run(test: Test) -> Tuple[bool, int, str]:
+    room = pathlib.Path(tempfile.mkdtemp(prefix="servers-"))
+    room.chmod(0o755)
+    try:
+        return tried(test, room)
+    finally:
+        shutil.rmtree(room, ignore_errors=True)
+
+
+def tried(test: Test, room: pathlib.Path) -> Tuple[bool, int, str]:
+    """Runs it, and gives whether it is as it should be, its status, and what it said."""
     words = [sys.executable, "-m", "jepmon", "test", test.server, *test.words, "--out", str(room / "runs"), *PATIENT]
     environment = {**os.environ, "JEPMON": str(PROGRAM), "PYTHONPATH": str(TOP / "python"), "TMPDIR": str(room)}
     try:
         ran = subprocess.run(words, stdout=subprocess.PIPE, stderr=subprocess.PIPE, universal_newlines=True, timeout=PATIENCE,
                              env=environment)
     except subprocess.TimeoutExpired as fault:
-        return False, f"FAILED: it did not end within {PATIENCE:.0f} s\n{fault.stdout}"
+        return False, NONE, f"FAILED: it did not end within {PATIENCE:.0f} s\n{fault.stdout}"
     lines = ran.stdout.splitlines()
     left = [name for name in os.listdir(room) if name != "runs"]
     if ran.returncode in test.statuses and not left:
-        return True, f"ok: {lines[-1]}{': ' + ran.stderr.splitlines()[0] if ran.stderr else ''}"
+        return True, ran.returncode, f"ok: {lines[-1]}{': ' + ran.stderr.splitlines()[0] if ran.stderr else ''}"
     logs = [f"--- {log.name}\n" + "\n".join(log.read_text(errors="replace").splitlines()[-20:])
             for log in sorted((room / "runs").glob("latest/*.log"))]
-    return False, "\n".join([f"FAILED: status {ran.returncode}; left: {left}", ran.stdout, ran.stderr, *logs])
+    return False, ran.returncode, "\n".join([f"FAILED: status {ran.returncode}; left: {left}", ran.stdout, ran.stderr, *logs])
 
 
 def main(wanted: List[str]) -> int:
