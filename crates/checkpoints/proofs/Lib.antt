@@ -1,3 +1,4 @@
+pub mod Crossing
 pub mod Counts
 pub mod SavedStates
 pub mod Soundness

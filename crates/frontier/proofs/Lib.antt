@@ -1,3 +1,4 @@
+pub mod Crossing
 pub mod TheEnds
 pub mod AfterEvents
 pub mod Generating

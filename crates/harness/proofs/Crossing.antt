@@ -5,9 +5,9 @@ use Rattle.generators.proofs.form.Gen.TheLaws.TheKnot as gen
 use Rattle.generators.proofs.words.Words.TheSendSync as words
 use Rattle.generators.proofs.path.Path.TheSendSync as path
 use Rattle.models.proofs.members.Members.TheSendSync as members
-use Rattle.monitor.proofs.monitor.Monitor.TheSendSync as monitor
+use Rattle.monitor.proofs.Crossing.{monitor_send, monitor_sync}
 use Rattle.nemesis.proofs.schedule.Schedule.TheSendSync as schedule
-use Rattle.test_store.proofs.store.Store.TheSendSync as store
+use Rattle.test_store.proofs.Crossing.{store_send, store_sync}
 use Rattle.test_store.proofs.outcome.Outcome.TheSendSync as outcome
 use Rattle.trials.proofs.ticket.Ticket.TheSendSync as ticket
 use Rattle.generators.specs.contracts.source.Source as source
@@ -21,10 +21,10 @@ pub source_sync : IsSync source.the_row
 source_sync = search (sendable, crosses, gen.crosses, members.the_sync, words.the_sync, path.the_sync) depth 60
 
 pub inner_send : IsSend inner.the_row
-inner_send = search (source_send, monitor.the_send, schedule.the_send, store.the_send, outcome.the_send, ticket.the_send, sendable, crosses) depth 60 fits 20000
+inner_send = search (source_send, monitor_send, schedule.the_send, store_send, outcome.the_send, ticket.the_send, sendable, crosses) depth 60 fits 20000
 
 pub inner_sync : IsSync inner.the_row
-inner_sync = search (source_sync, monitor.the_sync, schedule.the_sync, store.the_sync, outcome.the_sync, ticket.the_sync, sendable, crosses) depth 60 fits 20000
+inner_sync = search (source_sync, monitor_sync, schedule.the_sync, store_sync, outcome.the_sync, ticket.the_sync, sendable, crosses) depth 60 fits 20000
 
 pub core_send : IsSend core.the_row
 core_send = search (inner_send, sendable, crosses) depth 60

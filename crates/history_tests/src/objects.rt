@@ -1,7 +1,7 @@
 //! The outcomes of a dequeue without an order; and copies, comparisons and names.
 use models::{
-    Answer, Found, Items, Members, ModelKind, Name, Op, Part, SeqObject, Spans, UnorderedQueue,
-    fits,
+    Answer, FifoQueue, Found, Items, Members, ModelKind, Multiset, Name, Op, Part, SeqObject,
+    Spans, UnorderedQueue, fits,
 };
 use std::alloc::{AllocError, Global};
 use std::test::Fail;
@@ -79,9 +79,59 @@ fn spans_have_their_members(rt: HostRuntime) -> Result<(), Fail> {
 #[test]
 fn items_keep_their_order(rt: HostRuntime) -> Result<(), Fail> {
     let items = Items::new(rt.alloc()).with(9)?.with(1)?;
-    assert_eq!(rt; items.as_slice(), [9, 1].as_slice());
+    assert_eq!(rt; items.len(), 2);
+    assert_eq!(rt; items.front(), 9);
     assert!(rt; items.copy()? == items);
-    assert!(rt; Items::of_slice(rt.alloc(), &[1, 9])? != items);
+    assert!(rt; Items::new(rt.alloc()).with(1)?.with(9)? != items);
+    Ok(())
+}
+
+// The queue of the numbers from 0 on.
+fn queue_of(alloc: Global, many: i64) -> Result<Items, AllocError> {
+    let mut items = Items::new(alloc);
+    for value in 0..many {
+        items = items.with(value)?;
+    }
+    Ok(items)
+}
+
+// More than lie in one piece of memory come out as they went in; and what was copied meanwhile stays as it was.
+#[test]
+fn long_queue_shares_its_items(rt: HostRuntime) -> Result<(), Fail> {
+    let alloc = rt.alloc();
+    let dequeue = op(Name::Dequeue, Part::Nil);
+    let mut items = queue_of(alloc, 300)?;
+    let longer = items.copy()?.with(7)?;
+    for value in 0..300 {
+        let Some((rest, found)) = FifoQueue::apply(alloc, &items, &dequeue)?.pop() else {
+            return Err("a dequeue has no outcome".into());
+        };
+        assert!(rt; found.same(&Found::Item(value)));
+        items = rest;
+    }
+    assert!(rt; items == Items::new(alloc));
+    assert!(rt; longer == queue_of(alloc, 300)?.with(7)?);
+    Ok(())
+}
+
+// The values in whatever order they come, each as often as it came; and without one of them.
+#[test]
+fn multiset_has_each_value_as_often(rt: HostRuntime) -> Result<(), Fail> {
+    let alloc = rt.alloc();
+    let mut up = Multiset::new(alloc);
+    let mut down = Multiset::new(alloc);
+    for value in 0..200 {
+        up = up.with(value / 2)?;
+        down = down.with((199 - value) / 2)?;
+    }
+    assert!(rt; up == down);
+    let mut outcomes = UnorderedQueue::apply(alloc, &up, &op(Name::Dequeue, Part::Nil))?;
+    assert_eq!(rt; outcomes.len(), 100);
+    let Some((less, _)) = outcomes.pop() else {
+        return Err("a dequeue has no outcome".into());
+    };
+    assert!(rt; less != down);
+    assert!(rt; less.with(99)? == down);
     Ok(())
 }
 

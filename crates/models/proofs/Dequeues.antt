@@ -13,13 +13,13 @@ use Rattle.models.proofs.Sorting.{one_ascending}
 use Rattle.models.proofs.Bags.{without_one-place, Contains-values_of, IsAscending-values_of}
 
 -- a list that never falls
-never_falls_to : (xs : List ℤ) → NeverFalls xs → (i j : ℕ) (d : ℤ) → i < j → j < length xs → get_or xs i d ≤ℤ get_or xs j d
+pub never_falls_to : (xs : List ℤ) → NeverFalls xs → (i j : ℕ) (d : ℤ) → i < j → j < length xs → get_or xs i d ≤ℤ get_or xs j d
 never_falls_to [] is i j d lt fits = absurd (omega arith)
 never_falls_to (x ∷ xs) is i zero d lt fits = absurd (omega arith)
 never_falls_to (x ∷ xs) is zero (suc j) d lt fits = is.0 (get_or xs j d) (Contains-get_or xs j d (omega arith))
 never_falls_to (x ∷ xs) is (suc i) (suc j) d lt fits = never_falls_to xs is.1 i j d (omega arith) (omega arith)
 
-strictly : (a b : ℤ) → a ≤ℤ b → a ≢ b → a <ℤ b
+pub strictly : (a b : ℤ) → a ≤ℤ b → a ≢ b → a <ℤ b
 strictly a b h d = by_lt_z a b (λ l. l) (λ g. let e : a ≡ b = omega (arith, ints) in absurd (d e))
 
 -- all before the first of a value are below it

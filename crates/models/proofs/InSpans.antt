@@ -4,7 +4,7 @@ use Rattle.std.specs.Prelude.{ℕ, zero, suc, ℤ, pos, negsuc, ◌+ℤ◌, ◌-
 use Rattle.std.specs.List.{Contains}
 use Rattle.std.proofs.lemmas.Int.{ints, by_lt_z}
 use Rattle.std.proofs.lemmas.List.Elements.{Contains-append_left, Contains-append_right, Contains-append_cases}
-use Rattle.models.specs.declared.spans.Span.{Span}
+use Rattle.models.specs.declared.span_row.Span.{Span}
 use Rattle.models.specs.Members.{IsAscending, put_in}
 use Rattle.models.specs.Spans.{in_turn, many, from_to, integers_in, StartBehind, StandApart}
 use Rattle.models.proofs.PutIn.{no_member, first_member, later_member, member_cases, is_lower, not_lower, put_in-first, put_in-later}

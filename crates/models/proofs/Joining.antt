@@ -1,22 +1,21 @@
 -- a value put in among spans
-use Rattle.std.proofs.Common.{◌≡◌, ◌≢◌, ◌+◌, ◌-◌, ◌%◌, ◌^◌, ◌<ℤ◌, ◌≤ℤ◌, ⊎_elim, true, false, sym, ap, ◌∙◌, subst, arith}
-use Rattle.std.specs.Prelude.{ℕ, zero, suc, ◌≤◌, ◌<◌, ℤ, pos, ◌+ℤ◌, ◌-ℤ◌, int_lt, List, [], ◌∷◌, ◌++◌, length, get_or, take, drop}
+use Rattle.std.proofs.Common.{◌≡◌, ◌≢◌, ◌+◌, ◌-◌, ◌%◌, ◌^◌, ◌<ℤ◌, ◌≤ℤ◌, ⊎_elim, sym, ap, ◌∙◌, subst, arith}
+use Rattle.std.specs.Prelude.{ℕ, zero, suc, ◌≤◌, ◌<◌, ℤ, pos, ◌+ℤ◌, ◌-ℤ◌, List, [], ◌∷◌, ◌++◌, length, get_or, take, drop}
 use Rattle.std.specs.List.{Contains}
-use Rattle.std.specs.List.Sorted.{IsPartitionedBy}
-use Rattle.std.proofs.lemmas.Bool.{cases_lt, false≢true}
+use Rattle.std.proofs.lemmas.Bool.{cases_lt}
 use Rattle.std.proofs.lemmas.Int.{ints, by_lt_z}
 use Rattle.std.proofs.lemmas.List.{append-nil, append_assoc, take-append-drop, get_or-take, get_or-drop, length-take, length-drop, take_more, drop_more, drop_all}
 use Rattle.std.proofs.lemmas.List.Concat.{flat_map-append}
 use Rattle.std.proofs.lemmas.List.Elements.{Contains-get_or, Contains-append_right, Contains-append_cases}
-use Rattle.models.specs.declared.spans.Span.{Span}
+use Rattle.models.specs.declared.span_row.Span.{Span}
 use Rattle.models.specs.Members.{put_in}
 use Rattle.models.specs.Spans.{in_turn, many, from_to, integers_in, EndBefore, StartBehind, StandApart}
 use Rattle.models.specs.Sums.{mixed, sum_of}
 use Rattle.models.proofs.Sums.{sum_of-between}
-use Rattle.models.proofs.PutIn.{no_member, first_member, member_cases, is_below, is_lower, put_in-member}
+use Rattle.models.proofs.PutIn.{no_member, first_member, member_cases, put_in-member}
 use Rattle.models.proofs.InSpans.{many_is, many_of, in_turn-append, not_empty, in_one, has_one, integers_ascend, apart_front, apart_back, apart_across, apart_joined, put_in-between}
 
--- where a search ends
+-- the last integers ascend, so a place is found among them
 later_end : (xs : List Span) → StandApart xs → (i j : ℕ) (d : Span) → i ≤ j → j < length xs → (get_or xs i d).to ≤ℤ (get_or xs j d).to
 later_end [] is i j d le lt = absurd (omega arith)
 later_end (x ∷ xs) is zero zero d le lt = omega (arith, ints)
@@ -28,30 +27,27 @@ later_end (x ∷ xs) is zero (suc j) d le lt =
 later_end (x ∷ xs) is (suc i) zero d le lt = absurd (omega arith)
 later_end (x ∷ xs) is (suc i) (suc j) d le lt = later_end xs is.2 i j d (omega arith) (omega arith)
 
-pub parted : (xs : List Span) → StandApart xs → (v : ℤ) → IsPartitionedBy (λ (span : Span). int_lt span.to v) xs
-parted xs is v i j d le lt e =
-    let high = is_below (get_or xs j d).to v e in
-    let low = later_end xs is i j d le lt in
-    is_lower (get_or xs i d).to v (omega (arith, ints, high, low))
-
-is_not_lower : (a b : ℤ) → int_lt a b ≡ false → b ≤ℤ a
-is_not_lower a b e = by_lt_z a b (λ l. absurd (false≢true (sym e ∙ is_lower a b l))) (λ h. h)
-
-pub end_before_place : (xs : List Span) (n : ℕ) (v : ℤ) → n ≤ length xs → ((k : ℕ) (d : Span) → k < n → int_lt (get_or xs k d).to v ≡ true) → (span : Span) → Contains (take n xs) span → span.to <ℤ v
-end_before_place xs n v fits point span h =
+pub end_before_place : (xs : List Span) → StandApart xs → (n : ℕ) (v : ℤ) → n ≤ length xs
+    → ((k : ℕ) (d : Span) → n ≡ k + 1 → (get_or xs k d).to <ℤ v) → (span : Span) → Contains (take n xs) span → span.to <ℤ v
+end_before_place xs is n v fits point span h =
     let long = length-take n xs in
     let within : h.0 < length (take n xs) = h.1 in
     let lt : h.0 < n = omega (arith, long, within) in
     let e : get_or xs h.0 span ≡ span = sym (get_or-take n xs h.0 span lt) ∙ h.2 in
-    subst (λ (t : Span). t.to <ℤ v) e (is_below (get_or xs h.0 span).to v (point h.0 span lt))
+    let last : (get_or xs (n - 1) span).to <ℤ v = point (n - 1) span (omega arith) in
+    let up_to : (get_or xs h.0 span).to ≤ℤ (get_or xs (n - 1) span).to = later_end xs is h.0 (n - 1) span (omega arith) (omega arith) in
+    subst (λ (t : Span). t.to <ℤ v) e (omega (arith, ints, last, up_to))
 
-pub end_behind_place : (xs : List Span) (n : ℕ) (v : ℤ) → n ≤ length xs → ((k : ℕ) (d : Span) → n ≤ k → k < length xs → int_lt (get_or xs k d).to v ≡ false) → (span : Span) → Contains (drop n xs) span → v ≤ℤ span.to
-end_behind_place xs n v fits point span h =
+pub end_behind_place : (xs : List Span) → StandApart xs → (n : ℕ) (v : ℤ) → n ≤ length xs
+    → ((d : Span) → n < length xs → v ≤ℤ (get_or xs n d).to) → (span : Span) → Contains (drop n xs) span → v ≤ℤ span.to
+end_behind_place xs is n v fits point span h =
     let long = length-drop n xs in
     let within : h.0 < length (drop n xs) = h.1 in
     let lt : n + h.0 < length xs = omega (arith, long, within) in
     let e : get_or xs (n + h.0) span ≡ span = sym (get_or-drop n xs h.0 span) ∙ h.2 in
-    subst (λ (t : Span). v ≤ℤ t.to) e (is_not_lower (get_or xs (n + h.0) span).to v (point (n + h.0) span (omega arith) lt))
+    let first : v ≤ℤ (get_or xs n span).to = point span (omega arith) in
+    let from : (get_or xs n span).to ≤ℤ (get_or xs (n + h.0) span).to = later_end xs is n (n + h.0) span (omega arith) lt in
+    subst (λ (t : Span). v ≤ℤ t.to) e (omega (arith, ints, first, from))
 
 -- the integers from one to another, cut
 pub from_to_more : (a v : ℤ) → a ≤ℤ v → from_to a (v -ℤ pos 1) ++ v ∷ [] ≡ from_to a v
@@ -162,8 +158,8 @@ put_in_sides xs at v is before behind =
     (λ y h. let o = in_one (drop at xs) (apart_behind xs at is) y h in let above = behind o.0 o.1 in let from : o.0.from ≤ℤ y = o.2 in omega (arith, ints, above, from)))
     ∙ ap (put_in v) (sym (both_sides xs at))
 
-pub sum_with : (xs : List Span) (at : ℕ) (v : ℤ) → sum_of (integers_in (take at xs) ++ v ∷ integers_in (drop at xs)) ≡ (sum_of (integers_in xs) + mixed v) % 2 ^ 64
-sum_with xs at v = sum_of-between (integers_in (take at xs)) (integers_in (drop at xs)) v ∙ ap (λ l. (sum_of l + mixed v) % 2 ^ 64) (sym (both_sides xs at))
+pub sum_with : (xs : List Span) (at : ℕ) (v : ℤ) → sum_of (integers_in (take at xs) ++ v ∷ integers_in (drop at xs)) ≡ (sum_of (integers_in xs) + mixed v) % 2 ^ 128
+sum_with xs at v = sum_of-between (integers_in (take at xs)) (integers_in (drop at xs)) v ∙ ap (λ l. (sum_of l + mixed v) % 2 ^ 128) (sym (both_sides xs at))
 
 -- and the spans are apart still
 pub apart_with : (xs : List Span) (before behind : ℕ) (span : Span) → StandApart xs → before ≤ behind → span.from ≤ℤ span.to

@@ -64,21 +64,21 @@ ints_fed = (fed.same_Alike (fed.slice fed.i64) (pointwise_decides Decides-int_eq
 
 -- a set by its members is hashed by their number and their sum
 abbrev pub members_fed : List ℤ → fed.HashWrites
-members_fed xs = fed.usize (length xs) ++ fed.u64 (sum_of xs)
+members_fed xs = fed.usize (length xs) ++ fed.u128 (sum_of xs)
 
 pub members_fed-alike : (a b : List ℤ) → pointwise int_eq a b ≡ true → members_fed a ≡ members_fed b
 members_fed-alike a b e = ap members_fed (ints_eq-exact a b e)
 
 -- a set by its spans is hashed by the sum of its members alone
 abbrev pub sum_fed : List ℤ → fed.HashWrites
-sum_fed xs = fed.u64 (sum_of xs)
+sum_fed xs = fed.u128 (sum_of xs)
 
 pub sum_fed-alike : (a b : List ℤ) → pointwise int_eq a b ≡ true → sum_fed a ≡ sum_fed b
 sum_fed-alike a b e = ap sum_fed (ints_eq-exact a b e)
 
 -- the items of a queue are hashed by their sum alone
 abbrev pub rolled_fed : List ℤ → fed.HashWrites
-rolled_fed xs = fed.u64 (rolled xs)
+rolled_fed xs = fed.u128 (rolled xs)
 
 pub rolled_fed-alike : (a b : List ℤ) → pointwise int_eq a b ≡ true → rolled_fed a ≡ rolled_fed b
 rolled_fed-alike a b e = ap rolled_fed (ints_eq-exact a b e)

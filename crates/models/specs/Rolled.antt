@@ -1,18 +1,25 @@
 -- Invariant: the sum of a queue's items, each by its place, by which most other queues are told apart
-use Rattle.std.specs.Prelude.{◌≡◌, ℕ, ◌+◌, ◌-◌, ◌*◌, ◌%◌, ◌^◌, ◌≤◌, ℤ, List, [], ◌∷◌, drop, length, take}
+use Rattle.std.specs.Prelude.{◌≡◌, ℕ, zero, suc, ◌+◌, ◌*◌, ◌%◌, ◌^◌, ℤ, List, [], ◌∷◌, length}
 use Rattle.models.specs.Sums.{mixed}
 
--- what an item adds where so many stand behind it
-unfoldable pub weighted : ℕ → ℤ → ℕ
-weighted behind v = ((behind * 4294967296 + 1) * mixed v) % 2 ^ 64
+-- what a place weighs more than the one behind it, and the number that takes that off again
+unfoldable pub ratio : ℕ
+ratio = 47026247687942121848144207491837523525
+
+unfoldable pub back : ℕ
+back = 10455382779074951524300553632856583309
+
+-- what a place weighs that so many stand behind
+unfoldable pub power : ℕ → ℕ
+power zero = 1
+power (suc k) = (power k * ratio) % 2 ^ 128
 
 -- what all items add
 unfoldable pub rolled : List ℤ → ℕ
 rolled [] = 0
-rolled (x ∷ xs) = (rolled xs + weighted (length xs) x) % 2 ^ 64
+rolled (x ∷ xs) = (rolled xs + power (length xs) * mixed x) % 2 ^ 128
 
--- the integers from the first place up to the second lie there, and this is what they add
-pub record AreRolled (xs : List ℤ) (first end sum : ℕ) : Type 0 where
-  pub follows : first ≤ end
-  pub within : end ≤ length xs
-  pub sums : sum ≡ rolled (take (end - first) (drop first xs))
+-- this is what the items add, and what a place weighs that all of them stand behind
+pub record AreRolled (xs : List ℤ) (sum weight : ℕ) : Type 0 where
+  pub sums : sum ≡ rolled xs
+  pub weighs : weight ≡ power (length xs)

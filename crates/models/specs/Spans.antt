@@ -2,7 +2,7 @@
 use Rattle.std.specs.Prelude.{◌≡◌, ℕ, zero, suc, ℤ, pos, negsuc, ◌+ℤ◌, ◌-ℤ◌, ◌<ℤ◌, ◌≤ℤ◌, unsigned_abs, List, [], ◌∷◌, refl}
 use Rattle.std.proofs.Common.{lit<}
 use Rattle.std.specs.List.{Contains, flat_map}
-use Rattle.models.specs.declared.spans.Span.{Span}
+use Rattle.models.specs.declared.span_row.Span.{Span}
 use Rattle.models.specs.Sums.{sum_of}
 
 -- so many integers in turn, of which this is the first
@@ -21,6 +21,12 @@ from_to a b = in_turn a (many a b)
 -- the integers of all spans, in order
 abbrev pub integers_in : List Span → List ℤ
 integers_in spans = flat_map (λ (span : Span). from_to span.from span.to) spans
+
+-- spans by their first and by their last integers, as many as there are of both
+abbrev pub paired : List ℤ → List ℤ → List Span
+paired [] lasts = []
+paired (a ∷ firsts) [] = []
+paired (a ∷ firsts) (b ∷ lasts) = record { from = a; to = b } ∷ paired firsts lasts
 
 -- each of these spans ends before x, and an integer is missing between
 abbrev pub EndBefore : List Span → ℤ → Type 0

@@ -39,6 +39,7 @@ impl SeqObject for FifoQueue {
         false
     }
 
+    #[tactic(auto, using(crate::proofs::Fronts::dequeue_none, crate::proofs::Fronts::dequeue_some))]
     fn append_outcomes(
         _alloc: Global,
         state: &Items,
@@ -50,13 +51,13 @@ impl SeqObject for FifoQueue {
                 let longer = state.with(*value)?;
                 put_outcome(outcomes, longer, Found::Unit)
             }
-            (Name::Dequeue, Part::Nil) => match state.as_slice().split_first() {
-                Some((front, _others)) => {
-                    let others = state.without_front()?;
-                    put_outcome(outcomes, others, Found::Item(*front))
+            (Name::Dequeue, Part::Nil) => {
+                if state.len() == 0 {
+                    return Ok(());
                 }
-                None => Ok(()),
-            },
+                let others = state.without_front()?;
+                put_outcome(outcomes, others, Found::Item(state.front()))
+            }
             _ => Ok(()),
         }
     }

@@ -32,7 +32,7 @@ impl Model for Members {
 #[derive(Drop)]
 struct Listed {
     items: Vec<i64>,
-    sum: u64,
+    sum: u128,
 }
 
 impl Model for Listed {
@@ -54,19 +54,23 @@ impl Listed {
     }
 }
 
-// What a member adds to the sum of its set: a number that is spread over 64 bits, so that few sets have the same sum.
-pub(crate) fn mixed(value: i64) -> u64
+// What a value adds to the sum of its set, its multiset or its queue: a number that is spread over 128 bits, so that few have the
+// same sum, also where somebody has chosen the values for that.
+pub(crate) fn mixed(value: i64) -> u128
     ensures { result ≡ mixed value }
 {
-    let spread = value.cast_unsigned().wrapping_mul(0x9e37_79b9_7f4a_7c15);
-    (spread ^ (spread >> 32)).wrapping_mul(0xd6e8_feb8_6659_fd93)
+    let lower = (value.cast_unsigned() ^ 0x2545_f491_4f6c_dd1d).wrapping_mul(0x9e37_79b9_7f4a_7c15);
+    let folded = lower ^ (lower >> 32);
+    let turned = (folded ^ 0x9fb2_1c65_1e98_df25).wrapping_mul(0xd6e8_feb8_6659_fd93);
+    let product = (folded as u128).wrapping_mul(turned as u128);
+    product ^ (product >> 64)
 }
 
-// The sum of what the values add, up to a multiple of 2^64.
-fn sum_of(values: &[i64]) -> u64
+// The sum of what the values add, up to a multiple of 2^128.
+fn sum_of(values: &[i64]) -> u128
     ensures { result ≡ sum_of values.now }
 {
-    let mut sum: u64 = 0;
+    let mut sum: u128 = 0;
     for value in values {
         sum = sum.wrapping_add(mixed(*value));
     }
@@ -106,7 +110,7 @@ impl Members {
 
     /// The same, where the caller knows the sum of the values, so that they are not gone through for it: it takes constant
     /// time.
-    pub(crate) fn of_listed(values: Vec<i64>, sum: u64) -> Result<Members, AllocError>
+    pub(crate) fn of_listed(values: Vec<i64>, sum: u128) -> Result<Members, AllocError>
         requires { IsListed values.items sum }
         ensures { IfOk result (λ set. set ≡ values.items) }
     {
@@ -137,7 +141,7 @@ impl Members {
     }
 
     // The sum of what the members add.
-    fn sum(&self) -> u64
+    fn sum(&self) -> u128
         ensures { result ≡ sum_of self.now }
     {
         match &self.listed {

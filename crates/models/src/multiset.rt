@@ -1,42 +1,34 @@
-//! Multisets of integers.
-ghost use Rattle.std.specs.Hash as fed;
-ghost use Rattle.std.specs.Prelude.{◌≡◌, ◌≤◌, ◌<◌, ◌<ℤ◌, ◌≤ℤ◌, ℕ, ℤ, List, [], Some, IfOk, get_or, length, remove};
-ghost use Rattle.std.specs.Ordering.{int_cmp, int_eq};
-ghost use Rattle.std.specs.Cmp.Lexicographic.{pointwise, slice_cmp};
-ghost use Rattle.models.specs.Multisets.{NeverFalls, with_one};
-ghost use Rattle.models.specs.Comparisons.{ints_alike, ints_equal, ints_fed};
+//! Multisets of integers that share what they have in common.
+ghost use Rattle.std.specs.Prelude.{◌≡◌, ◌≢◌, ◌+◌, ◌≤◌, ◌<◌, ℕ, ℤ, [], IfOk, pos, get_or, length, remove, take};
+ghost use Rattle.std.specs.Ordering.{int_eq};
+ghost use Rattle.std.specs.Cmp.Lexicographic.{pointwise};
+ghost use Rattle.models.specs.Multisets.{NeverFalls, values_of, with_one};
+ghost use Rattle.models.specs.Comparisons.{ints_alike, ints_equal, sum_fed, sum_fed-alike};
 
-use crate::copies::copy_with_room;
+use crate::members::mixed;
+use persistent::Tree;
 use std::alloc::{AllocError, Global};
 use std::hash::{Hash, Hasher};
 use std::marker::Model;
 
-/// A multiset of integers: its values ascending, each as often as it is in.
+/// A multiset of integers: its values ascending, each as often as it is in. What two multisets have in common they share, where one
+/// was made from the other. Beside them stands the sum of what the values add, so that its hash takes constant time.
 #[derive(Drop)]
 pub struct Multiset {
-    values: Vec<i64>,
+    alloc: Global,
+    values: Tree,
+    sum: u128,
 }
 
 impl Model for Multiset {
+    ghost use Rattle.std.specs.Prelude.{List, ℤ};
+    ghost use Rattle.models.specs.Sums.{AreCounted};
+
     ghost Value = { List ℤ };
 
-    ghost view = { λ a. a.values.items };
+    ghost view = { λ a. a.values };
 
-    ghost invariant = { λ a. NeverFalls a.values.items };
-}
-
-// Where the value belongs: in front of the first that is not below it.
-fn place_of(values: &[i64], value: i64) -> usize
-    ensures within { result ≤ length values.now }
-    ensures before { (k : ℕ) (d : ℤ) → k < result → get_or values.now k d <ℤ value }
-    ensures there { (d : ℤ) → result < length values.now → value ≤ℤ get_or values.now result d }
-{
-    for at in 0..values.len() {
-        if values[at] >= value {
-            return at;
-        }
-    }
-    values.len()
+    ghost invariant = { λ a. AreCounted a.values a.sum };
 }
 
 impl Multiset {
@@ -45,48 +37,100 @@ impl Multiset {
         ensures { result ≡ [] }
     {
         Multiset {
-            values: Vec::new(alloc),
+            alloc,
+            values: Tree::new(),
+            sum: 0,
         }
     }
 
-    /// The values, ascending, each as often as it is in. Takes no memory, and constant time.
-    pub fn as_slice(&self) -> &[i64]
-        ensures value { result.now ≡ self.now }
+    /// How many values there are, each as often as it is in; and they ascend. Takes no memory, and constant time.
+    pub fn len(&self) -> usize
+        ensures is { result ≡ length self.now }
         ensures never_falls { NeverFalls self.now }
     {
-        &self.values
+        self.values.len()
     }
 
-    /// The same multiset, with memory of its own; `AllocError` where there is none. Takes the time of the values.
+    /// The value at this place, in ascending order. Takes no memory, and the logarithm of how many there are.
+    pub fn get(&self, at: usize) -> i64
+        requires { at < length self.now }
+        ensures value { result ≡ get_or self.now at (pos 0) }
+        ensures never_falls { NeverFalls self.now }
+    {
+        self.values.get(at)
+    }
+
+    /// The place behind the last value that equals the one at this place. Takes no memory, and the logarithm of how many there are.
+    pub fn past(&self, at: usize) -> usize
+        requires { at < length self.now }
+        ensures later { at < result }
+        ensures within { result ≤ length self.now }
+        ensures same { values_of (take result self.now) ≡ values_of (take (at + 1) self.now) }
+        ensures new { (p : ℕ) (d : ℤ) → p + 1 ≡ result → result < length self.now
+            → get_or self.now p d ≢ get_or self.now result d }
+    {
+        let many = self.values.len();
+        if many - at > 1 && self.values.get(at + 1) != self.values.get(at) {
+            return at + 1;
+        }
+        self.past_equals(at)
+    }
+
+    // The same, by the greatest value, and by the place of the next greater one.
+    fn past_equals(&self, at: usize) -> usize
+        requires { at < length self.now }
+        ensures later { at < result }
+        ensures within { result ≤ length self.now }
+        ensures same { values_of (take result self.now) ≡ values_of (take (at + 1) self.now) }
+        ensures new { (p : ℕ) (d : ℤ) → p + 1 ≡ result → result < length self.now
+            → get_or self.now p d ≢ get_or self.now result d }
+    {
+        let value = self.values.get(at);
+        let many = self.values.len();
+        if self.values.get(many - 1) == value {
+            return many;
+        }
+        self.values.place_of(value + 1)
+    }
+
+    /// The same multiset, all of it shared. Takes constant time, and no memory; `AllocError` where it is shared as often as it can be.
     pub fn copy(&self) -> Result<Multiset, AllocError>
         ensures { IfOk result (λ other. other ≡ self.now) }
     {
-        let values = Vec::from_slice(*self.values.allocator(), self.values.as_slice())?;
-        Ok(Multiset { values })
+        Ok(Multiset {
+            alloc: self.alloc,
+            values: self.values.copy()?,
+            sum: self.sum,
+        })
     }
 
-    /// The multiset with one more of the value, with memory of its own; `AllocError` where there is none. Takes the time
-    /// of the values.
+    /// The multiset with one more of the value; `AllocError` where there is no memory for it. Takes time and memory that grow with
+    /// the logarithm of how many values there are.
     pub fn with(&self, value: i64) -> Result<Multiset, AllocError>
         ensures { IfOk result (λ more. more ≡ with_one value self.now) }
     {
-        let old = self.as_slice();
-        let at = place_of(old, value);
-        let mut values = copy_with_room(*self.values.allocator(), old)?;
-        values.insert(at, value)?;
-        Ok(Multiset { values })
+        let at = self.values.place_of(value);
+        let values = self.values.with(self.alloc, at, value)?;
+        Ok(Multiset {
+            alloc: self.alloc,
+            values,
+            sum: self.sum.wrapping_add(mixed(value)),
+        })
     }
 
-    /// The multiset without the value at this place, with memory of its own; `AllocError` where there is none. Takes the
-    /// time of the values.
+    /// The multiset without the value at this place; `AllocError` where there is no memory for what is changed. Takes time and
+    /// memory as above.
     pub fn without(&self, at: usize) -> Result<Multiset, AllocError>
         requires { at < length self.now }
         ensures { IfOk result (λ rest. rest ≡ remove self.now at) }
     {
-        let old = self.as_slice();
-        let mut values = Vec::from_slice(*self.values.allocator(), old)?;
-        let _taken = values.remove(at);
-        Ok(Multiset { values })
+        let value = self.values.get(at);
+        let values = self.values.without(self.alloc, at)?;
+        Ok(Multiset {
+            alloc: self.alloc,
+            values,
+            sum: self.sum.wrapping_sub(mixed(value)),
+        })
     }
 }
 
@@ -96,7 +140,7 @@ impl PartialEq for Multiset {
     ghost laws = { ints_alike };
 
     fn eq(&self, other: &Multiset) -> bool {
-        self.as_slice() == other.as_slice()
+        self.values.same(&other.values)
     }
 }
 
@@ -105,11 +149,11 @@ impl Eq for Multiset {
 }
 
 impl Hash for Multiset {
-    ghost hash_input = { fed.slice fed.i64 };
+    ghost hash_input = { sum_fed };
 
-    ghost respects_eq = { ints_fed };
+    ghost respects_eq = { sum_fed-alike };
 
     fn hash<H: Hasher>(&self, state: &mut H) {
-        self.as_slice().hash(state);
+        self.sum.hash(state);
     }
 }

@@ -26,13 +26,13 @@ pub trait SeqObject {
         ensures { result ≡ start_state };
 
     /// An equal state; `AllocError` where there is no memory for it, or where as many share it as can be counted. Takes the
-    /// time of the values of a queue without an order, or of the spans of a set, and else constant time; the items of a queue
-    /// are shared.
+    /// time of the spans of a set, and else constant time: the items and values of queues are shared.
     fn copy(alloc: Global, state: &Self::State) -> Result<Self::State, AllocError>
         ensures { IfOk result (λ other. other ≡ state.now) };
 
     /// Whether the operation has more outcomes in the state than so many, for a caller who will not make them all. They leave
-    /// different states. Takes no memory, and at most the time of the values of a queue without an order.
+    /// different states. Takes no memory, and of a queue without an order the time of so many
+    /// values, each with the logarithm of all.
     fn has_more_outcomes(state: &Self::State, op: &Op, most: usize) -> bool
         requires { 1 ≤ most }
         ensures more { IsTrue result ↔ (most < length (apply_to op.now state.now)) }
@@ -45,8 +45,8 @@ pub trait SeqObject {
 
     /// Puts the outcomes of the operation in the state behind those in the list, so that a caller who keeps the list has no
     /// list made for each step; `AllocError` where there is no memory for a new state or for the list, which is then as before.
-    /// Leaves the state as it was. Takes at most the time of the items, values or spans for each outcome; a read of a set, that
-    /// of its members.
+    /// Leaves the state as it was. Takes the time of the spans of a set, and of its members for a read; else, for each outcome,
+    /// time that grows with the logarithm of the items or values.
     fn append_outcomes(
         alloc: Global,
         state: &Self::State,

@@ -1,7 +1,7 @@
 //! The queue without an order.
-ghost use Rattle.std.specs.Prelude.{◌≡◌, ◌≢◌, ◌↔◌, ◌+◌, ◌<◌, ◌++◌, ℕ, ℤ, List, [], IsTrue, true, false, OnOk, OnErr, get_or, length, take};
+ghost use Rattle.std.specs.Prelude.{◌≡◌, ◌≢◌, ◌↔◌, ◌+◌, ◌<◌, ◌++◌, ℕ, ℤ, List, [], IsTrue, OnOk, OnErr, get_or, length, take};
 ghost use Rattle.models.specs.declared.finding.Found.{Found};
-ghost use Rattle.models.specs.Multisets.{NeverFalls, values_of};
+ghost use Rattle.models.specs.Multisets.{values_of};
 ghost use Rattle.models.specs.Objects.{taken_from};
 ghost use Rattle.models.specs.Comparisons.{ints_eq-exact};
 ghost use Rattle.models.specs.Reads.{unordered_reads};
@@ -17,60 +17,40 @@ use std::alloc::{AllocError, Global};
 /// is in and finds it. So a dequeue has an outcome for each of the values, and they are listed by ascending value.
 pub struct UnorderedQueue;
 
-// Whether the value at this place is another one than that before it.
-fn is_new(values: &[i64], at: usize) -> bool
-    requires { at < length values.now }
-    ensures new { result ≡ true → (p : ℕ) (d : ℤ) → p + 1 ≡ at
-        → get_or values.now p d ≢ get_or values.now at d }
-    ensures old { result ≡ false → (d : ℤ) → (p : ℕ) × (p + 1 ≡ at)
-        × (get_or values.now p d ≡ get_or values.now at d) }
-{
-    if at == 0 {
-        return true;
-    }
-    values[at - 1] != values[at]
-}
-
 // Whether there are more different values than so many. Looks at no further ones then.
-fn has_more_values(values: &[i64], most: usize) -> bool
-    requires { NeverFalls values.now }
-    ensures { IsTrue result ↔ (most < length (values_of values.now)) }
+fn has_more_values(state: &Multiset, most: usize) -> bool
+    ensures { IsTrue result ↔ (most < length (values_of state.now)) }
 {
-    if values.len() <= most {
-        return false;
-    }
+    let many = state.len();
     let mut different = 0;
-    for at in 0..values.len() {
-        if is_new(values, at) {
-            if different == most {
-                return true;
-            }
-            different += 1;
+    let mut at = 0;
+    'values: while at < many {
+        if different == most {
+            return true;
         }
+        different += 1;
+        at = state.past(at);
     }
     false
 }
 
-// Puts the outcome that takes the value at this place out behind the others, unless it is there already, as that of an equal
-// value before this place is.
+// Puts the outcome that takes the value at this place out behind the others. It is the first of its value.
 fn append_at(
     state: &Multiset,
     at: usize,
     outcomes: &mut Vec<(Multiset, Found)>,
 ) -> Result<(), AllocError>
-    requires { at < length state.now }
+    requires place { at < length state.now }
+    requires new { (p : ℕ) (d : ℤ) → p + 1 ≡ at → get_or state.now p d ≢ get_or state.now at d }
     ensures appended { (others : List (List ℤ × Found)) →
         outcomes.old.items ≡ others ++ taken_from state.now (values_of (take at state.now))
         → OnOk result (outcomes.new.items
         ≡ others ++ taken_from state.now (values_of (take (at + 1) state.now))) }
     ensures kept { OnErr result (outcomes.new.items ≡ outcomes.old.items) }
 {
-    let values = state.as_slice();
-    if is_new(values, at) {
-        let rest = state.without(at)?;
-        put_outcome(outcomes, rest, Found::Item(values[at]))?;
-    }
-    Ok(())
+    let value = state.get(at);
+    let rest = state.without(at)?;
+    put_outcome(outcomes, rest, Found::Item(value))
 }
 
 // Puts an outcome for each value behind the others; where there is no memory, for some of them.
@@ -80,8 +60,11 @@ fn append_each(state: &Multiset, outcomes: &mut Vec<(Multiset, Found)>) -> Resul
     ensures front { (more : List (List ℤ × Found))
         × (outcomes.new.items ≡ outcomes.old.items ++ more) }
 {
-    for at in 0..state.as_slice().len() {
+    let many = state.len();
+    let mut at = 0;
+    'values: while at < many {
         append_at(state, at, outcomes)?;
+        at = state.past(at);
     }
     Ok(())
 }
@@ -125,7 +108,7 @@ impl SeqObject for UnorderedQueue {
     #[tactic(auto, using(crate::proofs::Unordered::unordered_apart))]
     fn has_more_outcomes(state: &Multiset, op: &Op, most: usize) -> bool {
         match (op.name, &op.part) {
-            (Name::Dequeue, Part::Nil) => has_more_values(state.as_slice(), most),
+            (Name::Dequeue, Part::Nil) => has_more_values(state, most),
             _ => false,
         }
     }

@@ -1,3 +1,4 @@
+pub mod Crossing
 pub mod Carried
 pub mod Changes
 pub mod Changing

@@ -15,7 +15,7 @@ loop-value-preserved c =
     let x : ℤ = get_or xs i (pos 0) in
     let fits : FitsSigned w64 x = search rules in
     let here : c.mixed-sum.result ≡ mixed x = c.mixed-sum.ensures ∙ ap mixed (to_z-of_z w64 x fits) in
-    ap (λ (n : ℕ). (n + c.mixed-sum.result) % 2 ^ 64) c.loop-value.invariant ∙ ap (λ (n : ℕ). (sum_of (take i xs) + n) % 2 ^ 64) here
+    ap (λ (n : ℕ). (n + c.mixed-sum.result) % 2 ^ 128) c.loop-value.invariant ∙ ap (λ (n : ℕ). (sum_of (take i xs) + n) % 2 ^ 128) here
     ∙ sym (sum_of-push (take i xs) x) ∙ ap sum_of (sym (take_more xs i (pos 0) c.loop-value-test.true))
 
 pub returns : goal.returns

@@ -1,7 +1,13 @@
-use Rattle.std.proofs.Common.{◌≡◌, ◌-◌, ◌^◌, length, take}
+use Rattle.std.proofs.Common.{◌≡◌, ◌≤◌, ◌-◌, ◌^◌, length, take}
 use Rattle.std.specs.Prelude.{min}
 use Rattle.models.specs.Spans.{integers_in}
 use Rattle.models.proofs.spans.room_for.Given as goal
 
-abbrev pub invariant-loop-span : goal.invariant-loop-span
-invariant-loop-span l = l.room ≡ min (length (integers_in (take l.span-index l.spans))) (2 ^ 64 - 1)
+abbrev pub invariant-parts : goal.invariant-parts
+invariant-parts l = record {
+  within : l.at ≤ length l.spans;
+  so_far : l.room ≡ min (length (integers_in (take l.at l.spans))) (2 ^ 64 - 1);
+}
+
+abbrev pub decreases-parts : goal.decreases-parts
+decreases-parts l = length l.spans - l.at

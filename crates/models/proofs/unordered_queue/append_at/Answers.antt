@@ -1,34 +1,25 @@
-use Rattle.std.proofs.Common.{◌≡◌, ◌≢◌, ◌+◌, ◌<◌, ◌∷◌, ◌++◌, [], ℕ, ℤ, List, length, get_or, take, remove, sym, ◌∙◌, ap, subst, append_assoc, pos, to_z, of_z, w64, rules}
-use Rattle.models.specs.declared.finding.Found.{Found}
+-- one more outcome
+use Rattle.std.proofs.Common.{rules, ◌≡◌, ◌++◌, ◌∷◌, [], ℤ, pos, get_or, take, remove, sym, ◌∙◌, ap, subst, append_assoc, FitsSigned, to_z, of_z, w64, OnOk}
+use Rattle.std.proofs.lemmas.Int.{to_z-of_z}
 use Rattle.models.specs.declared.finding.Found.TheVariants.{Item}
-use Rattle.models.specs.Multisets.{NeverFalls, values_of}
+use Rattle.models.specs.Multisets.{values_of}
 use Rattle.models.specs.Objects.{taken_from}
-use Rattle.models.proofs.Dequeues.{taken_new, taken_old}
+use Rattle.models.proofs.Dequeues.{taken_new}
 use Rattle.models.proofs.unordered_queue.append_at.Goals as goal
 
--- one more outcome
-one_more : (s values : List ℤ) (at : ℕ) (v : ℤ) (rest : List ℤ) (others before after : List (List ℤ × Found)) → values ≡ s → at < length s → NeverFalls s
-    → ((p : ℕ) (d : ℤ) → p + 1 ≡ at → get_or values p d ≢ get_or values at d) → v ≡ get_or values at (pos 0) → rest ≡ remove s at
-    → before ≡ others ++ taken_from s (values_of (take at s)) → after ≡ before ++ (rest, Item v) ∷ [] → after ≡ others ++ taken_from s (values_of (take (at + 1) s))
-one_more s values at v rest others before after same fits is new read without was made =
-    made
-    ∙ ap (λ l. l ++ (rest, Item v) ∷ []) was
-    ∙ append_assoc others (taken_from s (values_of (take at s))) ((rest, Item v) ∷ [])
-    ∙ ap (λ r. others ++ (taken_from s (values_of (take at s)) ++ (r, Item v) ∷ [])) without
-    ∙ ap (λ w. others ++ (taken_from s (values_of (take at s)) ++ (remove s at, Item w) ∷ [])) (read ∙ ap (λ l. get_or l at (pos 0)) same)
-    ∙ ap (λ l. others ++ l) (sym (taken_new s at (pos 0) fits is (subst (λ l. (p : ℕ) (d : ℤ) → p + 1 ≡ at → get_or l p d ≢ get_or l at d) same new)))
-
-pub returns-in_ok-put_outcome-clause-appended : goal.returns-in_ok-put_outcome-clause-appended
-returns-in_ok-put_outcome-clause-appended c = λ others before.
-    let v = get_or c.as_slice-values.result.now c.args.at (pos 0) in
-    let passed : ℤ = to_z w64 (of_z w64 v) in
-    let same : passed ≡ v = search rules in
-    one_more c.args.state.now c.as_slice-values.result.now c.args.at passed c.in_ok-rest.rest others c.args.outcomes.now.items c.put_outcome.new.outcomes.items
-    c.as_slice-values.ensures.value c.requires c.as_slice-values.ensures.never_falls (c.is_new.ensures.new c.if-is_new.true) same c.in_ok-rest.ensures before c.in_ok-put_outcome.ensures.put
-
-pub returns-else-is_new-clause-appended : goal.returns-else-is_new-clause-appended
-returns-else-is_new-clause-appended c = λ others before.
+pub returns-clause-appended : goal.returns-clause-appended
+returns-clause-appended c = λ others before.
     let s = c.args.state.now in
     let at = c.args.at in
-    let equal = c.is_new.ensures.old c.if-is_new.false (pos 0) in
-    before ∙ sym (ap (λ l. others ++ l) (taken_old s at (pos 0) c.requires c.as_slice-values.ensures.never_falls equal.0 equal.1 (subst (λ l. get_or l equal.0 (pos 0) ≡ get_or l at (pos 0)) c.as_slice-values.ensures.value equal.2)))
+    let value = c.get-value.result in
+    let fits : FitsSigned w64 value = search rules in
+    let passed : ℤ = to_z w64 (of_z w64 value) in
+    let same : passed ≡ get_or s at (pos 0) = to_z-of_z w64 value fits ∙ c.get-value.ensures.value in
+    let so_far = taken_from s (values_of (take at s)) in
+    subst (λ l. OnOk c.put_outcome.result (c.put_outcome.new.outcomes.items ≡ l))
+    (ap (λ l. l ++ (c.in_ok-rest.rest, Item passed) ∷ []) before
+    ∙ append_assoc others so_far ((c.in_ok-rest.rest, Item passed) ∷ [])
+    ∙ ap (λ r. others ++ (so_far ++ (r, Item passed) ∷ [])) c.in_ok-rest.ensures
+    ∙ ap (λ w. others ++ (so_far ++ (remove s at, Item w) ∷ [])) same
+    ∙ ap (λ l. others ++ l) (sym (taken_new s at (pos 0) c.requires.place c.get-value.ensures.never_falls c.requires.new)))
+    c.put_outcome.ensures.put

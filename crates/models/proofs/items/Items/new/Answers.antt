@@ -1,10 +1,10 @@
-use Rattle.std.proofs.Common.{sym, arith}
-use Rattle.models.proofs.Rolling.{rolled-none}
+use Rattle.std.proofs.Common.{length, sym, ap, ◌∙◌}
+use Rattle.models.specs.Rolled.{power, rolled}
+use Rattle.models.proofs.Rolling.{rolled-none, power-none}
 use Rattle.models.proofs.items.Items.new.Goals as goal
 
 pub invariant_of-result : goal.invariant_of-result
 invariant_of-result c = record {
-  follows = omega arith;
-  within = omega arith;
-  sums = sym rolled-none;
+  sums = sym (ap rolled c.new.ensures ∙ rolled-none);
+  weighs = sym (ap (λ l. power (length l)) c.new.ensures ∙ power-none);
 }

@@ -1,42 +1,26 @@
-use Rattle.std.proofs.Common.{◌≡◌, ◌+◌, ◌-◌, ◌<◌, ◌≤◌, ℕ, ℤ, List, drop, length, take, sym, ap, ◌∙◌, subst, arith}
-use Rattle.std.proofs.lemmas.List.{drop-drop, drop-take, length-take}
-use Rattle.models.specs.Lying.{lying}
-use Rattle.models.specs.Rolled.{rolled}
+use Rattle.std.proofs.Common.{rules, ◌≡◌, ◌+◌, ◌<◌, ◌∷◌, drop, length, sym, ap, subst, ◌∙◌, FitsSigned, to_z, of_z, w64, arith}
+use Rattle.std.proofs.lemmas.Int.{to_z-of_z}
+use Rattle.models.specs.Rolled.{power, rolled}
+use Rattle.models.proofs.Rolling.{first_and_rest}
 use Rattle.models.proofs.items.Items.without_front.Goals as goal
-
--- there is a front one
-is_less : (l now : List ℤ) (first end : ℕ) → take (end - first) (drop first l) ≡ now → 0 < length now → first < end
-is_less l now first end is some =
-    let long = ap length is in let most = length-take (end - first) (drop first l) in omega (arith, some, long, most)
-
--- what lies behind it
-rest_is : (l shared now : List ℤ) (first end : ℕ) → shared ≡ l → take (end - first) (drop first l) ≡ now → 0 < length now
-    → take (end - (first + 1)) (drop (first + 1) shared) ≡ drop 1 now
-rest_is l shared now first end same is some =
-    let l_is = is_less l now first end is some in
-    let less : end - first ≡ 1 + (end - (first + 1)) = omega (arith, l_is) in
-    ap (λ m. take (end - (first + 1)) (drop (first + 1) m)) same ∙ ap (take (end - (first + 1))) (sym (drop-drop 1 first l))
-    ∙ sym (drop-take 1 (end - (first + 1)) (drop first l)) ∙ ap (λ n. drop 1 (take n (drop first l))) (sym less) ∙ ap (drop 1) is
-
-pub overflow_add-result : goal.overflow_add-result
-overflow_add-result c =
-    let i = c.self.inside in
-    let less = is_less (lying i.shared) c.args.self.now i.from i.to c.self.view_is c.requires in
-    omega (arith, less)
 
 pub invariant_of-result : goal.invariant_of-result
 invariant_of-result c =
-    let i = c.self.inside in
-    let l = lying i.shared in
-    let less = is_less l c.args.self.now i.from i.to c.self.view_is c.requires in
+    let xs = c.self.inside.items in
+    let rest = drop 1 xs in
+    let some : 0 < length xs = subst (λ l. 0 < length l) (sym c.self.view_is) c.requires in
+    let first = c.first-front.result in
+    let passed = to_z w64 (of_z w64 first) in
+    let fits : FitsSigned w64 first = search rules in
+    let front : passed ≡ first = to_z-of_z w64 first fits in
+    let parts : xs ≡ passed ∷ rest = first_and_rest xs some ∙ ap (λ x. x ∷ rest) (sym (front ∙ c.first-front.ensures)) in
+    let one : length xs ≡ length rest + 1 = let e = ap length parts in omega (arith, e) in
+    let left : c.in_ok-items.items ≡ rest = c.in_ok-items.ensures in
+    let weighs : c.weight_without-weight.result ≡ power (length rest) = c.weight_without-weight.ensures (length rest) (c.self.invariant.weighs ∙ ap power one) in
     record {
-      follows = omega (arith, less);
-      within = subst (λ m. i.to ≤ length m) (sym c.in_ok-shared.ensures) c.self.invariant.within;
-      sums = c.sum_without_front-sum.ensures ∙ ap (λ m. rolled (drop 1 m)) c.as_slice.ensures
-          ∙ ap rolled (sym (rest_is l (lying c.in_ok-shared.shared) c.args.self.now i.from i.to c.in_ok-shared.ensures c.self.view_is c.requires));
+      sums = c.sum_without_front.ensures rest (c.self.invariant.sums ∙ ap rolled parts) weighs ∙ ap rolled (sym left);
+      weighs = weighs ∙ ap (λ l. power (length l)) (sym left);
     }
 
 pub returns : goal.returns
-returns c =
-    let i = c.self.inside in
-    rest_is (lying i.shared) (lying c.in_ok-shared.shared) c.args.self.now i.from i.to c.in_ok-shared.ensures c.self.view_is c.requires
+returns c = c.in_ok-items.ensures ∙ ap (drop 1) c.self.view_is

@@ -30,8 +30,8 @@ invariant_of-sharing c =
     let items = c.in_ok-insert-in-Err.ensures.items ∙ ap (λ l. insert l at passed) c.in_ok-items-in-Err.ensures.items in
     record {
       ascending = subst IsAscending (sym (items ∙ placed)) (IsAscending-put_in passed xs is);
-      sums = ap (λ (n : ℕ). (n + c.mixed.result) % 2 ^ 64) (c.sum.ensures ∙ ap sum_of (sym c.as_slice-members.ensures.value))
-          ∙ ap (λ (n : ℕ). (sum_of xs + n) % 2 ^ 64) c.mixed.ensures ∙ sym (sum_of-insert xs at passed c.in-Err.ensures.bound) ∙ ap sum_of (sym items);
+      sums = ap (λ (n : ℕ). (n + c.mixed.result) % 2 ^ 128) (c.sum.ensures ∙ ap sum_of (sym c.as_slice-members.ensures.value))
+          ∙ ap (λ (n : ℕ). (sum_of xs + n) % 2 ^ 128) c.mixed.ensures ∙ sym (sum_of-insert xs at passed c.in-Err.ensures.bound) ∙ ap sum_of (sym items);
     }
 
 pub returns-in_ok-insert-in-Err : goal.returns-in_ok-insert-in-Err

@@ -1,24 +1,31 @@
-use Rattle.std.proofs.Common.{◌≡◌, ◌<◌, ◌≤◌, ◌<ℤ◌, ◌≤ℤ◌, ℕ, ℤ, List, length, get_or, insert, sym, ◌∙◌, ap, subst, to_z, of_z, w64}
+use Rattle.std.proofs.Common.{◌≡◌, ◌+◌, ◌%◌, ◌^◌, ℕ, sym, ◌∙◌, subst, ap, to_z, of_z, w64}
+use Rattle.std.specs.List.{insert}
 use Rattle.std.proofs.lemmas.Int.{to_z-of_z}
 use Rattle.models.specs.Multisets.{NeverFalls, with_one}
-use Rattle.models.proofs.Bags.{insert-with_one, NeverFalls-with_one}
+use Rattle.models.specs.Sums.{sum_of}
+use Rattle.models.proofs.Bags.{NeverFalls-with_one}
+use Rattle.models.proofs.Past.{with_one-place}
+use Rattle.models.proofs.Sums.{sum_of-insert}
 use Rattle.models.proofs.multiset.Multiset.with.Goals as goal
-use Rattle.models.proofs.multiset.Multiset.with.Goals.{In_ok-insert}
-
--- the list after the insertion
-longer : (old items new : List ℤ) (at : ℕ) (v passed : ℤ) → passed ≡ v → items ≡ old → new ≡ insert items at passed → at ≤ length old
-    → ((k : ℕ) (d : ℤ) → k < at → get_or old k d <ℤ passed) → ((d : ℤ) → at < length old → passed ≤ℤ get_or old at d) → new ≡ with_one v old
-longer old items new at v passed same is made fits below above =
-    made ∙ ap (λ l. insert l at passed) is ∙ insert-with_one passed old at fits below above ∙ ap (λ x. with_one x old) same
-
-made : (c : In_ok-insert) → c.insert.new.self.items ≡ with_one c.args.value c.args.self.now
-made c =
-    longer c.as_slice-old.result.now c.in_ok-values.values.items c.insert.new.self.items c.place_of-at.result c.args.value (to_z w64 (of_z w64 c.args.value))
-    (to_z-of_z w64 c.args.value c.ranges.value) c.in_ok-values.ensures.items c.in_ok-insert.ensures.items c.place_of-at.ensures.within c.place_of-at.ensures.before c.place_of-at.ensures.there
-    ∙ ap (with_one c.args.value) c.as_slice-old.ensures.value
 
 pub invariant_of-result : goal.invariant_of-result
-invariant_of-result c = subst NeverFalls (sym (made c)) (NeverFalls-with_one c.args.value c.args.self.now c.as_slice-old.ensures.never_falls)
+invariant_of-result c =
+    let passed = to_z w64 (of_z w64 c.args.value) in
+    let xs = c.self.inside.values in
+    let at = c.place_of-at in
+    let is = c.self.invariant.never_falls in
+    let placed : insert xs at.result passed ≡ with_one passed xs = with_one-place xs at.result passed is at.ensures.within at.ensures.before at.ensures.there in
+    record {
+      never_falls = subst NeverFalls (sym (c.in_ok-values.ensures ∙ placed)) (NeverFalls-with_one passed xs is);
+      sums = ap (λ (n : ℕ). (n + c.mixed.result) % 2 ^ 128) c.self.invariant.sums ∙ ap (λ (n : ℕ). (sum_of xs + n) % 2 ^ 128) c.mixed.ensures
+          ∙ sym (sum_of-insert xs at.result passed at.ensures.within) ∙ ap sum_of (sym c.in_ok-values.ensures);
+    }
 
 pub returns : goal.returns
-returns c = made c
+returns c =
+    let v = c.args.value in
+    let passed = to_z w64 (of_z w64 v) in
+    let xs = c.self.inside.values in
+    let at = c.place_of-at in
+    c.in_ok-values.ensures ∙ with_one-place xs at.result passed c.self.invariant.never_falls at.ensures.within at.ensures.before at.ensures.there
+    ∙ ap (λ z. with_one z xs) (to_z-of_z w64 v c.ranges.value) ∙ ap (with_one v) c.self.view_is

@@ -1,5 +1,5 @@
 use Rattle.std.proofs.Common.{sym, subst, [], List}
-use Rattle.models.specs.declared.spans.Span.{Span}
+use Rattle.models.specs.declared.span_row.Span.{Span}
 use Rattle.models.specs.Spans.{AreSpans}
 use Rattle.models.proofs.Sums.{sum_of-none}
 use Rattle.models.proofs.spans.Spans.new.Goals as goal
@@ -8,4 +8,4 @@ none : AreSpans [] 0
 none = record { apart = tt; sums = sym sum_of-none }
 
 pub invariant_of-result : goal.invariant_of-result
-invariant_of-result c = subst (λ (l : List Span). AreSpans l 0) (sym c.new.ensures.items) none
+invariant_of-result c = subst (λ (l : List Span). AreSpans l 0) (sym c.new.ensures) none

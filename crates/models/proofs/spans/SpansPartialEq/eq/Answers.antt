@@ -15,12 +15,9 @@ pub returns-then-self-other : goal.returns-then-self-other
 returns-then-self-other c =
     let xs = c.args.self.now in
     let ys = c.args.other.now in
-    let same = c.are_same.ensures in
-    let of_self = c.as_slice.ensures.value in
-    let of_other = c.as_slice-then-self-other.ensures.value in
-    same_from_decides c.are_same.result (pointwise int_eq xs ys) (
-      (λ is. sym c.self.view_is ∙ ap integers_in (sym of_self ∙ same.0 is ∙ of_other) ∙ c.other.view_is),
-      (λ e. same.1 (of_self ∙ one_list c.self.inside.spans.items c.other.inside.spans.items c.self.invariant.apart c.other.invariant.apart (c.self.view_is ∙ e ∙ sym c.other.view_is) ∙ sym of_other)),
+    same_from_decides c.same.result (pointwise int_eq xs ys) (
+      (λ is. sym c.self.view_is ∙ ap integers_in (c.same.ensures.0 is) ∙ c.other.view_is),
+      (λ e. c.same.ensures.1 (one_list c.self.inside.spans c.other.inside.spans c.self.invariant.apart c.other.invariant.apart (c.self.view_is ∙ e ∙ sym c.other.view_is))),
     )
     (pointwise_decides Decides-int_eq xs ys)
 

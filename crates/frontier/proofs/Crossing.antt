@@ -1,0 +1,13 @@
+-- A frontier may go to another thread, and threads may share one, whatever the kind of its object.
+use denote.Param.Send.{IsSend, IsSync, sendable}
+use Rattle.std.proofs.Crossing.{crosses}
+use Rattle.models.proofs.Crossing.{items_send, items_sync, multiset_send, multiset_sync, spans_send, spans_sync}
+use Rattle.frontier.proofs.frontier.Frontier.TheSendSync as frontier
+use Rattle.frontier.specs.contracts.any_frontier.AnyFrontier as any
+
+-- as a field of a struct
+pub any_send : IsSend (any.the_field).row
+any_send = search (frontier.the_send, items_send, multiset_send, spans_send, sendable, crosses) depth 60 fits 20000
+
+pub any_sync : IsSync (any.the_field).row
+any_sync = search (frontier.the_sync, items_sync, multiset_sync, spans_sync, sendable, crosses) depth 60 fits 20000

@@ -1,0 +1,80 @@
+-- rows, one behind the other
+use Rattle.std.proofs.Common.{◌≡◌, ℕ, zero, suc, ◌+◌, ◌-◌, ◌<◌, ◌≤◌, ℤ, pos, ◌<ℤ◌, ◌≤ℤ◌, List, ◌∷◌, ◌++◌, get_or, length, take, drop, sym, ap, subst, ◌∙◌, append_assoc, add-one, arith}
+use Rattle.std.specs.List.{insert, remove}
+use Rattle.std.proofs.Math.Seq.{take-append-add, drop-append-add, drop-append_seam}
+use Rattle.std.proofs.lemmas.Int.{ints}
+use Rattle.std.proofs.lemmas.List.{get_or-append-add, take-append-drop, take-append-le, length-take-le}
+use Rattle.std.proofs.lemmas.List.Edits.{insert-append_right, remove-append_right}
+
+-- a part of the second one
+pub part_right : (l r part : List ℤ) (many at : ℕ) → length l ≡ many → many ≤ at → take ((at - many) + length part) r ≡ take (at - many) r ++ part
+    → take (at + length part) (l ++ r) ≡ take at (l ++ r) ++ part
+part_right l r part many at is behind here =
+    let on : at ≡ length l + (at - many) = omega arith in
+    let far : at + length part ≡ length l + ((at - many) + length part) = omega arith in
+    ap (λ n. take n (l ++ r)) far ∙ take-append-add l r ((at - many) + length part) ∙ ap (λ x. l ++ x) here
+    ∙ sym (append_assoc l (take (at - many) r) part) ∙ ap (λ x. x ++ part) (sym (ap (λ n. take n (l ++ r)) on ∙ take-append-add l r (at - many)))
+
+pub part_of_right : (now l r same part : List ℤ) (many at : ℕ) → now ≡ l ++ r → same ≡ r → length l ≡ many → many ≤ at
+    → take ((at - many) + length part) same ≡ take (at - many) same ++ part → take (at + length part) now ≡ take at now ++ part
+part_of_right now l r same part many at is again len behind here =
+    subst (λ x. take (at + length part) x ≡ take at x ++ part) (sym is)
+    (part_right l r part many at len behind (subst (λ x. take ((at - many) + length part) x ≡ take (at - many) x ++ part) again here))
+
+-- one more in the second one, and one less
+pub with_right : (now l r same new other : List ℤ) (many at : ℕ) (v passed : ℤ) → now ≡ l ++ r → other ≡ l → same ≡ r → length l ≡ many → many ≤ at
+    → passed ≡ v → new ≡ insert same (at - many) passed → other ++ new ≡ insert now at v
+with_right now l r same new other many at v passed is left again len behind value made =
+    ap (λ x. x ++ new) left ∙ ap (λ x. l ++ x) (made ∙ ap (λ x. insert x (at - many) passed) again ∙ ap (insert r (at - many)) value)
+    ∙ sym (insert-append_right l r many at v len behind) ∙ ap (λ x. insert x at v) (sym is)
+
+pub without_right : (now l r same new other : List ℤ) (many at : ℕ) → now ≡ l ++ r → other ≡ l → same ≡ r → length l ≡ many → many ≤ at
+    → new ≡ remove same (at - many) → other ++ new ≡ remove now at
+without_right now l r same new other many at is left again len behind made =
+    ap (λ x. x ++ new) left ∙ ap (λ x. l ++ x) (made ∙ ap (λ x. remove x (at - many)) again)
+    ∙ sym (remove-append_right l r many at len behind) ∙ ap (λ x. remove x at) (sym is)
+
+pub replaced_right : (now l r same new other : List ℤ) (many at : ℕ) (v passed : ℤ) → now ≡ l ++ r → other ≡ l → same ≡ r → length l ≡ many → many ≤ at
+    → passed ≡ v → new ≡ take (at - many) same ++ passed ∷ drop ((at - many) + 1) same → other ++ new ≡ take at now ++ v ∷ drop (at + 1) now
+replaced_right now l r same new other many at v passed is left again len behind value made =
+    let on : at ≡ length l + (at - many) = omega arith in
+    let past : at + 1 ≡ length l + ((at - many) + 1) = omega arith in
+    let front : take at (l ++ r) ≡ l ++ take (at - many) r = ap (λ n. take n (l ++ r)) on ∙ take-append-add l r (at - many) in
+    let back : drop (at + 1) (l ++ r) ≡ drop ((at - many) + 1) r = ap (λ n. drop n (l ++ r)) past ∙ drop-append-add l r ((at - many) + 1) in
+    ap (λ x. x ++ new) left ∙ ap (λ x. l ++ x) (made ∙ ap (λ x. take (at - many) x ++ passed ∷ drop ((at - many) + 1) x) again
+    ∙ ap (λ z. take (at - many) r ++ z ∷ drop ((at - many) + 1) r) value)
+    ∙ sym (append_assoc l (take (at - many) r) (v ∷ drop ((at - many) + 1) r)) ∙ ap (λ x. x ++ v ∷ drop ((at - many) + 1) r) (sym front)
+    ∙ ap (λ x. take at (l ++ r) ++ v ∷ x) (sym back) ∙ ap (λ x. take at x ++ v ∷ drop (at + 1) x) (sym is)
+
+-- where the second one begins below v, its place is the place in both
+pub before_right : (l r : List ℤ) (v : ℤ) (place : ℕ) → get_or r 0 (pos 0) <ℤ v → 0 < length r
+    → ((k : ℕ) → place ≡ k + 1 → get_or r k (pos 0) <ℤ v) → (place < length r → v ≤ℤ get_or r place (pos 0))
+    → (k : ℕ) → length l + place ≡ k + 1 → get_or (l ++ r) k (pos 0) <ℤ v
+before_right l r v zero low some before there k is = let h : v ≤ℤ get_or r 0 (pos 0) = there some in absurd (omega (arith, ints))
+before_right l r v (suc j) low some before there k is =
+    let on : k ≡ length l + j = omega arith in
+    subst (λ z. z <ℤ v) (sym (ap (λ n. get_or (l ++ r) n (pos 0)) on ∙ get_or-append-add l r j (pos 0))) (before j (sym (add-one j)))
+
+-- some of a part
+pub take_part : (s p : List ℤ) (at many : ℕ) → at + length p ≤ length s → take (at + length p) s ≡ take at s ++ p → many ≤ length p
+    → take (at + many) s ≡ take at s ++ take many p
+take_part s p at many within part few =
+    let front = take at s in
+    let rest = drop (at + length p) s in
+    let long : length front ≡ at = length-take-le at s (omega arith) in
+    let whole : s ≡ front ++ (p ++ rest) = sym (take-append-drop (at + length p) s) ∙ ap (λ l. l ++ rest) part ∙ append_assoc front p rest in
+    ap (λ l. take (at + many) l) whole ∙ ap (λ n. take (n + many) (front ++ (p ++ rest))) (sym long)
+    ∙ take-append-add front (p ++ rest) many ∙ ap (λ l. front ++ l) (take-append-le many p rest few)
+
+piece_is : (s p : List ℤ) (at many : ℕ) → at + length p ≤ length s → take (at + length p) s ≡ take at s ++ p → many ≤ length p
+    → take many p ≡ drop at (take (at + many) s)
+piece_is s p at many within part few =
+    let front = take at s in
+    let long : length front ≡ at = length-take-le at s (omega arith) in
+    sym (ap (drop at) (take_part s p at many within part few) ∙ ap (λ n. drop n (front ++ take many p)) (sym long) ∙ drop-append_seam front (take many p))
+
+-- equal rows have equal parts
+pub same_pieces : (s t p q : List ℤ) (at many : ℕ) → at + length p ≤ length s → take (at + length p) s ≡ take at s ++ p → many ≤ length p
+    → at + length q ≤ length t → take (at + length q) t ≡ take at t ++ q → many ≤ length q → s ≡ t → take many p ≡ take many q
+same_pieces s t p q at many s_within s_part s_few t_within t_part t_few e =
+    piece_is s p at many s_within s_part s_few ∙ ap (λ l. drop at (take (at + many) l)) e ∙ sym (piece_is t q at many t_within t_part t_few)

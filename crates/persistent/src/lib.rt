@@ -1,0 +1,6 @@
+//! Rows of integers that share what they have in common.
+#![tactic(auto)]
+
+pub mod tree;
+
+pub use tree::Tree;
