@@ -15,6 +15,8 @@ mod Rising
 pub mod Scalars
 pub mod Deciding
 pub mod Views
+pub mod Digests
+pub mod Told
 pub mod Extend
 pub mod Fronts
 pub mod OneByOne

@@ -49,7 +49,7 @@ scalar_same (Int z) v e = e
 scalar_same (Str t) v e = e
 scalar_same (Keyword t) v e = e
 
-no_collection : (q : Scalar) (v : Value) → IsCollection v → v ≡ scalar_value q → ⊥
+pub no_collection : (q : Scalar) (v : Value) → IsCollection v → v ≡ scalar_value q → ⊥
 no_collection Nil v i e = subst IsCollection e i
 no_collection (B b) v i e = subst IsCollection e i
 no_collection (Int z) v i e = subst IsCollection e i

@@ -1,10 +1,12 @@
 //! Whether keys and members are all different by [`same`].
 
-ghost use Rattle.std.specs.Prelude.{◌≡◌, ◌↔◌, ℤ, ◌<ℤ◌, Some, IsTrue, IfOk, IfSome, MatchOption, map};
-ghost use Rattle.edn.specs.Value.{Value, IsNotAmong, AreDistinct};
+ghost use Rattle.std.specs.Prelude.{◌≡◌, ◌↔◌, ℤ, ◌<ℤ◌, Some, IsTrue, IfOk, OnOk, IfSome, MatchOption, map};
+ghost use Rattle.edn.specs.Value.{Value, more, IsNotAmong, AreDistinct};
+ghost use Rattle.edn.specs.Digest.{HasDigests};
 ghost use Rattle.edn.specs.Scalar.{scalar_value, IsCollection};
 ghost use Rattle.edn.specs.View.{value_of, list_of};
 
+use crate::digest::digest;
 use crate::equality::same;
 use crate::value::Edn;
 use std::alloc::{AllocError, Global};
@@ -101,12 +103,30 @@ fn rise<T: Keyed>(items: &[T]) -> bool
     true
 }
 
+// Whether none of the items has the same key, a collection, whose number is put into the set. The set has those of the items that
+// are collections. Only where it has the key's, too, the items are looked through.
+fn is_new_collection<T: Keyed>(
+    digests: &mut BTreeSet<u64>,
+    key: &Edn,
+    items: &[T],
+) -> Result<bool, AllocError>
+    requires key { IsCollection (value_of key.now) }
+    requires had { HasDigests digests.old (list_of (map T.key_value items.now)) }
+    ensures is { IfOk result (λ yes. IsTrue yes
+        ↔ IsNotAmong (value_of key.now) (list_of (map T.key_value items.now))) }
+    ensures has { OnOk result (HasDigests digests.new
+        (more (value_of key.now) (list_of (map T.key_value items.now)))) }
+{
+    let is_first = digests.insert(digest(key))?;
+    Ok(is_first || is_not_among(key, items))
+}
+
 // Among so many items each key is compared with those before it, which takes no memory.
 const FEW: usize = 8;
 
 /// Whether no two of the items have the same key; `AllocError` where there is no memory to find it. The time grows with the
-/// logarithm of their number for an atom or a string, and with their number for a collection. Of at most 8 items, each is
-/// compared with those before it; integers that rise are looked at once, and take no memory.
+/// logarithm of their number for each item, and with their number for a collection alone that is told from an earlier one by no number
+/// ([`digest`]). Of at most 8 items, each is compared with those before it; integers that rise are looked at once, and take no memory.
 pub fn are_distinct<T: Keyed>(alloc: Global, items: &[T]) -> Result<bool, AllocError>
     ensures { IfOk result
         (λ yes. IsTrue yes ↔ AreDistinct (list_of (map T.key_value items.now))) }
@@ -118,11 +138,12 @@ pub fn are_distinct<T: Keyed>(alloc: Global, items: &[T]) -> Result<bool, AllocE
         return Ok(true);
     }
     let mut scalars = BTreeSet::new(alloc);
+    let mut digests = BTreeSet::new(alloc);
     for (i, item) in items.iter().enumerate() {
         let key = item.key();
         let is_new = match scalar_of(key) {
             Some(scalar) => scalars.insert(scalar)?,
-            None => is_not_among(key, &items[..i]),
+            None => is_new_collection(&mut digests, key, &items[..i])?,
         };
         if !is_new {
             return Ok(false);

@@ -9,6 +9,7 @@
 
 mod atom;
 mod collection;
+mod digest;
 mod distinct;
 mod elements;
 mod equality;
