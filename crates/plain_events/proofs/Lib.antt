@@ -3,3 +3,7 @@ pub mod Words
 pub mod Numerals
 pub mod Spelled
 pub mod Sets
+pub mod Runs
+pub mod Insides
+pub mod Pairs
+pub mod Told

@@ -11,7 +11,7 @@ use Rattle.plain_events.proofs.Elements.{atom_at, word_behind}
 pub zero_begins : (text rest : List ℕ) → text ≡ 48 ∷ rest → BeginsNumeral text 0 rest
 zero_begins text rest e = record { digits = 48 ∷ []; cut = e; shape = inl (refl, refl); writes = refl; small = omega arith }
 
-pub digits_begin : (text : List ℕ) (n : ℕ) (rest : List ℕ) → DigitsSoFar 999999999999999999 text n rest → BeginsNumeral text n rest
+pub digits_begin : (text : List ℕ) (n : ℕ) (rest : List ℕ) → DigitsSoFar 9223372036854775799 text n rest → BeginsNumeral text n rest
 digits_begin text n rest h = record { digits = h.front; cut = h.cut; shape = h.shape; writes = h.writes; small = h.small }
 
 plain_at : (text : List ℕ) (n : ℕ) (rest : List ℕ) → IsNumeralAt text n rest → IsAtomAt text (int (pos n)) rest

@@ -1,5 +1,5 @@
 -- The parts, the pairs and the map of an event that is spelled plainly
-use Rattle.std.proofs.Common.{◌≡◌, ℕ, ◌<◌, ◌^◌, ℤ, Option, Some, None, List, [], ◌∷◌, codes, refl, sym, subst, arith}
+use Rattle.std.proofs.Common.{◌≡◌, ℕ, ◌<◌, ◌^◌, ℤ, Option, Some, None, Bor, IfSome, List, [], ◌∷◌, codes, refl, sym, subst, arith}
 use Rattle.edn.specs.Value.{Value, nil, int, keyword, vector, pairs, none, more, Pairs, no_pairs, pair, in_text, keys, AreDistinct}
 use Rattle.edn.specs.Bytes.IsAtom.{spelled_nil}
 use Rattle.edn.specs.Text.{SkipsGap, ReadsAll}
@@ -18,7 +18,9 @@ use Rattle.history.specs.EventMap.{number}
 use Rattle.history.specs.Spelling.{text_of_kind, SpellsKeyed, Spells}
 use Rattle.history.specs.WellFormed.{IsPartOf}
 use Rattle.plain_events.specs.Plain.{BeginsWith, IsLineOf}
-use Rattle.plain_events.specs.Fronts.{IsWordAt, IsByteAt, IsAtomAt, IsPairAt, IsIndexAt, AreTwoAt, IsPartAt, IsValueAt}
+use Rattle.plain_events.specs.Fronts.{IsWordAt, IsByteAt, IsAtomAt, IsPairAt, IsIndexAt, AreTwoAt, IsPartAt, IsValueAt, IsEventBy, AreUsualAt, IsMapBehind}
+use Rattle.plain_events.specs.Keys.{followed_by, ArePairsAt}
+use Rattle.plain_events.proofs.Pairs.{pairs_end}
 use Rattle.plain_events.proofs.Elements.{element_then, pair_then, atom_at, brackets, braces}
 
 -- Parts
@@ -112,15 +114,56 @@ map_spells : (index : Option ℕ) (t u : List ℕ) (kind : EventKind) (process :
 map_spells (Some n) t u kind process name key part value i p s fits = record { head = ((refl, i.1), refl, (refl, p)); body = (refl, s); in_tables = fits }
 map_spells None t u kind process name key part value i p s fits = record { head = (tt, refl, (refl, p)); body = (refl, s); in_tables = fits }
 
-pub map_begins : (text front inner second third fourth fifth closing rest : List ℕ) (index : Option ℕ) (kind : EventKind) (process : ℕ) (name : Name) (key : ℕ) (part : Part) → SkipsGap 0 text front →
-    IsByteAt front 123 inner → IsIndexAt inner index second → IsPairAt second (codes "type") (keyword (text_of_kind kind)) third → IsPairAt third (codes "process") (number process) fourth → process < 2 ^ 32 →
-    IsPairAt fourth (codes "f") (keyword (text_of name)) fifth → IsValueAt fifth key part closing → closing ≡ 125 ∷ rest → IsPartOf kind name part → BeginsWith text (event_by index kind process name key part) rest
-map_begins text front inner second third fourth fifth closing rest index kind process name key part g o i k p small f v e fits =
-    let value = v.value in
-    let pairs_here = plain_pairs (keyword (text_of_kind kind)) (number process) (keyword (text_of name)) value in
-    let inside = index_then index inner second closing pairs_here i (pair_then k (pair_then p (pair_then f (pair_then v.pair (no_more no_gap))))) in
-    let reads = braces front inner closing rest (with_index index pairs_here) o inside e (keys_apart index _ _ _ _) in
-    (pairs (with_index index pairs_here), (front, g, reads), map_spells index inner second kind process name key part value i small v.spells fits)
+abbrev pub all_pairs : {text : List ℕ} {index : Option ℕ} {kind : EventKind} {process : ℕ} {op : Op} {rest : List ℕ} → AreUsualAt text index kind process op rest → Pairs
+all_pairs {index = index} {kind = kind} {process = process} {op = op} u = with_index index (plain_pairs (keyword (text_of_kind kind)) (number process) (keyword (text_of op.name)) u.value_at.value)
+
+pub usual_by : (inner second third fourth fifth rest : List ℕ) (index : Option ℕ) (kind : EventKind) (process : ℕ) (name : Name) (key : ℕ) (part : Part) → IsIndexAt inner index second →
+    IsPairAt second (codes "type") (keyword (text_of_kind kind)) third → IsPairAt third (codes "process") (number process) fourth → process < 2 ^ 32 → IsPairAt fourth (codes "f") (keyword (text_of name)) fifth →
+    IsValueAt fifth key part rest → AreUsualAt inner index kind process (record { name = name; key = key; part = part }) rest
+usual_by inner second third fourth fifth rest index kind process name key part i k p small f v = record {
+  second = second;
+  third = third;
+  fourth = fourth;
+  fifth = fifth;
+  index_at = i;
+  kind_at = k;
+  process_at = p;
+  small = small;
+  name_at = f;
+  value_at = v;
+}
+
+usual_reads : (inner : List ℕ) (index : Option ℕ) (kind : EventKind) (process : ℕ) (op : Op) (rest : List ℕ) (u : AreUsualAt inner index kind process op rest) (qs : Pairs) (end : List ℕ) → ReadsAll 1 rest (in_text qs) end →
+    ReadsAll 1 inner (in_text (with_index index (followed_by (plain_pairs (keyword (text_of_kind kind)) (number process) (keyword (text_of op.name)) u.value_at.value) qs))) end
+usual_reads inner index kind process op rest u qs end a =
+    index_then index inner u.second end (followed_by (plain_pairs (keyword (text_of_kind kind)) (number process) (keyword (text_of op.name)) u.value_at.value) qs) u.index_at
+    (pair_then u.kind_at (pair_then u.process_at (pair_then u.name_at (pair_then u.value_at.pair a))))
+
+indexed : (index : Option ℕ) (ps qs : Pairs) → followed_by (with_index index ps) qs ≡ with_index index (followed_by ps qs)
+indexed (Some n) ps qs = refl
+indexed None ps qs = refl
+
+pub usual_at : (inner : List ℕ) (index : Option ℕ) (kind : EventKind) (process : ℕ) (op : Op) (rest : List ℕ) (u : AreUsualAt inner index kind process op rest) → ArePairsAt 1 inner (all_pairs u) rest
+usual_at inner index kind process op rest u = record {
+  reads = λ qs end a. subst (λ ps. ReadsAll 1 inner (in_text ps) end) (sym (indexed index _ qs)) (usual_reads inner index kind process op rest u qs end a);
+  apart = keys_apart index _ _ _ _;
+}
+
+pub map_behind : (inner : List ℕ) (index : Option ℕ) (kind : EventKind) (process : ℕ) (op : Op) (closing rest : List ℕ) (event : Event) → AreUsualAt inner index kind process op closing → closing ≡ 125 ∷ rest →
+    IsEventBy index kind process op event → IsMapBehind inner event rest
+map_behind inner index kind process op closing rest event u e w = record {
+  all = all_pairs u;
+  inside = pairs_end 1 inner (all_pairs u) closing (125 ∷ rest) (usual_at inner index kind process op closing u) e;
+  apart = keys_apart index _ _ _ _;
+  spells = subst (Spells (pairs (all_pairs u))) (sym w.event) (map_spells index inner u.second kind process op.name op.key op.part u.value_at.value u.index_at u.small u.value_at.spells w.fits);
+}
+
+pub map_begins : (text front inner rest : List ℕ) (event : Event) → SkipsGap 0 text front → IsByteAt front 123 inner → IsMapBehind inner event rest → BeginsWith text event rest
+map_begins text front inner rest event g o m = (pairs m.all, (front, g, braces front inner (125 ∷ rest) rest m.all o m.inside refl m.apart), m.spells)
+
+pub any_begins : (text front inner : List ℕ) (r : Option (Event × Bor (List ℕ))) → SkipsGap 0 text front → IsByteAt front 123 inner → IfSome r (λ x. IsMapBehind inner x.0 x.1.now) → IfSome r (λ x. BeginsWith text x.0 x.1.now)
+any_begins text front inner None g o m = tt
+any_begins text front inner (Some x) g o m = map_begins text front inner x.1.now x.0 g o m
 
 -- a whole line
 pub line_of : (line rest : List ℕ) (event : Event) → BeginsWith line event rest → SkipsGap 0 rest [] → IsLineOf line event

@@ -1,14 +1,21 @@
 -- Invariant: what stands at the front of a text, with the gap behind it, for the functions behind `plain_event`
 use Rattle.std.specs.Prelude.{◌≡◌, ℕ, ◌<◌, ◌≤◌, ◌^◌, ℤ, Option, Some, None, List, ◌∷◌, ◌++◌, map, codes}
 use Rattle.std.specs.Str.Parse.{digits_value}
-use Rattle.edn.specs.Value.{Value, int, keyword, members, Values, joined}
+use Rattle.edn.specs.Value.{Value, int, keyword, pairs, members, Values, joined, Pairs, in_text, keys, AreDistinct}
 use Rattle.edn.specs.Bytes.{MayFollowAtom, IsNumeral}
 use Rattle.edn.specs.Text.{SkipsGap, Reads, ReadsAll}
 use Rattle.edn.specs.View.{list_of}
 use Rattle.models.specs.declared.operation.Part.{Part}
 use Rattle.models.specs.Members.{IsAscending}
 use Rattle.history.specs.EventMap.{number}
-use Rattle.history.specs.Spelling.{SpellsPart, SpellsKeyed}
+use Rattle.models.specs.declared.operation.Op.{Op}
+use Rattle.models.specs.Names.{text_of}
+use Rattle.history.specs.declared.event.EventKind.{EventKind}
+use Rattle.history.specs.declared.event.Process.TheVariants.{Client}
+use Rattle.history.specs.declared.event.Body.TheVariants.{Op as AnOp}
+use Rattle.history.specs.declared.event.Event.{Event}
+use Rattle.history.specs.WellFormed.{IsPartOf}
+use Rattle.history.specs.Spelling.{text_of_kind, SpellsPart, SpellsKeyed, Spells}
 
 -- the text begins with these bytes, behind which an atom may end, and rest follows them and a gap
 pub record IsWordAt (text bytes rest : List ℕ) : Type 0 where
@@ -33,13 +40,13 @@ pub record IsElementAt (d : ℕ) (text : List ℕ) (v : Value) (rest : List ℕ)
 abbrev pub IsAtomAt : List ℕ → Value → List ℕ → Type 0
 IsAtomAt text v rest = (d : ℕ) → IsElementAt d text v rest
 
--- the text begins with digits that write n, which are 18 at most
+-- the text begins with digits that write n, which all digits but the last one fit 63 bits before any digit
 pub record BeginsNumeral (text : List ℕ) (n : ℕ) (rest : List ℕ) : Type 0 where
   pub digits : List ℕ
   pub cut : text ≡ digits ++ rest
   pub shape : IsNumeral digits
   pub writes : digits_value 10 digits ≡ n
-  pub small : n ≤ 999999999999999999
+  pub small : n ≤ 9223372036854775799
 
 -- and these are a whole word
 pub record IsNumeralAt (text : List ℕ) (n : ℕ) (rest : List ℕ) : Type 0 where
@@ -47,7 +54,7 @@ pub record IsNumeralAt (text : List ℕ) (n : ℕ) (rest : List ℕ) : Type 0 wh
   pub word : IsWordAt text digits rest
   pub shape : IsNumeral digits
   pub writes : digits_value 10 digits ≡ n
-  pub small : n ≤ 999999999999999999
+  pub small : n ≤ 9223372036854775799
 
 -- a pair of a map: its key, a keyword, and its value
 pub record IsPairAt (text name : List ℕ) (v : Value) (rest : List ℕ) : Type 0 where
@@ -89,3 +96,28 @@ pub record IsValueAt (text : List ℕ) (key : ℕ) (part : Part) (rest : List �
   pub value : Value
   pub pair : IsPairAt text (codes "value") value rest
   pub spells : SpellsKeyed value key part
+
+-- the event of a client with this operation, which is as the tables say
+pub record IsEventBy (index : Option ℕ) (kind : EventKind) (process : ℕ) (op : Op) (e : Event) : Type 0 where
+  pub event : e ≡ record { index = index; kind = kind; process = Client process; body = AnOp op }
+  pub fits : IsPartOf kind op.name op.part
+
+-- the pairs of an index, if one is stated, a kind, a process, a name, and a key and a part, in this order
+pub record AreUsualAt (text : List ℕ) (index : Option ℕ) (kind : EventKind) (process : ℕ) (op : Op) (rest : List ℕ) : Type 0 where
+  pub second : List ℕ
+  pub third : List ℕ
+  pub fourth : List ℕ
+  pub fifth : List ℕ
+  pub index_at : IsIndexAt text index second
+  pub kind_at : IsPairAt second (codes "type") (keyword (text_of_kind kind)) third
+  pub process_at : IsPairAt third (codes "process") (number process) fourth
+  pub small : process < 2 ^ 32
+  pub name_at : IsPairAt fourth (codes "f") (keyword (text_of op.name)) fifth
+  pub value_at : IsValueAt fifth op.key op.part rest
+
+-- behind the opening brace of a map stand pairs that spell the event, and rest follows the closing one
+pub record IsMapBehind (inner : List ℕ) (e : Event) (rest : List ℕ) : Type 0 where
+  pub all : Pairs
+  pub inside : ReadsAll 1 inner (in_text all) (125 ∷ rest)
+  pub apart : AreDistinct (keys all)
+  pub spells : Spells (pairs all) e

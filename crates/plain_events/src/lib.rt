@@ -1,16 +1,24 @@
 //! Events that are spelled plainly, read from their bytes without a tree of elements between.
 //!
-//! Plain is what [`History::to_edn`](history::History::to_edn) writes of a client's operation, with any white space
-//! between: the keys `:index`, which may be left out, `:type`, `:process`, `:f` and `:value`, in this order, and an
-//! operation whose part is nil, an integer, a vector of two or a set, its members in ascending order. Whatever else a text
-//! has is read by `edn::read_all` and `history::from_edn`. The calls here say only what was read, and where they answer
-//! `None` they say nothing, also where there is no memory for the members of a set.
+//! Plain is the map of a client's operation whose keys are keywords, in any order: `:type`, `:process`, `:f` and `:value`;
+//! `:index`, which may be left out; and at most 16 others, by which no event is read. The operation's part is nil, an integer,
+//! a vector of two or a set, its members in ascending order. What stands at other keys is passed over: an atom, a string, a
+//! vector, or a map whose keys are keywords, at most 16. White space alone stands between. Integers have no plus, and are
+//! below 9,223,372,036,854,775,800 in size. The order in which [`History::to_edn`](history::History::to_edn) writes is read
+//! fastest.
+//!
+//! Whatever else a text has is read by `edn::read_all` and `history::from_edn`. The calls here say only what was read, and
+//! where they answer `None` they say nothing, also where there is no memory for the members of a set.
 #![tactic(auto)]
 
 mod event;
+mod found;
+mod keys;
 mod numbers;
 mod operation;
+mod passed;
 mod set;
+mod strings;
 mod word;
 
 pub use event::{plain_event, plain_line};

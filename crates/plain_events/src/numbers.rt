@@ -1,4 +1,4 @@
-//! Integers of at most 18 digits.
+//! Integers of 64 bits, but for the last few of each sign.
 ghost use Rattle.std.specs.Prelude.{◌≡◌, ◌<◌, ◌≤◌, ◌^◌, pos, neg_ℤ, IfSome};
 ghost use Rattle.edn.specs.Value.{int};
 ghost use Rattle.edn.specs.Bytes.{is_digit};
@@ -8,8 +8,8 @@ ghost use Rattle.plain_events.specs.Fronts.{IsAtomAt, BeginsNumeral, IsNumeralAt
 
 use crate::word::past_end;
 
-// The greatest number of 18 digits.
-const MOST: u64 = 999_999_999_999_999_999;
+// The greatest of 63 bits whose digits but the last one may stand before any digit.
+const MOST: u64 = 9_223_372_036_854_775_799;
 
 fn is_digit(b: u8) -> bool
     ensures { result ≡ is_digit b }
@@ -21,7 +21,7 @@ fn is_digit(b: u8) -> bool
 #[inline(always)]
 fn with_digit(value: u64, text: &[u8]) -> Option<(u64, &[u8])>
     ensures { IfSome result
-        (λ x. TakesDigit 999999999999999999 value text.now x.0 x.1.now) }
+        (λ x. TakesDigit 9223372036854775799 value text.now x.0 x.1.now) }
 {
     let (first, rest) = text.split_first()?;
     if !is_digit(*first) {
@@ -62,14 +62,14 @@ fn numeral(text: &[u8]) -> Option<(u64, &[u8])>
 }
 
 fn plain(size: u64) -> i64
-    requires { size ≤ 999999999999999999 }
+    requires { size ≤ 9223372036854775799 }
     ensures { result ≡ pos size }
 {
     size as i64
 }
 
 fn negated(size: u64) -> i64
-    requires { size ≤ 999999999999999999 }
+    requires { size ≤ 9223372036854775799 }
     ensures { result ≡ neg_ℤ (pos size) }
 {
     -(size as i64)

@@ -28,6 +28,7 @@ fn name_at(text: &[u8]) -> Option<(Name, &[u8])>
 }
 
 /// The pair of `:f` and a name, and what follows it; or none, which says nothing. Takes no memory.
+#[inline(never)]
 pub fn name_pair(text: &[u8]) -> Option<(Name, &[u8])>
     ensures { IfSome result (λ x. IsPairAt text.now (codes "f") (keyword (text_of x.0)) x.1.now) }
 {
@@ -75,6 +76,7 @@ fn key_at(text: &[u8]) -> Option<(Key, &[u8])>
 
 /// The pair of `:value` and a vector of a key and a part, and what follows it; or none, which says nothing. Memory is taken
 /// for the members of a set alone.
+#[inline(never)]
 pub fn value_pair(alloc: Global, text: &[u8]) -> Option<(Key, Part, &[u8])>
     ensures { IfSome result (λ x. IsValueAt text.now x.0 x.1 x.2.now) }
 {

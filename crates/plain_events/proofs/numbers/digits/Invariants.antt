@@ -4,7 +4,7 @@ use Rattle.edn.proofs.Digits.{DigitsSoFar}
 use Rattle.plain_events.proofs.numbers.digits.Given as goal
 
 abbrev pub invariant-loop-more : goal.invariant-loop-more
-invariant-loop-more l = DigitsSoFar 999999999999999999 l.text l.value l.rest
+invariant-loop-more l = DigitsSoFar 9223372036854775799 l.text l.value l.rest
 
 abbrev pub decreases-loop-more : goal.decreases-loop-more
 decreases-loop-more l = length l.rest

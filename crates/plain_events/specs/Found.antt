@@ -1,0 +1,59 @@
+-- Invariant: what was found at the keys of an event, in any order
+use Rattle.std.specs.Prelude.{◌≡◌, ℕ, ◌<◌, ◌^◌, Option, Some, None, List, [], ◌∷◌, codes}
+use Rattle.std.specs.List.{Contains}
+use Rattle.edn.specs.Value.{Value, Pairs, in_text, keys, AreDistinct}
+use Rattle.edn.specs.Parts.{value_at}
+use Rattle.edn.specs.Text.{ReadsAll}
+use Rattle.models.specs.declared.operation.Op.{Op}
+use Rattle.history.specs.declared.event.EventKind.{EventKind}
+use Rattle.history.specs.declared.event.Event.{Event}
+use Rattle.history.specs.Spelling.{IsNumber, SpellsKind, SpellsName, SpellsKeyed}
+use Rattle.plain_events.specs.declared.found.Found.{Found}
+use Rattle.plain_events.specs.Fronts.{IsPairAt, IsEventBy}
+use Rattle.plain_events.specs.Keys.{mark_of, IsFurther, push, ArePairsAt}
+
+-- what a map has at a key is what was found there, if anything is
+abbrev pub Tells : {X : Type 0} → (Value → X → Type 0) → Option Value → Option X → Type 0
+Tells Is (Some v) (Some x) = Is v x
+Tells Is None None = Unit {0}
+Tells Is _ _ = ⊥
+
+-- the pairs say at each key what was found; no further name but those of its marks is a key of theirs
+pub record Say (ps : Pairs) (found : Found) : Type 0 where
+  pub index : Tells (IsNumber (2 ^ 32)) (value_at (codes "index") ps) found.index
+  pub kind : Tells SpellsKind (value_at (codes "type") ps) found.kind
+  pub process : Tells (IsNumber (2 ^ 32)) (value_at (codes "process") ps) found.process
+  pub name : Tells SpellsName (value_at (codes "f") ps) found.name
+  pub value : Tells (λ v x. SpellsKeyed v x.0 x.1) (value_at (codes "value") ps) found.value
+  pub marked : (name : List ℕ) → IsFurther name → ¬ Contains found.marks.items (mark_of name) → value_at name ps ≡ None
+
+-- all is found but further keys
+abbrev pub IsFoundOf : Option ℕ → EventKind → ℕ → Op → Found → Type 0
+IsFoundOf index kind process op found =
+    found ≡ record { index = index; kind = Some kind; process = Some process; name = Some op.name; value = Some (op.key, op.part); marks = found.marks }
+
+-- the name is no key of pairs that say what was found before, and with this value at it they say what is found now
+abbrev pub Adds : List ℕ → Value → Found → Found → Type 0
+Adds name v old new = (ps : Pairs) → Say ps old → (value_at name ps ≡ None) × Say (push ps name v) new
+
+-- a pair stands at the front, which is found, and rest follows it
+pub record AddsPairAt (text : List ℕ) (old new : Found) (rest : List ℕ) : Type 0 where
+  pub name : List ℕ
+  pub value : Value
+  pub pair : IsPairAt text name value rest
+  pub adds : Adds name value old new
+
+-- all is found of the event
+pub record IsEventOf (found : Found) (e : Event) : Type 0 where
+  pub kind : EventKind
+  pub process : ℕ
+  pub op : Op
+  pub all : IsFoundOf found.index kind process op found
+  pub event : IsEventBy found.index kind process op e
+
+-- behind the opening brace of a map stand pairs that say what was found, and rest follows the closing one
+pub record IsFoundBehind (inner : List ℕ) (found : Found) (rest : List ℕ) : Type 0 where
+  pub all : Pairs
+  pub inside : ReadsAll 1 inner (in_text all) (125 ∷ rest)
+  pub apart : AreDistinct (keys all)
+  pub say : Say all found

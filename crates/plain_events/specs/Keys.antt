@@ -1,0 +1,52 @@
+-- Invariant: the pairs of a map, whose keys are keywords, each other than those before it
+use Rattle.std.specs.Prelude.{◌≡◌, ℕ, ◌+◌, ◌*◌, ◌%◌, IsTrue, None, List, [], ◌∷◌, ◌++◌, codes}
+use Rattle.std.specs.List.{AllByRecursion, Contains}
+use Rattle.edn.specs.Value.{Value, keyword, Pairs, no_pairs, pair, in_text, keys, AreDistinct}
+use Rattle.edn.specs.Bytes.{goes_on}
+use Rattle.edn.specs.Parts.{value_at}
+use Rattle.edn.specs.Text.{ReadsAll}
+use Rattle.plain_events.specs.Fronts.{IsAtomAt}
+
+-- the mark of a name, one byte after the other: the low 56 bits of the mark so far, times 131, and the byte
+abbrev pub mark_from : ℕ → List ℕ → ℕ
+mark_from m [] = m
+mark_from m (b ∷ bs) = mark_from (m % 72057594037927936 * 131 + b) bs
+
+abbrev pub mark_of : List ℕ → ℕ
+mark_of = mark_from 0
+
+-- bytes that may stand in a name
+abbrev pub AreNameBytes : List ℕ → Type 0
+AreNameBytes = AllByRecursion (λ b. IsTrue (goes_on b))
+
+-- a key of this name stands at the front, and rest follows it and a gap. Its mark is none of the marks, and is put behind them
+pub record IsNewKeyAt (marks text name marked rest : List ℕ) : Type 0 where
+  pub key : IsAtomAt text (keyword name) rest
+  pub new : ¬ Contains marks (mark_of name)
+  pub put : marked ≡ marks ++ mark_of name ∷ []
+
+-- no event is read by a key of this name
+pub record IsFurther (name : List ℕ) : Type 0 where
+  pub no_index : ¬ (name ≡ codes "index")
+  pub no_type : ¬ (name ≡ codes "type")
+  pub no_process : ¬ (name ≡ codes "process")
+  pub no_name : ¬ (name ≡ codes "f")
+  pub no_value : ¬ (name ≡ codes "value")
+
+abbrev pub followed_by : Pairs → Pairs → Pairs
+followed_by no_pairs qs = qs
+followed_by (pair k v ps) qs = pair k v (followed_by ps qs)
+
+-- the pairs, and behind them one more
+abbrev pub push : Pairs → List ℕ → Value → Pairs
+push ps name v = followed_by ps (pair (keyword name) v no_pairs)
+
+-- the text has these pairs at its front, whose keys are distinct, and rest follows them, while d collections are open: what
+-- pairs rest has, the text has behind them
+pub record ArePairsAt (d : ℕ) (text : List ℕ) (ps : Pairs) (rest : List ℕ) : Type 0 where
+  pub reads : (qs : Pairs) (end : List ℕ) → ReadsAll d rest (in_text qs) end → ReadsAll d text (in_text (followed_by ps qs)) end
+  pub apart : AreDistinct (keys ps)
+
+-- no name but those of these marks is a key of the pairs
+abbrev pub AreMarked : Pairs → List ℕ → Type 0
+AreMarked ps marks = (name : List ℕ) → ¬ Contains marks (mark_of name) → value_at name ps ≡ None

@@ -1,0 +1,27 @@
+-- Invariant: values that are passed over
+use Rattle.std.specs.Prelude.{◌≡◌, ℕ, Bool, false, ◌||◌, ◌==◌, List}
+use Rattle.std.specs.List.{AllByRecursion}
+use Rattle.std.specs.Str.{IsUtf8}
+use Rattle.edn.specs.Value.{Value}
+use Rattle.edn.specs.Text.{ReadsString}
+use Rattle.plain_events.specs.Fronts.{IsElementAt, IsAtomAt}
+
+-- a quote or a backslash
+abbrev pub ends_run : ℕ → Bool
+ends_run b = (b == 34) || (b == 92)
+
+-- bytes that spell themselves in a string
+abbrev pub IsRun : List ℕ → Type 0
+IsRun = AllByRecursion (λ b. ends_run b ≡ false)
+
+-- the inside of a string stands at the front, and rest follows its closing quote
+abbrev pub IsStringAt : List ℕ → List ℕ → Type 0
+IsStringAt text rest = (s : List ℕ) × ReadsString text s rest × IsUtf8 s
+
+-- a value stands at the front, and rest follows it and a gap, while d collections are open
+abbrev pub IsPassedAt : ℕ → List ℕ → List ℕ → Type 0
+IsPassedAt d text rest = (v : Value) × IsElementAt d text v rest
+
+-- the same however many are open
+abbrev pub IsScalarAt : List ℕ → List ℕ → Type 0
+IsScalarAt text rest = (v : Value) × IsAtomAt text v rest
