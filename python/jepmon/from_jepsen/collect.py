@@ -22,11 +22,13 @@ may have taken nothing, and whatever was linearizable with something taken is so
 """
 from __future__ import annotations
 
-from typing import Dict, Iterable, Iterator, NoReturn, Optional, Tuple
+import itertools
+from typing import Dict, Iterable, Iterator, Match, NoReturn, Optional, Tuple
 
 from .. import edn, faults, kinds
 from ..edn import Many, Value, canonical, integer, shown, spelling
 from .events import Event, Fault, History, Left, is_pair, tuple_of
+from .plain import Plain, plain_of
 from .refusal import NoKey, Refusal, refuse
 from .spool import Spool
 
@@ -52,11 +54,15 @@ class Collector:
 
     def collect(self, pieces: Iterable[str]) -> History:
         """The history of a text that comes in pieces."""
-        elements = edn.Reader(pieces).history()
+        pieces = iter(pieces)
+        front = next(pieces, "")
+        plain = plain_of(front, self.lone_key is None)
+        elements = edn.Reader(itertools.chain((front,), pieces)).history(plain.expression if plain is not None else None)
         count = 0
         try:
             for element in elements:
-                self.take(element, count)
+                if plain is None or element.plain is None or not self.take_plain(element.line, element.plain, plain, count):
+                    self.take(element.whole(), count)
                 count += 1
         except NoKey:
             refuse_others(elements)
@@ -70,6 +76,32 @@ class Collector:
         if not self.history.keys:
             raise Refusal(f"none of its {count} events is of a client: there is nothing to judge")
         return self.history
+
+    def take_plain(self, line: int, found: Match[str], plain: Plain, count: int) -> bool:
+        """Takes an event by what plain.py finds in it, where there is nothing else to be said of it; gives whether it did."""
+        kind, name, digits, part = found.group(*plain.fields)
+        process = int(digits)
+        key = self.lone_key or "" if plain.key is None else found[plain.key]
+        index = count if plain.own_index is None else int(found[plain.own_index])
+        if kind == ":invoke":
+            if process in self.open or (part == "nil") != (name in WITHOUT_PART):
+                return False
+            self.open[process] = event = Event(kind, process, name, key, part, index, line)
+            self.history.add(event)
+            return True
+        invoked = self.open.get(process)
+        if invoked is None or invoked.name != name or invoked.key != key:
+            return False
+        if kind == ":ok" and name in ANSWERED:
+            if name == ":dequeue" and part == "nil":
+                return False
+        elif part != invoked.part and name not in WITHOUT_PART:
+            return False
+        else:
+            part = invoked.part
+        del self.open[process]
+        self.history.add(Event(kind, process, name, key, part, index, line))
+        return True
 
     def take(self, element: edn.Element, count: int) -> None:
         fields = edn.fields_of(element.value)
@@ -234,7 +266,7 @@ def refuse_others(elements: Iterator[edn.Element]) -> None:
     """Refuses what follows where it has operations that no key makes into ones of jepmon."""
     try:
         for element in elements:
-            fields = edn.fields_of(element.value) or {}
+            fields = edn.fields_of(element.whole().value) or {}
             name = fields.get(":f")
             if integer(fields.get(":process")) is None:
                 continue

@@ -88,11 +88,13 @@ class History:
         seen = self.keys.get(key)
         if seen is None:
             seen = self.keys[key] = KeySeen(line)
-        seen.names.add(name)
+        if name not in seen.names:
+            seen.names.add(name)
         self.outcomes[name, kind] += 1
         if kind == ":invoke":
             self._open += 1
-            self.most_open = max(self.most_open, self._open)
+            if self._open > self.most_open:
+                self.most_open = self._open
         else:
             self._open -= 1
             if kind == ":ok" and name == ":read":

@@ -70,6 +70,8 @@ def flat(event: Kept) -> Tuple[Any, ...]:
     if isinstance(event, Fault):
         return event.text, event.own_index
     kind, process, name, key, part, own_index, line = event
+    if type(key) is str and type(part) is str:  # as most are
+        return tuple(event)
     return kind, process, name, flat_value(key), flat_value(part), own_index, line
 
 
@@ -81,6 +83,8 @@ def event_of(flat: Tuple[Any, ...]) -> Kept:
     if len(flat) == 2:
         return Fault(*flat)
     kind, process, name, key, part, own_index, line = flat
+    if type(key) is str and type(part) is str:
+        return Event._make(flat)
     if type(key) is tuple:
         key = value_of(key)
     if type(part) is tuple:

@@ -1,0 +1,87 @@
+"""What most lines of a history are is read by one expression: with the same result as field by field, also where something is wrong."""
+from __future__ import annotations
+
+import random
+import unittest
+from typing import List, Optional, Tuple
+from unittest import mock
+
+from jepmon.from_jepsen import Refusal, turn
+from jepmon.from_jepsen import collect
+from jepmon.from_jepsen.plain import plain_of
+
+from .fuzz import EACH
+
+LINE = "{:type :invoke, :f :read, :value [1 nil], :time 5, :process 2, :index 0}\n"
+ORDERS = ((":type", ":f", ":value", ":time", ":process", ":index"), (":process", ":type", ":f", ":value"),
+          (":index", ":time", ":process", ":type", ":f", ":value"))
+ODD = {":type": (":okay", "ok", "nil"), ":f": (":drain", ":cas", ":txn", ":start"), ":process": (":nemesis", "01", "-1", "9" * 30, "1N", "nil"),
+       ":time": ("1.5", "nil", "007"), ":index": ("-1", "nil", "00", "9" * 25),
+       ":value": ("[1 [2 3]]", "[1 #{1 2}]", "[1]", "[1 2 3]", "nil", "[:x 1]", '["a" 1]', "[1 \"b\"]", "[nil nil]", "[+1 1]", "[1 +2]",
+                  "[1N 2]", "[1 -0]", "[1 01]", "[1  2]", "[1 2.5]", "[1 :ok]", "12", "-3", "[1 9223372036854775808]", "{:key 1 :value 2}")}
+NAMES = (":read", ":write", ":enqueue", ":dequeue", ":add", ":acquire", ":release")
+
+
+def made(draws: random.Random, has_keys: bool) -> str:
+    """A history, mostly of plain events, in which some things are odd."""
+    order, names = draws.choice(ORDERS), draws.sample(NAMES, draws.choice((1, 2, 2, 2, 7)))
+    odd = draws.choice((0.0, 0.0, 0.002, 0.02, 0.2))
+    opened: List[Optional[Tuple[str, str, str]]] = [None] * 4
+    lines = []
+    for index in range(draws.randrange(1, 60)):
+        thread = draws.randrange(len(opened))
+        begun = opened[thread]
+        if begun is None:
+            name, key = draws.choice(names), str(draws.randrange(3))
+            part = "nil" if name in (":read", ":dequeue", ":acquire", ":release") else str(draws.randrange(-2, 40))
+            kind, opened[thread] = ":invoke", (name, key, part)
+        else:
+            name, key, part = begun
+            kind, opened[thread] = draws.choice((":ok", ":ok", ":ok", ":fail", ":info")), None
+            if kind == ":ok" and name in (":read", ":dequeue"):
+                part = draws.choice(("nil", "1", "7", "-2"))
+        fields = {":type": kind, ":f": name, ":process": str(thread), ":time": str(index * 7), ":index": str(index),
+                  ":value": f"[{key} {part}]" if has_keys else part}
+        for field, others in ODD.items():
+            if draws.random() < odd:
+                fields[field] = draws.choice(others)
+        text = ", ".join(f"{field} {fields[field]}" for field in (draws.sample(order, len(order)) if draws.random() < odd else order))
+        more = draws.choice((", :error :timeout", ", :node [1 2]", ",")) if draws.random() < odd else ""
+        lines.append(draws.choice(("#_", "; ", " ", "[", "^:a ")) * (draws.random() < odd / 4) + "{" + text + more + "}\n")
+    return "".join(lines) if draws.random() < 0.8 else "[" + "".join(lines) + "]"
+
+
+def outcome(text: str, key: Optional[str], nil_is_absent: bool) -> "tuple[object, ...]":
+    try:
+        turned = turn(text, key, nil_is_absent)
+    except Refusal as fault:
+        return (str(fault),)
+    return turned.text(), turned.notes, turned.advice, turned.concurrency, turned.model
+
+
+class PlainEvents(unittest.TestCase):
+    def test_the_same_as_field_by_field(self) -> None:
+        draws, whole, refused = random.Random(7), 0, 0
+        for _ in range(60 * EACH):
+            has_keys, nil_is_absent = draws.random() < 0.7, draws.random() < 0.3
+            text, key = made(draws, has_keys), None if has_keys else draws.choice(("0", ":r", None))
+            with self.subTest(text=text, key=key):
+                found = outcome(text, key, nil_is_absent)
+                with mock.patch.object(collect, "plain_of", lambda *_: None):
+                    self.assertEqual(found, outcome(text, key, nil_is_absent))
+            whole, refused = whole + (len(found) > 1), refused + (len(found) == 1)
+        self.assertGreater(min(whole, refused), 10)
+
+    def test_most_lines_of_a_history_are_plain(self) -> None:
+        with mock.patch.object(collect.Collector, "take", side_effect=AssertionError("it was read field by field")):
+            turn(LINE + LINE.replace("invoke", "ok").replace("nil", "3").replace("0}", "1}"))
+
+    def test_where_the_first_line_is_no_event_none_is(self) -> None:
+        for text in ("", "{}", "; comment\n", "{:a 1}\n", "{:type :ok, :f :read, :process 1}\n", "[1 2]", LINE[:-2]):
+            self.assertIsNone(plain_of(text, True))
+        for text in (LINE, "[" + LINE, "(" + LINE + ")", LINE[:-1]):
+            self.assertIsNotNone(plain_of(text, True))
+
+
+if __name__ == "__main__":
+    unittest.main()
