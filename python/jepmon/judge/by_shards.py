@@ -5,7 +5,7 @@ import contextlib
 import functools
 import os
 import sys
-from typing import Iterator, List, NamedTuple, Optional, Sequence
+from typing import Iterator, List, NamedTuple, Optional, Sequence, Tuple
 
 from .. import command, kinds, shards
 from ..errors import ProgramError
@@ -17,16 +17,15 @@ from ..forms.recorded import Recorded
 from ..from_jepsen import Turned
 from ..history import Event
 from ..program import KeyLine, Options, Report, check
-from ..shards.checking import key_line
 from ..shards.cluster import judged_on
 from ..shards.judging import Judged
 from ..shards.models import EACH
-from ..shards.report import KEY_LINE, Verdict
+from ..shards.report import Verdict
 from ..shards.source import History
 from ..shards.splitting import judged_elsewhere
 from ..shards.tally import Tally
 from ..shrinking.part import as_asked, text_of
-from . import causes, large_key, results, turned
+from . import causes, large_key, results, turned, wide
 from .hints import MOST_EVENTS, PATIENCE, counted
 from .judging import Task
 from .large import Large
@@ -96,28 +95,50 @@ def _judge(given: Given, found: Large, history: Asked, session: shards.Session, 
     path = os.path.join(session.tools.folder, "report.txt")
     with open(path, "wb") as file:
         verdict = session.report(judged(given, session, options), file)
-    report = report_of(path, verdict)
-    task = Task("", of_bad_key(choice, report), {}, options, in_shards=True)
+    task = Task("", choice, {}, options, in_shards=True)
     for line in said(found, history, session.tally, verdict, task):
         say(line)
+    path, verdict, decided = anew(given, session, path, verdict)
+    report = report_of(path, verdict)
+    task = task._replace(choice=of_bad_key(choice, report), wide_seconds=given.wide_seconds if decided else None)
     command.write_output(texts_of(path))
     for line in nil_hints(session.tally, choice):
         say(line)
     recorded = turned.recorded(history.made) if history.made is not None else Recorded("", "", Facts(), is_own=True)
-    key = shown(recorded, task, report, given.cause, bad_events(session, report, found, history))
+    key = shown(recorded, task, report, given.cause, bad_events(session, report, found, history, decided), decided)
     if page is not None or folder is not None:
         copies = {results.HISTORY: session.file.path, results.REPORT: path} if folder is not None else {}
         results.write(page, folder, results.Results(found.name, recorded, task, report, key, copies))
     return verdict.status
 
 
-def bad_events(session: shards.Session, report: Report, found: Large, history: Asked) -> List[Event]:
-    """The events of the bad key, where it was judged to its end, with their lines in the file that was given."""
-    if report.key is None or not report.keys or report.keys[0].status in CUT:
+def anew(given: Given, session: shards.Session, path: str, verdict: Verdict) -> Tuple[str, Verdict, wide.Decisions]:
+    """The report with the lines of the keys that are over and were decided, its verdict, and what was found of them."""
+    if verdict.word not in ("illegal", "unknown") or given.wide_seconds == 0:
+        return path, verdict, {}
+    keys = list(wide.over(lines_of(path), session.options))
+    events = ((key, [large_key.event_of(event, key) for event in found])
+              for key, found in session.events_of_keys([one.key for one in keys]))
+    decided = wide.decisions(keys, events, given.wide_seconds)
+    if not decided:
+        return path, verdict, {}
+    marking, marked = wide.Marking(decided), path + ".decided"
+    with open(marked, "w", encoding="ascii") as file:
+        file.writelines(f"{marking.mark(line)}\n" for line in lines_of(path) if line != verdict.line)
+        found = marking.verdict()
+        file.write(f"{found.line}\n")
+    return marked, Verdict(found.line, found.word, found.found, found.status, verdict.keys), decided
+
+
+def bad_events(session: shards.Session, report: Report, found: Large, history: Asked, decided: wide.Decisions) -> List[Event]:
+    """The events of the bad key, where it was judged to its end, or of the first that was decided afterwards, with their lines in the
+    file that was given."""
+    key = next(iter(decided), None) if report.key is None else report.key
+    if key is None or report.keys and report.keys[0].status in CUT:
         return []
     if history.made is None:
-        return large_key.events_of(session, report.key, found.path)
-    return turned.with_lines(history.made, large_key.events_of(session, report.key, None), found.path)
+        return large_key.events_of(session, key, found.path)
+    return turned.with_lines(history.made, large_key.events_of(session, key, None), found.path)
 
 
 def judged(given: Given, session: shards.Session, options: Options) -> List[Judged]:
@@ -128,17 +149,18 @@ def judged(given: Given, session: shards.Session, options: Options) -> List[Judg
     return judged_elsewhere(session, options, engine)
 
 
-def shown(recorded: Recorded, task: Task, report: Report, with_cause: bool, events: Sequence[Event]) -> Optional[causes.Shown]:
+def shown(recorded: Recorded, task: Task, report: Report, with_cause: bool, events: Sequence[Event],
+          decided: wide.Decisions) -> Optional[causes.Shown]:
     """What there is to show of the bad key, and tells it."""
     line = report.keys[0] if report.keys else None
-    if line is None or line.status in CUT:
-        if line is not None:
-            say(CUT[line.status].format(line.key, line.index))
+    if line is not None and line.status in CUT:
+        say(CUT[line.status].format(line.key, line.index))
+    if line is None and not decided or line is not None and line.status in CUT:
         return None
-    if report.word == "illegal" and with_cause:
+    if line is not None and report.word == "illegal" and with_cause:
         for hint in hints_of_order(events, task.options, line):
             say(hint)
-    key = causes.shown(recorded, task, report, with_cause, events)
+    key = causes.shown(recorded, task, report, with_cause, events, decided)
     for text in key.lines if key else []:
         command.write_error(text)
     return key
@@ -156,7 +178,8 @@ def report_of(path: str, verdict: Verdict) -> Report:
     """The report with the line of the bad key alone."""
     event, key = verdict.found or (None, None)
     line = next((line for line in lines_of(path) if line.startswith(f"key {key} ")), None) if key is not None else None
-    keys: List[KeyLine] = [key_line(line)] if line is not None and KEY_LINE.fullmatch(line) else []
+    found = wide.key_line(line) if line is not None else None
+    keys: List[KeyLine] = [found] if found is not None else []
     text = "".join(f"{each}\n" for each in (line, verdict.line) if each is not None)
     return Report(text, keys, verdict.line, verdict.word, key, event, verdict.status, "")
 

@@ -2,7 +2,8 @@
 from __future__ import annotations
 
 import heapq
-from typing import Any, Dict, List, Sequence
+import re
+from typing import Any, Dict, Iterable, List, Sequence
 
 from .. import edn, history
 from ..forms.recorded import Recorded
@@ -10,22 +11,32 @@ from ..history import Event
 
 FURTHER = ("time", "error")  # fields that are taken over from what the history was made from
 LONGEST = 200  # lines that one event of it may take
+KEY = re.compile(":value \\[([0-9]+) ")
 
 
 def of_key(found: Recorded, key: int) -> List[Event]:
     """The events of a key, with their indices in the whole history and their lines in the file that was given; where that was of
     another form, also with what it says of when they came and of errors."""
-    events: List[Event] = []
     before = found.before.split("\n") if found.before else []
-    index, wanted = -1, f":value [{key} "
+    events: List[Event] = []
+    for event in of_keys(found, [key])[key]:
+        fields = {**event.fields, **(_further(before, found.lines[event.index]) if before else {})}
+        events.append(event._replace(fields=fields))
+    return events
+
+
+def of_keys(found: Recorded, keys: Iterable[int]) -> Dict[int, List[Event]]:
+    """The events of each of these keys, with their indices in the whole history and their lines in the file that was given."""
+    events: Dict[int, List[Event]] = {key: [] for key in keys}
+    wanted = frozenset(map(str, events))
+    index = -1
     for line in found.text.split("\n"):
         if line.startswith("{"):
             index += 1
-            if wanted in line:
+            if not wanted.isdisjoint(KEY.findall(line)):
                 event = history.read_history(line, index)[0]
-                if event.key == key:
-                    fields = {**event.fields, **(_further(before, found.lines[index]) if before else {})}
-                    events.append(event._replace(line=found.line(index), fields=fields))
+                if event.key in events:
+                    events[event.key].append(event._replace(line=found.line(index)))
     return events
 
 

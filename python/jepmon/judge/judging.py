@@ -22,6 +22,7 @@ class Task(NamedTuple):
     budgets: Dict[int, int]  # of keys that have one of their own
     options: Options  # its model is the common one, where there is one
     in_shards: bool = False
+    wide_seconds: Optional[int] = None  # in which keys that are over their budget were decided afterwards, where some were
 
     @property
     def commands(self) -> List[str]:
@@ -33,12 +34,19 @@ class Task(NamedTuple):
     def script_words(self) -> List[str]:
         return self.options._replace(workers=None).words()
 
+    @property
+    def by_judge(self) -> bool:
+        """Whether it takes jepmon-judge to judge it again so."""
+        return self.in_shards or self.wide_seconds is not None
+
     def again(self, file: str) -> str:
         """The command that judges it again from this file, which has the commands too."""
-        if self.in_shards:
+        if self.by_judge:
             words = [f"--concurrency {self.options.concurrency}", f"--budget {self.options.budget}"]
             words += [f"--model {self.choice.common}"] if self.choice.common else []
-            return f"jepmon-judge {shlex.quote(file)} --jobs {os.cpu_count() or 1} {' '.join(words)}"
+            words += [f"--wide-seconds {self.wide_seconds}"] if self.wide_seconds is not None else []
+            jobs = f" --jobs {os.cpu_count() or 1}" if self.in_shards else ""
+            return f"jepmon-judge {shlex.quote(file)}{jobs} {' '.join(words)}"
         if self.commands:
             return f"jepmon script {' '.join(self.script_words)} < {shlex.quote(file)}"
         return f"jepmon check {shlex.quote(file)} {' '.join(self.options.words())}"

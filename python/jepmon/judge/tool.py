@@ -1,6 +1,7 @@
 """`jepmon-judge HISTORY`: the steps from the command line to the exit status."""
 from __future__ import annotations
 
+import functools
 import shutil
 import signal
 import sys
@@ -14,7 +15,7 @@ from ..forms import Beyond, Refused, files
 from ..forms.recorded import Options as Said
 from ..forms.recorded import Recorded, recorded
 from ..program import CURE, Options, find_program
-from . import by_shards, causes, hints, large, models, results, words
+from . import by_shards, causes, events, hints, large, models, results, wide, words
 from .judging import Task, judged
 from .outputs import Folder, Page
 from .words import NAME, Given
@@ -97,10 +98,12 @@ def _judge_whole(source: files.Source, given: Given, page: Optional[Page], folde
     for line in hints.found(source, found, task):
         say(line)
     report = judged(task)
+    report, decided = wide.anew(report, task.options, functools.partial(events.of_keys, found), given.wide_seconds)
+    task = task._replace(wide_seconds=given.wide_seconds if decided else None)
     command.write_output([report.text or report.error])
     for line in hints.after(found, task, report, source, said, given.cause):
         say(line)
-    key = causes.shown(found, task, report, given.cause)
+    key = causes.shown(found, task, report, given.cause, decided=decided)
     for line in key.lines if key else []:
         command.write_error(line)
     results.write(page, folder, results.Results(source.name, found, task, report, key))

@@ -10,6 +10,7 @@ from ..forms import Refused
 
 NAME = "judge"
 MOST_JOBS = 1024
+SHORT, LONG, MOST_SECONDS = 10, 600, 1_000_000  # seconds for keys that are over their budget
 DESCRIPTION = """Judges a recorded history: finds out its form, the model and the concurrency, has it judged by the proved program, and tells the cause.
 
   {tool} store/latest                    a Jepsen store; or a file, also compressed by gzip
@@ -38,6 +39,7 @@ class Given(NamedTuple):
     jobs: Optional[int]
     dask: Optional[str]
     temporary: Optional[str]
+    wide_seconds: int = 0  # for keys that are over their budget
 
 
 class Words(command.Words):
@@ -81,6 +83,10 @@ def given(words: Optional[List[str]]) -> Given:
     parser.add_argument("--key", metavar="K", type=number("a key", kinds.KEYS),
                         help="the history has no keys: each value in it is of key K")
     parser.add_argument("--nil-is-absent", action="store_true", help="nil is what a missing key answers, and is judged")
+    parser.add_argument("--wide", action="store_true", help=f"take up to {LONG} seconds, in place of {SHORT}, to decide keys that are over "
+                        "their budget by what is known afterwards")
+    parser.add_argument("--wide-seconds", metavar="N", type=number("a number of seconds", range(0, MOST_SECONDS + 1)),
+                        help="so many seconds for that; 0 leaves it out")
     parser.add_argument("--html", metavar="PAGE", help="write a page that shows the cause")
     parser.add_argument("--out", metavar="DIR", help="write the history as judged, the report, the cause, the page, and the command "
                         "that judges it again, into this folder")
@@ -93,5 +99,6 @@ def given(words: Optional[List[str]]) -> Given:
     except Refused as fault:
         raise Refused(f"{fault}; see {command.tool(NAME)} --help") from fault
     key = None if parsed.key is None else str(parsed.key)
+    seconds = parsed.wide_seconds if parsed.wide_seconds is not None else LONG if parsed.wide else SHORT
     return Given(parsed.history or "-", parsed.model, parsed.concurrency, parsed.budget, parsed.workers, key, parsed.nil_is_absent,
-                 parsed.html, parsed.out, parsed.cause, parsed.jobs, parsed.dask, parsed.temporary)
+                 parsed.html, parsed.out, parsed.cause, parsed.jobs, parsed.dask, parsed.temporary, seconds)

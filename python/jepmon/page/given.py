@@ -41,6 +41,7 @@ class Walked(NamedTuple):
     held: Sequence[Tuple[int, str]] = ()  # for each ok: its index, and what the object could hold just before it, in words
     ends: Sequence[End] = ()  # just before the event at which it ended
     fatal_count: int = 0  # how many ends there were then; `ends` may be some of them
+    is_order: bool = False  # no walk found it: the one end is that of an order which was found afterwards
 
 
 class PageInput(NamedTuple):

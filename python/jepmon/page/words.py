@@ -88,5 +88,7 @@ def left_out(page: Page) -> str:
 
 
 def ends_title(page: Page, walked: Walked) -> str:
+    if walked.is_order:
+        return "One order of the operations" + ("" if page.fatal is None else f", up to event {page.fatal}: it does not go on")
     none = "which does not go on" if walked.fatal_count == 1 else "none of which goes on"
     return f"What was possible just before event {page.fatal}: {counted(walked.fatal_count, 'outcome')}, {none}"

@@ -1,0 +1,169 @@
+"""Keys that are over their budget, decided by what is known afterwards (jepmon.wide), and the report with what was found."""
+from __future__ import annotations
+
+import re
+from typing import Callable, Dict, Iterable, Iterator, List, NamedTuple, Optional, Tuple
+
+from .. import command
+from ..history import Event, operations
+from ..program import STATUSES, KeyLine, Options, Report
+from ..wide import Clock, Decided, decide
+from .hints import counted
+from .words import NAME
+
+KEY_LINE = re.compile(r"key (\d+) model (\S+) budget (\d+) events (\d+) status ([a-z-]+)(?: (\d+))?")
+TOGETHER = 200_000  # events of keys that are held at once
+SHARES = 4  # of the time that is left, by the number of keys that are left, which one key may take
+Place = Tuple[int, int]  # the index of an event, and the key
+EventsOf = Callable[[List[int]], Dict[int, List[Event]]]
+
+
+class Over(NamedTuple):
+    """A key that is over its budget."""
+
+    key: int
+    options: Options
+    events: int
+
+
+class Verdict(NamedTuple):
+    """What all lines together say."""
+
+    line: str
+    word: str
+    found: Optional[Place]
+
+    @property
+    def status(self) -> int:
+        return STATUSES[self.word]
+
+
+Decisions = Dict[int, Decided]
+
+
+def key_line(line: str) -> Optional[KeyLine]:
+    match = KEY_LINE.fullmatch(line)
+    if match is None:
+        return None
+    key, model, budget, events, status, index = match.groups()
+    return KeyLine(int(key), model, int(budget), int(events), status, None if index is None else int(index))
+
+
+# --- Deciding ---
+
+
+def over(lines: Iterable[str], options: Options) -> Iterator[Over]:
+    """The keys that are over their budget, by the lines of a report."""
+    for found in filter(None, map(key_line, lines)):
+        if found.status == "over":
+            yield Over(found.key, options._replace(model=found.model, budget=found.budget), found.events)
+
+
+def decisions(keys: List[Over], events: Iterable[Tuple[int, List[Event]]], seconds: int) -> Decisions:
+    """What is found of these keys in so many seconds. Their events come key by key."""
+    found: Decisions = {}
+    clock = Clock(seconds)
+    options = {one.key: one.options for one in keys}
+    for number, (key, of_key) in enumerate(events if keys else ()):
+        if clock.left() <= 0:
+            break
+        share = max(1.0, clock.left() * SHARES / (len(keys) - number))
+        decided = decide(operations(of_key, options[key].concurrency), options[key], Clock(min(share, clock.left())))
+        if decided is not None:
+            found[key] = decided
+    for line in said(found, len(keys), seconds):
+        command.say(NAME, line)
+    return found
+
+
+def in_groups(keys: Iterable[Over], events_of: EventsOf) -> Iterator[Tuple[int, List[Event]]]:
+    """The events of each key, asked for together of as many keys as may be held at once."""
+    for group in grouped(keys):
+        events = events_of([one.key for one in group])
+        for one in group:
+            yield one.key, events.pop(one.key)
+
+
+def grouped(keys: Iterable[Over]) -> Iterator[List[Over]]:
+    group: List[Over] = []
+    for one in keys:
+        if group and sum(each.events for each in group) + one.events > TOGETHER:
+            yield group
+            group = []
+        group.append(one)
+    if group:
+        yield group
+
+
+def said(found: Decisions, total: int, seconds: int) -> Iterator[str]:
+    """What is told of it."""
+    if total == 0:
+        return
+    alive = sum(decided.index is None for decided in found.values())
+    yield (f"{counted(total, 'key')} over the budget, decided afterwards: {alive} by an order of the operations, {len(found) - alive} by a "
+           f"part that is illegal; not decided: {total - len(found)}")
+    if len(found) < total:
+        yield f"they had {seconds} s together: --wide-seconds N gives more"
+    if any(not decided.is_proved for decided in found.values()):
+        yield "the orders were tested by a program that is not proved: a key with the status `ordered` makes no history legal"
+
+
+# --- The report ---
+
+
+class Marking:
+    """Marks the lines of keys that were decided, and finds the verdict of all."""
+
+    def __init__(self, found: Decisions) -> None:
+        self._found = found
+        self._dead: Optional[Place] = None
+        self._open: Optional[Place] = None
+
+    def mark(self, text: str) -> str:
+        """The line of a key, as it is now."""
+        line = key_line(text)
+        if line is None:
+            return text
+        status, index = self.status_of(line)
+        place = (index or 0, line.key)
+        if status.startswith("dead"):
+            self._dead = min(self._dead or place, place)
+        elif status not in ("alive", "confirmed"):
+            self._open = min(self._open or place, place)
+        if (status, index) == (line.status, line.index):
+            return text
+        return f"key {line.key} model {line.model} budget {line.budget} events {line.events} status {status}" \
+               + ("" if index is None else f" {index}")
+
+    def status_of(self, line: KeyLine) -> Tuple[str, Optional[int]]:
+        decided = self._found.get(line.key) if line.status == "over" else None
+        if decided is None:
+            return line.status, line.index
+        if decided.index is not None:
+            return "dead" if decided.is_proved else "dead-by", decided.index
+        return ("confirmed", None) if decided.is_proved else ("ordered", line.index)
+
+    def verdict(self) -> Verdict:
+        for word, place in (("illegal", self._dead), ("unknown", self._open)):
+            if place is not None:
+                return Verdict(f"{word} key {place[1]} index {place[0]}", word, place)
+        return Verdict("legal", "legal", None)
+
+
+def anew(report: Report, options: Options, events_of: EventsOf, seconds: int) -> Tuple[Report, Decisions]:
+    """The report with the lines of the keys that are over and were decided, and what was found of them."""
+    if report.word not in ("illegal", "unknown") or seconds == 0:
+        return report, {}
+    keys = list(over(report.text.splitlines(), options))
+    found = decisions(keys, in_groups(keys, events_of), seconds)
+    return (marked(report, found) if found else report), found
+
+
+def marked(report: Report, found: Decisions) -> Report:
+    marking = Marking(found)
+    lines = [marking.mark(line) for line in report.text.splitlines()[:-1]]
+    verdict = marking.verdict()
+    index, key = verdict.found or (None, None)
+    keys = [line for line in map(key_line, lines) if line is not None]
+    return Report("".join(f"{line}\n" for line in [*lines, verdict.line]), keys, verdict.line, verdict.word, key, index, verdict.status,
+                  report.error)

@@ -1,0 +1,30 @@
+"""Unordered queues: a bag a value. An enqueue can do no harm at its invocation, and a dequeue none at its completion. So an order is
+there if, and only if, of each value no more dequeues have returned at any moment than enqueues were invoked by then."""
+from __future__ import annotations
+
+import collections
+from typing import Counter, List, Sequence, Tuple
+
+from .operation import Answer, Clock, Conflict, Op, Order, by_moments
+
+
+def solve(ops: Sequence[Op], clock: Clock) -> Answer:
+    placed: List[Tuple[int, int, Op]] = [(op.invoked, 0, op) for op in ops if op.name == "enqueue"]
+    placed += [(op.completed, 0, op) for op in ops if op.name == "dequeue" and op.is_done]
+    placed.sort(key=lambda each: each[0])
+    held: Counter[int] = collections.Counter()
+    for _, _, op in placed:
+        clock.step()
+        if op.name == "enqueue":
+            held[value_of(op.part)] += 1
+            continue
+        value = value_of(op.answer)
+        held[value] -= 1
+        if held[value] < 0:
+            return Conflict([op.id])
+    return Order(by_moments(placed))
+
+
+def value_of(part: object) -> int:
+    assert isinstance(part, int)
+    return part

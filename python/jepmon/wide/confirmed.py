@@ -1,0 +1,52 @@
+"""Whether an order is one of a history, by `jepmon confirm`; by a stand-in in Python (ordered.py) where the program has no such command.
+The one place that knows who says so."""
+from __future__ import annotations
+
+import subprocess
+import tempfile
+from typing import NamedTuple, Optional, Sequence
+
+from ..history import Operation
+from ..program import CURE, Options, ProgramError, find_program
+from ..shrinking.part import as_asked, events_of, text_of
+from . import ordered
+
+IS_ONE, IS_NONE = "linearizable", "no order "
+
+
+class Said(NamedTuple):
+    """What was said of an order, and whether a proved program has said so."""
+
+    is_order: bool
+    is_proved: bool
+
+
+def confirmed(operations: Sequence[Operation], options: Options, order: Sequence[int], program: Optional[str] = None) -> Said:
+    """Whether the history of one key, of these operations, has this order: operations one after another, by the index of their
+    invocations. Those that are left out did not take place."""
+    said = by_program(operations, options, order, find_program(program))
+    return Said(ordered.is_order(operations, options.model, order), False) if said is None else Said(said, True)
+
+
+def by_program(operations: Sequence[Operation], options: Options, order: Sequence[int], program: str) -> Optional[bool]:
+    """What the program says of the order; None where it has no such command."""
+    events = events_of(operations)
+    place = {event.index: number for number, event in enumerate(events)}
+    asked = as_asked(options)
+    words = ["--concurrency", str(asked.concurrency), "--model", asked.model]
+    with tempfile.NamedTemporaryFile("w", prefix="jepmon-order-", suffix=".edn") as file:
+        file.writelines(f"{place[id]}\n" for id in order)
+        file.flush()
+        try:
+            ran = subprocess.run([program, "confirm", "-", file.name, *words], input=text_of(events, options.concurrency).encode(),
+                                 stdout=subprocess.PIPE, stderr=subprocess.DEVNULL)
+        except OSError as fault:
+            raise ProgramError(f"{program} can't be run: {fault.strerror}; {CURE}") from fault
+    line = ran.stdout.decode("utf-8", "replace").rstrip("\n")
+    if (line, ran.returncode) == (IS_ONE, 0):
+        return True
+    if line.startswith(IS_NONE) and ran.returncode == 1:
+        return False
+    if line:
+        raise ProgramError(f"{program} said {line[:200]!r} of an order, with status {ran.returncode}")
+    return None

@@ -1,0 +1,95 @@
+"""Decides one key by what is known afterwards: an order of all its operations; or, where there is none, at which event it is dead, with
+an order of the events before, and a part that is illegal at that event."""
+from __future__ import annotations
+
+import bisect
+from typing import Iterator, List, NamedTuple, Optional, Sequence, Union
+
+from ..history import Operation
+from ..kinds import THREADS
+from ..program import Options, ProgramError
+from ..shrink import Part
+from .confirmed import confirmed
+from .conflicts import part_of
+from .operation import Answer, Clock, Conflict, Order, OutOfTime, cut_before, front, most_open
+from .solve import solve
+
+
+class Decided(NamedTuple):
+    """What was found of a key."""
+
+    index: Optional[int]  # type: ignore[assignment]  # (also a method of tuple) the event at which it is dead; None: it is alive
+    order: List[int]  # of all operations, or of those before that event, by the index of their invocations
+    part: Optional[Part]  # where it is dead: what is illegal by itself at that event
+    is_proved: bool  # whether a proved program has said that the order is one
+    options: Options  # the key's own
+
+
+def decide(operations: Sequence[Operation], options: Options, clock: Clock, program: Optional[str] = None) -> Optional[Decided]:
+    """What is found of a key, of its operations in the order of their invocations; None where nothing is, in the time that there is.
+    What is said rests on what the program says of the order and of the part."""
+    if most_open(operations) > THREADS:
+        return None  # the program takes no such history
+    try:
+        found = searched(operations, options.model, clock)
+        if isinstance(found, Order):
+            return alive(operations, options, found.ids, program)
+        return dead(operations, options, found, clock, program)
+    except (OutOfTime, RecursionError, ProgramError):
+        return None
+
+
+class Dead(NamedTuple):
+    """Where a key is dead, as the search found."""
+
+    event: int
+    before: Order  # of what comes before
+    conflict: Conflict
+
+
+def searched(operations: Sequence[Operation], model: str, clock: Clock) -> Union[Order, Dead]:
+    """The order of all; or the first event whose front has none."""
+    ends = sorted(completion.index for _, completion, _ in operations if completion is not None and completion.kind in ("ok", "fail"))
+    last = ends[-1] if ends else -1
+
+    def answer(end: int) -> Answer:
+        clock.look()
+        return solve(model, front(operations, end), clock)
+
+    found = answer(last)
+    if isinstance(found, Order):
+        return found
+    low, high, before = -1, len(ends) - 1, Order([])
+    guesses = guessed(operations, ends, found)
+    while high - low > 1:
+        middle = next((guess for guess in guesses if low < guess < high), (low + high) // 2)
+        tried = answer(ends[middle])
+        if isinstance(tried, Order):
+            low, before = middle, tried
+        else:
+            high, found = middle, tried
+    return Dead(ends[high], before, found)
+
+
+def guessed(operations: Sequence[Operation], ends: Sequence[int], found: Conflict) -> Iterator[int]:
+    """Where the first front without an order may end, by what a search has blamed: the numbers of two ends of fronts, that one and the
+    one before."""
+    blamed = set(found.ids)
+    completed = [completion.index for invocation, completion, _ in operations if completion is not None and invocation.index in blamed]
+    for index in sorted(completed, reverse=True)[:1]:
+        place = bisect.bisect_left(ends, index)
+        yield place
+        yield place - 1
+
+
+def alive(operations: Sequence[Operation], options: Options, order: List[int], program: Optional[str]) -> Optional[Decided]:
+    said = confirmed(operations, options, order, program)
+    return Decided(None, order, None, said.is_proved, options) if said.is_order else None
+
+
+def dead(operations: Sequence[Operation], options: Options, found: Dead, clock: Clock, program: Optional[str]) -> Optional[Decided]:
+    said = confirmed(cut_before(operations, found.event), options, found.before.ids, program)
+    if not said.is_order:
+        return None
+    part = part_of(operations, options, found.event, found.conflict.ids, clock, program)
+    return Decided(found.event, found.before.ids, part, said.is_proved, options) if part is not None else None

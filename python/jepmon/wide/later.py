@@ -1,0 +1,52 @@
+"""What a register will be asked for after an event: which values, and by when."""
+from __future__ import annotations
+
+import bisect
+import collections
+from typing import Dict, List, Optional, Sequence, Tuple
+
+from .operation import NEVER, Op
+from .zones import needs
+
+Soonest = Tuple[int, Optional[int]]  # by when a value is needed, and which
+
+
+class Later:
+    """Of the operations that begin after an event, which need a value and return."""
+
+    def __init__(self, events: Sequence[Tuple[int, bool, Op]]) -> None:
+        self.first: List[Soonest] = [(NEVER, None)] * (len(events) + 1)  # by event: the one that returns first of those that begin later
+        self.second: List[Soonest] = list(self.first)  # and the first of those that need another value than that one
+        self.begins: Dict[int, List[int]] = collections.defaultdict(list)  # of those that need a value: the events
+        for at in range(len(events) - 1, -1, -1):
+            _, is_end, op = events[at]
+            first, second, value = self.first[at + 1], self.second[at + 1], needs(op)
+            if not is_end and value is not None:
+                self.begins[value].append(at)
+                new = op.completed, value
+                if new[0] < first[0]:
+                    first, second = new, second if first[1] == value else first
+                elif value != first[1] and new[0] < second[0]:
+                    second = new
+            self.first[at], self.second[at] = first, second
+        for found in self.begins.values():
+            found.reverse()
+        self.moments = [moment for moment, _, _ in events]
+
+    def is_needed(self, value: int, at: int) -> bool:
+        """Whether an operation that begins after this event needs the value, before one that begins after it too has returned that
+        needs another value."""
+        begins = self.begins.get(value, [])
+        place = bisect.bisect_right(begins, at)
+        if place == len(begins):
+            return False
+        first = self.first[at + 1]
+        other = first if first[1] != value else self.second[at + 1]
+        return self.moments[begins[place]] < other[0]
+
+    def is_first(self, value: int, at: int, open_one: Optional[Op]) -> bool:
+        """Whether of all that need a value from this event on the one that returns first needs this one."""
+        completed, first = self.first[at + 1]
+        if open_one is not None and open_one.completed < completed:
+            first = needs(open_one)
+        return first == value

@@ -1,0 +1,48 @@
+"""Locks: an operation takes place only when one returns, and then as few as may be; where one of several must, the one that returns
+first. Both can do no harm: what is put off may still take place until it returns, and of two that are open the other may take its
+place later."""
+from __future__ import annotations
+
+import heapq
+from typing import Dict, List, Optional, Sequence, Set, Tuple
+
+from .operation import Answer, Clock, Conflict, Op, Order
+
+OTHER = {"acquire": "release", "release": "acquire"}
+
+
+def solve(ops: Sequence[Op], clock: Clock) -> Answer:
+    waiting: Dict[str, List[Tuple[int, int]]] = {"acquire": [], "release": []}  # by when they return
+    taken: Set[int] = set()
+    order: List[int] = []
+    wanted = "acquire"  # what may take place next
+    for _, is_end, op in events_of(ops):
+        clock.step()
+        if not is_end:
+            heapq.heappush(waiting[op.name], (op.completed, op.id))
+            continue
+        if op.id in taken:
+            continue
+        for name in (OTHER[op.name], op.name) if wanted != op.name else (op.name,):
+            following = soonest(waiting[name], taken)
+            if following is None:
+                return Conflict([op.id])
+            taken.add(following)
+            order.append(following)
+        wanted = OTHER[op.name]
+    return Order(order)
+
+
+def events_of(ops: Sequence[Op]) -> List[Tuple[int, bool, Op]]:
+    """When each operation is invoked, and when each returns."""
+    both = [(op.invoked, False, op) for op in ops] + [(op.completed, True, op) for op in ops if op.is_done]
+    return sorted(both, key=lambda event: event[0])
+
+
+def soonest(waiting: List[Tuple[int, int]], taken: Set[int]) -> Optional[int]:
+    """The one that returns first of those that have not taken place."""
+    while waiting:
+        _, id = heapq.heappop(waiting)
+        if id not in taken:
+            return id
+    return None

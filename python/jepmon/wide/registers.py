@@ -1,0 +1,313 @@
+"""Registers whose values come again. Operations take place only when one returns that has to; a read as soon as its value is there. A
+write that nobody needs is hidden: it may take place right before another write, while it is open, or where its value is there already;
+so it needs no moment until it returns. What is tried are the operations that show their values: each state that is passed through has a
+reader, or a cas from it.
+
+A search that has gone wrong early would try for ages what comes later. So it begins anew, in another order, after ever more steps; what
+it has found to lead nowhere it keeps."""
+from __future__ import annotations
+
+import bisect
+import random
+from typing import Dict, Iterator, List, NamedTuple, Optional, Sequence, Set, Tuple, cast
+
+from .failed import Failed
+from .later import Later
+from .locks import events_of
+from .operation import Answer, Clock, Conflict, Op, Order
+from .zones import brings, needs
+
+FIRST = 2000  # steps of the first try
+SWAPPED = 0.25  # how often a later try hides first what an earlier one shows, or shows what it hides
+
+
+class TooLong(Exception):
+    """A try has had its steps."""
+
+
+class State(NamedTuple):
+    """What the register holds; of the operations that are open, as bits, which have taken place, and which writes may be hidden; and how
+    many operations were placed."""
+
+    value: Optional[int]
+    taken: int
+    free: int
+    placed: int
+
+
+class Search:
+    """The search: event by event, and back to the last choice where one can't go on."""
+
+    def __init__(self, ops: Sequence[Op], clock: Clock) -> None:
+        self.clock = clock
+        self.events = events_of(ops)
+        self.bit = seats(self.events)
+        self.later = Later(self.events)
+        self.failed = Failed()
+        self.furthest = -1
+        self.blamed: List[int] = []
+        self.begin_anew(0)
+
+    def begin_anew(self, number: int) -> None:
+        """A try begins."""
+        self.number = number
+        self.chance = random.Random(number)
+        self.steps = FIRST << min(number // 2, 40)
+        self.at = 0  # the event that is next
+        self.value: Optional[int] = None
+        self.taken = self.free = self.reads = self.lost = 0  # the last two: open ones that read, and that do not return
+        self.open: Dict[int, Op] = {}
+        self.placed: List[Tuple[int, Op]] = []  # in their order, each with its moment
+        self.hidden: List[Op] = []
+
+    def run(self) -> Answer:
+        number = 0
+        while True:
+            try:
+                return self.tried()
+            except TooLong:
+                number += 1
+                self.begin_anew(number)
+
+    def tried(self) -> Answer:
+        stops: List[Tuple[int, State, int, Iterator[None]]] = []  # the event, where it was, and what else may be done
+        while self.forward():
+            ways = self.ways(self.events[self.at][2])
+            while next(ways, self) is self:
+                self.blame()
+                if not stops:
+                    return Conflict(self.blamed)
+                at, state, hidden, ways = stops.pop()
+                self.back(at, state, hidden)
+            stops.append((self.at, self.state(), len(self.hidden), ways))
+            self.end(self.events[self.at][2])
+            self.at += 1
+        return Order(self.order())
+
+    # --- Events ---
+
+    def forward(self) -> bool:
+        """Goes on to the next event at which something has to be decided; whether there is one."""
+        while self.at < len(self.events):
+            self.clock.step()
+            _, is_end, op = self.events[self.at]
+            if not is_end:
+                self.begin(op)
+            elif self.has_to_decide(op):
+                return True
+            else:
+                self.end(op)
+            self.at += 1
+        return False
+
+    def begin(self, op: Op) -> None:
+        self.enter(op)
+        if brings(op) is None:
+            if needs(op) == self.value:
+                self.take(op, op.invoked)
+        elif op.name == "write" and op.part == self.value and op.is_done:
+            self.free |= self.bit[op.id]
+
+    def end(self, op: Op) -> None:
+        """The operation has returned, and has taken place or is hidden."""
+        bit = self.bit[op.id]
+        if not self.taken & bit:
+            self.hidden.append(op)
+        self.taken &= ~bit
+        self.free &= ~bit
+        self.leave(op)
+
+    def enter(self, op: Op) -> None:
+        self.open[op.id] = op
+        self.reads |= self.bit[op.id] if brings(op) is None else 0
+        self.lost |= 0 if op.is_done else self.bit[op.id]
+
+    def leave(self, op: Op) -> None:
+        del self.open[op.id]
+        self.reads &= ~self.bit[op.id]
+        self.lost &= ~self.bit[op.id]
+
+    def has_to_decide(self, op: Op) -> bool:
+        bit = self.bit[op.id]
+        if self.taken & bit:
+            return False
+        if op.name != "write" or not self.free & bit:
+            return True
+        if op.part != self.value:
+            return self.is_useful(op)
+        if len(self.moves(op)) > 1:
+            return True
+        self.show(op, op.completed)
+        return False
+
+    def back(self, at: int, state: State, hidden: int) -> None:
+        """Back to the operation that returns at this event, as it was when this was decided."""
+        for _, is_end, op in self.events[at:self.at][::-1]:
+            if is_end:
+                self.enter(op)
+            else:
+                self.leave(op)
+        self.at = at
+        self.restore(state)
+        del self.hidden[hidden:]
+
+    # --- Steps ---
+
+    def state(self) -> State:
+        return State(self.value, self.taken, self.free, len(self.placed))
+
+    def restore(self, state: State) -> None:
+        self.value, self.taken, self.free, placed = state
+        del self.placed[placed:]
+
+    def take(self, op: Op, moment: int) -> None:
+        self.taken |= self.bit[op.id]
+        self.free &= ~self.bit[op.id]
+        self.placed.append((moment, op))
+
+    def show(self, op: Op, moment: int) -> None:
+        """A write or a cas takes place, and all reads that are open and find its value."""
+        self.take(op, moment)
+        self.value = brings(op)
+        for other in self.open.values():
+            bit = self.bit[other.id]
+            if self.taken & bit or not other.is_done:
+                continue
+            if brings(other) is None:
+                if needs(other) == self.value:
+                    self.take(other, moment)
+            elif other.name == "write" and (op.name == "write" or other.part == self.value):
+                self.free |= bit
+
+    def is_useful(self, op: Op) -> bool:
+        """Whether anything may need the value of a write that returns now."""
+        value = cast(int, op.part)
+        if any(needs(other) == value and not self.taken & self.bit[other.id] for other in self.open.values()):
+            return True
+        return self.later.is_needed(value, self.at)
+
+    # --- Choices ---
+
+    def ways(self, op: Op) -> Iterator[None]:
+        """Takes place what has to, so that this operation can return, in each way that there is: one after each yield. Afterwards all
+        is as it was."""
+        before = self.state()
+        if self.free & self.bit[op.id] and op.part != self.value:
+            shows_first = self.is_urgent(op) != (self.number > 1 and self.chance.random() < SWAPPED)
+            for hides in (False, True) if shows_first else (True, False):
+                yield from self.explored(True) if hides else self.towards(op, op.completed)
+                self.restore(before)
+        else:
+            yield from self.towards(op, op.completed)
+
+    def explored(self, is_decided: bool, op: Optional[Op] = None) -> Iterator[None]:
+        """Goes on from here, where that has not been found to lead nowhere: by what can be done next, or, where it is towards an
+        operation, by what leads there."""
+        best = self.free | self.reads & self.taken | self.lost & ~self.taken
+        state = (2 * self.at + is_decided, self.value), best, self.taken
+        if state in self.failed:
+            return
+        if is_decided or op is None:
+            yield None
+        else:
+            yield from self.towards(op, op.completed)
+        self.failed.add(state)
+
+    def towards(self, op: Op, moment: int) -> Iterator[None]:
+        """In each way that there is the operation takes place."""
+        self.clock.step()
+        self.steps -= 1
+        if self.steps < 0:
+            raise TooLong
+        before = self.state()
+        for move in self.moves(op):
+            self.show(move, moment)
+            yield from self.explored(bool(self.taken & self.bit[op.id]), op)
+            self.restore(before)
+
+    def moves(self, wanted: Op) -> List[Op]:
+        """What may take place now, the likeliest first; of those that do the same, the one that returns first."""
+        needed: Set[Optional[int]] = set()
+        for op in self.open.values():
+            if not self.taken & self.bit[op.id]:
+                needed.add(needs(op))
+        found: Dict[Tuple[str, int], Op] = {}
+        for op in self.open.values():
+            value = brings(op)
+            if value is None or self.taken & self.bit[op.id]:
+                continue
+            if op.name == "cas" and needs(op) != self.value:
+                continue
+            if op is not wanted and op.name == "write" and (value not in needed or value == self.value):
+                continue
+            same = found.get((op.name, value))
+            if same is None or (op.completed, op.id) < (same.completed, same.id):
+                found[op.name, value] = op
+        return self.ranked(list(found.values()), wanted)
+
+    def ranked(self, moves: List[Op], wanted: Op) -> List[Op]:
+        """In the first try a cas comes first, since it needs its value, and this is there; then what leads to the operation at once."""
+        goal = wanted if brings(wanted) is not None else None
+        value = needs(wanted) if goal is None else None
+
+        def rank(op: Op) -> Tuple[bool, bool, float]:
+            leads = op is goal or goal is None and brings(op) == value
+            favoured = op.name == "cas" and op.is_done if self.number % 2 == 0 else leads
+            return not favoured, not leads, op.completed if self.number < 2 else self.chance.random()
+
+        return sorted(moves, key=rank)
+
+    def is_urgent(self, op: Op) -> bool:
+        """Whether the value of a write is needed next, and no other operation that is open brings it in."""
+        value = cast(int, op.part)
+        if any(brings(other) == value and other is not op and not self.taken & self.bit[other.id] for other in self.open.values()):
+            return False
+        open_ones = [other for other in self.open.values() if needs(other) is not None and not self.taken & self.bit[other.id]]
+        first = min(open_ones, key=lambda other: other.completed, default=None)
+        return self.later.is_first(value, self.at, first)
+
+    def blame(self) -> None:
+        if self.at > self.furthest:
+            self.furthest = self.at
+            self.blamed = [self.events[self.at][2].id]
+
+    # --- The order ---
+
+    def order(self) -> List[int]:
+        """What was placed, and what was hidden among it."""
+        values: List[Optional[int]] = [None]  # before each that was placed
+        for _, op in self.placed:
+            value = brings(op)
+            values.append(values[-1] if value is None else value)
+        moments = [moment for moment, _ in self.placed]
+        before: Dict[int, List[int]] = {}
+        for op in self.hidden:
+            place = bisect.bisect_right(moments, op.invoked)
+            while values[place] != op.part and self.placed[place][1].name != "write":
+                place += 1
+            before.setdefault(place, []).append(op.id)
+        order: List[int] = []
+        for place in range(len(self.placed) + 1):
+            order += sorted(before.get(place, ()))
+            order += [op.id for _, op in self.placed[place:place + 1]]
+        return order
+
+
+def seats(events: Sequence[Tuple[int, bool, Op]]) -> Dict[int, int]:
+    """A bit for each operation, which no other one has that is open at the same time."""
+    free: List[int] = []
+    bits: Dict[int, int] = {}
+    count = 0
+    for _, is_end, op in events:
+        if is_end:
+            free.append(bits[op.id])
+        elif free:
+            bits[op.id] = free.pop()
+        else:
+            bits[op.id] = 1 << count
+            count += 1
+    return bits
+
+
+def solve(ops: Sequence[Op], clock: Clock) -> Answer:
+    return Search(ops, clock).run()
