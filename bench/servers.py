@@ -36,7 +36,7 @@ def run(server, *words):
         command = [sys.executable, "-m", "jepmon", "test", server, "--out", room, "--least", "1", *words]
         ran = subprocess.run(command, stdout=subprocess.PIPE, stderr=subprocess.PIPE, universal_newlines=True,
                              env={**os.environ, "PYTHONPATH": str(TOP / "python")})
-        history = (pathlib.Path(room) / "latest" / "history.edn").read_text()
+        history = "".join(path.read_text() for path in sorted((pathlib.Path(room) / "latest").glob("part-*/history.edn")))
     return ran, history
 
 

@@ -32,7 +32,7 @@ AT_ONCE = 2  # tests; each of them mostly waits
 
 class Test(NamedTuple):
     server: str
-    what: str  # an object, or a planted fault
+    what: str  # an object, a planted fault, or `proxy`
     words: List[str]
     statuses: Tuple[int, ...]
 
@@ -42,9 +42,11 @@ class Test(NamedTuple):
 
 
 def tests(server: str) -> List[Test]:
-    """Each object of the server under faults, and each fault that is planted in it."""
+    """Each object of the server under faults, in network namespaces where they can be had, its first one by the proxy, and each fault
+    that is planted in it."""
     kind = kind_of(server)
     found = [Test(server, model, ["--object", model, "--time", str(SECONDS)], GOOD) for model in kind.objects]
+    found += [Test(server, "proxy", ["--network", "proxy", "--time", str(SECONDS)], GOOD)]
     return found + [Test(server, plant, ["--plant", plant, "--time", str(seconds(server, plant))], (1,)) for plant in kind.plants]
 
 

@@ -19,16 +19,16 @@ if importlib.util.find_spec("jepmon") is None:  # it is not installed: the one o
     sys.path.insert(0, str(pathlib.Path(__file__).resolve().parents[2] / "python"))
 
 from jepmon import Keys, Monitor, NotLegal  # noqa: E402
-from redis_server import Client, RedisError, Server, status_of  # noqa: E402
+from redis_server import At, Client, RedisError, Server, status_of  # noqa: E402
 
 CLIENTS = 4
 RELEASE = "if redis.call('get', KEYS[1]) == ARGV[1] then return redis.call('del', KEYS[1]) else return 0 end"
 
 
-def client(monitor: Monitor, keys: Keys, number: int, port: int, lease: int, work: int, end: float) -> None:
+def client(monitor: Monitor, keys: Keys, number: int, at: At, lease: int, work: int, end: float) -> None:
     """Takes the lock, works, and gives it back, until the time is up, or until what came is not legal."""
     draws = random.Random(number)
-    redis = Client(port)
+    redis = Client(at)
     while time.monotonic() < end:
         key, token = keys.write_key(draws), uuid.uuid4().hex
         with monitor.acquire(key) as op:
@@ -59,7 +59,7 @@ def main() -> int:
     keys = monitor.keys(limit=8, most=12)  # a lock that was held while a request timed out has to be tried again: leave it late
     try:
         with monitor, Server() as server:
-            monitor.run(lambda number: client(monitor, keys, number, server.port, given.lease, given.work, end), CLIENTS)
+            monitor.run(lambda number: client(monitor, keys, number, server.at, given.lease, given.work, end), CLIENTS)
     except NotLegal as found:
         print(f"{monitor.length} events: {found}")
         return found.status

@@ -23,16 +23,16 @@ if importlib.util.find_spec("jepmon") is None:  # it is not installed: the one o
     sys.path.insert(0, str(pathlib.Path(__file__).resolve().parents[2] / "python"))
 
 from jepmon import Keys, Monitor, NotLegal, Operation  # noqa: E402
-from redis_server import Client, RedisError, Server, status_of  # noqa: E402
+from redis_server import At, Client, RedisError, Server, status_of  # noqa: E402
 
 CLIENTS = 5
 KEYS = 3  # open to writes at a time
 
 
-def client(monitor: Monitor, keys: Keys, number: int, values: Iterator[int], port: int, end: float) -> None:
+def client(monitor: Monitor, keys: Keys, number: int, values: Iterator[int], at: At, end: float) -> None:
     """Reads and writes until the time is up, or until what came is not legal."""
     draws = random.Random(number)
-    redis = Client(port)
+    redis = Client(at)
     while time.monotonic() < end:
         if draws.random() < 0.5:
             key, value = keys.write_key(draws), next(values)
@@ -84,11 +84,11 @@ def main() -> int:
                 if number == CLIENTS:
                     kill_each_second(monitor, server, end)
                 else:
-                    client(monitor, keys, number, values, server.port, end)
+                    client(monitor, keys, number, values, server.at, end)
 
             monitor.run(work, CLIENTS + 1)
             for key in keys.used:  # now that the faults are over
-                read(monitor, Client(server.port), key)
+                read(monitor, Client(server.at), key)
     except NotLegal as found:
         print(f"{monitor.length} events: {found}")
         return found.status

@@ -2,7 +2,7 @@
 on the PATH. `jepmon-test redis` does more: this is what a test of your own begins with.
 
     with Server() as primary, Server(primary) as replica:
-        client = Client(primary.port)
+        client = Client(primary.at)
         client.call("SET", "x", 5)
         client.call("GET", "x")                      # b"5"
 """
@@ -16,10 +16,11 @@ import traceback
 from types import TracebackType
 from typing import Callable, Optional, Type
 
+from jepmon.testing.node import At
 from jepmon.testing.wire.resp import Redis as Client
 from jepmon.testing.wire.resp import RedisError
 
-__all__ = ["Client", "NotInstalled", "RedisError", "Server", "status_of"]
+__all__ = ["At", "Client", "NotInstalled", "RedisError", "Server", "status_of"]
 
 ADDRESS = "127.0.0.1"
 
@@ -36,6 +37,7 @@ class Server:
         if shutil.which("redis-server") is None:
             raise NotInstalled("redis-server is not installed")
         self.port = free_port()
+        self.at = ADDRESS, self.port
         self.folder = tempfile.TemporaryDirectory()
         self.words = ["redis-server", "--port", str(self.port), "--bind", ADDRESS, "--save", "", "--dir", self.folder.name,
                       "--appendonly", "yes" if keep else "no", "--appendfsync", "always", "--repl-diskless-sync-delay", "0"]
@@ -64,7 +66,7 @@ class Server:
 
     def is_ready(self) -> bool:
         try:
-            return self.wanted in Client(self.port).call("INFO", "replication")
+            return self.wanted in Client(self.at).call("INFO", "replication")
         except (OSError, RedisError):
             return False
 

@@ -20,14 +20,14 @@ if importlib.util.find_spec("jepmon") is None:  # it is not installed: the one o
     sys.path.insert(0, str(pathlib.Path(__file__).resolve().parents[2] / "python"))
 
 from jepmon import Keys, Monitor, NotLegal  # noqa: E402
-from redis_server import Client, RedisError, Server, status_of  # noqa: E402
+from redis_server import At, Client, RedisError, Server, status_of  # noqa: E402
 
 CLIENTS = 5
 KEYS = 3  # open to writes at a time
 
 
 def client(
-    monitor: Monitor, keys: Keys, number: int, values: Iterator[int], primary: int, reader: int, end: float
+    monitor: Monitor, keys: Keys, number: int, values: Iterator[int], primary: At, reader: At, end: float
 ) -> None:
     """Reads and writes until the time is up, or until what came is not legal."""
     draws = random.Random(number)
@@ -61,8 +61,8 @@ def main() -> int:
     keys = monitor.keys(KEYS)
     try:
         with monitor, Server() as primary, Server(primary) as replica:
-            reader = (replica if given.read_at == "replica" else primary).port
-            monitor.run(lambda number: client(monitor, keys, number, values, primary.port, reader, end), CLIENTS)
+            reader = (replica if given.read_at == "replica" else primary).at
+            monitor.run(lambda number: client(monitor, keys, number, values, primary.at, reader, end), CLIENTS)
     except NotLegal as found:
         print(f"{monitor.length} events: {found}")
         return found.status

@@ -4,6 +4,7 @@ from __future__ import annotations
 import asyncio
 import collections
 import random
+import re
 import threading
 import time
 import unittest
@@ -232,6 +233,50 @@ class Long(Monitored):
             self.assertGreater(monitor.parts, 5)
         self.assertEqual(sorted(map(str, received)), sorted(map(str, range(300))), "no message was left in a queue that was replaced")
         self.assertEqual(monitor.close(), "legal")
+
+    def test_an_object_is_replaced_after_changes(self) -> None:
+        store, written = Store(), collections.Counter()  # type: Store, collections.Counter[str]
+        with LongMonitor(self.program, names="r") as monitor:
+            register = monitor.fresh(changes=7)
+            for value in range(70):
+                with register.write(value) as op:
+                    store.put(op.name, value)
+                    written[op.name] += 1
+            with self.assertRaisesRegex(ValueError, "^changes is a number from 1 on, not 0$"):
+                monitor.fresh(changes=0)
+        self.assertEqual(written, {f"r{number}": 7 for number in range(10)})
+
+    def test_a_queue_that_refuses_is_not_found_empty(self) -> None:
+        """It is asked again until it answers that it is empty."""
+        held: Dict[str, List[int]] = collections.defaultdict(list)
+        with LongMonitor(self.program, model="unordered-queue", failed=(ConnectionError,)) as monitor:
+            queue = monitor.fresh(changes=1)
+            with queue.enqueue(1) as op:
+                held[op.name].append(1)
+            for _ in range(5):
+                with queue.dequeue():
+                    raise ConnectionRefusedError
+            with queue.dequeue() as op:
+                op.value = held[op.name].pop()
+        self.assertEqual((op.outcome, op.value, monitor.close()), ("ok", 1, "legal"))
+
+    def test_a_client_is_the_same_in_each_part(self) -> None:
+        with LongMonitor(self.program, events=60, out=self.room) as monitor:
+            registers = [monitor.fresh() for _ in range(3)]
+            turn = threading.Barrier(3)
+
+            def client(number: int) -> None:
+                turn.wait(60)
+                for value in range(60):
+                    with registers[number].write(value * 10 + number):
+                        pass
+
+            monitor.run(client, 3)
+        assert monitor.folder is not None
+        writes = [line for path in monitor.folder.glob("part-*/history.edn") for line in path.read_text().splitlines()
+                  if ":type :invoke" in line and "nil" not in line and str(-(1 << 63)) not in line and "ABSENT" not in line]
+        self.assertEqual(len(writes), 180)
+        self.assertEqual([line for line in writes if not re.search(r":process (\d), .*\1\], :time", line)], [])
 
     def test_a_queue_that_nobody_drains(self) -> None:
         with LongMonitor(self.program, model="unordered-queue", events=30) as monitor:

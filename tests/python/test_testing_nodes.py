@@ -15,8 +15,8 @@ from typing import Callable, List
 from jepmon.testing.errors import ServerError
 from jepmon.testing.family import continue_family, family, kill_family, stop_family
 from jepmon.testing.guard import Guard, environment
-from jepmon.testing.links import CLIENTS, Links
-from jepmon.testing.node import ADDRESS, Node, Ports, is_free
+from jepmon.testing.links import CLIENTS, Proxied
+from jepmon.testing.node import ADDRESS, Node, Ports, is_free, last_words
 
 PATIENCE = 60.0  # seconds, on a busy machine
 ECHO = """
@@ -79,6 +79,12 @@ class Nodes(Room):
         said = r"^n1 has died by itself, with status 7; its log is .*n1\.log, which ends: a port is taken$"
         with self.assertRaisesRegex(ServerError, said):
             node.wait_until(node.accepts, PATIENCE, "was not ready")
+
+    def test_what_a_log_says(self) -> None:
+        lines = ["starting", "panic: no space left on device", "", "goroutine 1:", "  main.main()", "  main.go:28", "  +0x17"]
+        for said, wanted in ((lines, "says: panic: no space left on device"), (lines[:3], "ends: starting | panic: no space left on device"),
+                             (["a", "b", "c", "d"], "ends: b | c | d"), (["", " "], "is empty")):
+            self.assertEqual(last_words(said), wanted)
 
     def test_one_that_is_never_ready_names_its_log(self) -> None:
         node = self.node("sleep", "60")
@@ -146,10 +152,9 @@ class LinksOfANode(Room):
     def setUp(self) -> None:
         super().setUp()
         self.echo = self.node(sys.executable, "-c", ECHO, "PORT")
-        self.links = Links([self.echo], Ports(random.Random()))
+        self.links = Proxied([self.echo], Ports(random.Random()))
         self.addCleanup(self.links.end)
         self.echo.start()
-        self.links.started(self.echo)
         self.links.up(self.echo)
         self.assertTrue(wait_for(lambda: not is_free(self.echo.port)))
 

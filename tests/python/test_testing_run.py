@@ -26,16 +26,16 @@ IS_MISSING = "class Mine(MyServer):\n    programs = {'no-such-server': 'some-pac
 IS_NO_PROGRAM = "class Mine(MyServer):\n    def command(self, node):\n        return ['/nowhere/server']\n"
 NEVER_LISTENS = "class Mine(MyServer):\n    patience = 0.5\n    def command(self, node):\n        return ['sleep', '600']\n"
 NEVER_ANSWERS = ("class Mine(MyServer):\n    patience = 2.0\n    def command(self, node):\n        code = 'import socket, sys, time; "
-                 "s = socket.create_server((\"127.0.0.1\", int(sys.argv[1])), backlog=9999); time.sleep(600)'\n"
-                 "        return [sys.executable, '-c', code, str(node.ports['client'])]\n")
+                 "s = socket.create_server((sys.argv[1], int(sys.argv[2])), backlog=9999); time.sleep(600)'\n"
+                 "        return [sys.executable, '-c', code, node.address, str(node.ports['client'])]\n")
 DISK_IS_FULL = ("class Mine(MyServer):\n    def command(self, node):\n        code = 'import socket, sys\\nserver = socket.create_server("
-                "(\"127.0.0.1\", int(sys.argv[1])))\\nserver.accept()\\nprint(1, file=open(\"/dev/full\", \"w\"), flush=True)'\n"
-                "        return [sys.executable, '-c', code, str(node.ports['client'])]\n")
+                "(sys.argv[1], int(sys.argv[2])))\\nserver.accept()\\nprint(1, file=open(\"/dev/full\", \"w\"), flush=True)'\n"
+                "        return [sys.executable, '-c', code, node.address, str(node.ports['client'])]\n")
 PORT_IS_TAKEN = ("import socket\nheld = socket.create_server(('127.0.0.1', 0))\nclass Mine(MyServer):\n    def command(self, node):\n"
                  "        node.ports['client'] = node.reach['client'] = held.getsockname()[1]\n        return super().command(node)\n")
 CLIENT_IS_WRONG = ("class Client(MyClient):\n    def read(self, key):\n        return self.nothing\n"
                    "class Mine(MyServer):\n    objects = {'register': Client}\n"
-                   "    def client(self, number):\n        return Client(self.nodes[0].port)\n")
+                   "    def client(self, number):\n        return Client(self.nodes[0].at)\n")
 
 
 class Runs(Monitored):
@@ -84,7 +84,7 @@ class TheTemplate(Runs):
         ran = self.ran("./mine.py", "--time", "4", "--least", "5", "--nemesis", "kill@1+0.3,pause@2+0.3,cut@3+0.3")
         self.assertEqual((ran.returncode, ran.stderr), (0, ""), ran.stdout)
         self.assertEqual(ran.stdout.splitlines()[-1], "legal")
-        history = (self.room / "runs" / "latest" / "history.edn").read_text()
+        history = (self.room / "runs" / "latest" / "part-0001" / "history.edn").read_text()
         self.assertIn("n1 is down, by kill -9", history)
         self.assertEqual(self.verdict_by(self.room / "runs" / "latest"), "legal")
 
@@ -93,7 +93,7 @@ class TheTemplate(Runs):
         self.assertEqual(ran.returncode, 1, ran.stdout + ran.stderr)
         self.assertRegex(ran.stdout.splitlines()[-1], "^illegal key ")
         self.assertRegex(ran.stderr.splitlines()[0], r"^Client \d+ read ABSENT from key \d+, which could not hold ABSENT any more\.$")
-        self.assertIn("by kill -9", (self.room / "runs" / "latest" / "page.html").read_text())
+        self.assertIn("by kill -9", (self.room / "runs" / "latest" / "part-0001" / "page.html").read_text())
 
     def test_it_is_short(self) -> None:
         """What a user writes: all but the server that stands for the user's own."""
@@ -155,7 +155,7 @@ class BrokenOff(Runs):
     def broken_off(self, number: signal.Signals) -> "tuple[int, str]":
         test = subprocess.Popen(self.words(str(TEMPLATE), "--time", "600"), stdout=subprocess.PIPE, stderr=subprocess.PIPE,
                                 universal_newlines=True, env=self.environment(), cwd=self.room)
-        history = self.room / "runs" / "latest" / "history.edn"
+        history = self.room / "runs" / "latest" / "part-0001" / "history.edn"
         end = time.monotonic() + PATIENCE
         while not (history.exists() and "begin-fault" in history.read_text()) and time.monotonic() < end:
             time.sleep(0.1)

@@ -6,7 +6,7 @@ import struct
 import threading
 import time
 import unittest
-from typing import Callable, List
+from typing import Callable, List, Tuple
 
 from jepmon.testing.node import ADDRESS
 from jepmon.testing.wire.amqp import Amqp, method, short
@@ -18,8 +18,8 @@ PATIENCE = 60.0
 
 
 class Scripted(unittest.TestCase):
-    def server(self, *answers: bytes) -> int:
-        """A server that answers each thing that it is sent by the next of these, and then ends the connection. Its port."""
+    def server(self, *answers: bytes) -> Tuple[str, int]:
+        """A server that answers each thing that it is sent by the next of these, and then ends the connection. Where it listens."""
         self.asked: List[bytes] = []
         listening = socket.create_server((ADDRESS, 0))
         self.addCleanup(listening.close)
@@ -33,8 +33,8 @@ class Scripted(unittest.TestCase):
 
         thread = threading.Thread(target=serve, daemon=True)
         thread.start()
-        port: int = listening.getsockname()[1]
-        return port
+        at: Tuple[str, int] = listening.getsockname()
+        return at
 
 
 class OfRedis(Scripted):
@@ -56,7 +56,7 @@ class OfStreams(Scripted):
     def test_an_operation_has_its_time_as_a_whole(self) -> None:
         listening = socket.create_server((ADDRESS, 0))  # it takes connections, and says nothing
         self.addCleanup(listening.close)
-        stream = Stream(listening.getsockname()[1], 0.2)
+        stream = Stream(listening.getsockname(), 0.2)
         stream.open()
         self.addCleanup(stream.close)
         begun = time.monotonic()
@@ -69,8 +69,8 @@ class OfStreams(Scripted):
     def test_nothing_listens(self) -> None:
         with socket.socket() as free:
             free.bind((ADDRESS, 0))
-            port = free.getsockname()[1]
-        for ask in (lambda: Redis(port).call("PING"), lambda: Postgres(port, "x", 1.0).query("SELECT 1"), lambda: Amqp(port, 1.0).get("q")):
+            at = free.getsockname()
+        for ask in (lambda: Redis(at).call("PING"), lambda: Postgres(at, "x", 1.0).query("SELECT 1"), lambda: Amqp(at, 1.0).get("q")):
             with self.assertRaises(ConnectionRefusedError):
                 ask()
 
@@ -147,7 +147,7 @@ class OfAmqp(Scripted):
                     pass
 
         threading.Thread(target=serve, daemon=True).start()
-        amqp = Amqp(listening.getsockname()[1], PATIENCE)
+        amqp = Amqp(listening.getsockname(), PATIENCE)
         self.addCleanup(amqp.close)
         return amqp
 

@@ -3,7 +3,8 @@
     from jepmon.testing import Client, Server        # as in template.py, which `jepmon-test template` prints
 
 server.py   what a server is to the test; servers/ has Redis, etcd, PostgreSQL and RabbitMQ, and wire/ their protocols
-cluster.py  the nodes (node.py), the links between them (links.py, proxy.py), and that none is left behind (guard.py)
+cluster.py  the nodes (node.py), the links between them (links.py: switch.py and places.py, or proxy.py), and that none is left
+            behind (guard.py)
 strikes.py  what is done to them, and when
 run.py      a whole test: workloads.py says what clients do, generators.py when
 """
@@ -12,10 +13,10 @@ from __future__ import annotations
 from typing import List, Optional
 
 from .errors import ServerError
-from .node import ADDRESS, Node
+from .node import Node
 from .server import Client, Plant, Server
 
-__all__ = ["ADDRESS", "Client", "Node", "Plant", "Server", "ServerError", "main"]
+__all__ = ["Client", "Node", "Plant", "Server", "ServerError", "main"]
 
 
 def main(words: Optional[List[str]] = None) -> int:

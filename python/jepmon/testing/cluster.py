@@ -11,7 +11,7 @@ from types import TracebackType
 from typing import List, Optional, Type
 
 from .guard import Guard
-from .links import CLIENTS, Links
+from .links import CLIENTS, DIRECT, NAMESPACES, Links, Proxied, Switched
 from .node import Node, Ports
 from .server import Server
 
@@ -19,9 +19,9 @@ SLOW = 0.05  # seconds by which a slow link is slower, each way
 
 
 class Cluster:
-    """It starts with its block. `links`: whether others reach the nodes by links that can be cut."""
+    """It starts with its block. `network` says by what links others reach the nodes (links.py)."""
 
-    def __init__(self, kind: Type[Server], model: str, plant: str, size: int, logs: pathlib.Path, links: bool,
+    def __init__(self, kind: Type[Server], model: str, plant: str, size: int, logs: pathlib.Path, network: str,
                  patience: float = 0.0) -> None:
         self._ended = contextlib.ExitStack()
         self.stopped = threading.Event()  # nobody waits any more for a node to be ready
@@ -36,8 +36,9 @@ class Cluster:
                 name = f"n{number + 1}"
                 (folder / name).mkdir()
                 self.nodes.append(Node(number, folder / name, logs / f"{name}.log", {port: ports.free() for port in kind.ports}, guard))
-            self.links: Optional[Links] = Links(self.nodes, ports) if links else None
-            if self.links is not None:
+            self.links: Optional[Links] = None
+            if network != DIRECT:
+                self.links = Switched(self.nodes) if network == NAMESPACES else Proxied(self.nodes, ports)
                 self._ended.callback(self.links.end)
             self.server = kind(self.nodes, model, plant)
             self.server.patience = patience or self.server.patience
@@ -48,13 +49,15 @@ class Cluster:
     def __enter__(self) -> Cluster:
         try:
             for node in self.nodes:
-                self.server.prepare(node)
+                with node.inside():
+                    self.server.prepare(node)
                 node.words = self.server.command(node)
                 self._start(node)
                 if self.server.in_turn:
                     self.wait_until_ready(node)
             self.wait_until_all_ready()
-            self.server.begun()
+            with self.clients():
+                self.server.begun()
         except BaseException:
             self.end()
             raise
@@ -71,14 +74,18 @@ class Cluster:
             node.kill()
         self._ended.close()
 
+    def clients(self) -> "contextlib.AbstractContextManager[None]":
+        """This thread is where clients are."""
+        return contextlib.nullcontext() if self.links is None else self.links.clients()
+
     def _start(self, node: Node) -> None:
         node.start()
         if self.links is not None:
-            self.links.started(node)
             self.links.up(node)
 
     def wait_until_ready(self, node: Node) -> None:
-        node.wait_until(lambda: self.server.ready(node), self.server.patience, "was not ready", self.stopped)
+        with node.inside():
+            node.wait_until(lambda: self.server.ready(node), self.server.patience, "was not ready", self.stopped)
 
     # --- What strikes do ---
 

@@ -1,6 +1,7 @@
 """A node: one server process, or a family of them, with a folder, ports and a log of its own. It may be killed, paused and started."""
 from __future__ import annotations
 
+import contextlib
 import os
 import pathlib
 import random
@@ -8,26 +9,33 @@ import socket
 import subprocess
 import threading
 import time
-from typing import TYPE_CHECKING, Callable, Dict, List, Optional, Sequence
+from typing import TYPE_CHECKING, Callable, Dict, List, Optional, Sequence, Tuple
 
 from .errors import ServerError
 from .family import continue_family, kill_family, stop_family
 
 if TYPE_CHECKING:
     from .guard import Guard
+    from .places import Place
 
 ADDRESS = "127.0.0.1"
+At = Tuple[str, int]
 GLANCE = 0.1  # seconds between two looks
 LAST_LINES = 3  # of a log, in an error
+TELLING = ("no space left on device", "disk quota exceeded", "read-only file system", "unable to write", "address already in use",
+           "permission denied", "cannot allocate memory", "out of memory", "too many open files")  # in a log, of what can't be done
+ELSEWHERE = 2.0  # seconds, after which a server that listens at another address will not come to listen at its own
 
 
 class Node:
-    """`ports` are where the server listens, by the names that its Server class gives; `reach` where others reach it: through the
-    link that may be cut, where there is one. `folder` is for its data, and stays when it is killed."""
+    """`address` is its address, and `ports` are where the server listens there, by the names that its Server class gives; `reach` where
+    others reach it: through the link that may be cut, where there is one. `folder` is for its data, and stays when it is killed."""
 
     def __init__(self, number: int, folder: pathlib.Path, log: pathlib.Path, ports: Dict[str, int], guard: Guard) -> None:
         self.number, self.name, self.folder, self.log, self.ports = number, f"n{number + 1}", folder, log, ports
+        self.address = ADDRESS
         self.reach = dict(ports)
+        self.place: Optional[Place] = None  # its network namespace, where it has one
         self.user: Optional[str] = None  # by whom it is run, where it must not be root
         self.environment: Dict[str, str] = {}
         self.words: List[str] = []
@@ -41,6 +49,20 @@ class Node:
         return self.reach["client"]
 
     @property
+    def at(self) -> At:
+        """Where clients reach it: its address, and its port."""
+        return self.address, self.port
+
+    @property
+    def listens_at(self) -> At:
+        """Where it listens to clients itself, which only who is in its place can reach whatever is done to the links."""
+        return self.address, self.ports["client"]
+
+    def inside(self) -> "contextlib.AbstractContextManager[None]":
+        """This thread is where the node is: it reaches it whatever is done to the links."""
+        return contextlib.nullcontext() if self.place is None else self.place.inside()
+
+    @property
     def pid(self) -> Optional[int]:
         return self._process.pid if self._process is not None else None
 
@@ -48,7 +70,7 @@ class Node:
 
     def start(self) -> None:
         """Starts it; it may take some time until it answers."""
-        with self._lock, open(self.log, "ab") as log:
+        with self._lock, open(self.log, "ab") as log, self.inside():
             try:
                 process = subprocess.Popen(
                     as_user(self.user, self.words), stdin=subprocess.DEVNULL, stdout=log, stderr=subprocess.STDOUT, start_new_session=True,
@@ -88,22 +110,31 @@ class Node:
 
     def wait_until(self, ready: Callable[[], object], seconds: float, what: str, stopped: Optional[threading.Event] = None) -> None:
         """Tries until it does not raise. Raises where the time is up, or the node has died."""
-        end = time.monotonic() + seconds
+        begun = time.monotonic()
         while True:
             self.test_alive()
             try:
                 ready()
                 return
             except Exception as fault:  # whatever it is, it is not ready
-                if time.monotonic() > end:
+                if time.monotonic() > begun + seconds:
                     raise ServerError(f"{self.name} {what} for {seconds:g} s ({one_line(fault)}){self.said()}") from fault
+                if time.monotonic() > begun + ELSEWHERE:
+                    self._test_address()
             if stopped is not None and stopped.is_set():
                 return
             time.sleep(GLANCE)
 
+    def _test_address(self) -> None:
+        """Raises where it listens to clients at the loopback of its network namespace alone, where none reaches it. At other ports it may
+        speak to itself."""
+        if "client" in self.ports and listens((ADDRESS, self.ports["client"])) and not listens(self.listens_at):
+            raise ServerError(f"{self.name} listens at {ADDRESS}, port {self.ports['client']}, where nobody else reaches it in its network "
+                              f"namespace: let it listen at node.address, which is {self.address}, or take --network proxy")
+
     def accepts(self, name: str = "client") -> None:
         """Raises an OSError where it does not listen at this port."""
-        socket.create_connection((ADDRESS, self.ports[name]), 1.0).close()
+        socket.create_connection((self.address, self.ports[name]), 1.0).close()
 
     def said(self) -> str:
         """Where its log is, and its last lines, for an error."""
@@ -111,14 +142,31 @@ class Node:
             lines = self.log.read_text(errors="replace").split("\n")
         except OSError:
             lines = []
-        last = [line.strip()[:160] for line in lines if line.strip()][-LAST_LINES:]
-        return f"; its log is {self.log}" + (f", which ends: {' | '.join(last)}" if last else ", which is empty")
+        return f"; its log is {self.log}, which {last_words(lines)}"
 
 
 def as_user(user: Optional[str], words: Sequence[str]) -> List[str]:
     """The words that run a program as this user, where it is root who starts it."""
     given_up = [] if user is None or os.geteuid() != 0 else ["setpriv", f"--reuid={user}", f"--regid={user}", "--clear-groups", "--"]
     return [*given_up, *words]
+
+
+def last_words(lines: Sequence[str]) -> str:
+    """Of a log: the last line in which a system says why something can't be done, which servers say long before they end; or else how it
+    ends."""
+    said = [line.strip()[:160] for line in lines if line.strip()]
+    telling = [line for line in said if any(words in line.lower() for words in TELLING)]
+    if telling and telling[-1] not in said[-LAST_LINES:]:
+        return f"says: {telling[-1]}"
+    return f"ends: {' | '.join(said[-LAST_LINES:])}" if said else "is empty"
+
+
+def listens(at: At) -> bool:
+    try:
+        socket.create_connection(at, 1.0).close()
+        return True
+    except OSError:
+        return False
 
 
 def ended(status: int) -> str:
@@ -174,5 +222,5 @@ def completed(words: Sequence[str], log: pathlib.Path, user: Optional[str] = Non
         except OSError as fault:
             raise ServerError(f"{words[0]} can't be started: {fault.strerror}") from fault
     if ran.returncode != 0:
-        text = log.read_text(errors="replace").strip().split("\n")[-1]
-        raise ServerError(f"{os.path.basename(words[0])} ended {ended(ran.returncode)}; its log is {log}, which ends: {text[:160]}")
+        text = last_words(log.read_text(errors="replace").split("\n"))
+        raise ServerError(f"{os.path.basename(words[0])} ended {ended(ran.returncode)}; its log is {log}, which {text}")

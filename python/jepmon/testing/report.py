@@ -4,16 +4,21 @@ from __future__ import annotations
 from typing import Iterator, List
 
 from ..run_folder import CAUSE, PAGE
+from .links import NAMESPACES, PROXY
 from .run import Given, Outcome
 from .strikes import KINDS, Plan
 
 
-def heading(given: Given, plan: Plan) -> str:
+NETWORKS = {NAMESPACES: "; each in a network namespace", PROXY: "; links by a proxy on the loopback"}
+
+
+def heading(given: Given, plan: Plan, network: str) -> str:
     name = given.server.__name__
     nodes = "one node" if given.nodes == 1 else f"{given.nodes} nodes"
     strikes = ", ".join(plan.kinds) or "no faults"
     planted = f"; planted: {given.server.plants[given.plant].text}" if given.plant else ""
-    return (f"{name}, {given.model}: {nodes}, {given.clients} clients, {given.seconds:g} seconds, seed {given.seed}; {strikes}{planted}\n")
+    return (f"{name}, {given.model}: {nodes}, {given.clients} clients, {given.seconds:g} seconds, seed {given.seed}; {strikes}"
+            f"{NETWORKS.get(network, '')}{planted}\n")
 
 
 def text(outcome: Outcome) -> str:
@@ -29,19 +34,18 @@ def _lines(outcome: Outcome) -> Iterator[str]:
     done, timed_out = (sum(counted[kind] for counted in outcome.at_work.values()) for kind in ("ok", "info"))
     if done:
         yield (f"{done / outcome.seconds:,.0f} operations a second were ok, {100 * timed_out / (done + timed_out):.1f} % of those that "
-               f"were not refused timed out; {outcome.events:,} events")
-    if outcome.is_full:
-        yield f"the history was full after {outcome.seconds:.0f} seconds: take a lower --rate"
+               f"were not refused timed out; {outcome.events:,} events" + (f" in {outcome.parts} parts" if outcome.parts > 1 else ""))
+    yield from outcome.not_judged
     if outcome.strikes:
         yield "strikes: " + ", ".join(f"{outcome.strikes[kind]} {kind}" for kind in KINDS if outcome.strikes[kind])
-    has_page = (outcome.folder / PAGE).exists()
-    yield f"folder: {outcome.folder}" + (f", its page: {outcome.folder / PAGE}" if has_page else "")
+    has_page = (outcome.part / PAGE).exists()
+    yield f"folder: {outcome.folder}" + (f", its page: {outcome.part / PAGE}" if has_page else "")
     yield (outcome.verdict or "no verdict") + (f", and {outcome.lost} messages are lost" if outcome.lost else "")
 
 
 def cause(outcome: Outcome) -> List[str]:
     """Why it is not legal, as the run's folder has it."""
     try:
-        return (outcome.folder / CAUSE).read_text(errors="replace").splitlines()
+        return (outcome.part / CAUSE).read_text(errors="replace").splitlines()
     except OSError:
         return []

@@ -6,25 +6,26 @@ import pathlib
 import random
 import sys
 import time
-from typing import TYPE_CHECKING, Any, Callable, Counter, Dict, Iterator, NamedTuple, Type
+from typing import TYPE_CHECKING, Any, Callable, Counter, Dict, Iterator, List, NamedTuple, Optional, Type
 
 from .. import command
-from ..kinds import BUDGETS, EVENTS
-from ..run_folder import COUNTS, VERDICT
+from ..errors import OutputError
+from ..kinds import BUDGETS
+from ..run_folder import VERDICT
 from ..verdicts import NotLegal, Refused
 from .cluster import Cluster
 from .errors import ServerError, where
 from .generators import Pace, Phases
+from .links import network
 from .server import ALL_STRIKES, Client, Server
 from .strikes import Nemesis, Plan
 from .workloads import WORKS, Work
 
 if TYPE_CHECKING:
-    from ..monitor import Monitor
-    from ..operation import Operation
+    from ..long import LongMonitor, LongOperation
 
-ROOM = 40_000  # events that are kept for the end of a run
-MOST_EVENTS = EVENTS - ROOM
+EVENTS = 1 << 18  # of a part
+PART = " of part-"  # in a verdict
 PAUSE = 0.01  # seconds after an operation that was not ok: not thousands of refused connections a second
 
 
@@ -41,9 +42,11 @@ class Given(NamedTuple):
     nemesis: str
     rate: float
     nodes: int
+    network: str
     least: int
     patience: float  # 0: the server's own
     out: str
+    keep: Optional[int]  # of parts that are legal
 
 
 class Outcome(NamedTuple):
@@ -56,10 +59,17 @@ class Outcome(NamedTuple):
     events: int
     at_work: Dict[str, Counter[str]]  # the counts while clients were at work, without what was asked at the end
     seconds: float  # in which they were
-    is_full: bool  # whether the history had no room for more, before the time was up
+    parts: int
+    not_judged: List[str]  # a line each
     strikes: Counter[str]
     lost: int
     folder: pathlib.Path
+
+    @property
+    def part(self) -> pathlib.Path:
+        """The folder of the part that the verdict speaks of."""
+        number = self.verdict.partition(PART)[2].partition(":")[0]
+        return self.folder / f"part-{number}" if number else self.folder
 
 
 class Test:
@@ -67,24 +77,24 @@ class Test:
 
     __test__ = False
 
-    def __init__(self, given: Given, progress: Callable[[float, Monitor, int], None]) -> None:
+    def __init__(self, given: Given, progress: Callable[[float, LongMonitor, int], None]) -> None:
         self.given, self._progress = given, progress
         self.client = given.server.objects[given.model]
         self.plan = Plan(given.nemesis, given.nodes, given.server.bears.get(given.model, ALL_STRIKES))
+        self.network = network(given.network, self.plan.needs_links)
         self.begun = self.ended = 0.0
         self.at_work: Dict[str, Counter[str]] = {}
-        self.is_full = False
         self.struck: Counter[str] = Counter()
 
     def run(self) -> Outcome:
         """Ctrl-C goes through, once all is ended. Raises a Refused of jepmon, as where there is no program, and an OSError where
         nothing can be written."""
-        from ..monitor import Monitor
+        from ..long import LongMonitor
 
         given = self.given
         client, kind = self.client, WORKS[given.model]
-        monitor = Monitor(model=given.model, concurrency=given.clients + 1, budget=BUDGETS[-1], expected=client.unsure,
-                          failed=client.certain, unknown="drop", out=given.out)
+        monitor = LongMonitor(model=given.model, budget=BUDGETS[-1], expected=client.unsure, failed=client.certain, out=given.out,
+                              keep=given.keep, events=EVENTS, names="")
         assert monitor.folder is not None
         work = kind(monitor, given.clients, given.keys)
         reason = ""
@@ -92,13 +102,14 @@ class Test:
             with monitor:
                 self._run(monitor, work)
         except NotLegal as found:
-            reason = "" if not isinstance(found, Refused) else str(found).split("\n")[0]
+            reason = "" if not isinstance(found, Refused) else first_line(str(found))
         except ServerError as fault:
             reason = str(fault)
         except Exception as fault:
             reason = self._fault(fault)
         except BaseException:  # Ctrl-C
-            leave(monitor.folder, "" if not monitor.close().startswith("illegal") else monitor.close(), "the test was broken off")
+            verdict = first_line(monitor.close())
+            leave(monitor.folder, verdict if verdict.startswith("illegal") else "", "the test was broken off")
             raise
         outcome = self._outcome(monitor, work, reason)
         leave(outcome.folder, outcome.verdict, outcome.reason)
@@ -110,11 +121,10 @@ class Test:
         said = where(fault, pathlib.Path(file) if file else None)
         return f"a fault of the client: {said}"
 
-    def _run(self, monitor: Monitor, work: Work) -> None:
+    def _run(self, monitor: LongMonitor, work: Work) -> None:
         given = self.given
         assert monitor.folder is not None
-        with Cluster(given.server, given.model, given.plant, given.nodes, monitor.folder, self.plan.needs_links,
-                     given.patience) as cluster:
+        with Cluster(given.server, given.model, given.plant, given.nodes, monitor.folder, self.network, given.patience) as cluster:
             self.begun = time.monotonic()
             nemesis = Nemesis(monitor, cluster, self.plan.strikes(given.seed, given.seconds), given.seconds)
             self.struck = nemesis.struck
@@ -133,17 +143,17 @@ class Test:
             try:
                 monitor.run(thread, given.clients + 1)
             finally:
-                self.ended, self.at_work, self.is_full = time.monotonic(), monitor.counts, monitor.length >= MOST_EVENTS
+                self.ended, self.at_work = time.monotonic(), monitor.counts
             self._finish(monitor, work, cluster)
 
-    def _client(self, monitor: Monitor, work: Work, cluster: Cluster, phases: Phases, number: int) -> None:
+    def _client(self, monitor: LongMonitor, work: Work, cluster: Cluster, phases: Phases, number: int) -> None:
         """What one client does until the time is up."""
         given = self.given
         draws = random.Random(f"client {number} {given.seed}")
         pace = Pace(given.rate / given.clients, draws)
         end = self.begun + given.seconds
-        with closing(cluster.server.client(number)) as client:
-            while time.monotonic() < end and monitor.length < MOST_EVENTS and not cluster.stopped.is_set():
+        with cluster.clients(), closing(cluster.server.client(number)) as client:
+            while time.monotonic() < end and not cluster.stopped.is_set():
                 phase = phases.at(time.monotonic() - self.begun)
                 pace.wait(phase.speed)
                 if work.step(number, client, draws, phase.changes).outcome != "ok":
@@ -151,15 +161,16 @@ class Test:
                 if number == 0:
                     self._progress(time.monotonic() - self.begun, monitor, sum(self.struck.values()))
 
-    def _finish(self, monitor: Monitor, work: Work, cluster: Cluster) -> None:
+    def _finish(self, monitor: LongMonitor, work: Work, cluster: Cluster) -> None:
         """All is mended by now. Each node must answer what is left to ask."""
         monitor.note("the faults are over")
         with contextlib.ExitStack() as over:
             cluster.wait_until_all_ready()
+            over.enter_context(cluster.clients())
             clients = [over.enter_context(closing(cluster.server.client(number))) for number in range(self.given.clients)]
             turn = iter(range(1 << 62))
 
-            def ask(attempt: Callable[[Any], Operation]) -> Operation:
+            def ask(attempt: Callable[[Any], LongOperation]) -> LongOperation:
                 end = time.monotonic() + cluster.server.patience
                 while True:
                     number = next(turn) % len(clients)
@@ -173,14 +184,14 @@ class Test:
                                           f"{cluster.server.patience:g} s{node.said()}")
                     time.sleep(PAUSE)
 
-            work.finish(ask, ROOM // 4)
+            work.finish(ask)
 
-    def _outcome(self, monitor: Monitor, work: Work, reason: str) -> Outcome:
+    def _outcome(self, monitor: LongMonitor, work: Work, reason: str) -> Outcome:
         """The verdict, where enough was ok to have one."""
         assert monitor.folder is not None
-        verdict = monitor.close()
+        verdict, *not_judged = monitor.close().split("\n")
         counts, status = monitor.counts, 0
-        reason = reason or not_kept(monitor.folder)
+        reason = reason or (f"what clients did was not kept: {monitor.lost}" if monitor.lost else "")
         few = [f"{counts.get(name, Counter())['ok']} of {name}" for name in work.names
                if counts.get(name, Counter())["ok"] < self.given.least]
         if verdict.startswith("illegal"):
@@ -194,23 +205,21 @@ class Test:
             status, reason = 1, f"{work.lost} messages were acknowledged, and never came: this was counted, and is not proved"
         elif not verdict.startswith("legal"):
             status = 2
-        return Outcome(verdict, reason, status, counts, monitor.length, self.at_work, max(self.ended - self.begun, 0.001), self.is_full,
-                       self.struck, work.lost, monitor.folder)
+        return Outcome(verdict, reason, status, counts, monitor.length, self.at_work, max(self.ended - self.begun, 0.001), monitor.parts,
+                       not_judged, self.struck, work.lost, monitor.folder)
 
 
 def leave(folder: pathlib.Path, verdict: str, reason: str) -> None:
     """The folder must not say legal where the test does not."""
     if reason:
-        command.write_file(folder / VERDICT, (f"{verdict}; {reason}" if verdict else f"no verdict: {reason}") + "\n")
+        try:
+            command.write_file(folder / VERDICT, (f"{verdict}; {reason}" if verdict else f"no verdict: {reason}") + "\n")
+        except OutputError:
+            (folder / VERDICT).unlink(missing_ok=True)  # on a disk that is full
 
 
-def not_kept(folder: pathlib.Path) -> str:
-    """Why the run's folder is not whole, as where the disk is full; empty where it is."""
-    try:
-        lost = [line for line in (folder / COUNTS).read_text().splitlines() if "can't be written" in line]
-    except OSError as fault:
-        lost = [f"{folder / COUNTS}: {fault.strerror}"]
-    return "".join(f"what clients did was not kept: {line}" for line in lost[:1])
+def first_line(text: str) -> str:
+    return text.split("\n")[0]
 
 
 @contextlib.contextmanager

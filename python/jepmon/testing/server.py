@@ -82,11 +82,12 @@ class Server:
             raise ServerError(f"{', '.join(missing)} is not installed: on Debian, apt-get install {packages}")
 
     def command(self, node: Node) -> List[str]:
-        """The words that start a node. Its data go to node.folder, and it listens at 127.0.0.1, at node.ports."""
+        """The words that start a node, by the whole path of its program: it is run in node.folder, where its data go. It listens at
+        node.address, at node.ports."""
         raise NotImplementedError
 
     def client(self, number: int) -> Client:
-        """A client for thread `number`; a node is reached at node.port."""
+        """A client for thread `number`; a node is reached at node.address and node.port."""
         raise NotImplementedError
 
     def prepare(self, node: Node) -> None:

@@ -12,7 +12,7 @@ from .errors import ServerError
 from .node import Node
 
 if TYPE_CHECKING:
-    from ..monitor import Monitor
+    from ..long import LongMonitor
 
 QUIET = 0.1  # of the time of a run, at most, in which nothing strikes at first
 REST = (0.4, 1.2)  # seconds between two strikes
@@ -105,7 +105,7 @@ class Plan:
 class Nemesis:
     """Strikes until the time is up. `struck` counts how often what has struck."""
 
-    def __init__(self, monitor: Monitor, cluster: Cluster, strikes: Iterator[Strike], seconds: float) -> None:
+    def __init__(self, monitor: LongMonitor, cluster: Cluster, strikes: Iterator[Strike], seconds: float) -> None:
         self._monitor, self._cluster, self._strikes = monitor, cluster, strikes
         self._begun = time.monotonic()
         self._end = self._begun + seconds

@@ -17,7 +17,7 @@ from .run import Given, Test
 from .words import NAME
 
 if TYPE_CHECKING:
-    from ..monitor import Monitor
+    from ..long import LongMonitor
 
 
 def main(arguments: Optional[List[str]] = None) -> int:
@@ -53,7 +53,7 @@ def _test(given: Given) -> int:
     given.server.test_installed()
     progress = Progress()
     test = Test(given, progress.show)
-    command.write_output([report.heading(given, test.plan)])
+    command.write_output([report.heading(given, test.plan, test.network)])
     try:
         outcome = test.run()
     finally:
@@ -73,7 +73,7 @@ class Progress:
         self._shown = 0.0
         self._is_on = sys.stderr is not None and sys.stderr.isatty()
 
-    def show(self, seconds: float, monitor: Monitor, strikes: int) -> None:
+    def show(self, seconds: float, monitor: LongMonitor, strikes: int) -> None:
         if self._is_on and seconds - self._shown >= 1.0:
             self._shown = seconds
             sys.stderr.write(f"\r\x1b[K{seconds:4.0f} s: {monitor.length:,} events, {strikes} strikes, "

@@ -10,6 +10,7 @@ from typing import Dict, Iterable, Iterator, List, Optional, Type
 
 from .. import command, kinds
 from .errors import ServerError, where
+from .links import AUTO, NETWORKS
 from .run import Given
 from .server import Server
 from .strikes import KINDS, Plan
@@ -59,7 +60,7 @@ def given(words: Optional[List[str]]) -> Optional[Given]:
     nemesis = parsed.nemesis or (plant.nemesis if plant else "all")
     Plan(nemesis, nodes, tuple(KINDS))  # what can't be is said before anything starts
     return Given(server, model, parsed.plant or "", parsed.time, parsed.clients, parsed.keys, parsed.seed, nemesis, parsed.rate, nodes,
-                 parsed.least, parsed.patience, parsed.out)
+                 parsed.network, parsed.least, parsed.patience, parsed.out, parsed.keep)
 
 
 def _parser() -> Words:
@@ -77,11 +78,15 @@ def _parser() -> Words:
     parser.add_argument("--nemesis", metavar="STRIKES", help=f"all, none, or some of {', '.join(KINDS)}, as kill,pause; or a schedule, "
                         "as kill:n1@3+0.5,pause@6: at 3 seconds, for half a second (all)")
     parser.add_argument("--nodes", metavar="N", type=_within("nodes", 1, 9), default=0, help="how many, where the server can have several")
+    parser.add_argument("--network", choices=NETWORKS, default=AUTO, help="by what links are cut and slow: namespaces, of which each node "
+                        "has one (as root on Linux), or a proxy on the loopback; auto takes namespaces where it can")
     parser.add_argument("--least", metavar="N", type=_within("operations", 1, 1_000_000), default=20,
-                        help="of fewer ok of some operation nothing is said (20)")
+                        help="there is no verdict where fewer of some operation were ok (20)")
     parser.add_argument("--patience", metavar="SECONDS", type=_positive("seconds"), default=0.0,
                         help="for a node to start, and to answer again at the end, before there is no verdict (120, of RabbitMQ 300)")
     parser.add_argument("--out", metavar="FOLDER", default="runs", help="the run gets a folder of its own there (runs)")
+    parser.add_argument("--keep", metavar="N", type=_within("parts", 0, 1_000_000),
+                        help="legal parts that stay in the folder, the newest (all); a part is 262,144 events, of some 20 megabytes")
     return parser
 
 

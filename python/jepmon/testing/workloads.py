@@ -1,38 +1,45 @@
 """What clients do to each kind of object: mixed operations while the test runs, and what is asked at its end, when all is mended."""
 from __future__ import annotations
 
-import collections
 import itertools
 import random
-import threading
 import time
-from typing import TYPE_CHECKING, Any, Callable, Counter, Dict, Iterator, Optional, Set, Tuple, Type
+from typing import TYPE_CHECKING, Any, Callable, Dict, Iterator, Optional, Tuple, Type, Union
 
-from .generators import Renewed
+from .messages import Messages
 
 if TYPE_CHECKING:
-    from ..monitor import Monitor
-    from ..operation import Operation
+    from ..long import Handle, LongMonitor, LongObject, LongOperation
 
-Attempt = Callable[[Any], "Operation"]  # an operation by a client
-Asked = Callable[[Attempt], "Operation"]  # tries it until it is ok, by one client after the other
+Attempt = Callable[[Any], "LongOperation"]  # an operation by a client
+Asked = Callable[[Attempt], "LongOperation"]  # tries it until it is ok, by one client after the other
 
 
 class Work:
     """`step` does an operation, or the two of a lock, by a client. `finish` asks at the end. `names` are the operations of which some
-    must be ok before anything is said."""
+    must be ok before anything is said. An object is left after CHANGES, for a new one; its key is the number that is its name."""
 
     names: Tuple[str, ...] = ()
+    CHANGES = 200
 
-    def __init__(self, monitor: Monitor, clients: int, keys: int) -> None:
-        self.monitor, self.clients = monitor, clients
+    def __init__(self, monitor: LongMonitor, clients: int, keys: int) -> None:
+        self.clients = clients
         self.values: Iterator[int] = itertools.count(1)
+        self.handles = [monitor.fresh(changes=self.CHANGES) for _ in range(self.many(keys))]
 
-    def step(self, number: int, client: Any, draws: random.Random, changes: float) -> Operation:
+    def many(self, keys: int) -> int:
+        """How many objects are open to changes at once."""
+        return keys
+
+    def step(self, number: int, client: Any, draws: random.Random, changes: float) -> LongOperation:
         raise NotImplementedError
 
-    def finish(self, ask: Asked, room: int) -> None:
-        """Asks what is left to ask, in no more than `room` operations."""
+    def finish(self, ask: Asked) -> None:
+        """Asks what is left to ask."""
+
+    def each_left(self) -> Iterator[LongObject]:
+        """The objects that are judged still, but for those that are over when their turn comes."""
+        return (one for handle in self.handles for one in handle.objects if not one.is_over)
 
     @property
     def lost(self) -> int:
@@ -42,77 +49,82 @@ class Work:
 
 class Registers(Work):
     names: Tuple[str, ...] = ("read", "write")
-    CHANGES = 200  # of a key, after which it is left
 
-    def __init__(self, monitor: Monitor, clients: int, keys: int) -> None:
-        super().__init__(monitor, clients, keys)
-        self.keys = Renewed(monitor, keys, self.CHANGES)
-        self.seen: Dict[Tuple[int, int], Optional[int]] = {}  # by a client at a key
-
-    def step(self, number: int, client: Any, draws: random.Random, changes: float) -> Operation:
+    def step(self, number: int, client: Any, draws: random.Random, changes: float) -> LongOperation:
+        handle = draws.choice(self.handles)
         if draws.random() >= changes:
-            return self.read(number, client, self.keys.read_key(draws))
-        return self.change(number, client, self.keys.write_key(draws), draws)
+            return self.read(number, client, handle)
+        return self.change(number, client, handle, draws)
 
-    def change(self, number: int, client: Any, key: int, draws: random.Random) -> Operation:
+    def change(self, number: int, client: Any, handle: Handle, draws: random.Random) -> LongOperation:
         value = next(self.values)
-        with self.monitor.write(key, value) as op:
-            client.write(key, value)
-        if op.outcome == "ok":
-            self.seen[number, key] = value
+        with handle.write(value) as op:
+            client.write(key_of(op), value)
+        self.saw(number, handle, op, value)
         return op
 
-    def read(self, number: int, client: Any, key: int) -> Operation:
-        with self.monitor.read(key) as op:
-            op.value = client.read(key)
-        if op.outcome == "ok":
-            self.seen[number, key] = op.value  # type: ignore[assignment]
+    def read(self, number: int, client: Any, at: Union[Handle, LongObject]) -> LongOperation:
+        with at.read() as op:
+            op.value = client.read(key_of(op))
+        self.saw(number, at, op, op.value)
         return op
 
-    def finish(self, ask: Asked, room: int) -> None:
-        for key in self.keys.used[-room:]:
-            ask(lambda client: self.read(-1, client, key))
+    def saw(self, number: int, at: Union[Handle, LongObject], op: LongOperation, value: Any) -> None:
+        """A client has got to know a value, where the operation was ok."""
+
+    def finish(self, ask: Asked) -> None:
+        for one in self.each_left():
+            ask(lambda client: self.read(-1, client, one))
 
 
 class CasRegisters(Registers):
     names = ("read", "write", "cas")
 
-    def change(self, number: int, client: Any, key: int, draws: random.Random) -> Operation:
-        old = self.seen.get((number, key))
-        if old is None or draws.random() < 0.4:
-            return super().change(number, client, key, draws)
+    def __init__(self, monitor: LongMonitor, clients: int, keys: int) -> None:
+        super().__init__(monitor, clients, keys)
+        self.seen: Dict[Tuple[int, Union[Handle, LongObject]], Tuple[LongObject, int]] = {}  # by a client, of a handle's objects
+
+    def change(self, number: int, client: Any, handle: Handle, draws: random.Random) -> LongOperation:
+        one, old = self.seen.pop((number, handle), (None, 0))  # who has failed knows it no more
+        if one is None or one.is_replaced or draws.random() < 0.4:
+            return super().change(number, client, handle, draws)
         value = next(self.values)
-        with self.monitor.cas(key, old, value) as op:
-            if not client.cas(key, old, value):
+        with one.cas(old, value) as op:
+            if not client.cas(key_of(op), old, value):
                 op.fail()
-        self.seen[number, key] = value if op.outcome == "ok" else None  # what failed knows it no more
+        self.saw(number, handle, op, value)
         return op
+
+    def saw(self, number: int, at: Union[Handle, LongObject], op: LongOperation, value: Any) -> None:
+        if op.outcome == "ok" and value is not None:
+            self.seen[number, at] = op.object, value
+
+    def finish(self, ask: Asked) -> None:
+        self.seen.clear()
+        super().finish(ask)
 
 
 class Sets(Work):
     names = ("add", "read")
     CHANGES = 40  # of a set, which each read gives as a whole
 
-    def __init__(self, monitor: Monitor, clients: int, keys: int) -> None:
-        super().__init__(monitor, clients, keys)
-        self.keys = Renewed(monitor, keys, self.CHANGES)
-
-    def step(self, number: int, client: Any, draws: random.Random, changes: float) -> Operation:
+    def step(self, number: int, client: Any, draws: random.Random, changes: float) -> LongOperation:
+        handle = draws.choice(self.handles)
         if draws.random() >= changes:
-            return self.read(client, self.keys.read_key(draws))
-        key, value = self.keys.write_key(draws), next(self.values)
-        with self.monitor.add(key, value) as op:
-            client.add(key, value)
+            return self.read(client, handle)
+        value = next(self.values)
+        with handle.add(value) as op:
+            client.add(key_of(op), value)
         return op
 
-    def read(self, client: Any, key: int) -> Operation:
-        with self.monitor.read(key) as op:
-            op.value = client.read(key)
+    def read(self, client: Any, at: Union[Handle, LongObject]) -> LongOperation:
+        with at.read() as op:
+            op.value = client.read(key_of(op))
         return op
 
-    def finish(self, ask: Asked, room: int) -> None:
-        for key in self.keys.used[-room:]:
-            ask(lambda client: self.read(client, key))
+    def finish(self, ask: Asked) -> None:
+        for one in self.each_left():
+            ask(lambda client: self.read(client, one))
 
 
 class Locks(Work):
@@ -121,22 +133,17 @@ class Locks(Work):
     names = ("acquire", "release")
     CHANGES = 400
 
-    def __init__(self, monitor: Monitor, clients: int, keys: int) -> None:
-        super().__init__(monitor, clients, keys)
-        self.keys = Renewed(monitor, keys, self.CHANGES, limit=8, most=12)
-
-    def step(self, number: int, client: Any, draws: random.Random, changes: float) -> Operation:
-        key = self.keys.write_key(draws)
-        with self.monitor.acquire(key) as op:
-            if not client.acquire(key):
+    def step(self, number: int, client: Any, draws: random.Random, changes: float) -> LongOperation:
+        with draws.choice(self.handles).acquire() as op:
+            if not client.acquire(key_of(op)):
                 op.fail()
         if op.outcome != "ok":
             return op
         time.sleep(draws.random() * client.work)
-        with self.monitor.release(key) as op:
-            if not client.release(key):
-                op.fail()
-        return op
+        with op.object.release() as released:
+            if not client.release(key_of(released)):
+                released.fail()
+        return released
 
 
 class Queues(Work):
@@ -148,73 +155,66 @@ class Queues(Work):
     SETTLING = 10.0  # seconds in which what is missing may come
     BACKLOG = (8, 14)  # below the first consumers mostly wait, above the second producers do
 
-    def __init__(self, monitor: Monitor, clients: int, keys: int) -> None:
+    def __init__(self, monitor: LongMonitor, clients: int, keys: int) -> None:
         super().__init__(monitor, clients, keys)
-        producers = max(1, clients // 2)
-        span = 65_536 // producers
-        self.queues = [Renewed(monitor, 1, self.CHANGES, producer * span, span, limit=2) for producer in range(producers)]
-        self._lock = threading.Lock()
-        self.sent: Dict[int, Set[int]] = collections.defaultdict(set)  # what was taken, by key
-        self.got: Dict[int, Set[int]] = collections.defaultdict(set)
-        self.unsure: Counter[int] = collections.Counter()  # dequeues that may have taken something
-        self.is_drained = False
+        self.messages = Messages()
+        self.newest: Dict[Handle, LongObject] = {}
+        self.is_drained = False  # what was not asked for is not lost
 
-    def step(self, number: int, client: Any, draws: random.Random, changes: float) -> Operation:
-        producer = number // 2 % len(self.queues)
-        if number % 2 == 0 and number < 2 * len(self.queues):
-            key = self.queues[producer].write_key(draws)
-            if self.clients == 1 and self._backlog(key) > self.BACKLOG[0]:
-                return self.dequeue(client, key)
-            self._wait(lambda: self._backlog(key) < self.BACKLOG[1])
-            return self.enqueue(client, key)
-        key = self.queues[producer].read_key(draws)
+    def many(self, keys: int) -> int:
+        return max(1, self.clients // 2)
+
+    def step(self, number: int, client: Any, draws: random.Random, changes: float) -> LongOperation:
+        handle = self.handles[number // 2 % len(self.handles)]
+        if number % 2 == 0 and number < 2 * len(self.handles):
+            if self.clients == 1 and self.backlog(handle) > self.BACKLOG[0]:
+                return self.dequeue(client, handle)
+            self._wait(lambda: self.backlog(handle) < self.BACKLOG[1])
+            return self.enqueue(client, handle)
         if draws.random() < 0.9:
-            self._wait(lambda: self._backlog(key) >= self.BACKLOG[0])
-        return self.dequeue(client, key)
+            self._wait(lambda: self.backlog(handle) >= self.BACKLOG[0])
+        return self.dequeue(client, handle)
 
-    def enqueue(self, client: Any, key: int) -> Operation:
+    def enqueue(self, client: Any, handle: Handle) -> LongOperation:
         value = next(self.values)
-        with self.monitor.enqueue(key, value) as op:
-            client.enqueue(key, value)
-        if op.outcome == "ok":
-            with self._lock:
-                self.sent[key].add(value)
+        with handle.enqueue(value) as op:
+            self.newest[handle] = op.object
+            client.enqueue(key_of(op), value)
+            self.messages.taken(op.object, value)
         return op
 
-    def dequeue(self, client: Any, key: int) -> Operation:
-        with self.monitor.dequeue(key) as op:
-            op.value = client.dequeue(key)
-        with self._lock:
-            if op.outcome == "ok":
-                self.got[key].add(op.value)  # type: ignore[arg-type]
-            elif op.outcome == "info":
-                self.unsure[key] += 1
+    def dequeue(self, client: Any, at: Union[Handle, LongObject]) -> LongOperation:
+        with at.dequeue() as op:
+            op.value = value = client.dequeue(key_of(op))
+            if value is not None:
+                self.messages.came(op.object, value)
+        if op.outcome == "info":
+            self.messages.may_have_come(op.object)
         return op
 
-    def finish(self, ask: Asked, room: int) -> None:
+    def finish(self, ask: Asked) -> None:
         """Drains each queue: until it says that it is empty, and has said so for a while where something is missing. What was sent
         to a connection that is gone comes back only when the server sees that."""
-        self.is_drained = True
         end = time.monotonic() + self.SETTLING
-        while True:
-            for key in (key for queue in self.queues for key in queue.used):
-                while room > 0 and ask(lambda client: self.dequeue(client, key)).value is not None:
-                    room -= 1
-            if room == 0 or self.lost == 0 or time.monotonic() > end:
-                break
+        for one in self.each_left():
+            self._drain(one, ask)
+        while self.messages.lost and time.monotonic() < end:
             time.sleep(1.0)
-        self.is_drained = room > 0
+            for one in self.messages.missing:
+                self._drain(one, ask)
+        self.is_drained = True
+
+    def _drain(self, one: LongObject, ask: Asked) -> None:
+        while ask(lambda client: self.dequeue(client, one)).outcome == "ok":
+            pass
 
     @property
     def lost(self) -> int:
-        """A dequeue that timed out may have taken a message, so as many may be missing."""
-        with self._lock:
-            missing = [len(sent - self.got[key]) - self.unsure[key] for key, sent in self.sent.items()]
-        return sum(number for number in missing if number > 0) if self.is_drained else 0
+        return self.messages.lost if self.is_drained else 0
 
-    def _backlog(self, key: int) -> int:
-        with self._lock:
-            return len(self.sent[key]) - len(self.got[key])
+    def backlog(self, handle: Handle) -> int:
+        newest: Optional[LongObject] = self.newest.get(handle)
+        return self.messages.backlog(newest) if newest is not None else 0
 
     @staticmethod
     def _wait(for_what: Callable[[], bool]) -> None:
@@ -223,6 +223,11 @@ class Queues(Work):
             if for_what():
                 return
             time.sleep(0.005)
+
+
+def key_of(op: LongOperation) -> int:
+    """By which the server knows the object."""
+    return int(op.name)
 
 
 WORKS: Dict[str, Type[Work]] = {

@@ -12,7 +12,7 @@ import uuid
 from typing import Any, Dict, List, Optional, Type, Union
 
 from ...endings import Exceptions
-from ..node import ADDRESS, Node
+from ..node import At, Node
 from ..server import Client, Leases, Plant, Server
 
 TIMEOUT = 1.0  # seconds
@@ -26,14 +26,14 @@ class NoAnswer(OSError):
 class EtcdClient(Client):
     serializable = False  # reads ask the one member alone
 
-    def __init__(self, port: int) -> None:
-        self.port = port
+    def __init__(self, at: At) -> None:
+        self.at = at
         self.connection: Optional[http.client.HTTPConnection] = None
 
     def call(self, path: str, timeout: float = TIMEOUT, **body: Any) -> Any:
         try:
             if self.connection is None:
-                self.connection = http.client.HTTPConnection(ADDRESS, self.port, timeout=timeout)
+                self.connection = http.client.HTTPConnection(*self.at, timeout=timeout)
                 self.connection.connect()  # by itself: what is refused here was not sent
             self.connection.request("POST", f"/v3/{path}", json.dumps(body))
             answer = self.connection.getresponse()
@@ -85,8 +85,8 @@ class Lock(EtcdClient):
     certain: Exceptions = ()
     seconds = 60  # of the lease: longer than all that may come between
 
-    def __init__(self, port: int) -> None:
-        super().__init__(port)
+    def __init__(self, at: At) -> None:
+        super().__init__(at)
         self.token, self.lease, self.leases = "", 0, Leases()
 
     def acquire(self, key: int) -> bool:
@@ -142,26 +142,26 @@ class Etcd(Server):
     }
 
     def command(self, node: Node) -> List[str]:
-        members = ",".join(f"{other.name}={url(other.reach['peer'])}" for other in self.nodes)
+        members = ",".join(f"{other.name}={url(other, other.reach['peer'])}" for other in self.nodes)
         return ["etcd", "--name", node.name, "--data-dir", str(node.folder / "data"), "--initial-cluster", members,
-                "--listen-client-urls", url(node.ports["client"]), "--advertise-client-urls", url(node.port),
-                "--listen-peer-urls", url(node.ports["peer"]), "--initial-advertise-peer-urls", url(node.reach["peer"]),
+                "--listen-client-urls", url(node, node.ports["client"]), "--advertise-client-urls", url(node, node.port),
+                "--listen-peer-urls", url(node, node.ports["peer"]), "--initial-advertise-peer-urls", url(node, node.reach["peer"]),
                 "--heartbeat-interval", str(HEARTBEAT), "--election-timeout", str(ELECTION)]
 
     def ready(self, node: Node) -> None:
         """Once it has a leader: a read that asks it is answered."""
-        client = Register(node.ports["client"])
+        client = Register(node.listens_at)
         try:
             client.read(0)
         finally:
             client.close()
 
     def client(self, number: int) -> Client:
-        return PLANTED.get(self.plant, CLIENTS[self.model])(self.node_of(number).port)
+        return PLANTED.get(self.plant, CLIENTS[self.model])(self.node_of(number).at)
 
 
-def url(port: int) -> str:
-    return f"http://{ADDRESS}:{port}"
+def url(node: Node, port: int) -> str:
+    return f"http://{node.address}:{port}"
 
 
 def encoded(word: Union[str, int]) -> str:

@@ -14,7 +14,7 @@ from typing import Dict, List, Optional, Type
 
 from ...endings import Exceptions
 from ..errors import ServerError
-from ..node import ADDRESS, Node, completed
+from ..node import At, Node, completed
 from ..server import Client, Plant, Server
 from ..wire.postgres import Postgres, SqlError
 
@@ -27,8 +27,8 @@ TABLES = "CREATE TABLE r (k int PRIMARY KEY, v bigint); CREATE TABLE q (id bigse
 class SqlClient(Client):
     certain: Exceptions = (ConnectionRefusedError, SqlError)
 
-    def __init__(self, port: int, read_at: int) -> None:
-        self.sql, self.reads = Postgres(port, USER, TIMEOUT), Postgres(read_at, USER, TIMEOUT)
+    def __init__(self, at: At, read_at: At) -> None:
+        self.sql, self.reads = Postgres(at, USER, TIMEOUT), Postgres(read_at, USER, TIMEOUT)
 
     def close(self) -> None:
         self.sql.close()
@@ -143,13 +143,16 @@ class PostgreSQL(Server):
         if node.number == 0:
             words = [program("initdb"), "-D", data, "-U", USER, "-A", "trust", "-N"]
         else:
-            words = [program("pg_basebackup"), "-h", ADDRESS, "-p", str(primary.port), "-U", USER, "-D", data, "-R", "-X", "stream",
+            words = [program("pg_basebackup"), "-h", primary.address, "-p", str(primary.port), "-U", USER, "-D", data, "-R", "-X", "stream",
                      "-c", "fast", "--no-sync"]
         completed(words, node.log, node.user)
+        if node.number == 0:
+            with open(node.folder / "data" / "pg_hba.conf", "a", encoding="utf-8") as rules:
+                rules.write("host all,replication all samenet trust\n")
 
     def command(self, node: Node) -> List[str]:
         """fsync is off: what was given to the kernel outlives the kill of a process, and no machine fails here."""
-        settings = {"fsync": "off", "max_connections": "100", "listen_addresses": ADDRESS, "unix_socket_directories": str(node.folder),
+        settings = {"fsync": "off", "max_connections": "100", "listen_addresses": node.address, "unix_socket_directories": str(node.folder),
                     "wal_receiver_timeout": "5s"}
         return [program("postgres"), "-D", str(node.folder / "data"), "-p", str(node.ports["client"]),
                 *(word for name, value in settings.items() for word in ("-c", f"{name}={value}"))]
@@ -163,7 +166,7 @@ class PostgreSQL(Server):
         self.ask(self.nodes[0], TABLES)
 
     def ask(self, node: Node, text: str) -> object:
-        sql = Postgres(node.ports["client"], USER, 5.0)
+        sql = Postgres(node.listens_at, USER, 5.0)
         try:
             return sql.query(text).rows
         finally:
@@ -171,7 +174,7 @@ class PostgreSQL(Server):
 
     def client(self, number: int) -> Client:
         read_at = self.nodes[-1 if self.plant == "standby" else 0]
-        return PLANTED.get(self.plant, CLIENTS[self.model])(self.nodes[0].port, read_at.port)
+        return PLANTED.get(self.plant, CLIENTS[self.model])(self.nodes[0].at, read_at.at)
 
     def node_of(self, number: int) -> Node:
         return self.nodes[0]

@@ -19,7 +19,7 @@ from typing import Dict, List, Optional, Set, Tuple, Type
 
 from ...verdicts import Failed
 from ..errors import ServerError
-from ..node import ADDRESS, Node
+from ..node import ADDRESS, At, Node
 from ..server import Client, Plant, Server
 from ..wire.amqp import Amqp, Message
 
@@ -63,8 +63,8 @@ class Names:
 class Queue(Client):
     durable = True
 
-    def __init__(self, port: int, came: Came, names: Names) -> None:
-        self.amqp, self.came, self.names = Amqp(port, TIMEOUT), came, names
+    def __init__(self, at: At, came: Came, names: Names) -> None:
+        self.amqp, self.came, self.names = Amqp(at, TIMEOUT), came, names
 
     def queue(self, key: int) -> str:
         name, ahead = self.names.of(key)
@@ -141,12 +141,13 @@ class RabbitMQ(Server):
 
     def prepare(self, node: Node) -> None:
         (node.folder / "plugins").write_text("[].\n")
+        (node.folder / "rabbitmq.conf").write_text("loopback_users = none\n")  # in a network namespace clients come from another address
         node.environment = {
             "HOME": str(node.folder), "LANG": "C.UTF-8", "ERL_EPMD_ADDRESS": ADDRESS, "ERL_EPMD_PORT": str(node.ports["epmd"]),
-            "RABBITMQ_NODENAME": f"jepmon{node.ports['client']}@localhost", "RABBITMQ_NODE_IP_ADDRESS": ADDRESS,
+            "RABBITMQ_NODENAME": f"jepmon{node.ports['client']}@localhost", "RABBITMQ_NODE_IP_ADDRESS": node.address,
             "RABBITMQ_NODE_PORT": str(node.ports["client"]), "RABBITMQ_DIST_PORT": str(node.ports["distribution"]),
             "RABBITMQ_MNESIA_BASE": str(node.folder / "data"), "RABBITMQ_LOG_BASE": str(node.folder), "RABBITMQ_LOGS": "-",
-            "RABBITMQ_CONFIG_FILE": str(node.folder / "none"), "RABBITMQ_CONF_ENV_FILE": str(node.folder / "none"),
+            "RABBITMQ_CONFIG_FILE": str(node.folder / "rabbitmq.conf"), "RABBITMQ_CONF_ENV_FILE": str(node.folder / "none"),
             "RABBITMQ_ENABLED_PLUGINS_FILE": str(node.folder / "plugins"), "RABBITMQ_PID_FILE": str(node.folder / "pid"),
             "RABBITMQ_SERVER_ADDITIONAL_ERL_ARGS": "+S 2:2 +sbwt none +sbwtdcpu none +sbwtdio none",  # it starts with less work
         }
@@ -155,17 +156,17 @@ class RabbitMQ(Server):
         return ["sh", "-c", START, str(PROGRAM)]
 
     def client(self, number: int) -> Client:
-        return PLANTED.get(self.plant, Queue)(self.nodes[0].port, self.came, self.names)
+        return PLANTED.get(self.plant, Queue)(self.nodes[0].at, self.came, self.names)
 
     def begun(self) -> None:
-        amqp = Amqp(self.nodes[0].port, self.patience)
+        amqp = Amqp(self.nodes[0].at, self.patience)
         for number in range(Names.AHEAD):
             amqp.declare(f"q{number}", self.plant != "early")
         amqp.close()
         time.sleep(Names.SETTLED)
 
     def ready(self, node: Node) -> None:
-        amqp = Amqp(node.ports["client"], 5.0)
+        amqp = Amqp(node.listens_at, 5.0)
         try:
             amqp.get("ready")
         finally:

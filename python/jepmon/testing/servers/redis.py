@@ -10,7 +10,7 @@ import uuid
 from typing import Dict, List, Optional, Type
 
 from ...endings import Exceptions
-from ..node import ADDRESS, Node
+from ..node import At, Node
 from ..server import Client, Leases, Plant, Server
 from ..wire.resp import Redis as Connection
 from ..wire.resp import RedisError
@@ -21,8 +21,8 @@ RELEASE = "if redis.call('get', KEYS[1]) == ARGV[1] then return redis.call('del'
 class RedisClient(Client):
     certain: Exceptions = (ConnectionRefusedError, RedisError)
 
-    def __init__(self, port: int, read_at: int) -> None:
-        self.redis, self.reads = Connection(port), Connection(read_at)
+    def __init__(self, at: At, read_at: At) -> None:
+        self.redis, self.reads = Connection(at), Connection(read_at)
 
     def close(self) -> None:
         self.redis.close()
@@ -61,8 +61,8 @@ class Lock(RedisClient):
     unsure: Exceptions = (OSError, RedisError)
     lease = 60_000  # milliseconds: longer than all that may come between
 
-    def __init__(self, port: int, read_at: int) -> None:
-        super().__init__(port, read_at)
+    def __init__(self, at: At, read_at: At) -> None:
+        super().__init__(at, read_at)
         self.token, self.leases = "", Leases()
 
     def acquire(self, key: int) -> bool:
@@ -110,13 +110,14 @@ class Redis(Server):
 
     def command(self, node: Node) -> List[str]:
         keeps = "no" if self.plant in ("forgetful", "early") else "yes"
-        words = ["redis-server", "--port", str(node.ports["client"]), "--bind", ADDRESS, "--dir", str(node.folder), "--save", "",
-                 "--appendonly", keeps, "--appendfsync", "no", "--repl-diskless-sync-delay", "0", "--repl-timeout", "5"]
-        return words + (["--replicaof", ADDRESS, str(self.nodes[0].port)] if node.number else [])
+        words = ["redis-server", "--port", str(node.ports["client"]), "--bind", node.address, "--dir", str(node.folder), "--save", "",
+                 "--protected-mode", "no", "--appendonly", keeps, "--appendfsync", "no", "--repl-diskless-sync-delay", "0",
+                 "--repl-timeout", "5"]
+        return words + (["--replicaof", *map(str, self.nodes[0].at)] if node.number else [])
 
     def ready(self, node: Node) -> None:
         """Once it answers, and where it is a replica has what its primary has."""
-        connection = Connection(node.ports["client"])
+        connection = Connection(node.listens_at)
         try:
             wanted = b"master_link_status:up" if node.number else b"role:master"
             if wanted not in connection.call("INFO", "replication"):
@@ -129,7 +130,7 @@ class Redis(Server):
         if self.plant == "lease":
             kind = ShortLock
         read_at = self.nodes[1 + number % (len(self.nodes) - 1)] if self.plant in ("replica", "members") else self.nodes[0]
-        return kind(self.nodes[0].port, read_at.port)
+        return kind(self.nodes[0].at, read_at.at)
 
     def node_of(self, number: int) -> Node:
         return self.nodes[0]

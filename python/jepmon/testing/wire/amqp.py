@@ -4,6 +4,7 @@ from __future__ import annotations
 import struct
 from typing import NamedTuple, Optional, Set, Tuple
 
+from ..node import At
 from .streams import Stream
 
 METHOD, HEADER, BODY, HEARTBEAT = 1, 2, 3, 8
@@ -32,8 +33,8 @@ class Amqp:
     """A connection, made when it is needed. `publish` and `get` are what may fail half-way; all that comes before them, as the
     declaration of a queue, has sent nothing of a message: a ConnectionRefusedError."""
 
-    def __init__(self, port: int, timeout: float) -> None:
-        self.stream = Stream(port, timeout)
+    def __init__(self, at: At, timeout: float) -> None:
+        self.stream = Stream(at, timeout)
         self._declared: Set[str] = set()
 
     def publish(self, queue: str, body: bytes, confirmed: bool = True, durable: bool = True) -> None:

@@ -4,6 +4,7 @@ from __future__ import annotations
 import struct
 from typing import List, NamedTuple, Optional, Tuple
 
+from ..node import At
 from .streams import Stream
 
 
@@ -26,8 +27,8 @@ class Answer(NamedTuple):
 class Postgres:
     """A connection. `connected` counts how often it was made."""
 
-    def __init__(self, port: int, user: str, timeout: float) -> None:
-        self.stream, self.user, self.connected = Stream(port, timeout), user, 0
+    def __init__(self, at: At, user: str, timeout: float) -> None:
+        self.stream, self.user, self.connected = Stream(at, timeout), user, 0
 
     def query(self, text: str) -> Answer:
         """What the last statement of these answered. All of them are one transaction, where the text begins none itself."""

@@ -3,6 +3,7 @@ from __future__ import annotations
 
 from typing import Any, Union
 
+from ..node import At
 from .streams import Stream
 
 
@@ -13,8 +14,8 @@ class RedisError(Exception):
 class Redis:
     """A connection."""
 
-    def __init__(self, port: int, timeout: float = 0.5) -> None:
-        self.stream = Stream(port, timeout)
+    def __init__(self, at: At, timeout: float = 0.5) -> None:
+        self.stream = Stream(at, timeout)
 
     def call(self, *words: Union[str, int]) -> Any:
         """The server's answer to a command: an integer, bytes, a list of them, or None."""

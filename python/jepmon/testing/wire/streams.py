@@ -6,12 +6,12 @@ import socket
 import time
 from typing import Optional
 
-from ..node import ADDRESS
+from ..node import At
 
 
 class Stream:
-    def __init__(self, port: int, seconds: float) -> None:
-        self._port, self._seconds = port, seconds
+    def __init__(self, at: At, seconds: float) -> None:
+        self._at, self._seconds = at, seconds
         self._socket: Optional[socket.socket] = None
         self._got = b""
         self._end = 0.0
@@ -24,7 +24,7 @@ class Stream:
         """Connects. The time for what follows begins."""
         self.close()
         self.begin()
-        self._socket = socket.create_connection((ADDRESS, self._port), self._seconds)
+        self._socket = socket.create_connection(self._at, self._seconds)
         self._socket.setsockopt(socket.IPPROTO_TCP, socket.TCP_NODELAY, 1)
 
     def begin(self) -> None:

@@ -1,0 +1,72 @@
+"""Which messages of queues were taken and have not come: no event tells that one is lost, so they are counted."""
+from __future__ import annotations
+
+import threading
+from typing import TYPE_CHECKING, Dict, List, Set
+
+if TYPE_CHECKING:
+    from ..long import LongObject
+
+
+class Account:
+    """Of one queue."""
+
+    def __init__(self) -> None:
+        self.missing: Set[int] = set()  # taken, and not come
+        self.early: Set[int] = set()  # come, before the server had said that they were taken
+        self.may_have_come = 0  # of what is missing, since dequeues timed out
+
+    @property
+    def lost(self) -> int:
+        return max(0, len(self.missing) - self.may_have_come)
+
+
+class Messages:
+    """A queue whose messages have all come is forgotten once it is judged no more."""
+
+    def __init__(self) -> None:
+        self._lock = threading.Lock()
+        self._accounts: Dict[LongObject, Account] = {}
+
+    def taken(self, queue: LongObject, value: int) -> None:
+        with self._lock:
+            account = self._account(queue)
+            if value in account.early:
+                account.early.remove(value)
+            else:
+                account.missing.add(value)
+
+    def came(self, queue: LongObject, value: int) -> None:
+        with self._lock:
+            account = self._account(queue)
+            if value in account.missing:
+                account.missing.remove(value)
+            else:
+                account.early.add(value)
+
+    def may_have_come(self, queue: LongObject) -> None:
+        with self._lock:
+            self._account(queue).may_have_come += 1
+
+    def backlog(self, queue: LongObject) -> int:
+        with self._lock:
+            account = self._accounts.get(queue)
+            return len(account.missing) if account is not None else 0
+
+    @property
+    def missing(self) -> List[LongObject]:
+        """The queues of which something is."""
+        with self._lock:
+            return [queue for queue, account in self._accounts.items() if account.lost]
+
+    @property
+    def lost(self) -> int:
+        with self._lock:
+            return sum(account.lost for account in self._accounts.values())
+
+    def _account(self, queue: LongObject) -> Account:
+        if queue not in self._accounts:
+            for other in [one for one, account in self._accounts.items() if one.is_over and not account.missing]:
+                del self._accounts[other]
+            self._accounts[queue] = Account()
+        return self._accounts[queue]

@@ -1,0 +1,99 @@
+"""Network namespaces: the clients, and each node, in a place of their own, with an address of its own.
+
+A namespace here has no name: it goes with the last process and the last open file that are in it. So nothing is left of a test that was
+killed, and there is nothing to tidy up.
+"""
+from __future__ import annotations
+
+import contextlib
+import ctypes
+import fcntl
+import os
+import socket
+import struct
+from typing import Iterator, Optional
+
+NEW_NETWORK = 0x40000000  # CLONE_NEWNET
+HERE = "/proc/thread-self/ns/net"
+TUN, DEVICE = "/dev/net/tun", b"jepmon"
+MASK, PACKET = "255.255.255.0", 9000  # bytes of a packet at most
+SET_TUN, IS_TUN = 0x400454CA, 0x1001  # IFF_TUN, and IFF_NO_PI: a file of packets of IP
+SET_FLAGS, SET_ADDRESS, SET_MASK, SET_MTU = 0x8914, 0x8916, 0x891C, 0x8922
+IS_UP = 0x41  # IFF_UP and IFF_RUNNING
+
+
+class Place:
+    """A network namespace. Its packets to others, and theirs, are read from and written to the file `packets`. An OSError says that this
+    machine, or this user, may make none."""
+
+    def __init__(self, address: str) -> None:
+        self.address = address
+        with contextlib.ExitStack() as made:
+            with _back():
+                _called("unshare", NEW_NETWORK)
+                self._namespace = os.open(HERE, os.O_RDONLY)
+                made.callback(os.close, self._namespace)
+                self.packets = os.open(TUN, os.O_RDWR | os.O_NONBLOCK)
+                made.callback(os.close, self.packets)
+                fcntl.ioctl(self.packets, SET_TUN, struct.pack("16sH22x", DEVICE, IS_TUN))
+                _set_up(address)
+            made.pop_all()
+
+    @contextlib.contextmanager
+    def inside(self) -> Iterator[None]:
+        """This thread is in it, with what it starts meanwhile."""
+        with _back():
+            _called("setns", self._namespace, NEW_NETWORK)
+            yield
+
+    def leave_packets(self) -> None:
+        """Another process has the file now."""
+        os.close(self.packets)
+
+    def end(self) -> None:
+        os.close(self._namespace)
+
+
+def why_not() -> Optional[str]:
+    """Why no namespaces can be had here; None where they can."""
+    try:
+        place = Place("10.0.0.1")
+    except (OSError, AttributeError) as fault:
+        return f"{fault.filename}: {fault.strerror}" if isinstance(fault, OSError) and fault.strerror else str(fault)
+    place.leave_packets()
+    place.end()
+    return None
+
+
+@contextlib.contextmanager
+def _back() -> Iterator[None]:
+    """This thread is where it was, afterwards."""
+    home, name = os.open(HERE, os.O_RDONLY), os.readlink(HERE)
+    try:
+        yield
+    finally:
+        try:
+            if os.readlink(HERE) != name:
+                _called("setns", home, NEW_NETWORK)
+        finally:
+            os.close(home)
+
+
+def _called(name: str, *numbers: int) -> None:
+    """A call of the C library that Python 3.9 does not have."""
+    library = ctypes.CDLL(None, use_errno=True)
+    if getattr(library, name)(*map(ctypes.c_int, numbers)) != 0:
+        raise OSError(ctypes.get_errno(), os.strerror(ctypes.get_errno()), f"{name} of a network namespace")
+
+
+def _set_up(address: str) -> None:
+    """Gives the device its address, and starts it and the loopback."""
+    with socket.socket(socket.AF_INET, socket.SOCK_DGRAM) as asked:
+        for number, name, value in ((SET_FLAGS, b"lo", struct.pack("H", IS_UP)), (SET_ADDRESS, DEVICE, _address(address)),
+                                    (SET_MASK, DEVICE, _address(MASK)), (SET_MTU, DEVICE, struct.pack("i", PACKET)),
+                                    (SET_FLAGS, DEVICE, struct.pack("H", IS_UP))):
+            fcntl.ioctl(asked, number, struct.pack("16s24s", name, value))
+
+
+def _address(text: str) -> bytes:
+    return struct.pack("HH4s", socket.AF_INET, 0, socket.inet_aton(text))

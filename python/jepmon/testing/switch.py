@@ -1,0 +1,111 @@
+"""The links between network namespaces (places.py): a process that takes each packet from the one and gives it to the other, and can lose
+or delay what goes one way.
+
+What is cut is lost, as on a wire: TCP sends it anew, so that a request that timed out may take place later.
+
+Its one word is a JSON list of [name, address, file of packets]. It reads commands, a line each, and answers `ok`:
+
+    cut A B              what A sends to B is lost; A and B are of these names
+    slow A B SECONDS     it comes later by so much
+    open A B             it goes on
+"""
+from __future__ import annotations
+
+import heapq
+import json
+import os
+import select
+import socket
+import sys
+import time
+from typing import Dict, List, Optional, Tuple
+
+from .places import PACKET
+
+End = Tuple[str, str, int]  # the name of a place, its address, and the file of its packets
+BATCH = 64  # packets of one file before it is the turn of the others
+ENDS = slice(12, 20)  # of a packet: the two addresses, from and to
+
+
+class Way:
+    """What goes from one to another."""
+
+    def __init__(self, target: int) -> None:
+        self.target = target
+        self.is_cut = False
+        self.delay = 0.0
+
+
+class Switch:
+    def __init__(self, ends: List[End]) -> None:
+        self.ways: Dict[Tuple[str, str], Way] = {(one[0], other[0]): Way(other[2]) for one in ends for other in ends if one != other}
+        addresses = {name: socket.inet_aton(address) for name, address, _ in ends}
+        self._by_ends = {addresses[one] + addresses[other]: way for (one, other), way in self.ways.items()}
+        self._late: List[Tuple[float, int, Way, bytes]] = []  # when, and of which number, so that they keep their order
+        self._count = 0
+
+    def forward(self, source: int) -> None:
+        """Takes what has come from one place. What is for nobody, as what IPv6 asks, is dropped."""
+        for _ in range(BATCH):
+            try:
+                packet = os.read(source, PACKET)
+            except OSError:
+                return
+            way = self._by_ends.get(packet[ENDS])
+            if way is None or way.is_cut:
+                continue
+            if way.delay:
+                self._count += 1
+                heapq.heappush(self._late, (time.monotonic() + way.delay, self._count, way, packet))
+            else:
+                give(way, packet)
+
+    def give_late(self) -> Optional[float]:
+        """Gives the packets whose time has come. Gives how long the next one has to wait."""
+        while self._late:
+            left = self._late[0][0] - time.monotonic()
+            if left > 0:
+                return left
+            _, _, way, packet = heapq.heappop(self._late)
+            if not way.is_cut:
+                give(way, packet)
+        return None
+
+    def obey(self, words: List[str]) -> None:
+        way = self.ways[words[1], words[2]]
+        way.is_cut = words[0] == "cut"
+        way.delay = float(words[3]) if words[0] == "slow" else 0.0
+
+
+def give(way: Way, packet: bytes) -> None:
+    try:
+        os.write(way.target, packet)
+    except OSError:
+        pass  # it is lost, as where a queue is full
+
+
+def serve(ends: List[End]) -> None:
+    """Until standard input ends: the test has gone."""
+    switch, rest = Switch(ends), b""
+    poll = select.epoll()
+    for name, _, packets in ends:
+        poll.register(packets, select.EPOLLIN)
+    commands = sys.stdin.fileno()
+    poll.register(commands, select.EPOLLIN | select.EPOLLHUP)
+    while True:
+        left = switch.give_late()
+        for file, _ in poll.poll(left):
+            if file != commands:
+                switch.forward(file)
+                continue
+            text = os.read(commands, 1 << 16)
+            if not text:
+                return
+            *lines, rest = (rest + text).split(b"\n")
+            for line in lines:
+                switch.obey(line.decode().split())
+                print("ok", flush=True)
+
+
+if __name__ == "__main__":
+    serve([(end[0], end[1], end[2]) for end in json.loads(sys.argv[1])])
