@@ -24,6 +24,7 @@ import tempfile
 import time
 
 from case_loop import read, run_cases
+from thread_count import crowded_keys, most_threads
 
 TOP = pathlib.Path(__file__).resolve().parent.parent
 from program import PROGRAM  # noqa: E402
@@ -245,6 +246,21 @@ def run_workers():
         got = (ran.returncode, ran.stdout, ran.stderr)
         if got != (1, want, b""):
             faults.append(f"by {workers} workers it ended with {got!r}")
+    return faults
+
+
+def run_by_workers():
+    """A check has so many threads as it has workers."""
+    faults = []
+    with tempfile.TemporaryDirectory() as folder:
+        history = pathlib.Path(folder) / "history.edn"
+        history.write_bytes(crowded_keys(keys=64, rounds=40))
+        for workers in (1, 4):
+            command = [str(PROGRAM), "check", "/dev/stdin", "--concurrency", "6", "--workers", str(workers)]
+            # A short look may miss one that is soon done.
+            seen = max(most_threads(command, history) for _ in range(3))
+            if seen != workers:
+                faults.append(f"by {workers} workers it had {seen} threads")
     return faults
 
 
@@ -626,7 +642,7 @@ def all_cases():
               ("reader_breaks_off", run_broken_reader), ("failing_writer", run_failing_writer),
               ("writer_takes_ten_bytes", run_narrow_writer), ("script_without_memory", run_script_without_memory),
               ("check_on_a_full_device", run_full_check), ("check_shows_how_far_it_is", run_progress),
-              ("workers_print_the_same", run_workers),
+              ("workers_print_the_same", run_workers), ("check_hands_its_workers_on", run_by_workers),
               ("run_shows_how_far_it_is", run_run_progress),
               ("words_of_the_command_line", run_words), ("words_that_are_no_text", run_no_text),
               ("run_counts_events", run_counts_events), ("run_under_faults", run_under_faults),

@@ -64,10 +64,10 @@ class Named(Protocol):
 
 
 def explain(events: Sequence[Event], report: Report, options: Options, names: Named = Names(), program: Optional[str] = None,
-            seconds: float = 10.0, shrink: bool = True) -> Optional[Cause]:
+            seconds: float = 10.0, shrink: bool = True, known: Optional[Part] = None) -> Optional[Cause]:
     """The cause of a verdict: the events are those of the whole history, report is what the program said of them with these
-    options. It takes about so many seconds at most, most of them for the smallest part; `shrink=False` leaves that out. None where
-    the verdict is neither illegal nor unknown. A ProgramError comes where the program can't be asked."""
+    options. It takes about so many seconds at most, most of them for the smallest part; `shrink=False` leaves that out, and a part that
+    is known to be illegal at the same event takes its place. None where the verdict is neither illegal nor unknown. A ProgramError comes where the program can't be asked."""
     line = next((line for line in report.keys if line.key == report.key), None)
     if line is None or line.index is None or report.word not in ("illegal", "unknown"):
         return None
@@ -81,7 +81,8 @@ def explain(events: Sequence[Event], report: Report, options: Options, names: Na
     else:
         later = whole[len(front):]
         walked = of_illegal(own, front, later, named, program, until - seconds / 2)
-        if shrink:
+        part = known
+        if shrink and known is None:
             hints = [mention.event.index for mention in walked.mentions] if walked is not None else []
             part = smallest(events, report, options, program, max(0.0, until - time.monotonic()), hints)
         if walked is None and part is not None:

@@ -10,7 +10,7 @@ from typing import Iterable, Iterator, List, Match, NamedTuple, NoReturn, Option
 
 from . import edn_profile
 from .edn_tokens import (ATOM, CLOSE, COMMENT, DEPTH_OF_MAP, END, MAP, MARKS, METADATA, OPEN, PREFIX, RUN, STRANGE, TOKEN, TOKEN_OR_MAP,
-                         UNENDED, atoms_of, kind_of, members_of)
+                         UNENDED, atoms_of, kind_of, members_of, token_or)
 from .edn_values import CLOSING, Many, Value, canonical, fields_of, has_twice, integer, keyword, shown, spelling, string
 
 __all__ = ["Element", "Many", "Reader", "Unreadable", "Value", "canonical", "fields_of", "integer", "keyword", "shown", "spelling",
@@ -25,6 +25,11 @@ class Element(NamedTuple):
     line: int  # on which it begins
     text: str
     value: Value
+    plain: Optional[Match[str]] = None  # a flat map as it was asked for, in place of its value
+
+    def whole(self) -> Element:
+        """With its value."""
+        return self if self.plain is None else Element(self.line, self.text, Many("{", tuple(members_of(self.text[1:-1]))))
 
 
 class Unreadable(Exception):
@@ -57,19 +62,21 @@ class Reader:
         self._element_place = 0  # of the element at the top, characters from 0
         self._held = ""  # the front of that element which stands before the piece
         self._begin = 0  # where the rest of it begins in the piece
+        self._plain: Optional[str] = None
 
     def elements(self) -> Iterator[Element]:
         """The elements of the text."""
         return self._read()
 
-    def history(self) -> Iterator[Element]:
-        """The elements of the text, or of the one vector or list that it is."""
-        self._unwraps = True
+    def history(self, plain: Optional[str] = None) -> Iterator[Element]:
+        """The elements of the text, or of the one vector or list that it is. Those that `plain`, an expression, matches come as its match."""
+        self._unwraps, self._plain = True, plain
         return self._read()
 
     def _read(self) -> Iterator[Element]:
         stack, profile = self._stack, self._profile
-        tokens = TOKEN_OR_MAP if profile is None else TOKEN
+        tokens = TOKEN if profile is not None else TOKEN_OR_MAP if self._plain is None else token_or(self._plain)
+        is_plain = self._plain is not None
         members: Optional[List[Value]] = None  # of the innermost collection; None at the top, and where a prefix waits
         for piece, is_last in self._all_pieces():
             if profile is not None:
@@ -93,6 +100,10 @@ class Reader:
                     opened, _, outer = stack.pop()
                     value: Value = Many(opened, tuple(members))
                     members = outer
+                elif kind == MAP and is_plain and token[2] is not None and members is None and not stack:
+                    self._begin_element("", token.start(1))
+                    yield Element(self._element_line, text, "", token)
+                    continue
                 elif kind == MAP:
                     value = Many("{", tuple(members_of(text[1:-1])))
                     if len(value.members) % 2 == 1 or len(stack) + DEPTH_OF_MAP > DEEPEST:

@@ -22,7 +22,8 @@ class Lives:
     def tell(self, process: int, crashes: bool) -> None:
         """The next event of a client."""
         self._count += 1
-        self._begun.setdefault(process, self._count)
+        if process not in self._begun:
+            self._begun[process] = self._count
         if process in self._crashed:
             self._is_broken = True
         if crashes:

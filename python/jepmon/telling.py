@@ -32,7 +32,8 @@ class Telling:
     """One pipe, and so one lock: the order of its lines is the history. The lock is free while replies are awaited. Monitor is its face
     to the test."""
 
-    def __init__(self, exchange: Exchange, record: Record, options: Options, unknown: str, endings: Endings) -> None:
+    def __init__(self, exchange: Exchange, record: Record, options: Options, unknown: str, endings: Endings,
+                 homes: Optional[Dict[int, int]] = None) -> None:
         self.lock = threading.Lock()
         self.unknown, self.endings = unknown, endings
         self.told = Told()
@@ -44,7 +45,7 @@ class Telling:
         self._exchange, self._record, self._options = exchange, record, options
         self._queue = LineQueue(self.lock)
         self._closing, self._is_closing = threading.Lock(), False
-        self._processes = Processes(options.concurrency)
+        self._processes = Processes(options.concurrency, homes)
         self.numbers: Dict[Hashable, int] = {}  # that stand for other things
         self._models: Dict[int, str] = {}  # of keys that have another one
         self._budgets: Dict[int, int] = {}  # likewise

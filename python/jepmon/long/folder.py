@@ -104,12 +104,11 @@ class LongFolder:
         """Notes what has come of a part. Of legal ones the oldest are removed, where so many are kept only."""
         said = f"{part.name}: {telling.length} events, {len(part.objects)} objects: {telling.verdict or 'no verdict'}"
         lost = "its folder" if part.folder is None else part.folder.lost
+        self.lost = self.lost or lost
         self._note(said if lost is None else f"{said}; not written whole: {lost}")
         if part.folder is not None:
             self._open.remove(part.folder)
-        if lost is not None:
-            self.lost = self.lost or lost
-        elif part.folder is not None and telling.verdict == "legal" and self._keep is not None:
+        if part.folder is not None and lost is None and telling.verdict == "legal" and self._keep is not None:
             self._legal.append(part.folder.path)
             while len(self._legal) > self._keep:
                 removed = self._legal.popleft()

@@ -1,7 +1,7 @@
 """How much of one program a test without an end uses, and how much of one object."""
 from __future__ import annotations
 
-from typing import NamedTuple
+from typing import NamedTuple, Optional
 
 from .. import kinds
 
@@ -31,6 +31,7 @@ class Room(NamedTuple):
 
     timeouts: int  # after so many operations that timed out, and may yet take place, it is written to no more
     at_once: int  # operations that are open, or have timed out
+    changes: Optional[int]  # after so many it is replaced
 
 
 def limits(events: int, keys: int, threads: int) -> Limits:
@@ -40,5 +41,7 @@ def limits(events: int, keys: int, threads: int) -> Limits:
     return Limits(events, keys, threads)
 
 
-def room(model: str) -> Room:
-    return Room(8, 12) if model == "mutex" else Room(3, 6)
+def room(model: str, changes: Optional[int]) -> Room:
+    if changes is not None and changes < 1:
+        raise ValueError(f"changes is a number from 1 on, not {changes}")
+    return Room(8, 12, changes) if model == "mutex" else Room(3, 6, changes)

@@ -28,6 +28,7 @@ import datetime
 import os
 import pathlib
 import time
+import uuid
 from types import TracebackType
 from typing import Callable, Counter, Dict, Iterator, Optional, Type, Union
 
@@ -55,6 +56,8 @@ class LongMonitor:
     forget   is called with the name of each object that is judged no more, so that the store may delete it
     events   after so many of a part its objects are replaced: the memory of the test goes with it
     keys     objects of a part
+    names    what the names of objects begin with: a number follows. Unless given it is what no other run has, so that no name is met
+             twice in a store
     """
 
     def __init__(
@@ -71,22 +74,24 @@ class LongMonitor:
         forget: Optional[Callable[[str], object]] = None,
         events: int = EVENTS,
         keys: int = 1 << 16,
+        names: Optional[str] = None,
     ) -> None:
         if keep is not None and keep < 0:
             raise ValueError(f"keep is a number of parts, not {keep}")
         begun, clock = datetime.datetime.now().astimezone(), time.monotonic_ns()
-        settings = Settings(program, model, budget, timeout, endings(expected, failed), begun, clock)
+        names = f"{uuid.uuid4().hex[:12]}-" if names is None else names
+        settings = Settings(program, model, budget, timeout, endings(expected, failed), begun, clock, names, {})
         folder = LongFolder(out, begun, keep) if out is not None else None
         self._model, self._folder = model, folder
         self._parts = Parts(settings, limits(events, keys, concurrency), folder, forget)
 
-    def fresh(self, model: Optional[str] = None) -> Handle:
+    def fresh(self, model: Optional[str] = None, changes: Optional[int] = None) -> Handle:
         """A new object, as a handle. Its operations are blocks, as those of Monitor; its lock is released by op.object.release(), where op
-        was its acquire."""
+        was its acquire. After so many `changes`, as of a set, which each read gives as a whole, the object is replaced."""
         model = self._model if model is None else model
         if model not in MODELS:
             raise ValueError(f"a model is one of {', '.join(MODELS)}, not {model!r}")
-        return Handle(self._parts, model, room(model))
+        return Handle(self._parts, model, room(model, changes))
 
     # --- Clients and faults ---
 
@@ -116,6 +121,11 @@ class LongMonitor:
     def folder(self) -> Optional[pathlib.Path]:
         """Of this run."""
         return self._folder.path if self._folder is not None else None
+
+    @property
+    def lost(self) -> Optional[str]:
+        """What of the run's folder could not be written first, and why, once its part is closed; None where it is whole."""
+        return self._folder.lost if self._folder is not None else None
 
     @property
     def length(self) -> int:

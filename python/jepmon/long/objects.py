@@ -14,6 +14,7 @@ if TYPE_CHECKING:
 
 ANSWERS = 8  # so often an object that was replaced is read once more
 EMPTY = 2  # so often a queue that was replaced is found empty
+CHANGES = ("write", "cas", "add", "enqueue", "acquire")
 
 
 class Operations:
@@ -58,6 +59,7 @@ class LongObject(Operations):
         self.timeouts = 0  # operations that may yet take place
         self._parts, self._room = parts, room
         self._answers = 0  # since it was replaced
+        self._changes = 0
 
     def release(self) -> LongOperation:
         """Gives back a lock that was taken of this object."""
@@ -81,7 +83,8 @@ class LongObject(Operations):
     @property
     def is_replaced(self) -> bool:
         """Whether it is written to no more."""
-        return self.part.is_retired or self.timeouts >= self._room.timeouts or self.is_over
+        has_enough = self._room.changes is not None and self._changes >= self._room.changes
+        return has_enough or self.part.is_retired or self.timeouts >= self._room.timeouts or self.is_over
 
     @property
     def is_read_enough(self) -> bool:
@@ -98,9 +101,10 @@ class LongObject(Operations):
         """For an operation of a handle."""
         return self.part.has_room and (self.open == 0 or self.open + self.timeouts < self._room.at_once)
 
-    def ended(self, name: str, outcome: Optional[str]) -> None:
-        """An operation of it has ended so."""
+    def ended(self, name: str, outcome: Optional[str], is_answered: bool) -> None:
+        """An operation of it has ended so: a dequeue that failed with an answer has found it empty."""
+        self._changes += name in CHANGES
         if outcome == "info" and name != "read":
             self.timeouts += 1
-        if (name, outcome) in (("read", "ok"), ("dequeue", "fail")) and self.is_replaced:  # a queue is read to its end
+        if is_answered and (name, outcome) in (("read", "ok"), ("dequeue", "fail")) and self.is_replaced:  # a queue is read to its end
             self._answers += 1

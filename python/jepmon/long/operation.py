@@ -58,9 +58,9 @@ class LongOperation:
             self.told = self._inner.told
             return self
         except NotLegal:
-            self._end()
+            self._end(False)
         except BaseException:
-            self._end()
+            self._end(False)
             raise
         raise self._parts.not_legal()
 
@@ -76,13 +76,13 @@ class LongOperation:
             pass
         finally:
             self.outcome = inner.outcome
-            self._end()
+            self._end(error is None)
         raise self._parts.not_legal()
 
-    def _end(self) -> None:
+    def _end(self, is_answered: bool) -> None:
         inner, self._inner = self._inner, None  # an operation that a client keeps does not keep its program's events
         if inner is not None and not isinstance(inner._telling, Nobody):
-            self._parts.end(self.object, self._name, self.outcome, self.told)
+            self._parts.end(self.object, self._name, self.outcome, self.told, is_answered)
 
 
 class Nobody:

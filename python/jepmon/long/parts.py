@@ -6,7 +6,6 @@ import copy
 import random
 import threading
 import time
-import uuid
 from typing import Callable, List, Optional, Tuple, Union
 
 from ..endings import Endings
@@ -35,7 +34,6 @@ class Parts:
         self.is_closed = False
         self._settings, self._limits, self._folder, self._forget = settings, limits, folder, forget
         self._freed = threading.Condition(self.lock)
-        self._run = uuid.uuid4().hex[:12]  # no other run has it, so no name is met twice in a store
         self.begun = 0  # parts
         self._made = 0  # objects
         self._faults: List[str] = []  # that hold
@@ -50,7 +48,8 @@ class Parts:
         return self._settings.endings
 
     def settle(self, number: int) -> None:
-        """Threads of Python take whichever threads of jepmon are free."""
+        """Lets the operations of this thread be those of the client of this number, as far as it is free."""
+        self._settings.homes[threading.get_ident()] = number
 
     # --- Operations ---
 
@@ -69,12 +68,12 @@ class Parts:
             one.part.open += 1
             return one, one.part.telling
 
-    def end(self, one: LongObject, name: str, outcome: Optional[str], told: bool) -> None:
+    def end(self, one: LongObject, name: str, outcome: Optional[str], told: bool, is_answered: bool) -> None:
         """It has ended so there; None where it could not begin."""
         with self.lock:
             one.open -= 1
             one.part.open -= 1
-            one.ended(name, outcome)
+            one.ended(name, outcome, is_answered)
             self.tally.unjudged += not told and outcome is not None
             if one.part.failure is not None:
                 self._fail(one.part, one.part.failure)
@@ -138,7 +137,7 @@ class Parts:
         for current in list(self._current):
             self._test(current)
         part = next(filter(lambda current: current.has_room, self._current), None) or self._part()
-        one = LongObject(self, part, len(part.objects), f"{self._run}-{self._made}", maker.model, room)
+        one = LongObject(self, part, len(part.objects), f"{self._settings.names}{self._made}", maker.model, room)
         try:
             part.add(one, maker)
         except NotLegal:

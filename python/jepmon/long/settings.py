@@ -3,7 +3,7 @@ from __future__ import annotations
 
 import datetime
 import os
-from typing import NamedTuple, Union
+from typing import Dict, NamedTuple, Union
 
 from ..endings import Endings
 
@@ -18,3 +18,5 @@ class Settings(NamedTuple):
     endings: Endings
     begun: datetime.datetime
     clock: int  # by time.monotonic_ns, at which the run began
+    names: str  # what the names of objects begin with
+    homes: Dict[int, int]  # the number of the client of each thread of Python

@@ -6,7 +6,7 @@ written, with which the check goes on.
 from __future__ import annotations
 
 import os
-from typing import Any, BinaryIO, List, NamedTuple, Optional, Sequence
+from typing import Any, BinaryIO, Iterable, Iterator, List, NamedTuple, Optional, Sequence, Tuple
 
 from ..program import Options
 from .batches import batches_of
@@ -95,14 +95,17 @@ class Session:
 
     def events_of(self, key: int) -> List[KeyEvent]:
         """The events of a key, as far as they are judged."""
-        name = b"%d" % key
-        for shard in self.shards:
+        return next((events for _, events in self.events_of_keys([key])), [])
+
+    def events_of_keys(self, wanted: Iterable[int]) -> Iterator[Tuple[int, List[KeyEvent]]]:
+        """The events of each of these keys, as far as they are judged, shard by shard."""
+        names = {b"%d" % key for key in wanted}
+        for shard in self.shards if names else []:
             keys, rests = events_of(shard.sources, shard.number, self.tools.sizes.events)
-            if name in keys:
+            for name in names.intersection(keys):
                 events = keys[name]
                 batch = next(batches_of({name: events}, {name: rests[name]} if name in rests else {}, self.tools.sizes))
-                return [key_event(*events[at:at + FIELDS]) for at in range(0, batch.keys[0].judged * FIELDS, FIELDS)]
-        return []
+                yield int(name), [key_event(*events[at:at + FIELDS]) for at in range(0, batch.keys[0].judged * FIELDS, FIELDS)]
 
     def read_exactly(self, doubt: Doubt) -> None:
         """Reads the history exactly: Refused, or it goes on with a file of the same events."""
