@@ -1,0 +1,4 @@
+pub mod Intervals
+pub mod LeftOut
+pub mod Registers
+pub mod ReadsAsCas
