@@ -65,7 +65,7 @@ module _ (wide narrow : List Entry) (rises : IsRising wide) (rises_too : IsRisin
       record {
         before = marks d.0;
         after = marks (h.0 ∷ d.1);
-        cut = sym (marks-append d.0 (h.0 ∷ d.1)) ∙ ap marks (sym d.2);
+        cut = sym {a = marks (d.0 ++ h.0 ∷ d.1)} (marks-append d.0 (h.0 ∷ d.1)) ∙ ap marks (sym d.2);
         returned = (answer, subst (Contains (marks d.0)) g.2 (to_map (λ (e : Entry). e.mark) d.0 g.0 d.3));
         invoked = (op, subst (Contains (marks (h.0 ∷ d.1))) h.2 (Contains-head h.0.mark (marks d.1)));
       }

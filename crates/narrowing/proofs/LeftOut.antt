@@ -148,3 +148,10 @@ module _ (out : ℕ → Bool) where
     where
       middle : (before after : List Taken) (x : Taken) → Contains (before ++ x ∷ after) x
       middle before after x = Contains-append_right before (x ∷ after) x (Contains-head x after)
+
+  -- and those that have not returned may come back
+  pub IsLinearizable-with_reads : (o : Object) (ms : List Mark) → ReadsLeave o → AreReads out ms → HaveNotReturned out ms → IsLinearizable o ms ↔ IsLinearizable o (without out ms)
+  IsLinearizable-with_reads o ms leave reads none = (
+    IsLinearizable-without_reads o ms leave reads,
+    IsLinearizable-stricter o ms (without out ms) (rest_asks_for_more ms none),
+  )

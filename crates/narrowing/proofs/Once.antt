@@ -12,11 +12,6 @@ use Rattle.linspec.proofs.Lists.{Contains-nil, Contains-head, Contains-tail, Con
 use Rattle.linspec.proofs.Open.{IsCompletion}
 
 module _ (marks : List Mark) (well : AreWellFormed marks) where
-  -- what holds of each mark after one that came before it
-  each_before : (P : List Mark → Mark → Type 0) → ((before after : List Mark) (m : Mark) → before ++ m ∷ after ≡ marks → P before m) → (m : Mark) → Contains marks m
-      → (before : List Mark) × (after : List Mark) × (before ++ m ∷ after ≡ marks) × P before m
-  each_before P each m h = let c = cut_at marks m h in (c.0, c.1, sym c.2, each c.0 c.1 m (sym c.2))
-
   -- of two marks the one is the other, or comes before it
   pub earlier : (m n : Mark) → Contains marks m → Contains marks n → m ≢ n
       → ((P : Type 0) → ((before : List Mark) → Contains before n → MayFollow before m → P) → ((before : List Mark) → Contains before m → MayFollow before n → P) → P)
@@ -48,6 +43,22 @@ module _ (marks : List Mark) (well : AreWellFormed marks) where
       absurd (fresh (Invoked id a) (Contains-append_right c.0 (Invoked id a ∷ d.0) (Invoked id a) (Contains-head (Invoked id a) d.0)) refl))
       (Contains-cons_cases (Invoked id a) c.1 (Invoked id b) i))
       (Contains-append_cases c.0 (Invoked id a ∷ c.1) (Invoked id b) (subst (λ l. Contains l (Invoked id b)) c.2 k))
+
+  pub one_answer : (id : ℕ) (a b : Answer) → Contains marks (Returned id a) → Contains marks (Returned id b) → a ≡ b
+  one_answer id a b h k =
+      let c = cut_at marks (Returned id a) h in
+      let is : IsOpen c.0 id = well c.0 c.1 (Returned id a) (sym c.2) in
+      ⊎_elim
+      (λ i. absurd (is.not_returned (b, i)))
+      (λ i. ⊎_elim
+      (λ (e : Returned id a ≡ Returned id b). let t : a ≡ b = cc in t)
+      (λ j.
+      let d = cut_at c.1 (Returned id b) j in
+      let whole : (c.0 ++ Returned id a ∷ d.0) ++ Returned id b ∷ d.1 ≡ marks = append_assoc c.0 (Returned id a ∷ d.0) (Returned id b ∷ d.1) ∙ ap (λ l. c.0 ++ Returned id a ∷ l) (sym d.2) ∙ sym c.2 in
+      let still : IsOpen (c.0 ++ Returned id a ∷ d.0) id = well (c.0 ++ Returned id a ∷ d.0) d.1 (Returned id b) whole in
+      absurd (still.not_returned (a, Contains-append_right c.0 (Returned id a ∷ d.0) (Returned id a) (Contains-head (Returned id a) d.0))))
+      (Contains-cons_cases (Returned id a) c.1 (Returned id b) i))
+      (Contains-append_cases c.0 (Returned id a ∷ c.1) (Returned id b) (subst (λ l. Contains l (Returned id b)) c.2 k))
 
   opened : (before : List Mark) (m : Mark) → IsCompletion m → MayFollow before m → IsOpen before (id_of m)
   opened before (Invoked id op) c may = absurd c

@@ -1,12 +1,15 @@
 //! Laws of histories that ask for more, and of histories without some of their operations.
-ghost use Rattle.std.specs.Prelude.{◌↔◌, ℕ, Bool, List};
+ghost use Rattle.std.specs.Prelude.{◌↔◌, ℕ, ℤ, Bool, Option, List, [], ◌∷◌, ◌++◌};
 ghost use Rattle.models.specs.declared.model_kind.ModelKind.{ModelKind};
-ghost use Rattle.models.specs.Objects.{object_of};
-ghost use Rattle.history.specs.Events.{Mark, Entry, marks};
+ghost use Rattle.models.specs.Objects.{object_of, register, cas_register};
+ghost use Rattle.history.specs.Events.{Mark, Entry, marks, IsFront};
 ghost use Rattle.linspec.specs.MarkRule.{AreWellFormed};
 ghost use Rattle.linspec.specs.Orders.{IsLinearizable, product};
-ghost use Rattle.linspec.specs.Verdicts.{IsRising};
+ghost use Rattle.linspec.specs.Verdicts.{IsRising, EndsShortestBadFront};
 ghost use Rattle.narrowing.specs.Intervals.{AsksForMore, HasNarrowerIntervals};
+ghost use Rattle.narrowing.specs.LeftOut.{without, entries_without, HaveFailed, HaveNotReturned, AreReads, HaveFailedBefore};
+ghost use Rattle.narrowing.specs.Registers.{DragsFinders, IsByValues};
+ghost use Rattle.narrowing.specs.ReadsAsCas.{AreAnsweredReads, reads_as_cas, HasNoCas};
 
 /// Where a history that asks for more is linearizable, so is the history: for one key, and for all keys together.
 pub fn asks_for_more_law()
@@ -18,8 +21,8 @@ pub fn asks_for_more_law()
         → IsLinearizable (product kinds) history }
 {}
 
-/// Narrower intervals ask for more: where each operation is invoked no earlier, and returns no later, and the history is
-/// linearizable then, it was so with the wider intervals.
+/// Narrower intervals ask for more: where each operation is invoked no earlier and returns no later, and the history is
+/// linearizable so, it is linearizable with its wider intervals.
 pub fn narrower_intervals_law()
     ensures one { (kind : ModelKind) (wide narrow : List Entry) →
         IsRising wide → IsRising narrow → HasNarrowerIntervals wide narrow
@@ -29,4 +32,102 @@ pub fn narrower_intervals_law()
         IsRising wide → IsRising narrow → HasNarrowerIntervals wide narrow
         → IsLinearizable (product kinds) (marks narrow)
         → IsLinearizable (product kinds) (marks wide) }
+{}
+
+/// An operation that has not returned may be left out of an order: where the history without some of these is
+/// linearizable, so is the history.
+pub fn not_returned_law()
+    ensures one { (kind : ModelKind) (out : ℕ → Bool) (marks : List Mark) →
+        HaveNotReturned out marks → IsLinearizable (object_of kind) (without out marks)
+        → IsLinearizable (object_of kind) marks }
+    ensures all { (kinds : ℕ → ModelKind) (out : ℕ → Bool) (marks : List Mark) →
+        HaveNotReturned out marks → IsLinearizable (product kinds) (without out marks)
+        → IsLinearizable (product kinds) marks }
+{}
+
+/// An operation that failed decides nothing: a history is linearizable exactly where it is so without some of these. And
+/// where it becomes illegal at an event without them, it does so with them, if each that was invoked before that event had
+/// failed by then. One that was still open may have taken place.
+pub fn failed_law()
+    ensures one { (kind : ModelKind) (out : ℕ → Bool) (marks : List Mark) →
+        AreWellFormed marks → HaveFailed out marks
+        → IsLinearizable (object_of kind) marks
+        ↔ IsLinearizable (object_of kind) (without out marks) }
+    ensures all { (kinds : ℕ → ModelKind) (out : ℕ → Bool) (marks : List Mark) →
+        AreWellFormed marks → HaveFailed out marks
+        → IsLinearizable (product kinds) marks ↔ IsLinearizable (product kinds) (without out marks) }
+    ensures same_event { (kind : ModelKind) (out : ℕ → Bool) (entries : List Entry) (last : Entry) →
+        AreWellFormed (marks entries) → HaveFailedBefore out entries last
+        → EndsShortestBadFront (object_of kind) (entries_without out entries) last
+        → EndsShortestBadFront (object_of kind) entries last }
+{}
+
+/// A read leaves the state as it was, so any reads may be left out: the rest of a linearizable history is linearizable. Where
+/// none of them has returned they decide nothing: the history is linearizable exactly where the rest is; and where the rest
+/// becomes illegal at an event, so does the history.
+pub fn reads_law()
+    ensures any { (kind : ModelKind) (out : ℕ → Bool) (marks : List Mark) →
+        AreReads out marks → IsLinearizable (object_of kind) marks
+        → IsLinearizable (object_of kind) (without out marks) }
+    ensures not_returned { (kind : ModelKind) (out : ℕ → Bool) (marks : List Mark) →
+        AreReads out marks → HaveNotReturned out marks
+        → IsLinearizable (object_of kind) marks
+        ↔ IsLinearizable (object_of kind) (without out marks) }
+    ensures same_event { (kind : ModelKind) (out : ℕ → Bool) (entries : List Entry) (last : Entry) →
+        AreWellFormed (marks entries) → AreReads out (marks entries)
+        → HaveNotReturned out (marks entries)
+        → EndsShortestBadFront (object_of kind) (entries_without out entries) last
+        → EndsShortestBadFront (object_of kind) entries last }
+{}
+
+/// Of a register, with compare-and-set and without, any operations may be left out together, if with each that brings a value
+/// in each goes that may have found it: the rest of a linearizable history is linearizable. So all operations of some values
+/// may be left out.
+pub fn register_law()
+    ensures register { (out : ℕ → Bool) (marks : List Mark) →
+        AreWellFormed marks → DragsFinders out marks → IsLinearizable register marks
+        → IsLinearizable register (without out marks) }
+    ensures cas_register { (out : ℕ → Bool) (marks : List Mark) →
+        AreWellFormed marks → DragsFinders out marks → IsLinearizable cas_register marks
+        → IsLinearizable cas_register (without out marks) }
+    ensures values { (out : ℕ → Bool) (marks : List Mark) →
+        AreWellFormed marks → IsByValues out marks → IsLinearizable register marks
+        → IsLinearizable register (without out marks) }
+    ensures cas_values { (out : ℕ → Bool) (marks : List Mark) →
+        AreWellFormed marks → IsByValues out marks → IsLinearizable cas_register marks
+        → IsLinearizable cas_register (without out marks) }
+{}
+
+/// A read that has answered v takes place just where cas [v v] does: the history of a register is linearizable exactly where
+/// it is so with some of its reads as such. A register whose history has no cas is a register with compare-and-set.
+pub fn reads_as_cas_law()
+    ensures cas_register { (reads : ℕ → Option ℤ) (marks : List Mark) →
+        AreWellFormed marks → AreAnsweredReads reads marks
+        → IsLinearizable cas_register marks ↔ IsLinearizable cas_register (reads_as_cas reads marks) }
+    ensures register { (reads : ℕ → Option ℤ) (marks : List Mark) →
+        AreWellFormed marks → AreAnsweredReads reads marks → HasNoCas marks
+        → IsLinearizable register marks ↔ IsLinearizable cas_register (reads_as_cas reads marks) }
+    ensures no_cas { (marks : List Mark) → HasNoCas marks
+        → IsLinearizable register marks ↔ IsLinearizable cas_register marks }
+{}
+
+/// How an illegal part and an order tell the event: where what comes before an event is linearizable, and a part of what comes
+/// up to it is not, which it would be if the whole were, then the history becomes illegal at this event.
+pub fn illegal_at_law()
+    ensures one { (kind other : ModelKind) (entries before : List Entry) (last : Entry)
+        (part : List Mark) →
+        AreWellFormed (marks entries) → IsFront (before ++ last ∷ []) entries
+        → IsLinearizable (object_of kind) (marks before)
+        → (IsLinearizable (object_of kind) (marks (before ++ last ∷ []))
+            → IsLinearizable (object_of other) part)
+        → ¬ IsLinearizable (object_of other) part
+        → EndsShortestBadFront (object_of kind) entries last }
+    ensures all { (kinds : ℕ → ModelKind) (other : ModelKind) (entries before : List Entry)
+        (last : Entry) (part : List Mark) →
+        AreWellFormed (marks entries) → IsFront (before ++ last ∷ []) entries
+        → IsLinearizable (product kinds) (marks before)
+        → (IsLinearizable (product kinds) (marks (before ++ last ∷ []))
+            → IsLinearizable (object_of other) part)
+        → ¬ IsLinearizable (object_of other) part
+        → EndsShortestBadFront (product kinds) entries last }
 {}
