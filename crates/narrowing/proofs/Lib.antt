@@ -6,3 +6,5 @@ pub mod BadFronts
 pub mod RegisterSteps
 pub mod Registers
 pub mod ReadsAsCas
+pub mod Multisets
+pub mod Bags
