@@ -47,6 +47,18 @@ module _ (wide narrow : List Entry) (rises : IsRising wide) (rises_too : IsRisin
       (Contains-cons_cases f c.1 e i))
       (Contains-append_cases c.0 (f ∷ c.1) e (subst (λ l. Contains l e) c.2 h)))
 
+  precedes_at : (a b : ℕ) (answer : Answer) (op : Op) (e f : Entry) → Contains narrow e → Contains narrow f → e.mark ≡ Returned a answer → f.mark ≡ Invoked b op → e.index < f.index → Precedes (marks narrow) a b
+  precedes_at a b answer op e f h k returned invoked lt =
+      let d = placed e f h k lt in
+      let parts : marks narrow ≡ marks d.0 ++ marks (f ∷ d.1) = ap marks d.2 ∙ marks-append d.0 (f ∷ d.1) in
+      record {
+        before = marks d.0;
+        after = marks (f ∷ d.1);
+        cut = sym parts;
+        returned = (answer, subst (Contains (marks d.0)) returned (to_map (λ (e : Entry). e.mark) d.0 e d.3));
+        invoked = (op, subst (Contains (marks (f ∷ d.1))) invoked (Contains-head f.mark (marks d.1)));
+      }
+
   pub narrower_precedes : (a b : ℕ) → Precedes (marks wide) a b → Precedes (marks narrow) a b
   narrower_precedes a b p =
       let answer : Answer = p.returned.0 in
@@ -61,14 +73,7 @@ module _ (wide narrow : List Entry) (rises : IsRising wide) (rises_too : IsRisin
       let h = from_marks narrow (Invoked b op) ((within.operations b op).0 (subst (Contains (marks wide)) f.2 (to_map (λ (e : Entry). e.mark) wide f.0 in_wide_f))) in
       let sooner : g.0.index ≤ e.0.index = within.returned_no_later e.0 g.0 a answer in_wide_e g.1 e.2 g.2 in
       let later : f.0.index ≤ h.0.index = within.invoked_no_earlier f.0 h.0 b op in_wide_f h.1 f.2 h.2 in
-      let d = placed g.0 h.0 g.1 h.1 (omega arith) in
-      record {
-        before = marks d.0;
-        after = marks (h.0 ∷ d.1);
-        cut = sym {a = marks (d.0 ++ h.0 ∷ d.1)} (marks-append d.0 (h.0 ∷ d.1)) ∙ ap marks (sym d.2);
-        returned = (answer, subst (Contains (marks d.0)) g.2 (to_map (λ (e : Entry). e.mark) d.0 g.0 d.3));
-        invoked = (op, subst (Contains (marks (h.0 ∷ d.1))) h.2 (Contains-head h.0.mark (marks d.1)));
-      }
+      precedes_at a b answer op g.0 h.0 g.1 h.1 g.2 h.2 (omega arith)
 
   pub narrower_asks_for_more : AsksForMore (marks wide) (marks narrow)
   narrower_asks_for_more = record {

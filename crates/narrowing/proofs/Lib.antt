@@ -8,3 +8,5 @@ pub mod Registers
 pub mod ReadsAsCas
 pub mod Multisets
 pub mod Bags
+pub mod Relabelling
+pub mod BagsJoined

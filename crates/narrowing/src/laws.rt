@@ -1,7 +1,7 @@
 //! Laws of histories that ask for more, and of histories without some of their operations.
 ghost use Rattle.std.specs.Prelude.{◌↔◌, ℕ, ℤ, Bool, Option, List, [], ◌∷◌, ◌++◌};
 ghost use Rattle.models.specs.declared.model_kind.ModelKind.{ModelKind};
-ghost use Rattle.models.specs.Objects.{object_of, register, cas_register};
+ghost use Rattle.models.specs.Objects.{object_of, register, cas_register, unordered_queue};
 ghost use Rattle.history.specs.Events.{Mark, Entry, marks, IsFront};
 ghost use Rattle.linspec.specs.MarkRule.{AreWellFormed};
 ghost use Rattle.linspec.specs.Orders.{IsLinearizable, product};
@@ -9,6 +9,7 @@ ghost use Rattle.linspec.specs.Verdicts.{IsRising, EndsShortestBadFront};
 ghost use Rattle.narrowing.specs.Intervals.{AsksForMore, HasNarrowerIntervals};
 ghost use Rattle.narrowing.specs.LeftOut.{without, entries_without, HaveFailed, HaveNotReturned, AreReads, HaveFailedBefore};
 ghost use Rattle.narrowing.specs.Registers.{DragsFinders, IsByValues};
+ghost use Rattle.narrowing.specs.Bags.{AreValues, bag};
 ghost use Rattle.narrowing.specs.ReadsAsCas.{AreAnsweredReads, reads_as_cas, HasNoCas};
 
 /// Where a history that asks for more is linearizable, so is the history: for one key, and for all keys together.
@@ -109,6 +110,15 @@ pub fn reads_as_cas_law()
         → IsLinearizable register marks ↔ IsLinearizable cas_register (reads_as_cas reads marks) }
     ensures no_cas { (marks : List Mark) → HasNoCas marks
         → IsLinearizable register marks ↔ IsLinearizable cas_register marks }
+{}
+
+/// A queue without an order is a bag for each value: its history is linearizable exactly where each value's part is, the
+/// enqueues of the value and the dequeues that have answered it. Dequeues that have not returned decide nothing.
+pub fn bags_law()
+    ensures { (value : ℕ → Option ℤ) (marks : List Mark) →
+        AreWellFormed marks → AreValues value marks
+        → IsLinearizable unordered_queue marks
+        ↔ ((v : ℤ) → IsLinearizable unordered_queue (bag value v marks)) }
 {}
 
 /// How an illegal part and an order tell the event: where what comes before an event is linearizable, and a part of what comes
