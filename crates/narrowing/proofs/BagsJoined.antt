@@ -33,7 +33,8 @@ use Rattle.narrowing.proofs.Once.{returned_invoked}
 use Rattle.narrowing.proofs.Intervals.{IsLinearizable-stricter}
 use Rattle.narrowing.proofs.LeftOut.{from_without, to_without, AreWellFormed-without, rest_asks_for_more}
 use Rattle.narrowing.proofs.Multisets.{one_more, more_of_another, one_less, less_of_another, in_if_counted, equal_or_not, IsEnqueue, IsDequeue, unordered_view, by_enqueue, by_dequeue}
-use Rattle.narrowing.proofs.Relabelling.{with_key, keyed, keyed-id, keyed_invoked, all_keyed, from_invoked, from_returned, from_failed, from_precedes, to_precedes, AreWellFormed-keyed}
+use Rattle.narrowing.specs.Changed.{changed_mark, changed}
+use Rattle.narrowing.proofs.Relabelling.{changed-id, change_invoked, from_invoked, from_returned, from_failed, to_invoked, to_returned, to_failed, from_precedes, to_precedes, AreWellFormed-changed}
 use Rattle.narrowing.proofs.Bags.{is_this, is_another, IsLinearizable-bag}
 
 -- each integer as a natural number, and each natural number as an integer
@@ -75,15 +76,27 @@ module _ (value : ℕ → Option ℤ) where
   abbrev key : ℕ → ℕ
   key id = code_if (value id)
 
+  abbrev with_key : ℕ → Op → Op
+  with_key id op = record op { key = key id }
+
+  abbrev as_told : ℕ → Answer → Answer
+  as_told id answer = answer
+
+  abbrev keyed : Mark → Mark
+  keyed = changed_mark with_key as_told
+
+  abbrev all_keyed : List Mark → List Mark
+  all_keyed = changed with_key as_told
+
   abbrev entry_of : Mark → Entry
-  entry_of m = record { index = 0; key = key (id_of m); mark = keyed key m }
+  entry_of m = record { index = 0; key = key (id_of m); mark = keyed m }
 
   abbrev entries : List Mark → List Entry
   entries ms = map entry_of ms
 
-  marks-entries : (ms : List Mark) → marks (entries ms) ≡ all_keyed key ms
+  marks-entries : (ms : List Mark) → marks (entries ms) ≡ all_keyed ms
   marks-entries [] = refl
-  marks-entries (m ∷ ms) = ap (λ l. keyed key m ∷ l) (marks-entries ms)
+  marks-entries (m ∷ ms) = ap (λ l. keyed m ∷ l) (marks-entries ms)
 
   -- a key's part is the bag of its value
   module _ (v : ℤ) where
@@ -96,24 +109,24 @@ module _ (value : ℕ → Option ℤ) where
     abbrev in_bag : Mark → Bool
     in_bag m = not (is_other v (value (id_of m)))
 
-    key_part : (ms : List Mark) → marks (of_key (code v) (entries (without of_none ms))) ≡ all_keyed key (bag value v ms)
+    key_part : (ms : List Mark) → marks (of_key (code v) (entries (without of_none ms))) ≡ all_keyed (bag value v ms)
     key_part [] = refl
     key_part (m ∷ ms) = by_option (value (id_of m))
         (λ e.
         ap (λ l. marks (of_key (code v) (entries l))) (filter-no has_value m ms (ap (λ r. not (is_none r)) e))
         ∙ key_part ms
-        ∙ ap (all_keyed key) (sym (filter-no in_bag m ms (ap (λ r. not (is_other v r)) e))))
+        ∙ ap (all_keyed) (sym (filter-no in_bag m ms (ap (λ r. not (is_other v r)) e))))
         (λ w e.
         ap (λ l. marks (of_key (code v) (entries l))) (filter-yes has_value m ms (ap (λ r. not (is_none r)) e))
         ∙ ⊎_elim
         (λ (same : w ≡ v).
         ap marks (filter-yes is_here (entry_of m) (entries (without of_none ms)) (eq-eqb (key (id_of m)) (code v) (ap code_if e ∙ ap code same)))
-        ∙ ap (λ l. keyed key m ∷ l) (key_part ms)
-        ∙ ap (all_keyed key) (sym (filter-yes in_bag m ms (ap not (is_this v (value (id_of m)) (e ∙ ap Some same))))))
+        ∙ ap (λ l. keyed m ∷ l) (key_part ms)
+        ∙ ap (all_keyed) (sym (filter-yes in_bag m ms (ap not (is_this v (value (id_of m)) (e ∙ ap Some same))))))
         (λ ne.
         ap marks (filter-no is_here (entry_of m) (entries (without of_none ms)) (ne_eqb (key (id_of m)) (code v) (λ q. ne (code_once w v (sym (ap code_if e) ∙ q)))))
         ∙ key_part ms
-        ∙ ap (all_keyed key) (sym (filter-no in_bag m ms (ap not (is_another v w (value (id_of m)) e ne)))))
+        ∙ ap (all_keyed) (sym (filter-no in_bag m ms (ap not (is_another v w (value (id_of m)) e ne)))))
         (equal_or_not w v))
 
   -- an operation has one key
@@ -121,13 +134,13 @@ module _ (value : ℕ → Option ℤ) where
   entries_keyed ms = record {
     op_key = λ e id op h is. (
         let r = from_map entry_of ms e h in
-        let mark : keyed key r.0 ≡ Invoked id op = ap (λ (w : Entry). w.mark) r.2 ∙ is in
-        let q = keyed_invoked key r.0 id op mark in
+        let mark : keyed r.0 ≡ Invoked id op = ap (λ (w : Entry). w.mark) r.2 ∙ is in
+        let q = change_invoked with_key as_told r.0 id op mark in
         ap (λ (p : Op). p.key) (sym q.2) ∙ ap key (sym (ap id_of q.1)) ∙ ap (λ (w : Entry). w.key) r.2);
     one_key = λ e g h k is. (
         let r = from_map entry_of ms e h in
         let q = from_map entry_of ms g k in
-        let same : id_of r.0 ≡ id_of q.0 = sym (keyed-id key r.0) ∙ ap (λ (w : Entry). id_of w.mark) r.2 ∙ is ∙ sym (ap (λ (w : Entry). id_of w.mark) q.2) ∙ keyed-id key q.0 in
+        let same : id_of r.0 ≡ id_of q.0 = sym (changed-id with_key as_told r.0) ∙ ap (λ (w : Entry). id_of w.mark) r.2 ∙ is ∙ sym (ap (λ (w : Entry). id_of w.mark) q.2) ∙ changed-id with_key as_told q.0 in
         sym (ap (λ (w : Entry). w.key) r.2) ∙ ap key same ∙ ap (λ (w : Entry). w.key) q.2);
   }
 
@@ -140,16 +153,16 @@ module _ (value : ℕ → Option ℤ) where
   -- other keys change nothing for the queue itself
   record OtherKey (x y : Taken) : Type 0 where
     id : y.id ≡ x.id
-    op : y.op ≡ with_key key x.id x.op
+    op : y.op ≡ with_key x.id x.op
     found : y.found ≡ x.found
 
-  IsLinearizable-keyed : (ms : List Mark) → IsLinearizable unordered_queue ms → IsLinearizable unordered_queue (all_keyed key ms)
+  IsLinearizable-keyed : (ms : List Mark) → IsLinearizable unordered_queue ms → IsLinearizable unordered_queue (all_keyed ms)
   IsLinearizable-keyed ms h =
       let l : IsLegalOrder unordered_queue ms h.0 h.1 = h.2 in
       let r = simulated unordered_queue unordered_queue Never OtherKey (λ before s w. s ≡ w) h.0
       (λ before after x s t w whole same step.
       inr (
-        record { id = x.id; op = with_key key x.id x.op; found = x.found },
+        record { id = x.id; op = with_key x.id x.op; found = x.found },
         t,
         record { id = refl; op = refl; found = refl },
         subst (λ z. unordered_queue.Steps z x.op x.found t) same step,
@@ -158,11 +171,12 @@ module _ (value : ℕ → Option ℤ) where
       [] h.0 [] h.1 [] refl refl l.run in (
         r.0,
         r.1,
-        IsLegalOrder-match Never OtherKey ms (all_keyed key ms) (λ x y k. k.id) (from_precedes key ms) unordered_queue unordered_queue h.0 r.0 h.1 r.1 l r.2 r.3
-            (λ x y i k. subst (λ n. Contains (all_keyed key ms) (Invoked n y.op)) (sym k.id) (subst (λ p. Contains (all_keyed key ms) (Invoked x.id p)) (sym k.op) (to_map (keyed key) ms (Invoked x.id x.op) (l.invoked x i))))
-            (λ x y i k d. subst (λ n. Contains ms (Failed n)) k.id (from_failed key ms y.id d))
-            (λ id d. ((d.0, from_returned key ms id d.0 d.1), (λ x i e none. none)))
-            (λ x y answer i k d. subst (λ f. Fits f answer) (sym k.found) (l.fits x answer i (subst (λ n. Contains ms (Returned n answer)) k.id (from_returned key ms y.id answer d)))),
+        IsLegalOrder-match Never OtherKey ms (all_keyed ms) (λ x y k. k.id) (from_precedes with_key as_told ms) unordered_queue unordered_queue h.0 r.0 h.1 r.1 l r.2 r.3
+            (λ x y i k. subst (λ n. Contains (all_keyed ms) (Invoked n y.op)) (sym k.id) (subst (λ p. Contains (all_keyed ms) (Invoked x.id p)) (sym k.op) (to_invoked with_key as_told ms x.id x.op (l.invoked x i))))
+            (λ x y i k d. subst (λ n. Contains ms (Failed n)) k.id (from_failed with_key as_told ms y.id d))
+            (λ id d. ((let q = from_returned with_key as_told ms id d.0 d.1 in (q.0, q.1)), (λ x i e none. none)))
+            (λ x y answer i k d. (let q = from_returned with_key as_told ms y.id answer d in
+            subst (λ f. Fits f answer) (sym k.found) (l.fits x answer i (subst (λ a. Contains ms (Returned x.id a)) q.2 (subst (λ n. Contains ms (Returned n q.0)) k.id q.1))))),
       )
 
   abbrev queues : Object
@@ -175,7 +189,7 @@ module _ (value : ℕ → Option ℤ) where
     abbrev all_entries : List Entry
     all_entries = entries valued
 
-    all_marks : marks all_entries ≡ all_keyed key valued
+    all_marks : marks all_entries ≡ all_keyed valued
     all_marks = marks-entries valued
 
     none_returned : HaveNotReturned of_none ms
@@ -193,11 +207,11 @@ module _ (value : ℕ → Option ℤ) where
         subst (λ n. IsLinearizable unordered_queue (marks (of_key n all_entries))) c.1
         (subst (IsLinearizable unordered_queue) (sym (key_part c.0 ms)) (IsLinearizable-keyed (bag value c.0 ms) (each c.0)))
 
-    all_keys : ((v : ℤ) → IsLinearizable unordered_queue (bag value v ms)) → IsLinearizable queues (all_keyed key valued)
+    all_keys : ((v : ℤ) → IsLinearizable unordered_queue (bag value v ms)) → IsLinearizable queues (all_keyed valued)
     all_keys each =
         subst (IsLinearizable queues) all_marks
         ((IsLinearizable-keys (λ k. UnorderedQueue) all_entries (entries_keyed valued)
-        (subst AreWellFormed (sym all_marks) (AreWellFormed-keyed key valued (AreWellFormed-without of_none ms well)))).1 (each_key each))
+        (subst AreWellFormed (sym all_marks) (AreWellFormed-changed with_key as_told valued (AreWellFormed-without of_none ms well)))).1 (each_key each))
 
     record OwnKey (x y : Taken) : Type 0 where
       id : y.id ≡ x.id
@@ -208,10 +222,10 @@ module _ (value : ℕ → Option ℤ) where
     abbrev HasAll : (ℕ → List ℤ) → List ℤ → Type 0
     HasAll s w = (v : ℤ) → times_in v (s (code v)) ≤ times_in v w
 
-    module _ (order : List Taken) (end : ℕ → List ℤ) (l : IsLegalOrder queues (all_keyed key valued) order end) where
+    module _ (order : List Taken) (end : ℕ → List ℤ) (l : IsLegalOrder queues (all_keyed valued) order end) where
       module _ (x : Taken) (there : Contains order x) (s t : ℕ → List ℤ) (w : List ℤ) (has : HasAll s w) (step : queues.Steps s x.op x.found t) where
-        was : (before : Op) × Contains valued (Invoked x.id before) × (with_key key x.id before ≡ x.op)
-        was = from_invoked key valued x.id x.op (l.invoked x there)
+        was : (before : Op) × Contains valued (Invoked x.id before) × (with_key x.id before ≡ x.op)
+        was = from_invoked with_key as_told valued x.id x.op (l.invoked x there)
 
         here : Contains ms (Invoked x.id was.0) × (of_none x.id ≡ false)
         here = from_without of_none ms _ was.1
@@ -264,7 +278,7 @@ module _ (value : ℕ → Option ℤ) where
         dequeue v name part answered is = ⊎_elim
             (λ k. (let clash : Dequeue ≡ Enqueue = sym name ∙ same_name ∙ k.1 in absurd (let none : ⊥ = cc in none)))
             (λ k.
-            let told : Contains (all_keyed key valued) (Returned x.id (Number v)) = to_map (keyed key) valued (Returned x.id (Number v)) (to_without of_none ms _ answered here.1) in
+            let told : Contains (all_keyed valued) (Returned x.id (Number v)) = to_returned with_key as_told valued x.id (Number v) (to_without of_none ms _ answered here.1) in
             let same : k.0 ≡ v = subst (λ f. Fits f (Number v)) k.5 (l.fits x (Number v) there told) in
             let in_s : Contains (s (code v)) v = subst (Contains (s (code v))) same k.3 in
             let before : times_in v (s (code v)) ≡ suc (times_in v (without_one v (s (code v)))) = one_less v (s (code v)) in_s in
@@ -297,17 +311,17 @@ module _ (value : ℕ → Option ℤ) where
           (λ before after x s t w whole has step. next x (middle before after order x whole) s t w has step)
           [] order (λ k. []) end [] refl (λ v. omega arith) l.run
 
-    IsLinearizable-valued : IsLinearizable queues (all_keyed key valued) → IsLinearizable unordered_queue valued
+    IsLinearizable-valued : IsLinearizable queues (all_keyed valued) → IsLinearizable unordered_queue valued
     IsLinearizable-valued h =
-        let l : IsLegalOrder queues (all_keyed key valued) h.0 h.1 = h.2 in
+        let l : IsLegalOrder queues (all_keyed valued) h.0 h.1 = h.2 in
         let r = joined_runs h.0 h.1 l in (
           r.0,
           r.1,
-          IsLegalOrder-match Never OwnKey (all_keyed key valued) valued (λ x y k. k.id) (to_precedes key valued) queues unordered_queue h.0 r.0 h.1 r.1 l r.2 r.3
+          IsLegalOrder-match Never OwnKey (all_keyed valued) valued (λ x y k. k.id) (to_precedes with_key as_told valued) queues unordered_queue h.0 r.0 h.1 r.1 l r.2 r.3
               (λ x y i k. k.invoked)
-              (λ x y i k d. subst (λ n. Contains (all_keyed key valued) (Failed n)) k.id (to_map (keyed key) valued (Failed y.id) d))
-              (λ id d. ((d.0, to_map (keyed key) valued (Returned id d.0) d.1), (λ x i e none. none)))
-              (λ x y answer i k d. subst (λ f. Fits f answer) (sym k.found) (l.fits x answer i (subst (λ n. Contains (all_keyed key valued) (Returned n answer)) k.id (to_map (keyed key) valued (Returned y.id answer) d)))),
+              (λ x y i k d. subst (λ n. Contains (all_keyed valued) (Failed n)) k.id (to_failed with_key as_told valued y.id d))
+              (λ id d. ((d.0, to_returned with_key as_told valued id d.0 d.1), (λ x i e none. none)))
+              (λ x y answer i k d. subst (λ f. Fits f answer) (sym k.found) (l.fits x answer i (subst (λ n. Contains (all_keyed valued) (Returned n answer)) k.id (to_returned with_key as_told valued y.id answer d)))),
         )
 
     pub IsLinearizable-bags : IsLinearizable unordered_queue ms ↔ ((v : ℤ) → IsLinearizable unordered_queue (bag value v ms))

@@ -4,6 +4,7 @@ use Rattle.std.specs.List.{filter, Contains}
 use Rattle.std.proofs.lemmas.Bool.{cases_Bool, true≢false, not-true}
 use Rattle.std.proofs.lemmas.List.Elements.{Contains-append_right, filter-append}
 use Rattle.models.specs.declared.operation.Op.{Op}
+use Rattle.models.specs.declared.finding.Found.{Found}
 use Rattle.models.specs.declared.finding.Answer.{Answer}
 use Rattle.models.specs.Objects.{Object, Fits, ReadsLeave}
 use Rattle.history.specs.Events.{Mark, Entry, marks}
@@ -11,13 +12,22 @@ use Rattle.history.specs.Events.Mark.{Invoked, Returned, Failed, Crashed}
 use Rattle.linspec.specs.MarkRule.{id_of, IsNew, MayFollow, AreWellFormed}
 use Rattle.linspec.specs.Operations.{IsInvoked, HasReturned, IsOpen, Precedes}
 use Rattle.linspec.specs.Orders.{Taken, Run, IsLegalOrder, IsLinearizable}
-use Rattle.linspec.proofs.Lists.{Contains-head, Pairwise-weaker}
+use Rattle.linspec.proofs.Lists.{Contains-nil, Contains-head, Contains-cons_cases, Pairwise-weaker}
 use Rattle.linspec.proofs.Filters.{from_filter, to_filter, filter-cut, filter-cut_at, filter-yes, filter-no}
 use Rattle.narrowing.specs.Intervals.{AsksForMore}
 use Rattle.narrowing.specs.LeftOut.{without, entries_without, HaveFailed, HaveNotReturned, AreReads}
 use Rattle.narrowing.proofs.Intervals.{IsLinearizable-stricter}
 use Rattle.narrowing.proofs.Matching.{Matches, IsLegalOrder-match, simulated}
 use Rattle.narrowing.proofs.Once.{returned_not_failed, returned_invoked}
+
+-- each operation of a run has a step
+step_of : (o : Object) (order : List Taken) (s t : o.State) → Run o s order t → (x : Taken) → Contains order x → (u : o.State) × (v : o.State) × o.Steps u x.op x.found v
+step_of o [] s t run x h = absurd (Contains-nil x h)
+step_of o (y ∷ order) s t run x h =
+    ⊎_elim
+    (λ e. (s, run.0, subst (λ (z : Taken). o.Steps s z.op z.found run.0) e run.1))
+    (λ k. step_of o order run.0 t run.2 x k)
+    (Contains-cons_cases y order x h)
 
 module _ (out : ℕ → Bool) where
   abbrev stays : Mark → Bool
@@ -155,3 +165,13 @@ module _ (out : ℕ → Bool) where
     IsLinearizable-without_reads o ms leave reads,
     IsLinearizable-stricter o ms (without out ms) (rest_asks_for_more ms none),
   )
+
+  -- what takes place in no state is in no order
+  pub IsLinearizable-without_foreign : (o : Object) (ms : List Mark) → ((id : ℕ) (op : Op) → IsTrue (out id) → Contains ms (Invoked id op) → (s t : o.State) (found : Found) → ¬ o.Steps s op found t)
+      → IsLinearizable o ms → IsLinearizable o (without out ms)
+  IsLinearizable-without_foreign o ms never h =
+      let l : IsLegalOrder o ms h.0 h.1 = h.2 in
+      (h.0, h.1, IsLegalOrder-rest o ms h.0 h.1 l (λ x k. ⊎_elim
+          (λ e. (let r = step_of o h.0 o.start h.1 l.run x k in absurd (never x.id x.op e (l.invoked x k) r.0 r.1 x.found r.2)))
+          (λ e. e)
+          (cases_Bool (out x.id))))

@@ -10,3 +10,5 @@ pub mod Multisets
 pub mod Bags
 pub mod Relabelling
 pub mod BagsJoined
+pub mod Sets
+pub mod SetValues

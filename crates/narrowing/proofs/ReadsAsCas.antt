@@ -1,7 +1,6 @@
 -- a read that has answered v takes place just where cas [v v] does
 use Rattle.std.proofs.Common.{◌≡◌, ◌≢◌, ◌↔◌, ℕ, ℤ, ◌⊎◌, inl, inr, ⊎_elim, Option, Some, None, List, [], ◌∷◌, ◌++◌, map, refl, sym, ap, ◌∙◌, subst}
 use Rattle.std.specs.List.{Contains}
-use Rattle.std.proofs.lemmas.List.{map-append}
 use Rattle.std.proofs.lemmas.List.Elements.{Contains-append_right}
 use Rattle.models.specs.declared.operation.Name.{Name}
 use Rattle.models.specs.declared.operation.Name.TheVariants.{Read, Write, Cas}
@@ -19,10 +18,10 @@ use Rattle.linspec.specs.MarkRule.{AreWellFormed}
 use Rattle.linspec.specs.Operations.{HasReturned, Precedes}
 use Rattle.linspec.specs.Orders.{Taken, Run, IsLegalOrder, IsLinearizable}
 use Rattle.linspec.proofs.Lists.{Contains-head, Contains-tail}
-use Rattle.linspec.proofs.Filters.{map-cut, from_map, to_map}
-use Rattle.narrowing.specs.ReadsAsCas.{AreAnsweredReads, cas_if, answer_if, mark_as_cas, reads_as_cas, HasNoCas}
+use Rattle.narrowing.specs.ReadsAsCas.{AreAnsweredReads, cas_if, answer_if, reads_as_cas, HasNoCas}
 use Rattle.narrowing.proofs.Matching.{Matches, IsLegalOrder-match, simulated}
 use Rattle.narrowing.proofs.Once.{one_op, one_answer}
+use Rattle.narrowing.proofs.Relabelling.{from_invoked, from_returned, from_failed, to_invoked, to_returned, to_failed, from_precedes, to_precedes}
 use Rattle.narrowing.proofs.RegisterSteps.{IsWrite, IsRead, IsCas, View, view_register, view_cas_register, by_cas_view, by_view, no_cas}
 
 by_option : {P : Type 0} (r : Option ℤ) → (r ≡ None → P) → ((v : ℤ) → r ≡ Some v → P) → P
@@ -30,58 +29,11 @@ by_option None none some = none refl
 by_option (Some v) none some = some v refl
 
 module _ (reads : ℕ → Option ℤ) where
-  abbrev f : Mark → Mark
-  f = mark_as_cas reads
+  abbrev ops : ℕ → Op → Op
+  ops id op = cas_if op (reads id)
 
-  invoked_of : (m : Mark) (id : ℕ) (op : Op) → f m ≡ Invoked id op → (before : Op) × (m ≡ Invoked id before) × (cas_if before (reads id) ≡ op)
-  invoked_of (Invoked i p) id op e =
-      let same : i ≡ id = cc in
-      let is : cas_if p (reads i) ≡ op = cc in
-      (p, ap (λ j. Invoked j p) same, ap (λ j. cas_if p (reads j)) (sym same) ∙ is)
-  invoked_of (Returned i a) id op e = cc
-  invoked_of (Failed i) id op e = cc
-  invoked_of (Crashed i) id op e = cc
-
-  returned_of : (m : Mark) (id : ℕ) (answer : Answer) → f m ≡ Returned id answer → (before : Answer) × (m ≡ Returned id before) × (answer_if before (reads id) ≡ answer)
-  returned_of (Returned i a) id answer e =
-      let same : i ≡ id = cc in
-      let is : answer_if a (reads i) ≡ answer = cc in
-      (a, ap (λ j. Returned j a) same, ap (λ j. answer_if a (reads j)) (sym same) ∙ is)
-  returned_of (Invoked i p) id answer e = cc
-  returned_of (Failed i) id answer e = cc
-  returned_of (Crashed i) id answer e = cc
-
-  failed_of : (m : Mark) (id : ℕ) → f m ≡ Failed id → m ≡ Failed id
-  failed_of (Failed i) id e = e
-  failed_of (Invoked i p) id e = cc
-  failed_of (Returned i a) id e = cc
-  failed_of (Crashed i) id e = cc
-
-  from_invoked : (ms : List Mark) (id : ℕ) (op : Op) → Contains (reads_as_cas reads ms) (Invoked id op) → (before : Op) × Contains ms (Invoked id before) × (cas_if before (reads id) ≡ op)
-  from_invoked ms id op h = let r = from_map f ms (Invoked id op) h in let q = invoked_of r.0 id op r.2 in (q.0, subst (Contains ms) q.1 r.1, q.2)
-
-  from_returned : (ms : List Mark) (id : ℕ) (answer : Answer) → Contains (reads_as_cas reads ms) (Returned id answer) → (before : Answer) × Contains ms (Returned id before) × (answer_if before (reads id) ≡ answer)
-  from_returned ms id answer h = let r = from_map f ms (Returned id answer) h in let q = returned_of r.0 id answer r.2 in (q.0, subst (Contains ms) q.1 r.1, q.2)
-
-  from_failed : (ms : List Mark) (id : ℕ) → Contains (reads_as_cas reads ms) (Failed id) → Contains ms (Failed id)
-  from_failed ms id h = let r = from_map f ms (Failed id) h in subst (Contains ms) (failed_of r.0 id r.2) r.1
-
-  -- precedence is as it was
-  from_precedes : (ms : List Mark) (a b : ℕ) → Precedes (reads_as_cas reads ms) a b → Precedes ms a b
-  from_precedes ms a b p =
-      let c = map-cut f ms p.before p.after p.cut in
-      let r = from_returned c.0 a p.returned.0 (subst (λ l. Contains l (Returned a p.returned.0)) c.3 p.returned.1) in
-      let i = from_invoked c.1 b p.invoked.0 (subst (λ l. Contains l (Invoked b p.invoked.0)) c.4 p.invoked.1) in
-      record { before = c.0; after = c.1; cut = sym c.2; returned = (r.0, r.1); invoked = (i.0, i.1) }
-
-  to_precedes : (ms : List Mark) (a b : ℕ) → Precedes ms a b → Precedes (reads_as_cas reads ms) a b
-  to_precedes ms a b p = record {
-    before = reads_as_cas reads p.before;
-    after = reads_as_cas reads p.after;
-    cut = sym (map-append f p.before p.after) ∙ ap (reads_as_cas reads) p.cut;
-    returned = (answer_if p.returned.0 (reads a), to_map f p.before (Returned a p.returned.0) p.returned.1);
-    invoked = (cas_if p.invoked.0 (reads b), to_map f p.after (Invoked b p.invoked.0) p.invoked.1);
-  }
+  abbrev answers : ℕ → Answer → Answer
+  answers id answer = answer_if answer (reads id)
 
   -- an operation of an order of the one history, and of the other
   record Same (ms : List Mark) (x y : Taken) : Type 0 where
@@ -113,7 +65,7 @@ module _ (reads : ℕ → Option ℤ) where
       step_to x s t v h same step = by_option (reads x.id) none some
         where
           there : Contains changed (Invoked x.id (cas_if x.op (reads x.id)))
-          there = to_map f ms (Invoked x.id x.op) (l.invoked x h)
+          there = to_invoked ops answers ms x.id x.op (l.invoked x h)
 
           none : reads x.id ≡ None → Step changed x t v
           none e = inr (
@@ -122,7 +74,7 @@ module _ (reads : ℕ → Option ℤ) where
             record {
               id = refl;
               invoked = subst (λ r. Contains changed (Invoked x.id (cas_if x.op r))) e there;
-              fits = λ answer d. (let q = from_returned ms x.id answer d in subst (Fits x.found) (ap (λ r. answer_if q.0 r) (sym e) ∙ q.2) (l.fits x q.0 h q.1));
+              fits = λ answer d. (let q = from_returned ops answers ms x.id answer d in subst (Fits x.found) (ap (λ r. answer_if q.0 r) (sym e) ∙ q.2) (l.fits x q.0 h q.1));
             },
             subst (λ w. cas_register.Steps w x.op x.found t) same step,
             refl,
@@ -164,10 +116,10 @@ module _ (reads : ℕ → Option ℤ) where
         let r = runs_to h.0 h.1 l in (
           r.0,
           r.1,
-          IsLegalOrder-match Never (Same changed) ms changed (λ x y k. k.id) (from_precedes ms) cas_register cas_register h.0 r.0 h.1 r.1 l r.2 r.3
+          IsLegalOrder-match Never (Same changed) ms changed (λ x y k. k.id) (from_precedes ops answers ms) cas_register cas_register h.0 r.0 h.1 r.1 l r.2 r.3
               (λ x y i k. k.invoked)
-              (λ x y i k d. subst (λ n. Contains ms (Failed n)) k.id (from_failed ms y.id d))
-              (λ id d. ((let q = from_returned ms id d.0 d.1 in (q.0, q.1)), (λ x i e no. no)))
+              (λ x y i k d. subst (λ n. Contains ms (Failed n)) k.id (from_failed ops answers ms y.id d))
+              (λ id d. ((let q = from_returned ops answers ms id d.0 d.1 in (q.0, q.1)), (λ x i e no. no)))
               (λ x y answer i k d. k.fits answer d),
         )
 
@@ -176,10 +128,10 @@ module _ (reads : ℕ → Option ℤ) where
       step_back x s t v h same step = by_option (reads x.id) none some
         where
           was : (before : Op) × Contains ms (Invoked x.id before) × (cas_if before (reads x.id) ≡ x.op)
-          was = from_invoked ms x.id x.op (l.invoked x h)
+          was = from_invoked ops answers ms x.id x.op (l.invoked x h)
 
           answered : (answer : Answer) → Contains ms (Returned x.id answer) → Fits x.found (answer_if answer (reads x.id))
-          answered answer d = l.fits x (answer_if answer (reads x.id)) h (to_map f ms (Returned x.id answer) d)
+          answered answer d = l.fits x (answer_if answer (reads x.id)) h (to_returned ops answers ms x.id answer d)
 
           none : reads x.id ≡ None → Step ms x t v
           none e = inr (
@@ -209,7 +161,7 @@ module _ (reads : ℕ → Option ℤ) where
               let first : a ≡ k.0 = cc in
               let second : a ≡ k.1 = cc in
               let state : v ≡ Some a = sym same ∙ k.4 ∙ ap Some (sym first) in
-              let after : t ≡ v = k.5 ∙ ap Some (sym second) ∙ sym state in
+              let after : t ≡ v = k.5 ∙ ap Some (sym second) ∙ sym {b = Some a} state in
               let y : Taken = record { id = x.id; op = was.0; found = Reg v } in
               inr (
                 y,
@@ -235,10 +187,10 @@ module _ (reads : ℕ → Option ℤ) where
         let r = runs_back h.0 h.1 l in (
           r.0,
           r.1,
-          IsLegalOrder-match Never (Same ms) changed ms (λ x y k. k.id) (to_precedes ms) cas_register cas_register h.0 r.0 h.1 r.1 l r.2 r.3
+          IsLegalOrder-match Never (Same ms) changed ms (λ x y k. k.id) (to_precedes ops answers ms) cas_register cas_register h.0 r.0 h.1 r.1 l r.2 r.3
               (λ x y i k. k.invoked)
-              (λ x y i k d. subst (λ n. Contains changed (Failed n)) k.id (to_map f ms (Failed y.id) d))
-              (λ id d. ((answer_if d.0 (reads id), to_map f ms (Returned id d.0) d.1), (λ x i e no. no)))
+              (λ x y i k d. subst (λ n. Contains changed (Failed n)) k.id (to_failed ops answers ms y.id d))
+              (λ id d. ((answer_if d.0 (reads id), to_returned ops answers ms id d.0 d.1), (λ x i e no. no)))
               (λ x y answer i k d. k.fits answer d),
         )
 

@@ -3,6 +3,9 @@ use Rattle.std.specs.Prelude.{◌≡◌, ℕ, Bool, not, List, ◌∷◌, ◌++�
 use Rattle.std.specs.List.{filter, Contains}
 use Rattle.models.specs.declared.operation.Name.TheVariants.{Read}
 use Rattle.models.specs.declared.operation.Op.{Op}
+use Rattle.models.specs.declared.finding.Found.{Found}
+use Rattle.models.specs.declared.model_kind.ModelKind.{ModelKind}
+use Rattle.models.specs.Objects.{object_of}
 use Rattle.history.specs.Events.{Mark, Entry, marks}
 use Rattle.history.specs.Events.Mark.{Invoked, Failed}
 use Rattle.linspec.specs.Operations.{IsInvoked, HasReturned}
@@ -26,6 +29,15 @@ HaveNotReturned out marks = (id : ℕ) → IsTrue (out id) → ¬ HasReturned ma
 abbrev pub AreReads : (ℕ → Bool) → List Mark → Type 0
 AreReads out marks =
     (id : ℕ) (op : Op) → IsTrue (out id) → Contains marks (Invoked id op) → op.name ≡ Read
+
+-- the operation takes place in no state of such an object; so does each that out names
+abbrev pub NeverTakesPlace : ModelKind → Op → Type 0
+NeverTakesPlace kind op =
+    (s t : (object_of kind).State) (found : Found) → ¬ (object_of kind).Steps s op found t
+
+abbrev pub AreForeign : ModelKind → (ℕ → Bool) → List Mark → Type 0
+AreForeign kind out marks =
+    (id : ℕ) (op : Op) → IsTrue (out id) → Contains marks (Invoked id op) → NeverTakesPlace kind op
 
 -- of the operations that out names each one that is invoked before the entry has failed before it
 abbrev pub HaveFailedBefore : (ℕ → Bool) → List Entry → Entry → Type 0

@@ -1,5 +1,7 @@
 pub mod Intervals
 pub mod LeftOut
+pub mod Changed
 pub mod Registers
 pub mod ReadsAsCas
 pub mod Bags
+pub mod Sets

@@ -1,5 +1,5 @@
 -- Promise: reads as compare-and-sets that change nothing
-use Rattle.std.specs.Prelude.{◌≡◌, ◌≢◌, ℕ, ℤ, Option, Some, None, List, map}
+use Rattle.std.specs.Prelude.{◌≡◌, ◌≢◌, ℕ, ℤ, Option, Some, None, List}
 use Rattle.std.specs.List.{Contains}
 use Rattle.models.specs.declared.operation.Name.TheVariants.{Read, Cas}
 use Rattle.models.specs.declared.operation.Part.TheVariants.{Nil, Pair}
@@ -7,7 +7,8 @@ use Rattle.models.specs.declared.operation.Op.{Op}
 use Rattle.models.specs.declared.finding.Answer.{Answer}
 use Rattle.models.specs.declared.finding.Answer.TheVariants.{Number, Numbers}
 use Rattle.history.specs.Events.{Mark}
-use Rattle.history.specs.Events.Mark.{Invoked, Returned, Failed, Crashed}
+use Rattle.history.specs.Events.Mark.{Invoked, Returned}
+use Rattle.narrowing.specs.Changed.{changed}
 
 -- some reads of the history, each with the value that it has answered
 abbrev pub AreAnsweredReads : (ℕ → Option ℤ) → List Mark → Type 0
@@ -25,15 +26,10 @@ abbrev pub answer_if : Answer → Option ℤ → Answer
 answer_if answer None = answer
 answer_if answer (Some v) = Numbers v v
 
--- the mark, where each of these reads of v is cas [v v]
-abbrev pub mark_as_cas : (ℕ → Option ℤ) → Mark → Mark
-mark_as_cas reads (Invoked id op) = Invoked id (cas_if op (reads id))
-mark_as_cas reads (Returned id answer) = Returned id (answer_if answer (reads id))
-mark_as_cas reads (Failed id) = Failed id
-mark_as_cas reads (Crashed id) = Crashed id
-
+-- the history, where each of these reads of v is cas [v v]
 abbrev pub reads_as_cas : (ℕ → Option ℤ) → List Mark → List Mark
-reads_as_cas reads marks = map (mark_as_cas reads) marks
+reads_as_cas reads marks =
+    changed (λ id op. cas_if op (reads id)) (λ id answer. answer_if answer (reads id)) marks
 
 -- no operation of the history is a cas
 abbrev pub HasNoCas : List Mark → Type 0

@@ -1,15 +1,16 @@
 //! Laws of histories that ask for more, and of histories without some of their operations.
 ghost use Rattle.std.specs.Prelude.{◌↔◌, ℕ, ℤ, Bool, Option, List, [], ◌∷◌, ◌++◌};
 ghost use Rattle.models.specs.declared.model_kind.ModelKind.{ModelKind};
-ghost use Rattle.models.specs.Objects.{object_of, register, cas_register, unordered_queue};
+ghost use Rattle.models.specs.Objects.{object_of, register, cas_register, set_of_numbers, unordered_queue};
 ghost use Rattle.history.specs.Events.{Mark, Entry, marks, IsFront};
 ghost use Rattle.linspec.specs.MarkRule.{AreWellFormed};
 ghost use Rattle.linspec.specs.Orders.{IsLinearizable, product};
 ghost use Rattle.linspec.specs.Verdicts.{IsRising, EndsShortestBadFront};
 ghost use Rattle.narrowing.specs.Intervals.{AsksForMore, HasNarrowerIntervals};
-ghost use Rattle.narrowing.specs.LeftOut.{without, entries_without, HaveFailed, HaveNotReturned, AreReads, HaveFailedBefore};
+ghost use Rattle.narrowing.specs.LeftOut.{without, entries_without, HaveFailed, HaveNotReturned, AreReads, AreForeign, HaveFailedBefore};
 ghost use Rattle.narrowing.specs.Registers.{DragsFinders, IsByValues};
 ghost use Rattle.narrowing.specs.Bags.{AreValues, bag};
+ghost use Rattle.narrowing.specs.Sets.{AreRepeatedAdds, AreAddsOf, answers_without};
 ghost use Rattle.narrowing.specs.ReadsAsCas.{AreAnsweredReads, reads_as_cas, HasNoCas};
 
 /// Where a history that asks for more is linearizable, so is the history: for one key, and for all keys together.
@@ -81,6 +82,18 @@ pub fn reads_law()
         → EndsShortestBadFront (object_of kind) entries last }
 {}
 
+/// An operation that takes place in no state of the object is in no order: the rest of a linearizable history is
+/// linearizable; and the history is where the rest is, if none of these has returned.
+pub fn foreign_law()
+    ensures any { (kind : ModelKind) (out : ℕ → Bool) (marks : List Mark) →
+        AreForeign kind out marks → IsLinearizable (object_of kind) marks
+        → IsLinearizable (object_of kind) (without out marks) }
+    ensures not_returned { (kind : ModelKind) (out : ℕ → Bool) (marks : List Mark) →
+        AreForeign kind out marks → HaveNotReturned out marks
+        → IsLinearizable (object_of kind) marks
+        ↔ IsLinearizable (object_of kind) (without out marks) }
+{}
+
 /// Of a register, with compare-and-set and without, any operations may be left out together, if with each that brings a value
 /// in each goes that may have found it: the rest of a linearizable history is linearizable. So all operations of some values
 /// may be left out.
@@ -110,6 +123,17 @@ pub fn reads_as_cas_law()
         → IsLinearizable register marks ↔ IsLinearizable cas_register (reads_as_cas reads marks) }
     ensures no_cas { (marks : List Mark) → HasNoCas marks
         → IsLinearizable register marks ↔ IsLinearizable cas_register marks }
+{}
+
+/// Of a set adds may be left out that another add of the same value precedes, which stays. And values may: all adds of them,
+/// and these values out of each answer. In both cases the rest of a linearizable history is linearizable.
+pub fn set_law()
+    ensures repeated { (out : ℕ → Bool) (marks : List Mark) →
+        AreWellFormed marks → AreRepeatedAdds out marks → IsLinearizable set_of_numbers marks
+        → IsLinearizable set_of_numbers (without out marks) }
+    ensures values { (values : ℤ → Bool) (out : ℕ → Bool) (marks : List Mark) →
+        AreAddsOf values out marks → IsLinearizable set_of_numbers marks
+        → IsLinearizable set_of_numbers (answers_without values (without out marks)) }
 {}
 
 /// A queue without an order is a bag for each value: its history is linearizable exactly where each value's part is, the
