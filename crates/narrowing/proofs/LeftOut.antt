@@ -21,7 +21,7 @@ use Rattle.narrowing.proofs.Matching.{Matches, IsLegalOrder-match, simulated}
 use Rattle.narrowing.proofs.Once.{returned_not_failed, returned_invoked}
 
 -- each operation of a run has a step
-step_of : (o : Object) (order : List Taken) (s t : o.State) → Run o s order t → (x : Taken) → Contains order x → (u : o.State) × (v : o.State) × o.Steps u x.op x.found v
+pub step_of : (o : Object) (order : List Taken) (s t : o.State) → Run o s order t → (x : Taken) → Contains order x → (u : o.State) × (v : o.State) × o.Steps u x.op x.found v
 step_of o [] s t run x h = absurd (Contains-nil x h)
 step_of o (y ∷ order) s t run x h =
     ⊎_elim

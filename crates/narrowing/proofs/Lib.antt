@@ -12,3 +12,4 @@ pub mod Relabelling
 pub mod BagsJoined
 pub mod Sets
 pub mod SetValues
+pub mod Queues

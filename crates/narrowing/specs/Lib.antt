@@ -5,3 +5,4 @@ pub mod Registers
 pub mod ReadsAsCas
 pub mod Bags
 pub mod Sets
+pub mod Queues

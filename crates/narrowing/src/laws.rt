@@ -1,7 +1,7 @@
 //! Laws of histories that ask for more, and of histories without some of their operations.
 ghost use Rattle.std.specs.Prelude.{◌↔◌, ℕ, ℤ, Bool, Option, List, [], ◌∷◌, ◌++◌};
 ghost use Rattle.models.specs.declared.model_kind.ModelKind.{ModelKind};
-ghost use Rattle.models.specs.Objects.{object_of, register, cas_register, set_of_numbers, unordered_queue};
+ghost use Rattle.models.specs.Objects.{object_of, register, cas_register, fifo_queue, set_of_numbers, unordered_queue};
 ghost use Rattle.history.specs.Events.{Mark, Entry, marks, IsFront};
 ghost use Rattle.linspec.specs.MarkRule.{AreWellFormed};
 ghost use Rattle.linspec.specs.Orders.{IsLinearizable, product};
@@ -10,6 +10,7 @@ ghost use Rattle.narrowing.specs.Intervals.{AsksForMore, HasNarrowerIntervals};
 ghost use Rattle.narrowing.specs.LeftOut.{without, entries_without, HaveFailed, HaveNotReturned, AreReads, AreForeign, HaveFailedBefore};
 ghost use Rattle.narrowing.specs.Registers.{DragsFinders, IsByValues};
 ghost use Rattle.narrowing.specs.Bags.{AreValues, bag};
+ghost use Rattle.narrowing.specs.Queues.{AreOfValues};
 ghost use Rattle.narrowing.specs.Sets.{AreRepeatedAdds, AreAddsOf, answers_without};
 ghost use Rattle.narrowing.specs.ReadsAsCas.{AreAnsweredReads, reads_as_cas, HasNoCas};
 
@@ -134,6 +135,15 @@ pub fn set_law()
     ensures values { (values : ℤ → Bool) (out : ℕ → Bool) (marks : List Mark) →
         AreAddsOf values out marks → IsLinearizable set_of_numbers marks
         → IsLinearizable set_of_numbers (answers_without values (without out marks)) }
+{}
+
+/// Of a queue with an order values may be left out: all enqueues of them, and all dequeues that have answered one. Dequeues
+/// that have not returned may go too, if each value goes that is spare: of which more enqueues did not fail than dequeues have
+/// answered. The rest of a linearizable history is linearizable.
+pub fn fifo_queue_law()
+    ensures { (values : ℤ → Bool) (out : ℕ → Bool) (marks : List Mark) →
+        AreWellFormed marks → AreOfValues values out marks → IsLinearizable fifo_queue marks
+        → IsLinearizable fifo_queue (without out marks) }
 {}
 
 /// A queue without an order is a bag for each value: its history is linearizable exactly where each value's part is, the
