@@ -13,3 +13,4 @@ pub mod BagsJoined
 pub mod Sets
 pub mod SetValues
 pub mod Queues
+pub mod Renaming

@@ -67,6 +67,30 @@ module _ (Skip : Taken → Type 0) (R : Taken → Taken → Type 0) where
     fits = λ y answer h k. (let r = from_match xs ys m y h in fits r.0 y answer r.1 r.2 k);
   }
 
+  -- the same, where an operation may have another name there
+  pub IsLegalOrder-similar : (whole other : List Mark) (o u : Object) (xs ys : List Taken) (s : o.State) (t : u.State) → IsLegalOrder o whole xs s → Matches xs ys → Run u u.start ys t
+      → ((x z y w : Taken) → R x y → R z w → x.id ≢ z.id → y.id ≢ w.id)
+      → ((x z y w : Taken) → R x y → R z w → Precedes other w.id y.id → Precedes whole z.id x.id)
+      → ((x y : Taken) → Contains xs x → R x y → Contains other (Invoked y.id y.op))
+      → ((x y : Taken) → Contains xs x → R x y → Contains other (Failed y.id) → Contains whole (Failed x.id))
+      → ((id : ℕ) → HasReturned other id → (was : ℕ) × HasReturned whole was × ((x : Taken) → Contains xs x → x.id ≡ was → ¬ Skip x) × ((x y : Taken) → x.id ≡ was → R x y → y.id ≡ id))
+      → ((x y : Taken) (answer : Answer) → Contains xs x → R x y → Contains other (Returned y.id answer) → Fits y.found answer)
+      → IsLegalOrder u other ys t
+  IsLegalOrder-similar whole other o u xs ys s t l m run apart precedes invoked failed done fits = record {
+    invoked = λ y h. (let r = from_match xs ys m y h in invoked r.0 y r.1 r.2);
+    once = Pairwise-match (λ x z. x.id ≢ z.id) (λ y w. y.id ≢ w.id) xs ys m (λ x z y w r q. apart x z y w r q) l.once;
+    none_failed = λ y h f. (let r = from_match xs ys m y h in l.none_failed r.0 r.1 (failed r.0 y r.1 r.2 f));
+    all_done = λ id d. (
+        let is = done id d in
+        let i : Includes xs is.0 = l.all_done is.0 is.1 in
+        let r = to_match xs ys m i.0 i.1 (is.2 i.0 i.1 i.2) in
+        (r.0, r.1, is.3 i.0 r.0 i.2 r.2));
+    in_time = Pairwise-match (λ x z. ¬ Precedes whole z.id x.id) (λ y w. ¬ Precedes other w.id y.id) xs ys m
+        (λ x z y w r q n p. n (precedes x z y w r q p)) l.in_time;
+    run = run;
+    fits = λ y answer h k. (let r = from_match xs ys m y h in fits r.0 y answer r.1 r.2 k);
+  }
+
 -- a run of one object makes one of another, where each step does: P tells how the states compare after each front of the order
 module _ (o u : Object) (Skip : Taken → Type 0) (R : Taken → Taken → Type 0) (P : List Taken → o.State → u.State → Type 0) (order : List Taken)
     (step : (before after : List Taken) (x : Taken) (s t : o.State) (v : u.State) → before ++ x ∷ after ≡ order → P before s v → o.Steps s x.op x.found t

@@ -6,3 +6,4 @@ pub mod ReadsAsCas
 pub mod Bags
 pub mod Sets
 pub mod Queues
+pub mod Renamed

@@ -10,6 +10,7 @@ ghost use Rattle.narrowing.specs.Intervals.{AsksForMore, HasNarrowerIntervals};
 ghost use Rattle.narrowing.specs.LeftOut.{without, entries_without, HaveFailed, HaveNotReturned, AreReads, AreForeign, HaveFailedBefore};
 ghost use Rattle.narrowing.specs.Registers.{DragsFinders, IsByValues};
 ghost use Rattle.narrowing.specs.Bags.{AreValues, bag};
+ghost use Rattle.narrowing.specs.Renamed.{IsOneToOne, renamed};
 ghost use Rattle.narrowing.specs.Queues.{AreOfValues};
 ghost use Rattle.narrowing.specs.Sets.{AreRepeatedAdds, AreAddsOf, answers_without};
 ghost use Rattle.narrowing.specs.ReadsAsCas.{AreAnsweredReads, reads_as_cas, HasNoCas};
@@ -153,6 +154,16 @@ pub fn bags_law()
         AreWellFormed marks → AreValues value marks
         → IsLinearizable unordered_queue marks
         ↔ ((v : ℤ) → IsLinearizable unordered_queue (bag value v marks)) }
+{}
+
+/// How operations are numbered decides nothing: a history is linearizable exactly where it is so with other numbers, no two
+/// the same.
+pub fn renaming_law()
+    ensures one { (kind : ModelKind) (name : ℕ → ℕ) (marks : List Mark) → IsOneToOne name
+        → IsLinearizable (object_of kind) marks
+        ↔ IsLinearizable (object_of kind) (renamed name marks) }
+    ensures all { (kinds : ℕ → ModelKind) (name : ℕ → ℕ) (marks : List Mark) → IsOneToOne name
+        → IsLinearizable (product kinds) marks ↔ IsLinearizable (product kinds) (renamed name marks) }
 {}
 
 /// How an illegal part and an order tell the event: where what comes before an event is linearizable, and a part of what comes
