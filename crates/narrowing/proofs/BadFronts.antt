@@ -29,7 +29,7 @@ front_of_front (x ∷ a) (y ∷ c) r s e n =
     let f = front_of_front a c r s tails (omega arith) in
     (f.0, (λ i. heads i ∷ f.1 i))
 
-well_front : (xs ys : List Mark) → AreWellFormed (xs ++ ys) → AreWellFormed xs
+pub well_front : (xs ys : List Mark) → AreWellFormed (xs ++ ys) → AreWellFormed xs
 well_front xs ys well before after m cut = well before (after ++ ys) m (sym (append_assoc before (m ∷ after) ys) ∙ ap (λ l. l ++ ys) cut)
 
 -- where a front is linearizable, and is no longer so with the next entry

@@ -14,3 +14,6 @@ pub mod Sets
 pub mod SetValues
 pub mod Queues
 pub mod Renaming
+pub mod Counting
+pub mod Enough
+pub mod Ranks

@@ -22,7 +22,7 @@ use Rattle.models.proofs.Unordered.{dequeue_is}
 times_cons : (w x : ℤ) (xs : List ℤ) → times_in w (x ∷ xs) ≡ cond (int_eq x w) 1 0 + times_in w xs
 times_cons w x xs = sum_by-cons (λ y. cond (int_eq y w) 1 0) x xs
 
-times_with : (w v : ℤ) (s : List ℤ) → times_in w (with_one v s) ≡ cond (int_eq v w) 1 0 + times_in w s
+pub times_with : (w v : ℤ) (s : List ℤ) → times_in w (with_one v s) ≡ cond (int_eq v w) 1 0 + times_in w s
 times_with w v [] = times_cons w v []
 times_with w v (x ∷ xs) =
     ⊎_elim
@@ -30,7 +30,7 @@ times_with w v (x ∷ xs) =
     (λ e. ap (times_in w) (with_one-here v x xs e) ∙ times_cons w v (x ∷ xs))
     (cases_Bool (int_lt x v))
 
-times_without : (w v : ℤ) (s : List ℤ) → Contains s v → times_in w s ≡ cond (int_eq v w) 1 0 + times_in w (without_one v s)
+pub times_without : (w v : ℤ) (s : List ℤ) → Contains s v → times_in w s ≡ cond (int_eq v w) 1 0 + times_in w (without_one v s)
 times_without w v [] h = absurd (no_member v h)
 times_without w v (x ∷ xs) h =
     ⊎_elim

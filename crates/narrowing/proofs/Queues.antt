@@ -30,10 +30,11 @@ use Rattle.linspec.proofs.Filters.{filter-yes, filter-no, from_filter, to_filter
 use Rattle.linspec.proofs.Counts.{no_longer_than}
 use Rattle.linspec.proofs.Fates.{returned_or_not}
 use Rattle.narrowing.specs.LeftOut.{without}
-use Rattle.narrowing.specs.Queues.{Enqueues, AreEnqueuesOf, AreDequeuesOf, IsSpare, AreOfValues}
+use Rattle.narrowing.specs.Queues.{Enqueues, AreDequeuesOf, IsSpare, AreOfValues}
 use Rattle.narrowing.proofs.Matching.{Matches, simulated}
 use Rattle.narrowing.proofs.Once.{one_op}
 use Rattle.narrowing.proofs.LeftOut.{step_of, MayGo, Stays, IsLinearizable-rest}
+use Rattle.narrowing.proofs.Counting.{puts, takes, ids_of, count, puts_is, takes_is, puts_none, takes_none, from_ids, to_ids, each_once, named_enqueue}
 
 -- what a step may be
 abbrev IsEnqueue : Name → Part → List ℤ → Found → List ℤ → Type 0
@@ -64,40 +65,12 @@ by_dequeue name part s t found h =
     (subst (λ l. IsOneOf (queue_apply Dequeue Nil l) (t, found)) (sym h.3)
     (inl (λ i. (t, sym h.4 i)))))
 
--- how many enqueues of v an order has, and dequeues that find it
-abbrev puts : ℤ → Taken → Bool
-puts v x = is_enqueue_of v x.op.name x.op.part
-
-abbrev takes : ℤ → Taken → Bool
-takes v x = is_dequeue_of v x.op.name x.found
-
-abbrev ids_of : (Taken → Bool) → List Taken → List ℕ
-ids_of p order = map (λ (x : Taken). x.id) (filter p order)
-
-count : (p : Taken → Bool) (x : Taken) (order : List Taken) → length (ids_of p (x ∷ order)) ≡ cond (p x) 1 0 + length (ids_of p order)
-count p x order = ⊎_elim
-    (λ yes. ap (λ l. length (map (λ (x : Taken). x.id) l)) (filter-yes p x order yes) ∙ (let one : cond {A = ℕ} (p x) 1 0 ≡ 1 = ap (λ b. cond b 1 0) yes in omega (arith, one)))
-    (λ no. ap (λ l. length (map (λ (x : Taken). x.id) l)) (filter-no p x order no) ∙ (let none : cond {A = ℕ} (p x) 1 0 ≡ 0 = ap (λ b. cond b 1 0) no in omega (arith, none)))
-    (cases_Bool (p x))
-
 times_cons : (w x : ℤ) (xs : List ℤ) → times_in w (x ∷ xs) ≡ cond (int_eq x w) 1 0 + times_in w xs
 times_cons w x xs = sum_by-cons (λ y. cond (int_eq y w) 1 0) x xs
 
 times_push : (w v : ℤ) (s : List ℤ) → times_in w (s ++ v ∷ []) ≡ cond (int_eq v w) 1 0 + times_in w s
 times_push w v [] = times_cons w v []
 times_push w v (x ∷ s) = let rest = times_push w v s in let a = times_cons w x (s ++ v ∷ []) in let b = times_cons w x s in omega arith
-
-puts_is : (v a : ℤ) (x : Taken) → x.op.name ≡ Enqueue → x.op.part ≡ Int a → puts v x ≡ int_eq a v
-puts_is v a x e f = λ i. is_enqueue_of v (e i) (f i)
-
-takes_is : (v a : ℤ) (x : Taken) → x.op.name ≡ Dequeue → x.found ≡ Item a → takes v x ≡ int_eq a v
-takes_is v a x e f = λ i. is_dequeue_of v (e i) (f i)
-
-puts_none : (v : ℤ) (x : Taken) → x.op.name ≡ Dequeue → puts v x ≡ false
-puts_none v x e = ap (λ n. is_enqueue_of v n x.op.part) e
-
-takes_none : (v : ℤ) (x : Taken) → x.op.name ≡ Enqueue → takes v x ≡ false
-takes_none v x e = ap (λ n. is_dequeue_of v n x.found) e
 
 -- what was put in and not taken out is in
 one_step : (v : ℤ) (x : Taken) (s t : List ℤ) → fifo_queue.Steps s x.op x.found t → cond (puts v x) 1 0 + times_in v s ≡ cond (takes v x) 1 0 + times_in v t
@@ -122,27 +95,6 @@ counted v (x ∷ order) s t run =
     let put = count (puts v) x order in
     let taken = count (takes v) x order in
     omega (arith, first, rest, put, taken)
-
--- elements of such a list, each once
-from_ids : (p : Taken → Bool) (order : List Taken) (id : ℕ) → Contains (ids_of p order) id → (x : Taken) × Contains order x × (p x ≡ true) × (x.id ≡ id)
-from_ids p order id h =
-    let r = from_map (λ (x : Taken). x.id) (filter p order) id h in
-    let q = from_filter p order r.0 r.1 in
-    (r.0, q.0, q.1, r.2)
-
-to_ids : (p : Taken → Bool) (order : List Taken) (x : Taken) → Contains order x → p x ≡ true → Contains (ids_of p order) x.id
-to_ids p order x h e = to_map (λ (x : Taken). x.id) (filter p order) x (to_filter p order x h e)
-
-each_once : (xs : List Taken) → Pairwise (λ x y. x.id ≢ y.id) xs → Pairwise (λ a b. a ≢ b) (map (λ (x : Taken). x.id) xs)
-each_once [] once = tt
-each_once (x ∷ xs) once = (
-  (λ id h e. let r = from_map (λ (x : Taken). x.id) xs id h in once.0 r.0 r.1 (e ∙ sym r.2)),
-  each_once xs once.1,
-)
-
-named_enqueue : (v : ℤ) (name : Name) (part : Part) → is_enqueue_of v name part ≡ true → (name ≡ Enqueue) × (part ≡ Int v)
-named_enqueue v Enqueue (Int w) e = (refl, ap Int ((Decides-int_eq w v).0 e))
-named_enqueue v _ _ e = absurd (true≢false (sym e))
 
 item_answer : (v : ℤ) (answer : Answer) → Fits (Item v) answer → answer ≡ Number v
 item_answer v Nothing h = absurd h

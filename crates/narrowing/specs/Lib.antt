@@ -7,3 +7,4 @@ pub mod Bags
 pub mod Sets
 pub mod Queues
 pub mod Renamed
+pub mod Counts

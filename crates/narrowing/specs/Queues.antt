@@ -14,11 +14,11 @@ use Rattle.linspec.specs.Orders.{Pairwise}
 abbrev pub Enqueues : Op → ℤ → Type 0
 Enqueues op v = (op.name ≡ Enqueue) × (op.part ≡ Int v)
 
--- enqueues of v that did not fail, each once; dequeues that have answered v, each once
-pub record AreEnqueuesOf (marks : List Mark) (v : ℤ) (ids : List ℕ) : Type 0 where
+-- enqueues of v that are invoked in the front and never fail, each once; dequeues that have answered v, each once
+pub record AreEnqueuesIn (front marks : List Mark) (v : ℤ) (ids : List ℕ) : Type 0 where
   pub once : Pairwise (λ a b. a ≢ b) ids
   pub each : (id : ℕ) → Contains ids id
-      → ((op : Op) × Contains marks (Invoked id op) × Enqueues op v) × (¬ Contains marks (Failed id))
+      → ((op : Op) × Contains front (Invoked id op) × Enqueues op v) × (¬ Contains marks (Failed id))
 
 pub record AreDequeuesOf (marks : List Mark) (v : ℤ) (ids : List ℕ) : Type 0 where
   pub once : Pairwise (λ a b. a ≢ b) ids
@@ -29,7 +29,7 @@ pub record AreDequeuesOf (marks : List Mark) (v : ℤ) (ids : List ℕ) : Type 0
 -- v is spare: more enqueues of it did not fail than dequeues have answered it
 abbrev pub IsSpare : List Mark → ℤ → Type 0
 IsSpare marks v =
-    (enqueues : List ℕ) × AreEnqueuesOf marks v enqueues
+    (enqueues : List ℕ) × AreEnqueuesIn marks marks v enqueues
     × ((dequeues : List ℕ) → AreDequeuesOf marks v dequeues → length dequeues < length enqueues)
 
 -- out names the operations of these values: each enqueue of one, and each dequeue that has answered one. Of the dequeues that

@@ -1,5 +1,5 @@
 //! Laws of histories that ask for more, and of histories without some of their operations.
-ghost use Rattle.std.specs.Prelude.{◌↔◌, ℕ, ℤ, Bool, Option, List, [], ◌∷◌, ◌++◌};
+ghost use Rattle.std.specs.Prelude.{◌↔◌, ℕ, ℤ, nat_eq, Bool, Option, List, [], ◌∷◌, ◌++◌};
 ghost use Rattle.models.specs.declared.model_kind.ModelKind.{ModelKind};
 ghost use Rattle.models.specs.Objects.{object_of, register, cas_register, fifo_queue, set_of_numbers, unordered_queue};
 ghost use Rattle.history.specs.Events.{Mark, Entry, marks, IsFront};
@@ -9,6 +9,7 @@ ghost use Rattle.linspec.specs.Verdicts.{IsRising, EndsShortestBadFront};
 ghost use Rattle.narrowing.specs.Intervals.{AsksForMore, HasNarrowerIntervals};
 ghost use Rattle.narrowing.specs.LeftOut.{without, entries_without, HaveFailed, HaveNotReturned, AreReads, AreForeign, HaveFailedBefore};
 ghost use Rattle.narrowing.specs.Registers.{DragsFinders, IsByValues};
+ghost use Rattle.narrowing.specs.Counts.{AreQueueOperations, NeverRunsOut, AreDequeues, IsLeftOver, AreOfOneRank, is_one_of};
 ghost use Rattle.narrowing.specs.Bags.{AreValues, bag};
 ghost use Rattle.narrowing.specs.Renamed.{IsOneToOne, renamed};
 ghost use Rattle.narrowing.specs.Queues.{AreOfValues};
@@ -154,6 +155,31 @@ pub fn bags_law()
         AreWellFormed marks → AreValues value marks
         → IsLinearizable unordered_queue marks
         ↔ ((v : ℤ) → IsLinearizable unordered_queue (bag value v marks)) }
+{}
+
+/// A queue without an order by counts: its history is linearizable exactly where at each moment, of each value, no more
+/// dequeues have answered it than enqueues of it were invoked that never fail.
+pub fn counts_law()
+    ensures { (marks : List Mark) → AreWellFormed marks → AreQueueOperations marks
+        → IsLinearizable unordered_queue marks ↔ NeverRunsOut marks }
+{}
+
+/// Of a queue without an order dequeues may be left out; an enqueue and a dequeue of one value together, if no more dequeues
+/// have answered the value before that one did than enqueues of it were invoked before that one; and an enqueue alone, if no
+/// more dequeues have answered the value at all. The rest of a linearizable history is linearizable.
+pub fn unordered_queue_law()
+    ensures dequeues { (out : ℕ → Bool) (marks : List Mark) →
+        AreWellFormed marks → AreQueueOperations marks → AreDequeues out marks
+        → IsLinearizable unordered_queue marks
+        → IsLinearizable unordered_queue (without out marks) }
+    ensures pair { (marks : List Mark) (v : ℤ) (enqueue dequeue : ℕ) →
+        AreWellFormed marks → AreQueueOperations marks → AreOfOneRank marks v enqueue dequeue
+        → IsLinearizable unordered_queue marks
+        → IsLinearizable unordered_queue (without (is_one_of enqueue dequeue) marks) }
+    ensures alone { (marks : List Mark) (v : ℤ) (enqueue : ℕ) →
+        AreWellFormed marks → AreQueueOperations marks → IsLeftOver marks v enqueue
+        → IsLinearizable unordered_queue marks
+        → IsLinearizable unordered_queue (without (λ id. nat_eq id enqueue) marks) }
 {}
 
 /// How operations are numbered decides nothing: a history is linearizable exactly where it is so with other numbers, no two
