@@ -17,3 +17,4 @@ pub mod Renaming
 pub mod Counting
 pub mod Enough
 pub mod Ranks
+pub mod Locks

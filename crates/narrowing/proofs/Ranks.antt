@@ -111,13 +111,13 @@ module _ (ms : List Mark) (well : AreWellFormed ms) (out : ℕ → Bool) where
       ))
 
 -- which numbers are named
-is_neither : (a b id : ℕ) → id ≢ a → id ≢ b → is_one_of a b id ≡ false
+pub is_neither : (a b id : ℕ) → id ≢ a → id ≢ b → is_one_of a b id ≡ false
 is_neither a b id ne me = ap (λ r. r || nat_eq id b) (ne_eqb id a ne) ∙ ne_eqb id b me
 
-is_not_first : (a b id : ℕ) → is_one_of a b id ≡ false → id ≢ a
+pub is_not_first : (a b id : ℕ) → is_one_of a b id ≡ false → id ≢ a
 is_not_first a b id e q = true≢false (sym (ap (λ r. r || nat_eq id b) (eq-eqb id a q)) ∙ e)
 
-is_not_second : (a b id : ℕ) → is_one_of a b id ≡ false → id ≢ b
+pub is_not_second : (a b id : ℕ) → is_one_of a b id ≡ false → id ≢ b
 is_not_second a b id e q = ⊎_elim
     (λ y. true≢false (sym (ap (λ r. r || nat_eq id b) y) ∙ e))
     (λ n. true≢false (sym (eq-eqb id b q) ∙ sym (ap (λ r. r || nat_eq id b) n) ∙ e))

@@ -8,3 +8,4 @@ pub mod Sets
 pub mod Queues
 pub mod Renamed
 pub mod Counts
+pub mod Locks

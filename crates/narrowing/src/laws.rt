@@ -1,7 +1,8 @@
 //! Laws of histories that ask for more, and of histories without some of their operations.
 ghost use Rattle.std.specs.Prelude.{◌↔◌, ℕ, ℤ, nat_eq, Bool, Option, List, [], ◌∷◌, ◌++◌};
 ghost use Rattle.models.specs.declared.model_kind.ModelKind.{ModelKind};
-ghost use Rattle.models.specs.Objects.{object_of, register, cas_register, fifo_queue, set_of_numbers, unordered_queue};
+ghost use Rattle.models.specs.declared.operation.Name.TheVariants.{Acquire, Release};
+ghost use Rattle.models.specs.Objects.{object_of, register, cas_register, mutex, fifo_queue, set_of_numbers, unordered_queue};
 ghost use Rattle.history.specs.Events.{Mark, Entry, marks, IsFront};
 ghost use Rattle.linspec.specs.MarkRule.{AreWellFormed};
 ghost use Rattle.linspec.specs.Orders.{IsLinearizable, product};
@@ -9,6 +10,7 @@ ghost use Rattle.linspec.specs.Verdicts.{IsRising, EndsShortestBadFront};
 ghost use Rattle.narrowing.specs.Intervals.{AsksForMore, HasNarrowerIntervals};
 ghost use Rattle.narrowing.specs.LeftOut.{without, entries_without, HaveFailed, HaveNotReturned, AreReads, AreForeign, HaveFailedBefore};
 ghost use Rattle.narrowing.specs.Registers.{DragsFinders, IsByValues};
+ghost use Rattle.narrowing.specs.Locks.{IsPair, IsLast};
 ghost use Rattle.narrowing.specs.Counts.{AreQueueOperations, NeverRunsOut, AreDequeues, IsLeftOver, AreOfOneRank, is_one_of};
 ghost use Rattle.narrowing.specs.Bags.{AreValues, bag};
 ghost use Rattle.narrowing.specs.Renamed.{IsOneToOne, renamed};
@@ -126,6 +128,27 @@ pub fn reads_as_cas_law()
         → IsLinearizable register marks ↔ IsLinearizable cas_register (reads_as_cas reads marks) }
     ensures no_cas { (marks : List Mark) → HasNoCas marks
         → IsLinearizable register marks ↔ IsLinearizable cas_register marks }
+{}
+
+/// Of a lock an acquire and a release that it precedes may be left out together, if no other release and acquire may stand
+/// between them in turn, the acquire invoked after the first one; a release and an acquire that it precedes, if no other acquire
+/// and release may, likewise; an acquire that each release precedes; and a release that each acquire precedes. The rest of a
+/// linearizable history is linearizable.
+pub fn mutex_law()
+    ensures pair { (marks : List Mark) (acquire release : ℕ) →
+        AreWellFormed marks → IsPair marks Acquire Release acquire release
+        → IsLinearizable mutex marks
+        → IsLinearizable mutex (without (is_one_of acquire release) marks) }
+    ensures handover { (marks : List Mark) (release acquire : ℕ) →
+        AreWellFormed marks → IsPair marks Release Acquire release acquire
+        → IsLinearizable mutex marks
+        → IsLinearizable mutex (without (is_one_of release acquire) marks) }
+    ensures last_acquire { (marks : List Mark) (acquire : ℕ) →
+        AreWellFormed marks → IsLast marks Acquire Release acquire → IsLinearizable mutex marks
+        → IsLinearizable mutex (without (λ id. nat_eq id acquire) marks) }
+    ensures last_release { (marks : List Mark) (release : ℕ) →
+        AreWellFormed marks → IsLast marks Release Acquire release → IsLinearizable mutex marks
+        → IsLinearizable mutex (without (λ id. nat_eq id release) marks) }
 {}
 
 /// Of a set adds may be left out that another add of the same value precedes, which stays. And values may: all adds of them,
