@@ -282,13 +282,13 @@ module _ (ms : List Mark) (well : AreWellFormed ms) where
               once = ((λ n h e. (let r = from_ids (takes v) order n h in fresh (r.0, r.1, r.3 ∙ sym e))), each_once (filter (takes v) order) (Pairwise-filter (takes v) (λ x y. x.id ≢ y.id) order filled.once));
               each = λ n h. ⊎_elim
                   (λ (e : id ≡ n). subst (λ j. ((p : Op) × Contains longer (Invoked j p) × (p.name ≡ Dequeue)) × Contains longer (Returned j (Number v))) e
-                  ((op, still _ there, name), subst (Contains longer) is (Contains-push front m)))
+                  ((op, still (Invoked id op) there, name), subst (Contains longer) is (Contains-push front m)))
                   (λ k. (let r = from_ids (takes v) order n k in let found = named_dequeue v r.0.op.name r.0.found r.2 in
                   subst (λ j. ((p : Op) × Contains longer (Invoked j p) × (p.name ≡ Dequeue)) × Contains longer (Returned j (Number v))) r.3
                   (⊎_elim
                   (λ j. (let clash : Dequeue ≡ Enqueue = sym found.0 ∙ j.2.0 in absurd (let none : ⊥ = cc in none)))
                   (λ j. (let same : j.0 ≡ v = (let q : Item j.0 ≡ Item v = sym j.3 ∙ found.1 in cc) in
-                  ((r.0.op, still _ j.1, found.0), still _ (subst (λ w. Contains front (Returned r.0.id (Number w))) same j.4))))
+                  ((r.0.op, still (Invoked r.0.id r.0.op) j.1, found.0), still (Returned r.0.id (Number v)) (subst (λ w. Contains front (Returned r.0.id (Number w))) same j.4))))
                   (filled.each r.0 r.1))))
                   (Contains-cons_cases id (ids_of (takes v) order) n h);
             } in

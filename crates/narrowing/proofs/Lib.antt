@@ -18,3 +18,4 @@ pub mod Counting
 pub mod Enough
 pub mod Ranks
 pub mod Locks
+pub mod Instances
