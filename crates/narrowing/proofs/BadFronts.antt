@@ -1,16 +1,15 @@
 -- the shortest front that is not linearizable, of a history and of what is left of it
-use Rattle.std.proofs.Common.{◌≡◌, ◌≢◌, ℕ, ◌≤◌, suc, ◌⊎◌, ⊎_elim, Bool, true, false, not, IsTrue, List, [], ◌∷◌, ◌++◌, length, refl, sym, ap, ◌∙◌, subst, append_assoc, arith}
-use Rattle.std.specs.List.{filter, Contains}
+use Rattle.std.proofs.Common.{◌≡◌, ℕ, ◌≤◌, ◌⊎◌, ⊎_elim, Bool, false, not, List, [], ◌∷◌, ◌++◌, length, refl, sym, ap, ◌∙◌, subst, append_assoc, arith}
+use Rattle.std.specs.List.{Contains}
 use Rattle.std.proofs.lemmas.Bool.{cases_Bool, true≢false, not-true}
 use Rattle.std.proofs.lemmas.List.Elements.{Contains-append_left, Contains-append_right, Contains-push_cases, filter-append}
 use Rattle.models.specs.declared.model_kind.ModelKind.{ModelKind}
 use Rattle.models.specs.declared.model_kind.ModelKind.TheVariants.{Register, CasRegister, Mutex, FifoQueue, Set, UnorderedQueue}
-use Rattle.models.specs.declared.operation.Op.{Op}
 use Rattle.models.specs.Objects.{Object, object_of, ReadsLeave}
 use Rattle.models.specs.Reads.{register_reads, cas_register_reads, mutex_reads, queue_reads, set_reads, unordered_reads}
 use Rattle.history.specs.Events.{Mark, Entry, marks, IsFront}
 use Rattle.history.specs.Events.Mark.{Invoked, Failed}
-use Rattle.linspec.specs.MarkRule.{id_of, MayFollow, AreWellFormed}
+use Rattle.linspec.specs.MarkRule.{id_of, AreWellFormed}
 use Rattle.linspec.specs.Orders.{IsLinearizable}
 use Rattle.linspec.specs.Verdicts.{EndsShortestBadFront}
 use Rattle.linspec.proofs.Lists.{Contains-head}
@@ -63,7 +62,7 @@ module _ (out : ℕ → Bool) where
   -- the same event ends both, where up to it a linearizable history has a linearizable rest, and before it none left out has returned
   pub same_event : (o : Object) (entries : List Entry) (last : Entry) → AreWellFormed (marks entries)
       → ((before after : List Entry) → before ++ last ∷ after ≡ entries → out (id_of last.mark) ≡ false
-          → HaveNotReturned out (marks before) × (IsLinearizable o (marks (before ++ last ∷ [])) → IsLinearizable o (without out (marks (before ++ last ∷ [])))))
+      → HaveNotReturned out (marks before) × (IsLinearizable o (marks (before ++ last ∷ [])) → IsLinearizable o (without out (marks (before ++ last ∷ [])))))
       → EndsShortestBadFront o (entries_without out entries) last → EndsShortestBadFront o entries last
   same_event o entries last well each s =
       let rest : List Entry = s.front.0 in

@@ -1,27 +1,23 @@
 -- each value's part of a linearizable history of a queue without an order is linearizable
-use Rattle.std.proofs.Common.{◌≡◌, ◌≢◌, ℕ, suc, ◌≤◌, ◌<◌, ℤ, ◌⊎◌, inl, inr, ⊎_elim, Bool, true, false, not, Option, Some, None, List, [], ◌∷◌, ◌++◌, refl, sym, ap, ◌∙◌, subst, arith}
-use Rattle.std.specs.Ordering.{int_eq}
+use Rattle.std.proofs.Common.{◌≡◌, ◌≢◌, ℕ, suc, ◌≤◌, ℤ, ◌⊎◌, inl, inr, ⊎_elim, Bool, true, false, not, Option, Some, List, [], ◌∷◌, refl, sym, ap, ◌∙◌, subst, arith}
 use Rattle.std.specs.List.{Contains}
 use Rattle.std.proofs.lemmas.List.Elements.{Contains-append_right}
 use Rattle.models.specs.declared.operation.Name.TheVariants.{Enqueue, Dequeue}
-use Rattle.models.specs.declared.operation.Part.TheVariants.{Nil, Int}
-use Rattle.models.specs.declared.finding.Found.{Found}
-use Rattle.models.specs.declared.finding.Found.TheVariants.{Unit as Done, Item}
-use Rattle.models.specs.declared.finding.Answer.{Answer}
+use Rattle.models.specs.declared.operation.Part.TheVariants.{Int}
+use Rattle.models.specs.declared.finding.Found.TheVariants.{Item}
 use Rattle.models.specs.declared.finding.Answer.TheVariants.{Number}
 use Rattle.models.specs.Multisets.{with_one, without_one}
 use Rattle.models.specs.Objects.{Fits, unordered_queue}
 use Rattle.models.specs.Runs.{times_in}
 use Rattle.models.proofs.Bags.{same_int, other_int}
 use Rattle.history.specs.Events.{Mark}
-use Rattle.history.specs.Events.Mark.{Invoked, Returned}
+use Rattle.history.specs.Events.Mark.{Returned}
 use Rattle.linspec.specs.Orders.{Taken, Run, IsLegalOrder, IsLinearizable}
 use Rattle.linspec.proofs.Lists.{Contains-head}
-use Rattle.narrowing.specs.LeftOut.{without}
-use Rattle.narrowing.specs.Bags.{IsOfValue, AreValues, is_other, bag}
+use Rattle.narrowing.specs.Bags.{AreValues, is_other, bag}
 use Rattle.narrowing.proofs.Matching.{Matches, simulated}
 use Rattle.narrowing.proofs.LeftOut.{MayGo, Stays, IsLinearizable-rest}
-use Rattle.narrowing.proofs.Multisets.{one_more, more_of_another, one_less, less_of_another, no_more_than_before, in_if_counted, equal_or_not, IsEnqueue, IsDequeue, unordered_view, by_enqueue, by_dequeue}
+use Rattle.narrowing.proofs.Multisets.{one_more, more_of_another, one_less, no_more_than_before, in_if_counted, equal_or_not, IsEnqueue, IsDequeue, unordered_view, by_enqueue, by_dequeue}
 
 pub is_this : (v : ℤ) (o : Option ℤ) → o ≡ Some v → is_other v o ≡ false
 is_this v o e = ap (is_other v) e ∙ ap not (same_int v v refl)
@@ -80,8 +76,13 @@ module _ (value : ℕ → Option ℤ) (ms : List Mark) (are : AreValues value ms
           let in_w : Contains w v = in_if_counted v w (omega arith) in
           let after : times_in v w ≡ suc (times_in v (without_one v w)) = one_less v w in_w in
           let t_is : times_in v t ≡ times_in v (without_one v s) = ap (times_in v) (k.4 ∙ ap (λ z. without_one z s) is_v) in
-          inr (x, without_one v w, kept (is_this v (value x.id) (is ∙ ap Some e)),
-          by_dequeue x.op.name x.op.part w (without_one v w) x.found (v, k.1, k.2, in_w, refl, k.5 ∙ ap Item is_v), omega arith))
+          inr (
+            x,
+            without_one v w,
+            kept (is_this v (value x.id) (is ∙ ap Some e)),
+            by_dequeue x.op.name x.op.part w (without_one v w) x.found (v, k.1, k.2, in_w, refl, k.5 ∙ ap Item is_v),
+            omega arith,
+          ))
           (λ ne. goes_dequeue (is_another v a (value x.id) is ne) k)
           (equal_or_not a v))
           of_step

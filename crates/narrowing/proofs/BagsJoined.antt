@@ -1,33 +1,27 @@
 -- where each value's part is linearizable, the history of the queue without an order is: each value is taken as a key of its own
-use Rattle.std.proofs.Common.{◌≡◌, ◌≢◌, ◌↔◌, ℕ, zero, suc, ◌+◌, ◌≤◌, ◌<◌, ℤ, pos, negsuc, ◌⊎◌, inl, inr, ⊎_elim, Bool, true, false, not, cond, nat_eq, IsTrue, Option, Some, None, List, [], ◌∷◌, ◌++◌, map, refl, sym, ap, ◌∙◌, subst, arith}
-use Rattle.std.specs.Ordering.{int_eq}
-use Rattle.std.specs.List.{filter, Contains}
-use Rattle.std.proofs.lemmas.Bool.{cases_Bool, true≢false, eq-eqb, ne_eqb}
-use Rattle.std.proofs.lemmas.Bool.Decides.{Decides-int_eq}
+use Rattle.std.proofs.Common.{◌≡◌, ◌≢◌, ◌↔◌, ℕ, zero, suc, ◌+◌, ◌≤◌, ℤ, pos, negsuc, ◌⊎◌, inr, ⊎_elim, Bool, true, false, not, nat_eq, Option, Some, None, List, [], ◌∷◌, ◌++◌, map, refl, sym, ap, ◌∙◌, subst, arith}
+use Rattle.std.specs.List.{Contains}
+use Rattle.std.proofs.lemmas.Bool.{true≢false, eq-eqb, ne_eqb}
 use Rattle.std.proofs.lemmas.List.Elements.{Contains-append_right}
-use Rattle.models.specs.declared.model_kind.ModelKind.{ModelKind}
 use Rattle.models.specs.declared.model_kind.ModelKind.TheVariants.{UnorderedQueue}
 use Rattle.models.specs.declared.operation.Name.TheVariants.{Enqueue, Dequeue}
 use Rattle.models.specs.declared.operation.Part.TheVariants.{Nil, Int}
 use Rattle.models.specs.declared.operation.Op.{Op}
-use Rattle.models.specs.declared.finding.Found.{Found}
-use Rattle.models.specs.declared.finding.Found.TheVariants.{Unit as Done, Item}
+use Rattle.models.specs.declared.finding.Found.TheVariants.{Item}
 use Rattle.models.specs.declared.finding.Answer.{Answer}
 use Rattle.models.specs.declared.finding.Answer.TheVariants.{Number}
 use Rattle.models.specs.Multisets.{with_one, without_one}
-use Rattle.models.specs.Objects.{Object, Fits, object_of, unordered_queue}
+use Rattle.models.specs.Objects.{Object, Fits, unordered_queue}
 use Rattle.models.specs.Runs.{times_in}
-use Rattle.models.proofs.Bags.{same_int, other_int}
 use Rattle.history.specs.Events.{Mark, Entry, of_key, marks}
 use Rattle.history.specs.Events.Mark.{Invoked, Returned, Failed}
 use Rattle.linspec.specs.MarkRule.{id_of, AreWellFormed, IsKeyed}
-use Rattle.linspec.specs.Operations.{HasReturned, Precedes}
 use Rattle.linspec.specs.Orders.{Taken, Run, IsLegalOrder, IsLinearizable, product}
-use Rattle.linspec.proofs.Lists.{Contains-nil, Contains-head}
-use Rattle.linspec.proofs.Filters.{filter-yes, filter-no, from_map, to_map}
+use Rattle.linspec.proofs.Lists.{Contains-head}
+use Rattle.linspec.proofs.Filters.{filter-yes, filter-no, from_map}
 use Rattle.locality.proofs.Locality.{IsLinearizable-keys}
 use Rattle.narrowing.specs.LeftOut.{without, HaveNotReturned}
-use Rattle.narrowing.specs.Bags.{IsOfValue, AreValues, is_other, bag}
+use Rattle.narrowing.specs.Bags.{AreValues, is_other, bag}
 use Rattle.narrowing.proofs.Matching.{Matches, IsLegalOrder-match, simulated}
 use Rattle.narrowing.proofs.Once.{returned_invoked}
 use Rattle.narrowing.proofs.Intervals.{IsLinearizable-stricter}
@@ -259,18 +253,24 @@ module _ (value : ℕ → Option ℤ) where
         enqueue v name part is = ⊎_elim
             (λ k.
             let same : k.0 ≡ v = (let q : Int k.0 ≡ Int v = sym k.2 ∙ sym same_part ∙ part in cc) in
-            inr (y, with_one v w, own, by_enqueue was.0.name was.0.part w (with_one v w) x.found (v, name, part, refl, k.4), (λ u. ⊎_elim
-                (λ (e : v ≡ u). subst (λ z. times_in z (t (code z)) ≤ times_in z (with_one v w)) e
-                (let t_is : times_in v (t (code v)) ≡ suc (times_in v (s (code v))) = ap (times_in v) (k.3 ∙ ap (λ z. with_one z (s (code v))) same) ∙ one_more v (s (code v)) in
-                let u_is : times_in v (with_one v w) ≡ suc (times_in v w) = one_more v w in
-                let less : times_in v (s (code v)) ≤ times_in v w = has v in
-                omega arith))
-                (λ ne.
-                let t_is : times_in u (t (code u)) ≡ times_in u (s (code u)) = ap (times_in u) (other_key v u is ne) in
-                let u_is : times_in u (with_one v w) ≡ times_in u w = more_of_another u v w ne in
-                let less : times_in u (s (code u)) ≤ times_in u w = has u in
-                omega arith)
-                (equal_or_not v u))))
+            inr (
+              y,
+              with_one v w,
+              own,
+              by_enqueue was.0.name was.0.part w (with_one v w) x.found (v, name, part, refl, k.4),
+              (λ u. ⊎_elim
+                  (λ (e : v ≡ u). subst (λ z. times_in z (t (code z)) ≤ times_in z (with_one v w)) e
+                  (let t_is : times_in v (t (code v)) ≡ suc (times_in v (s (code v))) = ap (times_in v) (k.3 ∙ ap (λ z. with_one z (s (code v))) same) ∙ one_more v (s (code v)) in
+                  let u_is : times_in v (with_one v w) ≡ suc (times_in v w) = one_more v w in
+                  let less : times_in v (s (code v)) ≤ times_in v w = has v in
+                  omega arith))
+                  (λ ne.
+                  let t_is : times_in u (t (code u)) ≡ times_in u (s (code u)) = ap (times_in u) (other_key v u is ne) in
+                  let u_is : times_in u (with_one v w) ≡ times_in u w = more_of_another u v w ne in
+                  let less : times_in u (s (code u)) ≤ times_in u w = has u in
+                  omega arith)
+                  (equal_or_not v u)),
+            ))
             (λ k. (let clash : Enqueue ≡ Dequeue = sym name ∙ same_name ∙ k.1 in absurd (let none : ⊥ = cc in none)))
             (view v is)
 
@@ -284,17 +284,23 @@ module _ (value : ℕ → Option ℤ) where
             let before : times_in v (s (code v)) ≡ suc (times_in v (without_one v (s (code v)))) = one_less v (s (code v)) in_s in
             let less : times_in v (s (code v)) ≤ times_in v w = has v in
             let in_w : Contains w v = in_if_counted v w (omega arith) in
-            inr (y, without_one v w, own, by_dequeue was.0.name was.0.part w (without_one v w) x.found (v, name, part, in_w, refl, k.5 ∙ ap Item same), (λ u. ⊎_elim
-                (λ (e : v ≡ u). subst (λ z. times_in z (t (code z)) ≤ times_in z (without_one v w)) e
-                (let t_is : times_in v (t (code v)) ≡ times_in v (without_one v (s (code v))) = ap (times_in v) (k.4 ∙ ap (λ z. without_one z (s (code v))) same) in
-                let u_is : times_in v w ≡ suc (times_in v (without_one v w)) = one_less v w in_w in
-                omega arith))
-                (λ ne.
-                let t_is : times_in u (t (code u)) ≡ times_in u (s (code u)) = ap (times_in u) (other_key v u is ne) in
-                let u_is : times_in u w ≡ times_in u (without_one v w) = less_of_another u v w in_w ne in
-                let less : times_in u (s (code u)) ≤ times_in u w = has u in
-                omega arith)
-                (equal_or_not v u))))
+            inr (
+              y,
+              without_one v w,
+              own,
+              by_dequeue was.0.name was.0.part w (without_one v w) x.found (v, name, part, in_w, refl, k.5 ∙ ap Item same),
+              (λ u. ⊎_elim
+                  (λ (e : v ≡ u). subst (λ z. times_in z (t (code z)) ≤ times_in z (without_one v w)) e
+                  (let t_is : times_in v (t (code v)) ≡ times_in v (without_one v (s (code v))) = ap (times_in v) (k.4 ∙ ap (λ z. without_one z (s (code v))) same) in
+                  let u_is : times_in v w ≡ suc (times_in v (without_one v w)) = one_less v w in_w in
+                  omega arith))
+                  (λ ne.
+                  let t_is : times_in u (t (code u)) ≡ times_in u (s (code u)) = ap (times_in u) (other_key v u is ne) in
+                  let u_is : times_in u w ≡ times_in u (without_one v w) = less_of_another u v w in_w ne in
+                  let less : times_in u (s (code u)) ≤ times_in u w = has u in
+                  omega arith)
+                  (equal_or_not v u)),
+            ))
             (view v is)
 
         next : Next

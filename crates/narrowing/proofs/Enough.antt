@@ -1,16 +1,15 @@
 -- the history of a queue without an order is linearizable where no value runs out, and only there
-use Rattle.std.proofs.Common.{◌≡◌, ◌≢◌, ◌↔◌, ℕ, suc, ◌+◌, ◌<◌, ◌≤◌, ℤ, ◌⊎◌, inl, inr, ⊎_elim, Bool, true, false, cond, List, [], ◌∷◌, ◌++◌, length, refl, sym, ap, ◌∙◌, subst, append_assoc, arith}
+use Rattle.std.proofs.Common.{◌≡◌, ◌≢◌, ◌↔◌, ℕ, suc, ◌+◌, ◌≤◌, ℤ, ◌⊎◌, inl, inr, ⊎_elim, true, cond, List, [], ◌∷◌, ◌++◌, length, refl, sym, ap, ◌∙◌, subst, append_assoc, arith}
 use Rattle.std.specs.Ordering.{int_eq}
 use Rattle.std.specs.List.{filter, Contains}
 use Rattle.std.proofs.lemmas.Bool.{cases_Bool, true≢false}
 use Rattle.std.proofs.lemmas.List.{append-nil}
-use Rattle.std.proofs.lemmas.List.Elements.{Contains-append_left, Contains-append_right, Contains-append_cases, Contains-push, Contains-push_cases}
+use Rattle.std.proofs.lemmas.List.Elements.{Contains-append_left, Contains-append_cases, Contains-push, Contains-push_cases}
 use Rattle.models.specs.declared.operation.Name.{Name}
 use Rattle.models.specs.declared.operation.Name.TheVariants.{Enqueue, Dequeue}
 use Rattle.models.specs.declared.operation.Part.{Part}
-use Rattle.models.specs.declared.operation.Part.TheVariants.{Nil, Int}
+use Rattle.models.specs.declared.operation.Part.TheVariants.{Int}
 use Rattle.models.specs.declared.operation.Op.{Op}
-use Rattle.models.specs.declared.finding.Found.{Found}
 use Rattle.models.specs.declared.finding.Found.TheVariants.{Unit as Done, Item}
 use Rattle.models.specs.declared.finding.Answer.{Answer}
 use Rattle.models.specs.declared.finding.Answer.TheVariants.{Number}
@@ -22,7 +21,7 @@ use Rattle.history.specs.Events.Mark.{Invoked, Returned, Failed, Crashed}
 use Rattle.linspec.specs.MarkRule.{IsNew, AreWellFormed}
 use Rattle.linspec.specs.Operations.{IsInvoked, HasReturned, IsOpen, Precedes}
 use Rattle.linspec.specs.Orders.{Taken, Includes, Pairwise, Run, IsLegalOrder, IsLinearizable}
-use Rattle.linspec.proofs.Lists.{Contains-nil, Contains-head, Contains-tail, Contains-cons_cases, Pairwise-append, Pairwise-across, Pairwise-left, cut_at}
+use Rattle.linspec.proofs.Lists.{Contains-nil, Contains-head, Contains-cons_cases, Pairwise-append, Pairwise-across, Pairwise-left, cut_at}
 use Rattle.linspec.proofs.Filters.{two_cuts, Pairwise-filter}
 use Rattle.linspec.proofs.Marks.{Run-append, Run-cut}
 use Rattle.linspec.proofs.Counts.{no_longer_than}
@@ -31,7 +30,7 @@ use Rattle.narrowing.specs.Queues.{Enqueues, AreEnqueuesIn, AreDequeuesOf}
 use Rattle.narrowing.specs.Counts.{AreQueueOperations, HasEnough, NeverRunsOut}
 use Rattle.narrowing.proofs.Once.{one_op, one_answer, returned_not_failed, returned_invoked}
 use Rattle.narrowing.proofs.LeftOut.{step_of}
-use Rattle.narrowing.proofs.Multisets.{times_with, times_without, in_if_counted, IsEnqueue, IsDequeue, unordered_view, by_enqueue, by_dequeue}
+use Rattle.narrowing.proofs.Multisets.{times_with, times_without, in_if_counted, unordered_view, by_enqueue, by_dequeue}
 use Rattle.narrowing.proofs.Counting.{puts, takes, ids_of, count, puts_is, takes_is, puts_none, takes_none, puts_it, takes_it, from_ids, to_ids, each_once, named_enqueue, named_dequeue}
 
 -- what was put in and not taken out is in
@@ -109,11 +108,18 @@ module _ (ms : List Mark) (well : AreWellFormed ms) where
         let fits : Fits z.found (Number v) = l.fits z (Number v) i.1 (subst (λ n. Contains ms (Returned n (Number v))) (sym i.2) (in_history _ d)) in
         let same : op.0 ≡ z.op = one_op ms well id op.0 z.op (in_history _ op.1) (subst (λ n. Contains ms (Invoked n z.op)) i.2 (l.invoked z i.1)) in
         let name : z.op.name ≡ Dequeue = ap (λ (p : Op). p.name) (sym same) ∙ op.2 in
-        let step = step_of unordered_queue order [] end l.run z i.1 in
-        (z, i.1, (⊎_elim
-        (λ k. (let clash : Dequeue ≡ Enqueue = sym name ∙ k.1 in absurd (let none : ⊥ = cc in none)))
-        (λ k. takes_it v z k.1 (k.5 ∙ ap Item (subst (λ f. Fits f (Number v)) k.5 fits)))
-        (unordered_view z.op.name z.op.part step.0 step.1 z.found step.2), (Number v, subst (λ n. Contains front (Returned n (Number v))) (sym i.2) d)), i.2)
+        let step = step_of unordered_queue order [] end l.run z i.1 in (
+          z,
+          i.1,
+          (
+            ⊎_elim
+                (λ k. (let clash : Dequeue ≡ Enqueue = sym name ∙ k.1 in absurd (let none : ⊥ = cc in none)))
+                (λ k. takes_it v z k.1 (k.5 ∙ ap Item (subst (λ f. Fits f (Number v)) k.5 fits)))
+                (unordered_view z.op.name z.op.part step.0 step.1 z.found step.2),
+            (Number v, subst (λ n. Contains front (Returned n (Number v))) (sym i.2) d),
+          ),
+          i.2,
+        )
 
     order_has_enough : HasEnough ms front front v
     order_has_enough dequeues those = ⊎_elim some none (last_of TakesBy takes_or_not order)
@@ -141,8 +147,7 @@ module _ (ms : List Mark) (well : AreWellFormed ms) where
             let d = those.each id h in
             let p = its_place id d.0 d.1 in
             subst (Contains (ids_of (takes v) up_to)) p.3 (to_ids (takes v) up_to p.0
-            (⊎_elim (λ k. k) (λ k. absurd (cut.5 p.0 k p.2)) (Contains-append_cases up_to after p.0 (subst (λ k. Contains k p.0) parts p.1))) p.2.0)) in
-            (
+            (⊎_elim (λ k. k) (λ k. absurd (cut.5 p.0 k p.2)) (Contains-append_cases up_to after p.0 (subst (λ k. Contains k p.0) parts p.1))) p.2.0)) in (
               ids_of (puts v) up_to,
               record {
                 once = each_once (filter (puts v) up_to) (Pairwise-filter (puts v) (λ x y. x.id ≢ y.id) up_to (Pairwise-left (λ x y. x.id ≢ y.id) up_to after (subst (Pairwise (λ x y. x.id ≢ y.id)) parts l.once)));
@@ -275,6 +280,20 @@ module _ (ms : List Mark) (well : AreWellFormed ms) where
             no_take : (i : ℕ) (p : Op) (v : ℤ) → m ≡ Returned i (Number v) → Contains ms (Invoked i p) → p.name ≢ Dequeue
             no_take i p v e h q = (let clash : Invoked id op ≡ Returned i (Number v) = sym is ∙ e in absurd (let none : ⊥ = cc in none))
 
+        -- an enqueue that is invoked before an answer, and never fails, is in the order
+        an_enqueue : (n : ℕ) (op : Op) (v : ℤ) (id : ℕ) (answer : Answer) → m ≡ Returned id answer → Contains longer (Invoked n op) → Enqueues op v → ¬ Contains ms (Failed n) → Contains (ids_of (puts v) order) n
+        an_enqueue n op v id answer is h q never_fails =
+            let earlier : Contains front (Invoked n op) = ⊎_elim (λ k. k) (λ e. (let clash : Invoked n op ≡ Returned id answer = sym e ∙ is in absurd (let none : ⊥ = cc in none))) (Contains-push_cases front m (Invoked n op) h) in
+            let i : Includes order n = filled.puts_all n op v earlier q never_fails in
+            its_place_there n op v i.0 i.1 i.2 (in_ms (Invoked n op) h) q
+          where
+            its_place_there : (n : ℕ) (op : Op) (v : ℤ) (x : Taken) → Contains order x → x.id ≡ n → Contains ms (Invoked n op) → Enqueues op v → Contains (ids_of (puts v) order) n
+            its_place_there n op v x k e h q =
+                let invoked : Contains front (Invoked x.id x.op) = invoked_there x (filled.each x k) in
+                let there : Contains ms (Invoked x.id x.op) = in_ms (Invoked x.id x.op) (still (Invoked x.id x.op) invoked) in
+                let same : op ≡ x.op = one_op ms well n op x.op h (subst (λ j. Contains ms (Invoked j x.op)) e there) in
+                subst (Contains (ids_of (puts v) order)) e (to_ids (puts v) order x k (puts_it v x (ap (λ (p : Op). p.name) (sym same) ∙ q.0) (ap (λ (p : Op). p.part) (sym same) ∙ q.1)))
+
         -- a value is in when a dequeue answers it
         is_in : (id : ℕ) (op : Op) (v : ℤ) → Contains front (Invoked id op) → op.name ≡ Dequeue → m ≡ Returned id (Number v) → ¬ Includes order id → Contains s v
         is_in id op v there name is fresh =
@@ -294,12 +313,7 @@ module _ (ms : List Mark) (well : AreWellFormed ms) where
             } in
             let enough = never longer v (rest, whole_longer) (id ∷ ids_of (takes v) order) those in
             let most : length enough.0 ≤ length (ids_of (puts v) order) = no_longer_than enough.0 (ids_of (puts v) order) enough.1.once
-            (λ n h.
-            let e = enough.1.each n h in
-            let earlier : Contains front (Invoked n e.0.0) = ⊎_elim (λ k. k) (λ q. (let clash : Invoked n e.0.0 ≡ Returned id (Number v) = sym q ∙ is in absurd (let none : ⊥ = cc in none))) (Contains-push_cases front m _ e.0.1) in
-            let i : Includes order n = filled.puts_all n e.0.0 v earlier e.0.2 e.1 in
-            let same : e.0.0 ≡ i.0.op = one_op ms well n e.0.0 i.0.op (in_ms _ e.0.1) (subst (λ j. Contains ms (Invoked j i.0.op)) i.2 (in_ms _ (still _ (invoked_there i.0 (filled.each i.0 i.1))))) in
-            subst (Contains (ids_of (puts v) order)) i.2 (to_ids (puts v) order i.0 i.1 (puts_it v i.0 (ap (λ (p : Op). p.name) (sym same) ∙ e.0.2.0) (ap (λ (p : Op). p.part) (sym same) ∙ e.0.2.1)))) in
+            (λ n h. let e = enough.1.each n h in an_enqueue n e.0.0 v id (Number v) is e.0.1 e.0.2 e.1) in
             let bound : suc (length (ids_of (takes v) order)) ≤ length enough.0 = enough.2 in
             let sums = counted v order [] s filled.run in
             let nothing : times_in v [] ≡ 0 = refl in
@@ -308,9 +322,13 @@ module _ (ms : List Mark) (well : AreWellFormed ms) where
         -- a dequeue takes place as it answers
         at_return : (id : ℕ) (answer : Answer) → m ≡ Returned id answer → IsOpen front id → Next
         at_return id answer is pending = ⊎_elim
-            (λ put. (order, s, pass no_put (λ i p v e h q.
-            (let own : op ≡ p = one_op ms well id op p (in_ms _ (still _ pending.invoked.1)) (subst (λ j. Contains ms (Invoked j p)) (same i (Number v) e) h) in
-            let clash : Enqueue ≡ Dequeue = sym put.1.0 ∙ ap (λ (w : Op). w.name) own ∙ q in absurd (let none : ⊥ = cc in none)))))
+            (λ put. (
+              order,
+              s,
+              pass no_put (λ i p v e h q.
+                  (let own : op ≡ p = one_op ms well id op p (in_ms _ (still _ pending.invoked.1)) (subst (λ j. Contains ms (Invoked j p)) (same i (Number v) e) h) in
+                  let clash : Enqueue ≡ Dequeue = sym put.1.0 ∙ ap (λ (w : Op). w.name) own ∙ q in absurd (let none : ⊥ = cc in none))),
+            ))
             (λ take.
             let v : ℤ = take.0 in
             let answers : answer ≡ Number v = one_answer ms well id answer (Number v) there take.3 in

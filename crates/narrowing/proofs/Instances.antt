@@ -1,41 +1,32 @@
 -- histories that meet what the laws ask for
-use Rattle.std.proofs.Common.{◌≡◌, ◌≢◌, ◌↔◌, ℕ, zero, suc, ◌≤◌, ℤ, ◌⊎◌, inl, inr, ⊎_elim, Bool, true, false, not, IsTrue, nat_eq, Option, Some, None, List, [], ◌∷◌, ◌++◌, length, refl, sym, ap, ◌∙◌, subst, arith}
+use Rattle.std.proofs.Common.{◌≡◌, ◌≢◌, ◌↔◌, ℕ, zero, suc, ◌≤◌, ℤ, ◌⊎◌, inl, inr, ⊎_elim, Bool, true, IsTrue, nat_eq, Option, Some, None, List, [], ◌∷◌, ◌++◌, refl, sym, ap, ◌∙◌, subst, arith}
 use Rattle.std.specs.Ordering.{int_eq}
 use Rattle.std.specs.List.{Contains}
 use Rattle.std.proofs.lemmas.Bool.{true≢false, eqb-true}
-use Rattle.std.proofs.lemmas.Bool.Decides.{Decides-int_eq}
-use Rattle.models.specs.declared.model_kind.ModelKind.{ModelKind}
 use Rattle.models.specs.declared.model_kind.ModelKind.TheVariants.{Register}
 use Rattle.models.specs.declared.operation.Name.{Name}
 use Rattle.models.specs.declared.operation.Name.TheVariants.{Read, Write, Cas, Acquire, Release, Enqueue, Dequeue, Add}
 use Rattle.models.specs.declared.operation.Part.{Part}
-use Rattle.models.specs.declared.operation.Part.TheVariants.{Nil, Int, Pair}
+use Rattle.models.specs.declared.operation.Part.TheVariants.{Nil, Int}
 use Rattle.models.specs.declared.operation.Op.{Op}
-use Rattle.models.specs.declared.finding.Answer.{Answer}
 use Rattle.models.specs.declared.finding.Answer.TheVariants.{Nothing, Number}
 use Rattle.models.specs.Objects.{register}
-use Rattle.models.proofs.Bags.{same_int, other_int}
-use Rattle.history.specs.Events.{Mark, Entry, marks}
+use Rattle.models.proofs.Bags.{same_int}
+use Rattle.history.specs.Events.{Mark, Entry}
 use Rattle.history.specs.Events.Mark.{Invoked, Returned, Failed, Crashed}
-use Rattle.linspec.specs.MarkRule.{AreWellFormed}
-use Rattle.linspec.specs.Operations.{IsInvoked, HasReturned, Precedes}
-use Rattle.linspec.specs.Orders.{IsLinearizable}
-use Rattle.linspec.specs.Verdicts.{EndsShortestBadFront, IsRising}
-use Rattle.linspec.specs.Examples.{key_entries, write_then_open_read, write_then_read}
+use Rattle.linspec.specs.Operations.{Precedes}
 use Rattle.linspec.proofs.Lists.{Contains-nil, Contains-head, Contains-tail, Contains-cons_cases}
 use Rattle.linspec.proofs.Counts.{no_longer_than}
-use Rattle.linspec.proofs.RegisterReads.{open_read_linearizable, other_value_not_linearizable}
 use Rattle.narrowing.specs.Intervals.{HasNarrowerIntervals}
 use Rattle.narrowing.specs.LeftOut.{HaveFailed, HaveNotReturned, AreReads, AreForeign}
 use Rattle.narrowing.specs.Renamed.{IsOneToOne}
 use Rattle.narrowing.specs.Registers.{brought_by, compared_by, IsBringer, IsFinder, DragsFinders}
 use Rattle.narrowing.specs.ReadsAsCas.{AreAnsweredReads, HasNoCas}
 use Rattle.narrowing.specs.Sets.{AreRepeatedAdds, AreAddsOf}
-use Rattle.narrowing.specs.Queues.{Enqueues, AreEnqueuesIn, AreDequeuesOf, AreOfValues}
-use Rattle.narrowing.specs.Counts.{AreQueueOperations, HasEnough, AreDequeues, IsLeftOver, AreOfOneRank}
+use Rattle.narrowing.specs.Queues.{AreOfValues}
+use Rattle.narrowing.specs.Counts.{AreQueueOperations, AreDequeues, IsLeftOver, AreOfOneRank}
 use Rattle.narrowing.specs.Bags.{AreValues}
-use Rattle.narrowing.specs.Locks.{IsPair, IsLast, IsInvokedAfter, MayTakePlace}
-use Rattle.narrowing.proofs.BadFronts.{ends_shortest}
+use Rattle.narrowing.specs.Locks.{IsPair, IsLast}
 
 -- what holds of each element of a list that is written out
 abbrev Each : {X : Type 0} → (X → Type 0) → List X → Type 0
@@ -112,46 +103,47 @@ module _ (u v : ℤ) (apart : u ≢ v) where
   one_alone id = nat_eq id 1
 
   brings_there : (id : ℕ) (w : ℤ) → IsBringer unread id w → ((id ≡ 0) × (w ≡ u)) ⊎ ((id ≡ 1) × (w ≡ v))
-  brings_there id w h = from_each (λ m. m ≡ Invoked id h.0 → ((id ≡ 0) × (w ≡ u)) ⊎ ((id ≡ 1) × (w ≡ v))) unread
+  brings_there id w h = from_each (λ m. m ≡ Invoked id h.0 → ((id ≡ 0) × (w ≡ u)) ⊎ ((id ≡ 1) × (w ≡ v))) unread (
+    (λ q. inl (let i : 0 ≡ id = cc in let p : call Write (Int u) ≡ h.0 = cc in (sym i, (let r : Some w ≡ Some u = sym h.2 ∙ ap (λ (o : Op). brought_by o.name o.part) (sym p) in cc)))),
+    (
+      (λ q. cc),
       (
-        (λ q. inl (let i : 0 ≡ id = cc in let p : call Write (Int u) ≡ h.0 = cc in (sym i, (let r : Some w ≡ Some u = sym h.2 ∙ ap (λ (o : Op). brought_by o.name o.part) (sym p) in cc)))),
+        (λ q. inr (let i : 1 ≡ id = cc in let p : call Write (Int v) ≡ h.0 = cc in (sym i, (let r : Some w ≡ Some v = sym h.2 ∙ ap (λ (o : Op). brought_by o.name o.part) (sym p) in cc)))),
         (
           (λ q. cc),
           (
-            (λ q. inr (let i : 1 ≡ id = cc in let p : call Write (Int v) ≡ h.0 = cc in (sym i, (let r : Some w ≡ Some v = sym h.2 ∙ ap (λ (o : Op). brought_by o.name o.part) (sym p) in cc)))),
-            (
-              (λ q. cc),
-              (
-                (λ q. (let p : call Read Nil ≡ h.0 = cc in let r : None ≡ Some w = ap (λ (o : Op). brought_by o.name o.part) p ∙ h.2 in cc)),
-                ((λ q. cc), tt),
-              ),
-            ),
+            (λ q. (let p : call Read Nil ≡ h.0 = cc in let r : None ≡ Some w = ap (λ (o : Op). brought_by o.name o.part) p ∙ h.2 in cc)),
+            ((λ q. cc), tt),
           ),
         ),
-      )
+      ),
+    ),
+  )
       _ h.1 refl
 
   finds_there : (id : ℕ) (w : ℤ) → IsFinder unread id w → (id ≡ 2) × (w ≡ u)
-  finds_there id w h = from_each (λ m. m ≡ Invoked id h.0 → (id ≡ 2) × (w ≡ u)) unread
+  finds_there id w h = from_each (λ m. m ≡ Invoked id h.0 → (id ≡ 2) × (w ≡ u)) unread (
+    (λ q. (let p : call Write (Int u) ≡ h.0 = cc in absurd (no_write u p))),
+    (
+      (λ q. cc),
       (
-        (λ q. (let p : call Write (Int u) ≡ h.0 = cc in absurd (no_write u p))),
+        (λ q. (let p : call Write (Int v) ≡ h.0 = cc in absurd (no_write v p))),
         (
           (λ q. cc),
           (
-            (λ q. (let p : call Write (Int v) ≡ h.0 = cc in absurd (no_write v p))),
-            (
-              (λ q. cc),
-              (
-                (λ q. (let i : 2 ≡ id = cc in let p : call Read Nil ≡ h.0 = cc in (sym i, ⊎_elim
-                    (λ k. answer_of_two i k.1)
-                    (λ k. (let r : None ≡ Some w = ap (λ (o : Op). compared_by o.name o.part) p ∙ k in cc))
-                    h.2))),
-                ((λ q. cc), tt),
-              ),
-            ),
+            (λ q. (let i : 2 ≡ id = cc in let p : call Read Nil ≡ h.0 = cc in (
+              sym i,
+              ⊎_elim
+                  (λ k. answer_of_two i k.1)
+                  (λ k. (let r : None ≡ Some w = ap (λ (o : Op). compared_by o.name o.part) p ∙ k in cc))
+                  h.2,
+            ))),
+            ((λ q. cc), tt),
           ),
         ),
-      )
+      ),
+    ),
+  )
       _ h.1 refl
     where
       no_write : (x : ℤ) → call Write (Int x) ≡ h.0 → ⊥
@@ -161,20 +153,19 @@ module _ (u v : ℤ) (apart : u ≢ v) where
           h.2
 
       answer_of_two : 2 ≡ id → Contains unread (Returned id (Number w)) → w ≡ u
-      answer_of_two i k = from_each (λ m. m ≡ Returned id (Number w) → w ≡ u) unread
+      answer_of_two i k = from_each (λ m. m ≡ Returned id (Number w) → w ≡ u) unread (
+        (λ q. cc),
+        (
+          (λ q. (let r : 0 ≡ id = cc in absurd (omega (arith, i, r)))),
           (
             (λ q. cc),
             (
-              (λ q. (let r : 0 ≡ id = cc in absurd (omega (arith, i, r)))),
-              (
-                (λ q. cc),
-                (
-                  (λ q. (let r : 1 ≡ id = cc in absurd (omega (arith, i, r)))),
-                  ((λ q. cc), ((λ q. (let r : u ≡ w = cc in sym r)), tt)),
-                ),
-              ),
+              (λ q. (let r : 1 ≡ id = cc in absurd (omega (arith, i, r)))),
+              ((λ q. cc), ((λ q. (let r : u ≡ w = cc in sym r)), tt)),
             ),
-          )
+          ),
+        ),
+      )
           _ k refl
 
   it_drags_nothing : DragsFinders one_alone unread
@@ -182,8 +173,6 @@ module _ (u v : ℤ) (apart : u ≢ v) where
       (λ k. (let is : bringer ≡ 1 = eqb-true bringer 1 e in let zero : bringer ≡ 0 = k.0 in absurd (omega arith)))
       (λ k. absurd (apart (sym (finds_there finder w f).1 ∙ k.1)))
       (brings_there bringer w b)
-
-
 
 -- a read that has answered, and no cas
 module _ (u : ℤ) where
@@ -220,8 +209,7 @@ module _ (v : ℤ) where
   the_second_repeats id e i =
       let is : 1 ≡ id = sym (eqb-true id 1 e) in
       subst (λ n. (w : ℤ) × ((op : Op) × Contains two_adds (Invoked n op) × ((op.name ≡ Add) × (op.part ≡ Int w)))
-          × ((f : ℕ) × ((op : Op) × Contains two_adds (Invoked f op) × ((op.name ≡ Add) × (op.part ≡ Int w))) × Precedes two_adds f n × (¬ IsTrue (nat_eq f 1)))) is
-      (
+      × ((f : ℕ) × ((op : Op) × Contains two_adds (Invoked f op) × ((op.name ≡ Add) × (op.part ≡ Int w))) × Precedes two_adds f n × (¬ IsTrue (nat_eq f 1)))) is (
         v,
         (call Add (Int v), (2, omega arith, refl), (refl, refl)),
         (
@@ -242,11 +230,13 @@ module _ (v : ℤ) where
   one_value = Invoked 0 (call Add (Int v)) ∷ []
 
   its_adds : AreAddsOf (λ w. int_eq w v) zero_alone one_value
-  its_adds id op h = from_each (λ m. m ≡ Invoked id op → IsTrue (zero_alone id) ↔ ((w : ℤ) × ((op.name ≡ Add) × (op.part ≡ Int w)) × IsTrue (int_eq w v))) one_value
-      ((λ q. (let i : 0 ≡ id = cc in let p : call Add (Int v) ≡ op = cc in (
-        (λ e. (v, (ap (λ (o : Op). o.name) (sym p), ap (λ (o : Op). o.part) (sym p)), same_int v v refl)),
-        (λ k. ap zero_alone (sym i)),
-      ))), tt) _ h refl
+  its_adds id op h = from_each (λ m. m ≡ Invoked id op → IsTrue (zero_alone id) ↔ ((w : ℤ) × ((op.name ≡ Add) × (op.part ≡ Int w)) × IsTrue (int_eq w v))) one_value (
+    (λ q. (let i : 0 ≡ id = cc in let p : call Add (Int v) ≡ op = cc in (
+      (λ e. (v, (ap (λ (o : Op). o.name) (sym p), ap (λ (o : Op). o.part) (sym p)), same_int v v refl)),
+      (λ k. ap zero_alone (sym i)),
+    ))),
+    tt,
+  ) _ h refl
 
 -- a value that went into a queue, and came out
 module _ (v : ℤ) where
@@ -297,8 +287,11 @@ module _ (v : ℤ) where
     before_dequeue = before_answer;
     after_dequeue = [];
     returned = refl;
-    enough = λ dequeues those. ([], record { once = tt; each = λ id h. absurd (Contains-nil id h) },
-        no_longer_than dequeues [] those.once (λ id h. (let d = those.each id h in absurd (no_answer id d.0 d.1))));
+    enough = λ dequeues those. (
+      [],
+      record { once = tt; each = λ id h. absurd (Contains-nil id h) },
+      no_longer_than dequeues [] those.once (λ id h. (let d = those.each id h in absurd (no_answer id d.0 d.1))),
+    );
   }
 
   all_of_v : AreOfValues (λ w. int_eq w v) (λ id. true) in_and_out
@@ -329,9 +322,12 @@ module _ (v : ℤ) where
     before = [];
     after = [];
     invoked = refl;
-    enough = λ dequeues those. ([], record { once = tt; each = λ id h. absurd (Contains-nil id h) },
-        no_longer_than dequeues [] those.once (λ id h. (let d = those.each id h in
-        absurd (from_each (λ m. m ≡ Returned id (Number v) → ⊥) (Invoked 0 (call Enqueue (Int v)) ∷ []) ((λ q. cc), tt) _ d.1 refl))));
+    enough = λ dequeues those. (
+      [],
+      record { once = tt; each = λ id h. absurd (Contains-nil id h) },
+      no_longer_than dequeues [] those.once (λ id h. (let d = those.each id h in
+          absurd (from_each (λ m. m ≡ Returned id (Number v) → ⊥) (Invoked 0 (call Enqueue (Int v)) ∷ []) ((λ q. cc), tt) _ d.1 refl))),
+    );
   }
 
 -- a lock that was held once

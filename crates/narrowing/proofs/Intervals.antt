@@ -1,15 +1,15 @@
 -- where a history that asks for more has a legal order, it is one of the history
-use Rattle.std.proofs.Common.{◌≡◌, ℕ, ◌<◌, ◌≤◌, ⊎_elim, List, [], ◌∷◌, ◌++◌, refl, sym, ap, ◌∙◌, subst, arith}
+use Rattle.std.proofs.Common.{◌≡◌, ℕ, ◌<◌, ◌≤◌, ⊎_elim, List, ◌∷◌, ◌++◌, sym, ap, ◌∙◌, subst, arith}
 use Rattle.std.specs.List.{Contains}
 use Rattle.models.specs.declared.operation.Op.{Op}
 use Rattle.models.specs.declared.finding.Answer.{Answer}
 use Rattle.models.specs.Objects.{Object}
 use Rattle.history.specs.Events.{Mark, Entry, marks}
-use Rattle.history.specs.Events.Mark.{Invoked, Returned, Failed}
-use Rattle.linspec.specs.Operations.{IsInvoked, Precedes}
-use Rattle.linspec.specs.Orders.{Pairwise, IsLegalOrder, IsLinearizable}
+use Rattle.history.specs.Events.Mark.{Invoked, Returned}
+use Rattle.linspec.specs.Operations.{Precedes}
+use Rattle.linspec.specs.Orders.{IsLegalOrder, IsLinearizable}
 use Rattle.linspec.specs.Verdicts.{IsRising}
-use Rattle.linspec.proofs.Lists.{Contains-head, Contains-tail, Contains-cons_cases, Pairwise-weaker, Pairwise-across, Pairwise-right, cut_at}
+use Rattle.linspec.proofs.Lists.{Contains-head, Contains-cons_cases, Pairwise-weaker, Pairwise-across, Pairwise-right, cut_at}
 use Rattle.linspec.proofs.Filters.{map-cut, from_map, to_map}
 use Rattle.linspec.proofs.Fronts.{marks-append}
 use Rattle.linspec.proofs.Keyed.{from_marks}
@@ -38,14 +38,18 @@ module _ (wide narrow : List Entry) (rises : IsRising wide) (rises_too : IsRisin
   placed : (e f : Entry) → Contains narrow e → Contains narrow f → e.index < f.index → (before : List Entry) × (after : List Entry) × (narrow ≡ before ++ f ∷ after) × Contains before e
   placed e f h k lt =
       let c = cut_at narrow f k in
-      let rises_there : IsRising (c.0 ++ f ∷ c.1) = subst IsRising c.2 rises_too in
-      (c.0, c.1, c.2, ⊎_elim
-      (λ i. i)
-      (λ i. ⊎_elim
-      (λ (q : f ≡ e). (let same : f.index ≡ e.index = ap (λ (w : Entry). w.index) q in absurd (omega arith)))
-      (λ j. (let above : f.index < e.index = (Pairwise-right (λ (e f : Entry). e.index < f.index) c.0 (f ∷ c.1) rises_there).0 e j in absurd (omega arith)))
-      (Contains-cons_cases f c.1 e i))
-      (Contains-append_cases c.0 (f ∷ c.1) e (subst (λ l. Contains l e) c.2 h)))
+      let rises_there : IsRising (c.0 ++ f ∷ c.1) = subst IsRising c.2 rises_too in (
+        c.0,
+        c.1,
+        c.2,
+        ⊎_elim
+            (λ i. i)
+            (λ i. ⊎_elim
+            (λ (q : f ≡ e). (let same : f.index ≡ e.index = ap (λ (w : Entry). w.index) q in absurd (omega arith)))
+            (λ j. (let above : f.index < e.index = (Pairwise-right (λ (e f : Entry). e.index < f.index) c.0 (f ∷ c.1) rises_there).0 e j in absurd (omega arith)))
+            (Contains-cons_cases f c.1 e i))
+            (Contains-append_cases c.0 (f ∷ c.1) e (subst (λ l. Contains l e) c.2 h)),
+      )
 
   precedes_at : (a b : ℕ) (answer : Answer) (op : Op) (e f : Entry) → Contains narrow e → Contains narrow f → e.mark ≡ Returned a answer → f.mark ≡ Invoked b op → e.index < f.index → Precedes (marks narrow) a b
   precedes_at a b answer op e f h k returned invoked lt =

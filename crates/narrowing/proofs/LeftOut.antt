@@ -1,21 +1,21 @@
 -- a history without some of its operations, and its legal orders
-use Rattle.std.proofs.Common.{◌≡◌, ◌≢◌, ◌↔◌, ℕ, ◌⊎◌, inl, inr, ⊎_elim, Bool, true, false, not, IsTrue, List, [], ◌∷◌, ◌++◌, refl, sym, ap, ◌∙◌, subst}
-use Rattle.std.specs.List.{filter, Contains}
+use Rattle.std.proofs.Common.{◌≡◌, ◌↔◌, ℕ, ◌⊎◌, inl, inr, ⊎_elim, Bool, true, false, not, IsTrue, List, [], ◌∷◌, ◌++◌, refl, sym, ap, ◌∙◌, subst}
+use Rattle.std.specs.List.{Contains}
 use Rattle.std.proofs.lemmas.Bool.{cases_Bool, true≢false, not-true}
 use Rattle.std.proofs.lemmas.List.Elements.{Contains-append_right, filter-append}
 use Rattle.models.specs.declared.operation.Op.{Op}
 use Rattle.models.specs.declared.finding.Found.{Found}
 use Rattle.models.specs.declared.finding.Answer.{Answer}
 use Rattle.models.specs.Objects.{Object, Fits, ReadsLeave}
-use Rattle.history.specs.Events.{Mark, Entry, marks}
+use Rattle.history.specs.Events.{Mark}
 use Rattle.history.specs.Events.Mark.{Invoked, Returned, Failed, Crashed}
-use Rattle.linspec.specs.MarkRule.{id_of, IsNew, MayFollow, AreWellFormed}
-use Rattle.linspec.specs.Operations.{IsInvoked, HasReturned, IsOpen, Precedes}
+use Rattle.linspec.specs.MarkRule.{id_of, MayFollow, AreWellFormed}
+use Rattle.linspec.specs.Operations.{HasReturned, IsOpen, Precedes}
 use Rattle.linspec.specs.Orders.{Taken, Run, IsLegalOrder, IsLinearizable}
 use Rattle.linspec.proofs.Lists.{Contains-nil, Contains-head, Contains-cons_cases, Pairwise-weaker}
-use Rattle.linspec.proofs.Filters.{from_filter, to_filter, filter-cut, filter-cut_at, filter-yes, filter-no}
+use Rattle.linspec.proofs.Filters.{from_filter, to_filter, filter-cut, filter-cut_at}
 use Rattle.narrowing.specs.Intervals.{AsksForMore}
-use Rattle.narrowing.specs.LeftOut.{without, entries_without, HaveFailed, HaveNotReturned, AreReads}
+use Rattle.narrowing.specs.LeftOut.{without, HaveFailed, HaveNotReturned, AreReads}
 use Rattle.narrowing.proofs.Intervals.{IsLinearizable-stricter}
 use Rattle.narrowing.proofs.Matching.{Matches, IsLegalOrder-match, simulated}
 use Rattle.narrowing.proofs.Once.{returned_not_failed, returned_invoked}
@@ -170,8 +170,11 @@ module _ (out : ℕ → Bool) where
   pub IsLinearizable-without_foreign : (o : Object) (ms : List Mark) → ((id : ℕ) (op : Op) → IsTrue (out id) → Contains ms (Invoked id op) → (s t : o.State) (found : Found) → ¬ o.Steps s op found t)
       → IsLinearizable o ms → IsLinearizable o (without out ms)
   IsLinearizable-without_foreign o ms never h =
-      let l : IsLegalOrder o ms h.0 h.1 = h.2 in
-      (h.0, h.1, IsLegalOrder-rest o ms h.0 h.1 l (λ x k. ⊎_elim
-          (λ e. (let r = step_of o h.0 o.start h.1 l.run x k in absurd (never x.id x.op e (l.invoked x k) r.0 r.1 x.found r.2)))
-          (λ e. e)
-          (cases_Bool (out x.id))))
+      let l : IsLegalOrder o ms h.0 h.1 = h.2 in (
+        h.0,
+        h.1,
+        IsLegalOrder-rest o ms h.0 h.1 l (λ x k. ⊎_elim
+            (λ e. (let r = step_of o h.0 o.start h.1 l.run x k in absurd (never x.id x.op e (l.invoked x k) r.0 r.1 x.found r.2)))
+            (λ e. e)
+            (cases_Bool (out x.id))),
+      )

@@ -1,5 +1,5 @@
 -- what may be left out of the history of a lock
-use Rattle.std.proofs.Common.{◌≡◌, ◌≢◌, ℕ, ◌⊎◌, inl, inr, ⊎_elim, Bool, true, false, not, ◌||◌, nat_eq, List, [], ◌∷◌, ◌++◌, refl, sym, ap, ◌∙◌, subst, append_assoc}
+use Rattle.std.proofs.Common.{◌≡◌, ◌≢◌, ℕ, inl, ⊎_elim, Bool, true, false, not, nat_eq, List, [], ◌∷◌, ◌++◌, refl, sym, ap, ◌∙◌, subst}
 use Rattle.std.specs.List.{Contains}
 use Rattle.std.proofs.lemmas.Bool.{cases_Bool, true≢false, eqb-true, eq-eqb, ne_eqb}
 use Rattle.std.proofs.lemmas.List.Elements.{Contains-append_left, Contains-append_right, Contains-append_cases}
@@ -10,20 +10,19 @@ use Rattle.models.specs.declared.operation.Part.TheVariants.{Nil}
 use Rattle.models.specs.declared.operation.Op.{Op}
 use Rattle.models.specs.declared.finding.Found.{Found}
 use Rattle.models.specs.declared.finding.Found.TheVariants.{Unit as Done}
-use Rattle.models.specs.declared.finding.Answer.{Answer}
-use Rattle.models.specs.Objects.{IsOneOf, Fits, mutex_apply, mutex}
+use Rattle.models.specs.Objects.{IsOneOf, mutex_apply, mutex}
 use Rattle.models.proofs.Steps.{same_outcome}
 use Rattle.history.specs.Events.{Mark}
-use Rattle.history.specs.Events.Mark.{Invoked, Returned, Failed}
+use Rattle.history.specs.Events.Mark.{Invoked}
 use Rattle.linspec.specs.MarkRule.{AreWellFormed}
-use Rattle.linspec.specs.Operations.{IsInvoked, HasReturned, Precedes}
+use Rattle.linspec.specs.Operations.{Precedes}
 use Rattle.linspec.specs.Orders.{Taken, Includes, Pairwise, Run, IsLegalOrder, IsLinearizable}
 use Rattle.linspec.proofs.Lists.{Contains-nil, Contains-head, Contains-tail, Contains-cons_cases, Pairwise-append, Pairwise-left, Pairwise-right, Pairwise-across, Pairwise-weaker, cut_at}
 use Rattle.linspec.proofs.Marks.{Precedes-returned, Run-append, Run-cut}
 use Rattle.linspec.proofs.Invocations.{Around, around}
 use Rattle.narrowing.specs.LeftOut.{without}
 use Rattle.narrowing.specs.Counts.{is_one_of}
-use Rattle.narrowing.specs.Locks.{IsInvokedAfter, IsCalled, MayTakePlace, MayStandBetween, IsPair, IsLast}
+use Rattle.narrowing.specs.Locks.{IsCalled, MayTakePlace, MayStandBetween, IsPair, IsLast}
 use Rattle.narrowing.proofs.Once.{one_op, not_before_itself}
 use Rattle.narrowing.proofs.LeftOut.{from_without, to_without, Precedes-from_without, IsLegalOrder-rest}
 use Rattle.narrowing.proofs.Ranks.{is_neither, is_not_first, is_not_second}
@@ -258,17 +257,22 @@ module _ (ms : List Mark) (well : AreWellFormed ms) (b : Bool) (first second : �
     from_left : (x : Taken) → Contains left x → Contains order x × (out x.id ≡ false)
     unfolding left
     from_left x h = ⊎_elim
-        (λ k. (in_order x (Contains-append_left xs (p ∷ (ys ++ q ∷ zs)) x k),
-        is_neither first second x.id
-        (λ e. Pairwise-across Apart xs (p ∷ (ys ++ q ∷ zs)) apart x p k (Contains-head p (ys ++ q ∷ zs)) (e ∙ sym p_is))
-        (λ e. Pairwise-across Apart xs (p ∷ (ys ++ q ∷ zs)) apart x q k (Contains-tail p (ys ++ q ∷ zs) q q_behind) (e ∙ sym q_is))))
+        (λ k. (
+          in_order x (Contains-append_left xs (p ∷ (ys ++ q ∷ zs)) x k),
+          is_neither first second x.id
+              (λ e. Pairwise-across Apart xs (p ∷ (ys ++ q ∷ zs)) apart x p k (Contains-head p (ys ++ q ∷ zs)) (e ∙ sym p_is))
+              (λ e. Pairwise-across Apart xs (p ∷ (ys ++ q ∷ zs)) apart x q k (Contains-tail p (ys ++ q ∷ zs) q q_behind) (e ∙ sym q_is)),
+        ))
         (λ k. ⊎_elim
-        (λ i. (let j = swaps.from x i in (ys_there x j,
-        is_neither first second x.id (λ e. from_p Apart apart x (between x j) (p_is ∙ sym e)) (λ e. to_q Apart apart x j (e ∙ sym q_is)))))
-        (λ i. (let j : Contains (ys ++ q ∷ zs) x = Contains-append_right ys (q ∷ zs) x (Contains-tail q zs x i) in
-        (in_order x (Contains-append_right xs (p ∷ (ys ++ q ∷ zs)) x (Contains-tail p (ys ++ q ∷ zs) x j)),
-        is_neither first second x.id (λ e. from_p Apart apart x j (p_is ∙ sym e))
-        (λ e. (Pairwise-right Apart ys (q ∷ zs) (Pairwise-right Apart xs (p ∷ (ys ++ q ∷ zs)) apart).1).0 x i (q_is ∙ sym e)))))
+        (λ i. (let j = swaps.from x i in (
+          ys_there x j,
+          is_neither first second x.id (λ e. from_p Apart apart x (between x j) (p_is ∙ sym e)) (λ e. to_q Apart apart x j (e ∙ sym q_is)),
+        )))
+        (λ i. (let j : Contains (ys ++ q ∷ zs) x = Contains-append_right ys (q ∷ zs) x (Contains-tail q zs x i) in (
+          in_order x (Contains-append_right xs (p ∷ (ys ++ q ∷ zs)) x (Contains-tail p (ys ++ q ∷ zs) x j)),
+          is_neither first second x.id (λ e. from_p Apart apart x j (p_is ∙ sym e))
+              (λ e. (Pairwise-right Apart ys (q ∷ zs) (Pairwise-right Apart xs (p ∷ (ys ++ q ∷ zs)) apart).1).0 x i (q_is ∙ sym e)),
+        )))
         (Contains-append_cases swaps.swaps zs x k))
         (Contains-append_cases xs (swaps.swaps ++ zs) x h)
 
@@ -374,8 +378,7 @@ module _ (ms : List Mark) (well : AreWellFormed ms) (b : Bool) (id : ℕ) (is : 
           let l' : IsLegalOrder mutex ms (a.before ++ a.here ∷ []) h.1 = subst (λ k. IsLegalOrder mutex ms k h.1) w l in
           let run : (u : Bool) × Run mutex false a.before u × Run mutex u (a.here ∷ []) h.1 = Run-cut mutex false h.1 a.before (a.here ∷ []) l'.run in
           let was : (x : Taken) → Contains a.before x → Contains (a.before ++ a.here ∷ []) x = (λ x k. Contains-append_left a.before (a.here ∷ []) x k) in
-          let stays : (x : Taken) → Contains a.before x → only x.id ≡ false = (λ x k. ne_eqb x.id id (λ e. Pairwise-across (λ x y. x.id ≢ y.id) a.before (a.here ∷ []) l'.once x a.here k (Contains-head a.here []) (e ∙ sym a.is))) in
-          (
+          let stays : (x : Taken) → Contains a.before x → only x.id ≡ false = (λ x k. ne_eqb x.id id (λ e. Pairwise-across (λ x y. x.id ≢ y.id) a.before (a.here ∷ []) l'.once x a.here k (Contains-head a.here []) (e ∙ sym a.is))) in (
             a.before,
             run.0,
             record {
@@ -384,9 +387,12 @@ module _ (ms : List Mark) (well : AreWellFormed ms) (b : Bool) (id : ℕ) (is : 
               none_failed = λ x k f. l'.none_failed x (was x k) (from_without only ms _ f).0;
               all_done = λ n d. (
                   let r = from_without only ms _ d.1 in
-                  let i : Includes (a.before ++ a.here ∷ []) n = l'.all_done n (d.0, r.0) in
-                  (i.0, ⊎_elim (λ k. k) (λ k. ⊎_elim (λ (e : a.here ≡ i.0). absurd (true≢false (sym (eq-eqb n id (sym i.2 ∙ ap (λ (z : Taken). z.id) (sym e) ∙ a.is)) ∙ r.1))) (λ j. absurd (Contains-nil _ j)) (Contains-cons_cases a.here [] i.0 k))
-                      (Contains-append_cases a.before (a.here ∷ []) i.0 i.1), i.2));
+                  let i : Includes (a.before ++ a.here ∷ []) n = l'.all_done n (d.0, r.0) in (
+                    i.0,
+                    ⊎_elim (λ k. k) (λ k. ⊎_elim (λ (e : a.here ≡ i.0). absurd (true≢false (sym (eq-eqb n id (sym i.2 ∙ ap (λ (z : Taken). z.id) (sym e) ∙ a.is)) ∙ r.1))) (λ j. absurd (Contains-nil _ j)) (Contains-cons_cases a.here [] i.0 k))
+                        (Contains-append_cases a.before (a.here ∷ []) i.0 i.1),
+                    i.2,
+                  ));
               in_time = Pairwise-weaker (λ x y. ¬ Precedes ms y.id x.id) (λ x y. ¬ Precedes (without only ms) y.id x.id) a.before (λ x y i j n k. n (Precedes-from_without only ms y.id x.id k))
                   (Pairwise-left (λ x y. ¬ Precedes ms y.id x.id) a.before (a.here ∷ []) l'.in_time);
               run = run.1;

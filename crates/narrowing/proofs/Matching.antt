@@ -1,5 +1,5 @@
 -- an order that has, for each operation of another one that is not passed over, one that matches it
-use Rattle.std.proofs.Common.{◌≡◌, ◌≢◌, ℕ, ◌⊎◌, inl, inr, ⊎_elim, List, [], ◌∷◌, ◌++◌, refl, sym, ap, ◌∙◌, subst, append_assoc}
+use Rattle.std.proofs.Common.{◌≡◌, ◌≢◌, ℕ, ◌⊎◌, inl, inr, ⊎_elim, List, [], ◌∷◌, ◌++◌, refl, sym, ◌∙◌, subst, append_assoc}
 use Rattle.std.specs.List.{Contains}
 use Rattle.models.specs.declared.finding.Answer.{Answer}
 use Rattle.models.specs.Objects.{Object, Fits}
@@ -94,7 +94,7 @@ module _ (Skip : Taken → Type 0) (R : Taken → Taken → Type 0) where
 -- a run of one object makes one of another, where each step does: P tells how the states compare after each front of the order
 module _ (o u : Object) (Skip : Taken → Type 0) (R : Taken → Taken → Type 0) (P : List Taken → o.State → u.State → Type 0) (order : List Taken)
     (step : (before after : List Taken) (x : Taken) (s t : o.State) (v : u.State) → before ++ x ∷ after ≡ order → P before s v → o.Steps s x.op x.found t
-        → (Skip x × P (before ++ x ∷ []) t v) ⊎ ((y : Taken) × (w : u.State) × R x y × u.Steps v y.op y.found w × P (before ++ x ∷ []) t w)) where
+    → (Skip x × P (before ++ x ∷ []) t v) ⊎ ((y : Taken) × (w : u.State) × R x y × u.Steps v y.op y.found w × P (before ++ x ∷ []) t w)) where
   pub simulated : (before after : List Taken) (s t : o.State) (v : u.State) → before ++ after ≡ order → P before s v → Run o s after t
       → (ys : List Taken) × (w : u.State) × Matches Skip R after ys × Run u v ys w
   simulated before [] s t v whole p run = ([], v, refl, refl)

@@ -1,9 +1,8 @@
 -- some values left out of the history of a queue with an order
-use Rattle.std.proofs.Common.{◌≡◌, ◌≢◌, ◌↔◌, ℕ, suc, ◌+◌, ◌<◌, ◌≤◌, ℤ, ◌⊎◌, inl, inr, ⊎_elim, Bool, true, false, not, cond, IsTrue, List, [], ◌∷◌, ◌++◌, map, length, refl, sym, ap, ◌∙◌, subst, arith}
+use Rattle.std.proofs.Common.{◌≡◌, ◌≢◌, ℕ, ◌+◌, ◌≤◌, ℤ, ◌⊎◌, inl, inr, ⊎_elim, Bool, true, false, not, cond, List, [], ◌∷◌, ◌++◌, length, refl, sym, ap, ◌∙◌, subst, arith}
 use Rattle.std.specs.Ordering.{int_eq}
 use Rattle.std.specs.List.{filter, Contains}
 use Rattle.std.proofs.lemmas.Bool.{cases_Bool, true≢false}
-use Rattle.std.proofs.lemmas.Bool.Decides.{Decides-int_eq}
 use Rattle.std.proofs.lemmas.List.{append-nil}
 use Rattle.std.proofs.lemmas.List.Elements.{Contains-append_right, filter-append}
 use Rattle.std.proofs.lemmas.List.Sums.{sum_by-cons}
@@ -17,20 +16,20 @@ use Rattle.models.specs.declared.finding.Found.TheVariants.{Unit as Done, Item}
 use Rattle.models.specs.declared.finding.Answer.{Answer}
 use Rattle.models.specs.declared.finding.Answer.TheVariants.{Nothing, Number, Numbers, Many}
 use Rattle.models.specs.Objects.{IsOneOf, Fits, queue_apply, fifo_queue}
-use Rattle.models.specs.Runs.{is_enqueue_of, is_dequeue_of, times_in}
-use Rattle.models.proofs.Bags.{same_int, other_int}
+use Rattle.models.specs.Runs.{times_in}
+use Rattle.models.proofs.Bags.{same_int}
 use Rattle.models.proofs.Steps.{same_outcome}
 use Rattle.history.specs.Events.{Mark}
 use Rattle.history.specs.Events.Mark.{Invoked, Returned, Failed}
 use Rattle.linspec.specs.MarkRule.{AreWellFormed}
 use Rattle.linspec.specs.Operations.{HasReturned}
-use Rattle.linspec.specs.Orders.{Taken, Includes, Pairwise, Run, IsLegalOrder, IsLinearizable}
-use Rattle.linspec.proofs.Lists.{Contains-nil, Contains-head, Contains-tail, Contains-cons_cases}
-use Rattle.linspec.proofs.Filters.{filter-yes, filter-no, from_filter, to_filter, from_map, to_map, Pairwise-filter}
+use Rattle.linspec.specs.Orders.{Taken, Includes, Run, IsLegalOrder, IsLinearizable}
+use Rattle.linspec.proofs.Lists.{Contains-head, Contains-cons_cases}
+use Rattle.linspec.proofs.Filters.{filter-yes, filter-no, Pairwise-filter}
 use Rattle.linspec.proofs.Counts.{no_longer_than}
 use Rattle.linspec.proofs.Fates.{returned_or_not}
 use Rattle.narrowing.specs.LeftOut.{without}
-use Rattle.narrowing.specs.Queues.{Enqueues, AreDequeuesOf, IsSpare, AreOfValues}
+use Rattle.narrowing.specs.Queues.{IsSpare, AreOfValues}
 use Rattle.narrowing.proofs.Matching.{Matches, simulated}
 use Rattle.narrowing.proofs.Once.{one_op}
 use Rattle.narrowing.proofs.LeftOut.{step_of, MayGo, Stays, IsLinearizable-rest}

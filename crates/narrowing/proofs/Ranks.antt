@@ -1,28 +1,25 @@
 -- what may be left out of the history of a queue without an order
-use Rattle.std.proofs.Common.{◌≡◌, ◌≢◌, ◌↔◌, ℕ, suc, ◌≤◌, ℤ, ◌⊎◌, inl, inr, ⊎_elim, Bool, true, false, not, ◌||◌, IsTrue, nat_eq, List, [], ◌∷◌, ◌++◌, length, refl, sym, ap, ◌∙◌, subst, append_assoc, arith}
+use Rattle.std.proofs.Common.{◌≡◌, ◌≢◌, ℕ, suc, ◌≤◌, ℤ, inl, inr, ⊎_elim, Bool, true, false, not, ◌||◌, nat_eq, List, [], ◌∷◌, ◌++◌, length, refl, sym, ap, ◌∙◌, subst, arith}
 use Rattle.std.specs.List.{filter, Contains}
-use Rattle.std.proofs.lemmas.Bool.{cases_Bool, cases_eq, true≢false, eqb-true, eq-eqb, ne_eqb}
+use Rattle.std.proofs.lemmas.Bool.{cases_Bool, cases_eq, true≢false, eq-eqb, ne_eqb}
 use Rattle.std.proofs.lemmas.List.Elements.{Contains-append_left, Contains-append_right}
-use Rattle.models.specs.declared.operation.Name.{Name}
 use Rattle.models.specs.declared.operation.Name.TheVariants.{Enqueue, Dequeue}
-use Rattle.models.specs.declared.operation.Part.{Part}
 use Rattle.models.specs.declared.operation.Part.TheVariants.{Int}
 use Rattle.models.specs.declared.operation.Op.{Op}
-use Rattle.models.specs.declared.finding.Answer.{Answer}
 use Rattle.models.specs.declared.finding.Answer.TheVariants.{Number}
 use Rattle.models.specs.Objects.{unordered_queue}
 use Rattle.history.specs.Events.{Mark, IsFront}
-use Rattle.history.specs.Events.Mark.{Invoked, Returned, Failed}
+use Rattle.history.specs.Events.Mark.{Invoked, Returned}
 use Rattle.linspec.specs.MarkRule.{id_of, IsNew, AreWellFormed}
 use Rattle.linspec.specs.Operations.{IsInvoked, HasReturned}
-use Rattle.linspec.specs.Orders.{Pairwise, IsLinearizable}
-use Rattle.linspec.proofs.Lists.{Contains-nil, Contains-head, Contains-tail, Contains-cons_cases}
+use Rattle.linspec.specs.Orders.{IsLinearizable}
+use Rattle.linspec.proofs.Lists.{Contains-head, Contains-tail, Contains-cons_cases}
 use Rattle.linspec.proofs.Filters.{two_cuts, filter-cut, to_filter, from_filter, Pairwise-filter}
 use Rattle.linspec.proofs.Counts.{no_longer_than}
 use Rattle.linspec.proofs.Fates.{invoked_or_not, returned_or_not}
 use Rattle.narrowing.specs.LeftOut.{without}
 use Rattle.narrowing.specs.Queues.{Enqueues, AreEnqueuesIn, AreDequeuesOf}
-use Rattle.narrowing.specs.Counts.{AreQueueOperations, HasEnough, NeverRunsOut, AreDequeues, IsLeftOver, AreOfOneRank, is_one_of}
+use Rattle.narrowing.specs.Counts.{AreQueueOperations, NeverRunsOut, AreDequeues, IsLeftOver, AreOfOneRank, is_one_of}
 use Rattle.narrowing.proofs.Once.{one_op, one_answer, returned_invoked}
 use Rattle.narrowing.proofs.LeftOut.{from_without, to_without, AreWellFormed-without}
 use Rattle.narrowing.proofs.BadFronts.{well_front}

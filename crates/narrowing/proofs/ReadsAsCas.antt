@@ -1,28 +1,24 @@
 -- a read that has answered v takes place just where cas [v v] does
-use Rattle.std.proofs.Common.{◌≡◌, ◌≢◌, ◌↔◌, ℕ, ℤ, ◌⊎◌, inl, inr, ⊎_elim, Option, Some, None, List, [], ◌∷◌, ◌++◌, map, refl, sym, ap, ◌∙◌, subst}
+use Rattle.std.proofs.Common.{◌≡◌, ◌≢◌, ◌↔◌, ℕ, ℤ, ◌⊎◌, inl, inr, ⊎_elim, Option, Some, None, List, [], ◌∷◌, ◌++◌, refl, sym, ap, ◌∙◌, subst}
 use Rattle.std.specs.List.{Contains}
 use Rattle.std.proofs.lemmas.List.Elements.{Contains-append_right}
-use Rattle.models.specs.declared.operation.Name.{Name}
 use Rattle.models.specs.declared.operation.Name.TheVariants.{Read, Write, Cas}
-use Rattle.models.specs.declared.operation.Part.{Part}
-use Rattle.models.specs.declared.operation.Part.TheVariants.{Nil, Int, Pair}
+use Rattle.models.specs.declared.operation.Part.TheVariants.{Nil, Pair}
 use Rattle.models.specs.declared.operation.Op.{Op}
-use Rattle.models.specs.declared.finding.Found.{Found}
 use Rattle.models.specs.declared.finding.Found.TheVariants.{Unit as Done, Reg}
 use Rattle.models.specs.declared.finding.Answer.{Answer}
-use Rattle.models.specs.declared.finding.Answer.TheVariants.{Number, Numbers}
-use Rattle.models.specs.Objects.{Object, Fits, register, cas_register}
+use Rattle.models.specs.declared.finding.Answer.TheVariants.{Number}
+use Rattle.models.specs.Objects.{Fits, register, cas_register}
 use Rattle.history.specs.Events.{Mark}
-use Rattle.history.specs.Events.Mark.{Invoked, Returned, Failed, Crashed}
+use Rattle.history.specs.Events.Mark.{Invoked, Returned, Failed}
 use Rattle.linspec.specs.MarkRule.{AreWellFormed}
-use Rattle.linspec.specs.Operations.{HasReturned, Precedes}
 use Rattle.linspec.specs.Orders.{Taken, Run, IsLegalOrder, IsLinearizable}
 use Rattle.linspec.proofs.Lists.{Contains-head, Contains-tail}
 use Rattle.narrowing.specs.ReadsAsCas.{AreAnsweredReads, cas_if, answer_if, reads_as_cas, HasNoCas}
 use Rattle.narrowing.proofs.Matching.{Matches, IsLegalOrder-match, simulated}
 use Rattle.narrowing.proofs.Once.{one_op, one_answer}
 use Rattle.narrowing.proofs.Relabelling.{from_invoked, from_returned, from_failed, to_invoked, to_returned, to_failed, from_precedes, to_precedes}
-use Rattle.narrowing.proofs.RegisterSteps.{IsWrite, IsRead, IsCas, View, view_register, view_cas_register, by_cas_view, by_view, no_cas}
+use Rattle.narrowing.proofs.RegisterSteps.{view_register, view_cas_register, by_cas_view, by_view}
 
 by_option : {P : Type 0} (r : Option ℤ) → (r ≡ None → P) → ((v : ℤ) → r ≡ Some v → P) → P
 by_option None none some = none refl

@@ -1,5 +1,5 @@
 -- what may be left out of the history of a register
-use Rattle.std.proofs.Common.{◌≡◌, ◌≢◌, ℕ, ℤ, ◌⊎◌, inl, inr, ⊎_elim, Bool, true, false, IsTrue, Option, Some, None, List, [], ◌∷◌, ◌++◌, refl, sym, ap, ◌∙◌, subst, append_assoc}
+use Rattle.std.proofs.Common.{◌≡◌, ◌≢◌, ℕ, ℤ, ◌⊎◌, inl, inr, ⊎_elim, Bool, true, false, Option, Some, None, List, [], ◌∷◌, ◌++◌, refl, sym, ap, ◌∙◌, subst, append_assoc}
 use Rattle.std.specs.List.{Contains}
 use Rattle.std.proofs.lemmas.Bool.{cases_Bool, true≢false}
 use Rattle.std.proofs.lemmas.List.Elements.{Contains-append_right, Contains-append_left, Contains-append_cases, Contains-push_cases}
@@ -9,7 +9,7 @@ use Rattle.models.specs.declared.operation.Part.{Part}
 use Rattle.models.specs.declared.operation.Part.TheVariants.{Nil, Int, Pair}
 use Rattle.models.specs.declared.operation.Op.{Op}
 use Rattle.models.specs.declared.finding.Found.{Found}
-use Rattle.models.specs.declared.finding.Found.TheVariants.{Unit as Done, Reg}
+use Rattle.models.specs.declared.finding.Found.TheVariants.{Reg}
 use Rattle.models.specs.declared.finding.Answer.{Answer}
 use Rattle.models.specs.declared.finding.Answer.TheVariants.{Nothing, Number, Numbers, Many}
 use Rattle.models.specs.Objects.{Object, Fits, register, cas_register}
@@ -18,13 +18,13 @@ use Rattle.history.specs.Events.Mark.{Invoked, Returned}
 use Rattle.linspec.specs.MarkRule.{AreWellFormed}
 use Rattle.linspec.specs.Operations.{HasReturned, Precedes}
 use Rattle.linspec.specs.Orders.{Taken, Includes, Pairwise, Run, IsLegalOrder, IsLinearizable}
-use Rattle.linspec.proofs.Lists.{Contains-nil, Contains-head, Contains-tail, Contains-cons_cases, Pairwise-across, Pairwise-left, Pairwise-right}
+use Rattle.linspec.proofs.Lists.{Contains-nil, Contains-head, Contains-cons_cases, Pairwise-across, Pairwise-left, Pairwise-right}
 use Rattle.narrowing.specs.LeftOut.{without}
 use Rattle.narrowing.specs.Registers.{brought_by, compared_by, IsBringer, IsFinder, MayHaveFound, DragsFinders, IsByValues}
 use Rattle.narrowing.proofs.Matching.{Matches, simulated}
 use Rattle.narrowing.proofs.Once.{one_op, not_before_itself}
 use Rattle.narrowing.proofs.LeftOut.{MayGo, Stays, IsLinearizable-rest}
-use Rattle.narrowing.proofs.RegisterSteps.{IsWrite, IsRead, IsCas, View, view_register, view_cas_register, by_cas_view, by_view, no_cas}
+use Rattle.narrowing.proofs.RegisterSteps.{IsRead, IsCas, View, view_register, view_cas_register, by_cas_view, by_view, no_cas}
 
 -- what is brought in and compared, by the sort of the operation
 brings_write : (name : Name) (part : Part) (v : ℤ) → name ≡ Write → part ≡ Int v → brought_by name part ≡ Some v
@@ -175,13 +175,16 @@ module _ (Steps : Option ℤ → Op → Found → Option ℤ → Type 0)
             how
 
         goes : out x.id ≡ true → Next
-        goes e = inl (inl e, ⊎_elim
-            (λ k. inr (now_last k.0 t e (brings_write x.op.name x.op.part k.0 k.1 k.2) k.3))
-            (λ j. ⊎_elim
-            (λ k. reads_on (brings_read x.op.name x.op.part k.0 k.1) k.2 v refl)
-            (λ k. inr (now_last k.1 t e (brings_cas x.op.name x.op.part k.0 k.1 k.2 k.3) k.5))
-            j)
-            (view s t x.op x.found step))
+        goes e = inl (
+          inl e,
+          ⊎_elim
+              (λ k. inr (now_last k.0 t e (brings_write x.op.name x.op.part k.0 k.1 k.2) k.3))
+              (λ j. ⊎_elim
+              (λ k. reads_on (brings_read x.op.name x.op.part k.0 k.1) k.2 v refl)
+              (λ k. inr (now_last k.1 t e (brings_cas x.op.name x.op.part k.0 k.1 k.2 k.3) k.5))
+              j)
+              (view s t x.op x.found step),
+        )
 
         no_finder : out x.id ≡ false → (last : LastIsOut before s) → ¬ IsFinder marks x.id last.value
         no_finder e last finder = true≢false (sym (goes_too s last finder) ∙ e)
@@ -222,8 +225,11 @@ module _ (Steps : Option ℤ → Op → Found → Option ℤ → Type 0)
             at_cas : (k : IsCas x.op.name x.op.part s x.found t) → v ≡ Some k.0
             at_cas k = ⊎_elim
                 (λ q. sym q ∙ k.4)
-                (λ last. absurd (no_finder e last (x.op, in_order x here,
-                inr (compares_cas x.op.name x.op.part k.0 k.1 k.2 k.3 ∙ ap Some (same_some k.0 last.value s k.4 last.state)))))
+                (λ last. absurd (no_finder e last (
+                  x.op,
+                  in_order x here,
+                  inr (compares_cas x.op.name x.op.part k.0 k.1 k.2 k.3 ∙ ap Some (same_some k.0 last.value s k.4 last.state)),
+                )))
                 how
 
         next : Next

@@ -1,5 +1,5 @@
 -- histories with other operations and other answers
-use Rattle.std.proofs.Common.{◌≡◌, ℕ, List, [], ◌∷◌, ◌++◌, map, refl, sym, ap, ◌∙◌, subst}
+use Rattle.std.proofs.Common.{◌≡◌, ℕ, List, [], ◌∷◌, ◌++◌, refl, sym, ap, ◌∙◌, subst}
 use Rattle.std.specs.List.{Contains}
 use Rattle.std.proofs.lemmas.List.{map-append}
 use Rattle.models.specs.declared.operation.Op.{Op}
@@ -8,7 +8,7 @@ use Rattle.history.specs.Events.{Mark}
 use Rattle.history.specs.Events.Mark.{Invoked, Returned, Failed, Crashed}
 use Rattle.narrowing.specs.Changed.{changed_mark, changed}
 use Rattle.linspec.specs.MarkRule.{id_of, IsNew, MayFollow, AreWellFormed}
-use Rattle.linspec.specs.Operations.{IsInvoked, HasReturned, IsOpen, Precedes}
+use Rattle.linspec.specs.Operations.{IsOpen, Precedes}
 use Rattle.linspec.proofs.Filters.{map-cut, from_map, to_map}
 
 module _ (ops : ℕ → Op → Op) (answers : ℕ → Answer → Answer) where

@@ -1,20 +1,19 @@
 -- whether a history is linearizable does not depend on how its operations are numbered
-use Rattle.std.proofs.Common.{◌≡◌, ◌≢◌, ◌↔◌, ℕ, ◌⊎◌, inl, inr, ⊎_elim, List, [], ◌∷◌, ◌++◌, map, refl, sym, ap, ◌∙◌, subst}
+use Rattle.std.proofs.Common.{◌≡◌, ◌↔◌, ℕ, inr, List, [], ◌∷◌, ◌++◌, refl, sym, ap, ◌∙◌, subst}
 use Rattle.std.specs.List.{Contains}
 use Rattle.std.proofs.lemmas.List.{map-append}
 use Rattle.std.proofs.lemmas.List.Elements.{Contains-append_right}
 use Rattle.models.specs.declared.operation.Op.{Op}
-use Rattle.models.specs.declared.finding.Found.{Found}
 use Rattle.models.specs.declared.finding.Answer.{Answer}
 use Rattle.models.specs.Objects.{Object, Fits}
 use Rattle.history.specs.Events.{Mark}
 use Rattle.history.specs.Events.Mark.{Invoked, Returned, Failed, Crashed}
-use Rattle.linspec.specs.Operations.{HasReturned, Precedes}
-use Rattle.linspec.specs.Orders.{Taken, Run, IsLegalOrder, IsLinearizable}
+use Rattle.linspec.specs.Operations.{Precedes}
+use Rattle.linspec.specs.Orders.{Taken, IsLegalOrder, IsLinearizable}
 use Rattle.linspec.proofs.Lists.{Contains-head}
 use Rattle.linspec.proofs.Filters.{map-cut, from_map, to_map}
 use Rattle.narrowing.specs.Renamed.{IsOneToOne, renamed_mark, renamed}
-use Rattle.narrowing.proofs.Matching.{Matches, IsLegalOrder-similar, simulated}
+use Rattle.narrowing.proofs.Matching.{IsLegalOrder-similar, simulated}
 
 module _ (name : ℕ → ℕ) (one : IsOneToOne name) where
   abbrev f : Mark → Mark

@@ -1,35 +1,26 @@
 -- some values left out of the history of a set
-use Rattle.std.proofs.Common.{◌≡◌, ◌≢◌, ◌↔◌, ℕ, ℤ, ◌<ℤ◌, ◌⊎◌, inl, inr, ⊎_elim, Bool, true, false, not, IsTrue, List, [], ◌∷◌, ◌++◌, refl, sym, ap, ◌∙◌, subst}
+use Rattle.std.proofs.Common.{◌≡◌, ◌↔◌, ℕ, ℤ, ◌⊎◌, inl, inr, ⊎_elim, Bool, true, false, not, IsTrue, List, [], ◌∷◌, refl, sym, ap, ◌∙◌, subst}
 use Rattle.std.specs.List.{filter, Contains}
 use Rattle.std.proofs.lemmas.Bool.{cases_Bool, true≢false, not-true}
-use Rattle.std.proofs.lemmas.List.Elements.{Contains-append_right, Contains-append_cases, Contains-push_cases}
-use Rattle.models.specs.declared.operation.Name.{Name}
+use Rattle.std.proofs.lemmas.List.Elements.{Contains-append_right}
 use Rattle.models.specs.declared.operation.Name.TheVariants.{Read, Add}
-use Rattle.models.specs.declared.operation.Part.{Part}
-use Rattle.models.specs.declared.operation.Part.TheVariants.{Nil, Int}
 use Rattle.models.specs.declared.operation.Op.{Op}
-use Rattle.models.specs.declared.finding.Found.{Found}
-use Rattle.models.specs.declared.finding.Found.TheVariants.{Unit as Done, Elements}
+use Rattle.models.specs.declared.finding.Found.TheVariants.{Elements}
 use Rattle.models.specs.declared.finding.Answer.{Answer}
 use Rattle.models.specs.declared.finding.Answer.TheVariants.{Nothing, Number, Numbers, Many}
 use Rattle.models.specs.Members.{IsAscending, put_in}
-use Rattle.models.specs.Objects.{IsOneOf, Fits, set_apply, set_of_numbers}
-use Rattle.models.proofs.PutIn.{put_in-member, Contains-put_in, IsAscending-put_in}
+use Rattle.models.specs.Objects.{Fits, set_of_numbers}
+use Rattle.models.proofs.PutIn.{Contains-put_in, IsAscending-put_in}
 use Rattle.models.proofs.Sorting.{one_ascending}
-use Rattle.models.proofs.Steps.{same_outcome}
 use Rattle.history.specs.Events.{Mark}
 use Rattle.history.specs.Events.Mark.{Invoked, Returned, Failed}
-use Rattle.linspec.specs.MarkRule.{AreWellFormed}
-use Rattle.linspec.specs.Operations.{HasReturned, Precedes}
-use Rattle.linspec.specs.Orders.{Taken, Includes, Pairwise, Run, IsLegalOrder, IsLinearizable}
-use Rattle.linspec.proofs.Lists.{Contains-nil, Contains-head, Contains-cons_cases, Pairwise-right}
+use Rattle.linspec.specs.Orders.{Taken, Run, IsLegalOrder, IsLinearizable}
+use Rattle.linspec.proofs.Lists.{Contains-head}
 use Rattle.linspec.proofs.Filters.{filter-yes, filter-no, from_filter, to_filter}
-use Rattle.linspec.proofs.Marks.{Precedes-returned}
 use Rattle.narrowing.specs.LeftOut.{without}
-use Rattle.narrowing.specs.Sets.{Adds, IsAddOf, AreRepeatedAdds, AreAddsOf, answer_without, answers_without}
+use Rattle.narrowing.specs.Sets.{Adds, AreAddsOf, answer_without, answers_without}
 use Rattle.narrowing.proofs.Matching.{Matches, IsLegalOrder-match, simulated}
-use Rattle.narrowing.proofs.Once.{one_op, not_before_itself}
-use Rattle.narrowing.proofs.LeftOut.{from_without, to_without, Precedes-from_without, MayGo, Stays, IsLinearizable-rest}
+use Rattle.narrowing.proofs.LeftOut.{from_without, to_without, Precedes-from_without}
 use Rattle.narrowing.proofs.Relabelling.{from_returned, from_failed, to_invoked, from_precedes}
 use Rattle.narrowing.proofs.Sets.{IsAdd, IsRead, set_view, by_add, by_read, same_int_part}
 

@@ -1,7 +1,7 @@
 -- what may be left out of the history of a set
-use Rattle.std.proofs.Common.{◌≡◌, ◌≢◌, ◌↔◌, ℕ, ℤ, ◌<ℤ◌, ◌⊎◌, inl, inr, ⊎_elim, Bool, true, false, not, IsTrue, List, [], ◌∷◌, ◌++◌, refl, sym, ap, ◌∙◌, subst}
-use Rattle.std.specs.List.{filter, Contains}
-use Rattle.std.proofs.lemmas.Bool.{cases_Bool, true≢false, not-true}
+use Rattle.std.proofs.Common.{◌≡◌, ℕ, ℤ, ◌⊎◌, inl, inr, ⊎_elim, Bool, true, false, List, [], ◌∷◌, ◌++◌, refl, sym, ap, ◌∙◌, subst}
+use Rattle.std.specs.List.{Contains}
+use Rattle.std.proofs.lemmas.Bool.{cases_Bool}
 use Rattle.std.proofs.lemmas.List.Elements.{Contains-append_right, Contains-append_cases, Contains-push_cases}
 use Rattle.models.specs.declared.operation.Name.{Name}
 use Rattle.models.specs.declared.operation.Name.TheVariants.{Read, Add}
@@ -10,27 +10,22 @@ use Rattle.models.specs.declared.operation.Part.TheVariants.{Nil, Int}
 use Rattle.models.specs.declared.operation.Op.{Op}
 use Rattle.models.specs.declared.finding.Found.{Found}
 use Rattle.models.specs.declared.finding.Found.TheVariants.{Unit as Done, Elements}
-use Rattle.models.specs.declared.finding.Answer.{Answer}
-use Rattle.models.specs.declared.finding.Answer.TheVariants.{Nothing, Number, Numbers, Many}
 use Rattle.models.specs.Members.{IsAscending, put_in}
-use Rattle.models.specs.Objects.{IsOneOf, Fits, set_apply, set_of_numbers}
+use Rattle.models.specs.Objects.{IsOneOf, set_apply, set_of_numbers}
 use Rattle.models.proofs.PutIn.{put_in-member, Contains-put_in, IsAscending-put_in}
-use Rattle.models.proofs.Sorting.{one_ascending}
 use Rattle.models.proofs.Steps.{same_outcome}
 use Rattle.history.specs.Events.{Mark}
-use Rattle.history.specs.Events.Mark.{Invoked, Returned, Failed}
+use Rattle.history.specs.Events.Mark.{Invoked}
 use Rattle.linspec.specs.MarkRule.{AreWellFormed}
-use Rattle.linspec.specs.Operations.{HasReturned, Precedes}
+use Rattle.linspec.specs.Operations.{Precedes}
 use Rattle.linspec.specs.Orders.{Taken, Includes, Pairwise, Run, IsLegalOrder, IsLinearizable}
 use Rattle.linspec.proofs.Lists.{Contains-nil, Contains-head, Contains-cons_cases, Pairwise-right}
-use Rattle.linspec.proofs.Filters.{filter-yes, filter-no, from_filter, to_filter}
 use Rattle.linspec.proofs.Marks.{Precedes-returned}
 use Rattle.narrowing.specs.LeftOut.{without}
-use Rattle.narrowing.specs.Sets.{Adds, IsAddOf, AreRepeatedAdds, AreAddsOf, answer_without, answers_without}
-use Rattle.narrowing.proofs.Matching.{Matches, IsLegalOrder-match, simulated}
+use Rattle.narrowing.specs.Sets.{Adds, AreRepeatedAdds}
+use Rattle.narrowing.proofs.Matching.{Matches, simulated}
 use Rattle.narrowing.proofs.Once.{one_op, not_before_itself}
-use Rattle.narrowing.proofs.LeftOut.{from_without, to_without, Precedes-from_without, MayGo, Stays, IsLinearizable-rest}
-use Rattle.narrowing.proofs.Relabelling.{from_returned, from_failed, to_invoked, from_precedes}
+use Rattle.narrowing.proofs.LeftOut.{MayGo, Stays, IsLinearizable-rest}
 
 -- what a step may be
 abbrev pub IsAdd : Name → Part → List ℤ → Found → List ℤ → Type 0

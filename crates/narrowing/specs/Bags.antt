@@ -17,7 +17,7 @@ abbrev pub IsOfValue : (ℕ → Option ℤ) → List Mark → ℕ → Op → Typ
 IsOfValue value marks id op =
     ((v : ℤ) × (op.name ≡ Enqueue) × (op.part ≡ Int v) × (value id ≡ Some v))
     ⊎ (((v : ℤ) × (op.name ≡ Dequeue) × (op.part ≡ Nil) × Contains marks (Returned id (Number v))
-        × (value id ≡ Some v))
+    × (value id ≡ Some v))
     ⊎ ((op.name ≢ Enqueue) × (¬ HasReturned marks id) × (value id ≡ None)))
 
 abbrev pub AreValues : (ℕ → Option ℤ) → List Mark → Type 0

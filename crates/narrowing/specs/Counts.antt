@@ -1,5 +1,5 @@
 -- Promise: how much of each value has come out of a queue without an order, and how much was put in (this project's own)
-use Rattle.std.specs.Prelude.{◌≡◌, ◌≢◌, ℕ, ℤ, ◌⊎◌, ◌≤◌, nat_eq, Bool, IsTrue, ◌||◌, List, ◌∷◌, ◌++◌, length}
+use Rattle.std.specs.Prelude.{◌≡◌, ℕ, ℤ, ◌⊎◌, ◌≤◌, nat_eq, Bool, IsTrue, ◌||◌, List, ◌∷◌, ◌++◌, length}
 use Rattle.std.specs.List.{Contains}
 use Rattle.models.specs.declared.operation.Name.TheVariants.{Dequeue}
 use Rattle.models.specs.declared.operation.Part.TheVariants.{Nil}

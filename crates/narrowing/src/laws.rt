@@ -223,7 +223,7 @@ pub fn illegal_at_law()
         AreWellFormed (marks entries) → IsFront (before ++ last ∷ []) entries
         → IsLinearizable (object_of kind) (marks before)
         → (IsLinearizable (object_of kind) (marks (before ++ last ∷ []))
-            → IsLinearizable (object_of other) part)
+        → IsLinearizable (object_of other) part)
         → ¬ IsLinearizable (object_of other) part
         → EndsShortestBadFront (object_of kind) entries last }
     ensures all { (kinds : ℕ → ModelKind) (other : ModelKind) (entries before : List Entry)
@@ -231,7 +231,7 @@ pub fn illegal_at_law()
         AreWellFormed (marks entries) → IsFront (before ++ last ∷ []) entries
         → IsLinearizable (product kinds) (marks before)
         → (IsLinearizable (product kinds) (marks (before ++ last ∷ []))
-            → IsLinearizable (object_of other) part)
+        → IsLinearizable (object_of other) part)
         → ¬ IsLinearizable (object_of other) part
         → EndsShortestBadFront (product kinds) entries last }
 {}
