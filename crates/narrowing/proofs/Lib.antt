@@ -19,3 +19,4 @@ pub mod Enough
 pub mod Ranks
 pub mod Locks
 pub mod Instances
+pub mod Blocks

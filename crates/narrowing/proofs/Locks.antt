@@ -32,7 +32,7 @@ abbrev pub name_at : Bool → Name
 name_at false = Acquire
 name_at true = Release
 
-name_at-once : (a b : Bool) → name_at a ≡ name_at b → a ≡ b
+pub name_at-once : (a b : Bool) → name_at a ≡ name_at b → a ≡ b
 name_at-once false false e = refl
 name_at-once true true e = refl
 name_at-once false true e = cc
@@ -49,7 +49,7 @@ not_itself false e = true≢false e
 abbrev IsStep : Name → Part → Bool → Found → Bool → Type 0
 IsStep name part s found t = (name ≡ name_at s) × (part ≡ Nil) × (t ≡ not s) × (found ≡ Done)
 
-mutex_view : (name : Name) (part : Part) (s t : Bool) (found : Found) → IsOneOf (mutex_apply name part s) (t, found) → IsStep name part s found t
+pub mutex_view : (name : Name) (part : Part) (s t : Bool) (found : Found) → IsOneOf (mutex_apply name part s) (t, found) → IsStep name part s found t
 mutex_view Acquire Nil false t found h = let e = same_outcome (true, Done) (t, found) h in (refl, refl, sym e.0, sym e.1)
 mutex_view Release Nil true t found h = let e = same_outcome (false, Done) (t, found) h in (refl, refl, sym e.0, sym e.1)
 mutex_view _ _ s t found h = absurd h
@@ -135,7 +135,7 @@ module _ (b : Bool) where
   swapped ys run = (swapped_both ys).0 run
 
 -- who is called so, in an order
-called_in : (ms : List Mark) → AreWellFormed ms → (name : Name) (id : ℕ) (x : Taken) → IsCalled ms name id → x.id ≡ id → Contains ms (Invoked x.id x.op) → x.op.name ≡ name
+pub called_in : (ms : List Mark) → AreWellFormed ms → (name : Name) (id : ℕ) (x : Taken) → IsCalled ms name id → x.id ≡ id → Contains ms (Invoked x.id x.op) → x.op.name ≡ name
 called_in ms well name id x called same h =
     let own : called.0 ≡ x.op = one_op ms well id called.0 x.op called.1 (subst (λ n. Contains ms (Invoked n x.op)) same h) in
     ap (λ (p : Op). p.name) (sym own) ∙ called.2

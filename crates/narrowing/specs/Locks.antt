@@ -1,11 +1,13 @@
 -- Promise: what may be left out of the history of a lock (this project's own)
-use Rattle.std.specs.Prelude.{◌≡◌, ◌≢◌, ℕ, List, ◌++◌}
+use Rattle.std.specs.Prelude.{◌≡◌, ◌≢◌, ◌↔◌, ◌⊎◌, ℕ, Bool, IsTrue, List, [], ◌++◌, length}
 use Rattle.std.specs.List.{Contains}
 use Rattle.models.specs.declared.operation.Name.{Name}
+use Rattle.models.specs.declared.operation.Name.TheVariants.{Acquire, Release}
 use Rattle.models.specs.declared.operation.Op.{Op}
 use Rattle.history.specs.Events.{Mark}
 use Rattle.history.specs.Events.Mark.{Invoked, Failed}
 use Rattle.linspec.specs.Operations.{IsInvoked, HasReturned, Precedes}
+use Rattle.linspec.specs.Orders.{Pairwise}
 
 -- b is invoked after a: the history can be cut so that a is invoked before the cut, and b after it
 pub record IsInvokedAfter (marks : List Mark) (a b : ℕ) : Type 0 where
@@ -43,3 +45,37 @@ pub record IsPair (marks : List Mark) (name other : Name) (first second : ℕ) :
 abbrev pub IsLast : List Mark → Name → Name → ℕ → Type 0
 IsLast marks name other id =
     IsCalled marks name id × ((x : ℕ) → MayTakePlace marks other x → Precedes marks x id)
+
+-- each of these is of the one name and precedes the acquire; and those are all of the other name that may stand before it: that
+-- have not failed, and that it does not precede
+abbrev pub AreForced : List Mark → ℕ → Name → Name → List ℕ → List ℕ → Type 0
+AreForced marks acquire name other these those =
+    ((id : ℕ) → Contains these id → IsCalled marks name id × Precedes marks id acquire)
+    × ((id : ℕ) → id ≢ acquire → MayTakePlace marks other id → ¬ Precedes marks acquire id
+        → Contains those id)
+
+-- these acquires and releases, as many of the one as of the other, stand before an acquire that has returned, and no others can:
+-- the acquires precede it, and no other release may stand before it; or the releases do, and no other acquire may
+pub record StandFirst (marks : List Mark) (acquires releases : List ℕ) : Type 0 where
+  pub acquire : ℕ
+  pub called : IsCalled marks Acquire acquire
+  pub returned : HasReturned marks acquire
+  pub once_acquires : Pairwise (λ a b. a ≢ b) acquires
+  pub once_releases : Pairwise (λ a b. a ≢ b) releases
+  pub as_many : length acquires ≡ length releases
+  pub forced : AreForced marks acquire Acquire Release acquires releases
+      ⊎ AreForced marks acquire Release Acquire releases acquires
+
+abbrev pub IsFirstPart : List Mark → List ℕ → Type 0
+IsFirstPart marks ids =
+    (acquires : List ℕ) × (releases : List ℕ) × StandFirst marks acquires releases
+    × (ids ≡ acquires ++ releases)
+
+-- out names a block: what is in one such front, and not in another one that it contains, or that is empty
+pub record IsBlock (marks : List Mark) (out : ℕ → Bool) : Type 0 where
+  pub smaller : List ℕ
+  pub larger : List ℕ
+  pub begins : (smaller ≡ []) ⊎ IsFirstPart marks smaller
+  pub ends : IsFirstPart marks larger
+  pub within : (id : ℕ) → Contains smaller id → Contains larger id
+  pub names : (id : ℕ) → IsTrue (out id) ↔ (Contains larger id × (¬ Contains smaller id))
