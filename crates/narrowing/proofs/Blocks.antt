@@ -1,17 +1,15 @@
 -- a block of a lock's history stands in one piece, and the lock is free before it and after it
-use Rattle.std.proofs.Common.{◌≡◌, ◌≢◌, ◌↔◌, ℕ, suc, ◌+◌, ◌≤◌, ◌⊎◌, inl, inr, ⊎_elim, Bool, true, false, not, cond, IsTrue, List, [], ◌∷◌, ◌++◌, length, refl, sym, ap, ◌∙◌, subst, append_assoc, arith}
+use Rattle.std.proofs.Common.{◌≡◌, ◌≢◌, ◌↔◌, ℕ, suc, ◌+◌, ◌≤◌, ◌⊎◌, inl, inr, ⊎_elim, Bool, true, false, not, cond, List, [], ◌∷◌, ◌++◌, length, refl, sym, ap, ◌∙◌, subst, append_assoc, arith}
 use Rattle.std.specs.List.{filter, Contains}
 use Rattle.std.proofs.lemmas.Bool.{cases_Bool, cases_eq, true≢false}
 use Rattle.std.proofs.lemmas.List.{append-nil}
 use Rattle.std.proofs.lemmas.List.Elements.{Contains-append_left, Contains-append_right, Contains-append_cases}
 use Rattle.models.specs.declared.operation.Name.{Name}
 use Rattle.models.specs.declared.operation.Name.TheVariants.{Acquire, Release}
-use Rattle.models.specs.declared.operation.Op.{Op}
 use Rattle.models.specs.Objects.{mutex}
 use Rattle.history.specs.Events.{Mark, IsFront}
-use Rattle.history.specs.Events.Mark.{Invoked, Returned, Failed}
 use Rattle.linspec.specs.MarkRule.{AreWellFormed}
-use Rattle.linspec.specs.Operations.{HasReturned, Precedes}
+use Rattle.linspec.specs.Operations.{Precedes}
 use Rattle.linspec.specs.Orders.{Taken, Includes, Pairwise, Run, IsLegalOrder, IsLinearizable}
 use Rattle.linspec.proofs.Lists.{Contains-nil, Contains-head, Contains-tail, Contains-cons_cases, Pairwise-left, Pairwise-right, Pairwise-across, Pairwise-weaker, Pairwise-append, cut_at}
 use Rattle.linspec.proofs.Filters.{two_cuts, Pairwise-filter}
@@ -81,7 +79,7 @@ no_others : (xs ys : List ℕ) → Pairwise (λ a b. a ≢ b) xs → ((x : ℕ) 
 no_others xs ys once among fits y h = ⊎_elim
     (λ k. k)
     (λ n. (let longer : suc (length xs) ≤ length ys = no_longer_than (y ∷ xs) ys ((λ x k e. n (subst (Contains xs) (sym e) k)), once)
-        (λ x k. ⊎_elim (λ e. subst (Contains ys) e h) (among x) (Contains-cons_cases y xs x k)) in absurd (omega (arith, longer, fits))))
+    (λ x k. ⊎_elim (λ e. subst (Contains ys) e h) (among x) (Contains-cons_cases y xs x k)) in absurd (omega (arith, longer, fits))))
     (in_or_not xs y)
 
 module _ (ms : List Mark) (well : AreWellFormed ms) (order : List Taken) (end : Bool) (l : IsLegalOrder mutex ms order end) where
@@ -175,8 +173,7 @@ module _ (ms : List Mark) (well : AreWellFormed ms) (order : List Taken) (end : 
         let among : (id : ℕ) → Contains these id → Contains (ids_of (takes_at b) xs) id = (λ id h. let f = forced.0 id h in stands_before b id f.0 f.1) in
         let listed : (id : ℕ) → Contains (ids_of (takes_at (not b)) xs) id → Contains those id = is_listed (not b) those forced.1 in
         let few : length these ≤ length (ids_of (takes_at b) xs) = no_longer_than these (ids_of (takes_at b) xs) once among in
-        let most : length (ids_of (takes_at (not b)) xs) ≤ length those = no_longer_than (ids_of (takes_at (not b)) xs) those (once_there (not b)) listed in
-        (
+        let most : length (ids_of (takes_at (not b)) xs) ≤ length those = no_longer_than (ids_of (takes_at (not b)) xs) those (once_there (not b)) listed in (
           (λ id. (among id, no_others these (ids_of (takes_at b) xs) once among (omega (arith, few, most, same, same_there)) id)),
           (λ id. (no_others (ids_of (takes_at (not b)) xs) those (once_there (not b)) listed (omega (arith, few, most, same, same_there)) id, listed id)),
         )

@@ -1,8 +1,8 @@
 -- histories that meet what the laws ask for
-use Rattle.std.proofs.Common.{◌≡◌, ◌≢◌, ◌↔◌, ℕ, zero, suc, ◌≤◌, ℤ, ◌⊎◌, inl, inr, ⊎_elim, Bool, true, IsTrue, nat_eq, Option, Some, None, List, [], ◌∷◌, ◌++◌, refl, sym, ap, ◌∙◌, subst, arith}
+use Rattle.std.proofs.Common.{◌≡◌, ◌≢◌, ◌↔◌, ℕ, zero, suc, ◌≤◌, ℤ, ◌⊎◌, inl, inr, ⊎_elim, Bool, true, IsTrue, nat_eq, Option, Some, None, List, [], ◌∷◌, ◌++◌, refl, sym, ap, ◌∙◌, subst, arith, ◌||◌}
 use Rattle.std.specs.Ordering.{int_eq}
 use Rattle.std.specs.List.{Contains}
-use Rattle.std.proofs.lemmas.Bool.{true≢false, eqb-true}
+use Rattle.std.proofs.lemmas.Bool.{true≢false, eqb-true, cases_Bool}
 use Rattle.models.specs.declared.model_kind.ModelKind.TheVariants.{Register}
 use Rattle.models.specs.declared.operation.Name.{Name}
 use Rattle.models.specs.declared.operation.Name.TheVariants.{Read, Write, Cas, Acquire, Release, Enqueue, Dequeue, Add}
@@ -26,7 +26,7 @@ use Rattle.narrowing.specs.Sets.{AreRepeatedAdds, AreAddsOf}
 use Rattle.narrowing.specs.Queues.{AreOfValues}
 use Rattle.narrowing.specs.Counts.{AreQueueOperations, AreDequeues, IsLeftOver, AreOfOneRank}
 use Rattle.narrowing.specs.Bags.{AreValues}
-use Rattle.narrowing.specs.Locks.{IsPair, IsLast}
+use Rattle.narrowing.specs.Locks.{IsCalled, IsPair, IsLast, StandFirst, IsBlock}
 
 -- what holds of each element of a list that is written out
 abbrev Each : {X : Type 0} → (X → Type 0) → List X → Type 0
@@ -377,3 +377,74 @@ a_last_acquire = (
         invoked = (call Acquire Nil, first (Invoked 1 (call Acquire Nil)) (Returned 1 Nothing));
       })),
 )
+
+-- the same, and then it is acquired again: the first two are a block
+abbrev held_twice : List Mark
+held_twice = held_once ++ Invoked 2 (call Acquire Nil) ∷ Returned 2 Nothing ∷ []
+
+one_at_zero : (id : ℕ) → Contains (0 ∷ []) id → 0 ≡ id
+one_at_zero id h = ⊎_elim (λ e. e) (λ k. absurd (Contains-nil id k)) (Contains-cons_cases 0 [] id h)
+
+its_release : (id : ℕ) (op : Op) → Contains held_twice (Invoked id op) → op.name ≡ Release → 1 ≡ id
+its_release id op h e = from_each (λ m. m ≡ Invoked id op → 1 ≡ id) held_twice (
+  (λ q. (let p : call Acquire Nil ≡ op = cc in let r : Acquire ≡ Release = ap (λ (o : Op). o.name) p ∙ e in cc)),
+  (
+    (λ q. cc),
+    (
+      (λ q. (let i : 1 ≡ id = cc in i)),
+      (
+        (λ q. cc),
+        ((λ q. (let p : call Acquire Nil ≡ op = cc in let r : Acquire ≡ Release = ap (λ (o : Op). o.name) p ∙ e in cc)), ((λ q. cc), tt)),
+      ),
+    ),
+  ),
+) _ h refl
+
+two_first : StandFirst held_twice (0 ∷ []) (1 ∷ [])
+two_first = record {
+  acquire = 2;
+  called = (call Acquire Nil, (4, omega arith, refl), refl);
+  returned = (Nothing, (5, omega arith, refl));
+  once_acquires = ((λ id h. absurd (Contains-nil id h)), tt);
+  once_releases = ((λ id h. absurd (Contains-nil id h)), tt);
+  as_many = refl;
+  forced = inl (
+    (λ id h. subst (λ n. IsCalled held_twice Acquire n × Precedes held_twice n 2) (one_at_zero id h) (
+      (call Acquire Nil, (0, omega arith, refl), refl),
+      record {
+        before = held_once;
+        after = Invoked 2 (call Acquire Nil) ∷ Returned 2 Nothing ∷ [];
+        cut = refl;
+        returned = (Nothing, (1, omega arith, refl));
+        invoked = (call Acquire Nil, (0, omega arith, refl));
+      },
+    )),
+    (λ id ne others n. subst (Contains (1 ∷ [])) (its_release id others.0.0 others.0.1 others.0.2) (Contains-head 1 [])),
+  );
+}
+
+the_two : ℕ → Bool
+the_two id = nat_eq id 0 || nat_eq id 1
+
+a_block : IsBlock held_twice the_two
+unfolding the_two
+a_block = record {
+  smaller = [];
+  larger = 0 ∷ 1 ∷ [];
+  begins = inl refl;
+  ends = (0 ∷ [], 1 ∷ [], two_first, refl);
+  within = λ id h. absurd (Contains-nil id h);
+  names = λ id. (
+    (λ e. (
+      ⊎_elim
+          (λ z. subst (Contains (0 ∷ 1 ∷ [])) (sym (eqb-true id 0 z)) (Contains-head 0 (1 ∷ [])))
+          (λ n. subst (Contains (0 ∷ 1 ∷ [])) (sym (eqb-true id 1 (sym (ap (λ r. r || nat_eq id 1) n) ∙ e))) (Contains-tail 0 (1 ∷ []) 1 (Contains-head 1 [])))
+          (cases_Bool (nat_eq id 0)),
+      (λ h. Contains-nil id h),
+    )),
+    (λ h. ⊎_elim
+        (λ q. subst (λ n. (nat_eq n 0 || nat_eq n 1) ≡ true) q refl)
+        (λ k. ⊎_elim (λ q. subst (λ n. (nat_eq n 0 || nat_eq n 1) ≡ true) q refl) (λ j. absurd (Contains-nil id j)) (Contains-cons_cases 1 [] id k))
+        (Contains-cons_cases 0 (1 ∷ []) id h.0)),
+  );
+}

@@ -20,3 +20,4 @@ pub mod Ranks
 pub mod Locks
 pub mod Instances
 pub mod Blocks
+pub mod Staying

@@ -27,7 +27,7 @@ use Rattle.narrowing.proofs.Multisets.{equal_or_not}
 use Rattle.narrowing.proofs.Enough.{never_runs_out, linearizable_by_counts}
 
 -- a front without the mark ends before it; one with the mark does not
-up_to : (front rest before after : List Mark) (m : Mark) → front ++ rest ≡ before ++ m ∷ after → ¬ Contains front m → IsFront front before
+pub up_to : (front rest before after : List Mark) (m : Mark) → front ++ rest ≡ before ++ m ∷ after → ¬ Contains front m → IsFront front before
 up_to [] rest before after m e n = (before, refl)
 up_to (x ∷ front) rest [] after m e n =
     let head : x ≡ m = cc in
@@ -38,14 +38,14 @@ up_to (x ∷ front) rest (y ∷ before) after m e n =
     let f = up_to front rest before after m tail (λ h. n (Contains-tail x front m h)) in
     (f.0, (λ i. head i ∷ f.1 i))
 
-reaches : (front rest before after : List Mark) (m : Mark) → front ++ rest ≡ before ++ m ∷ after → Contains front m → ¬ Contains before m → IsFront before front
+pub reaches : (front rest before after : List Mark) (m : Mark) → front ++ rest ≡ before ++ m ∷ after → Contains front m → ¬ Contains before m → IsFront before front
 reaches front rest before after m e h n =
     ⊎_elim
     (λ (f : IsFront front before). absurd (n (subst (λ k. Contains k m) f.1 (Contains-append_left front f.0 m h))))
     (λ (f : IsFront before front). f)
     (two_cuts front rest before (m ∷ after) e)
 
-in_longer : (front whole : List Mark) (m : Mark) → IsFront front whole → Contains front m → Contains whole m
+pub in_longer : (front whole : List Mark) (m : Mark) → IsFront front whole → Contains front m → Contains whole m
 in_longer front whole m f h = subst (λ k. Contains k m) f.1 (Contains-append_left front f.0 m h)
 
 module _ (ms : List Mark) (well : AreWellFormed ms) (out : ℕ → Bool) where
@@ -55,7 +55,7 @@ module _ (ms : List Mark) (well : AreWellFormed ms) (out : ℕ → Bool) where
       (front : List Mark) (v : ℤ) → IsFront front ms → (dequeues : List ℕ) → AreDequeuesOf front v dequeues → ((id : ℕ) → Contains dequeues id → out id ≡ false)
       → (enqueues : List ℕ) × AreEnqueuesIn front ms v enqueues × ((id : ℕ) → Contains enqueues id → out id ≡ false) × (length dequeues ≤ length enqueues)
 
-  left_dequeues : (front : List Mark) (v : ℤ) (ids : List ℕ) → AreDequeuesOf (without out front) v ids → AreDequeuesOf front v ids × ((id : ℕ) → Contains ids id → out id ≡ false)
+  pub left_dequeues : (front : List Mark) (v : ℤ) (ids : List ℕ) → AreDequeuesOf (without out front) v ids → AreDequeuesOf front v ids × ((id : ℕ) → Contains ids id → out id ≡ false)
   left_dequeues front v ids those = (
     record {
       once = those.once;
@@ -64,7 +64,7 @@ module _ (ms : List Mark) (well : AreWellFormed ms) (out : ℕ → Bool) where
     (λ id h. (from_without out front _ (those.each id h).1).1),
   )
 
-  left_enqueues : (front : List Mark) (v : ℤ) (ids : List ℕ) → AreEnqueuesIn front ms v ids → ((id : ℕ) → Contains ids id → out id ≡ false) → AreEnqueuesIn (without out front) (without out ms) v ids
+  pub left_enqueues : (front : List Mark) (v : ℤ) (ids : List ℕ) → AreEnqueuesIn front ms v ids → ((id : ℕ) → Contains ids id → out id ≡ false) → AreEnqueuesIn (without out front) (without out ms) v ids
   left_enqueues front v ids those stay = record {
     once = those.once;
     each = λ id h. (let e = those.each id h in ((e.0.0, to_without out front _ e.0.1 (stay id h), e.0.2), (λ f. e.1 (from_without out ms _ f).0)));
@@ -91,7 +91,7 @@ module _ (ms : List Mark) (well : AreWellFormed ms) (out : ℕ → Bool) where
   is_in_ms : (front : List Mark) (m : Mark) → IsFront front ms → Contains front m → Contains ms m
   is_in_ms front m is h = in_longer front ms m is h
 
-  no_dequeue : (id : ℕ) (a b : Op) → Contains ms (Invoked id a) → Contains ms (Invoked id b) → a.name ≡ Enqueue → b.name ≢ Dequeue
+  pub no_dequeue : (id : ℕ) (a b : Op) → Contains ms (Invoked id a) → Contains ms (Invoked id b) → a.name ≡ Enqueue → b.name ≢ Dequeue
   no_dequeue id a b h k e f = (let same : a ≡ b = one_op ms well id a b h k in let clash : Enqueue ≡ Dequeue = sym e ∙ ap (λ (p : Op). p.name) same ∙ f in absurd (let none : ⊥ = cc in none))
 
   -- dequeues may go
@@ -120,7 +120,7 @@ is_not_second a b id e q = ⊎_elim
     (λ n. true≢false (sym (eq-eqb id b q) ∙ sym (ap (λ r. r || nat_eq id b) n) ∙ e))
     (cases_Bool (nat_eq id a))
 
-another_value : (op other : Op) (v w : ℤ) → op ≡ other → Enqueues op v → Enqueues other w → v ≡ w
+pub another_value : (op other : Op) (v w : ℤ) → op ≡ other → Enqueues op v → Enqueues other w → v ≡ w
 another_value op other v w e p q = let same : Int v ≡ Int w = sym p.1 ∙ ap (λ (z : Op). z.part) e ∙ q.1 in cc
 
 -- an enqueue, and a dequeue of its rank

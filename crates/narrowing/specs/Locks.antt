@@ -52,7 +52,7 @@ abbrev pub AreForced : List Mark → ℕ → Name → Name → List ℕ → List
 AreForced marks acquire name other these those =
     ((id : ℕ) → Contains these id → IsCalled marks name id × Precedes marks id acquire)
     × ((id : ℕ) → id ≢ acquire → MayTakePlace marks other id → ¬ Precedes marks acquire id
-        → Contains those id)
+    → Contains those id)
 
 -- these acquires and releases, as many of the one as of the other, stand before an acquire that has returned, and no others can:
 -- the acquires precede it, and no other release may stand before it; or the releases do, and no other acquire may

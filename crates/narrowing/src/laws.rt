@@ -1,6 +1,7 @@
 //! Laws of histories that ask for more, and of histories without some of their operations.
-ghost use Rattle.std.specs.Prelude.{◌↔◌, ℕ, ℤ, nat_eq, Bool, Option, List, [], ◌∷◌, ◌++◌};
+ghost use Rattle.std.specs.Prelude.{◌↔◌, ℕ, ℤ, nat_eq, Bool, IsFalse, Option, List, [], ◌∷◌, ◌++◌};
 ghost use Rattle.models.specs.declared.model_kind.ModelKind.{ModelKind};
+ghost use Rattle.models.specs.declared.operation.Name.{Name};
 ghost use Rattle.models.specs.declared.operation.Name.TheVariants.{Acquire, Release};
 ghost use Rattle.models.specs.Objects.{object_of, register, cas_register, mutex, fifo_queue, set_of_numbers, unordered_queue};
 ghost use Rattle.history.specs.Events.{Mark, Entry, marks, IsFront};
@@ -206,6 +207,21 @@ pub fn unordered_queue_law()
         AreWellFormed marks → AreQueueOperations marks → IsLeftOver marks v enqueue
         → IsLinearizable unordered_queue marks
         → IsLinearizable unordered_queue (without (λ id. nat_eq id enqueue) marks) }
+{}
+
+/// Several may be left out one after another: what the rules ask for of a lock's pair, of what is last, and of a pair of one
+/// rank of a queue without an order, holds still where other operations are left out, in a queue such a pair.
+pub fn rules_stay_law()
+    ensures pair { (out : ℕ → Bool) (marks : List Mark) (name other : Name) (first second : ℕ) →
+        IsFalse (out first) → IsFalse (out second) → IsPair marks name other first second
+        → IsPair (without out marks) name other first second }
+    ensures last { (out : ℕ → Bool) (marks : List Mark) (name other : Name) (id : ℕ) →
+        IsFalse (out id) → IsLast marks name other id → IsLast (without out marks) name other id }
+    ensures rank { (marks : List Mark) (v w : ℤ) (enqueue dequeue other taker : ℕ) →
+        AreWellFormed marks → AreOfOneRank marks v enqueue dequeue
+        → AreOfOneRank marks w other taker
+        → IsFalse (is_one_of enqueue dequeue other) → IsFalse (is_one_of enqueue dequeue taker)
+        → AreOfOneRank (without (is_one_of enqueue dequeue) marks) w other taker }
 {}
 
 /// How operations are numbered decides nothing: a history is linearizable exactly where it is so with other numbers, no two
