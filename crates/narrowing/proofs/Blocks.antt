@@ -82,6 +82,26 @@ no_others xs ys once among fits y h = ⊎_elim
     (λ x k. ⊎_elim (λ e. subst (Contains ys) e h) (among x) (Contains-cons_cases y xs x k)) in absurd (omega (arith, longer, fits))))
     (in_or_not xs y)
 
+-- a part of an order that stands in one piece, with the lock free before and after, and that out names
+pub record Piece (order : List Taken) (out : ℕ → Bool) : Type 0 where
+  pub before : List Taken
+  pub middle : List Taken
+  pub after : List Taken
+  pub whole : before ++ (middle ++ after) ≡ order
+  pub free_before : Run mutex false before false
+  pub free_after : Run mutex false (before ++ middle) false
+  pub named : (z : Taken) → Contains middle z → out z.id ≡ true
+  pub others_before : (z : Taken) → Contains before z → out z.id ≡ false
+  pub others_after : (z : Taken) → Contains after z → out z.id ≡ false
+
+-- a run of a lock ends in one state
+pub one_end : (zs : List Taken) (s u v : Bool) → Run mutex s zs u → Run mutex s zs v → u ≡ v
+one_end [] s u v h k = sym h ∙ k
+one_end (z ∷ zs) s u v h k =
+    let e = (mutex_view z.op.name z.op.part s h.0 z.found h.1).2 in
+    let f = (mutex_view z.op.name z.op.part s k.0 z.found k.1).2 in
+    one_end zs h.0 u v h.2 (subst (λ w. Run mutex w zs v) (f ∙ sym e) k.2)
+
 module _ (ms : List Mark) (well : AreWellFormed ms) (order : List Taken) (end : Bool) (l : IsLegalOrder mutex ms order end) where
   abbrev InTime : Taken → Taken → Type 0
   InTime x y = ¬ Precedes ms y.id x.id
@@ -246,73 +266,22 @@ module _ (ms : List Mark) (well : AreWellFormed ms) (order : List Taken) (end : 
     once : Pairwise Apart (p.front ++ (middle ++ q.rest))
     once = subst (Pairwise Apart) (sym whole) l.once
 
-    left : List Taken
-    left = p.front ++ q.rest
+    not_named : (x : Taken) → (out x.id ≡ true → ⊥) → out x.id ≡ false
+    not_named x n = ⊎_elim (λ e. absurd (n e)) (λ e. e) (cases_Bool (out x.id))
 
-    rest_runs : (u : Bool) × Run mutex false q.front u × Run mutex u q.rest end
-    rest_runs = Run-cut mutex false end q.front q.rest (subst (λ k. Run mutex false k end) (sym q.whole) l.run)
-
-    one_end : (zs : List Taken) (s u v : Bool) → Run mutex s zs u → Run mutex s zs v → u ≡ v
-    one_end [] s u v h k = sym h ∙ k
-    one_end (z ∷ zs) s u v h k =
-        let e = (mutex_view z.op.name z.op.part s h.0 z.found h.1).2 in
-        let f = (mutex_view z.op.name z.op.part s k.0 z.found k.1).2 in
-        one_end zs h.0 u v h.2 (subst (λ w. Run mutex w zs v) (f ∙ sym e) k.2)
-
-    left_runs : Run mutex false left end
-    unfolding left
-    left_runs = Run-append mutex false false end p.front q.rest p.free (subst (λ w. Run mutex w q.rest end) (one_end q.front false rest_runs.0 false rest_runs.1 q.free) rest_runs.2)
-
-    pairwise_left : (T : Taken → Taken → Type 0) → Pairwise T (p.front ++ (middle ++ q.rest)) → Pairwise T left
-    unfolding left
-    pairwise_left T h = Pairwise-append T p.front q.rest (Pairwise-left T p.front (middle ++ q.rest) h) (Pairwise-right T middle q.rest (Pairwise-right T p.front (middle ++ q.rest) h))
-        (λ x y i j. Pairwise-across T p.front (middle ++ q.rest) h x y i (Contains-append_right middle q.rest y j))
-
-    -- what is left is of the order, and not of the block
-    from_left : (x : Taken) → Contains left x → Contains order x × (out x.id ≡ false)
-    unfolding left
-    from_left x h = ⊎_elim
-        (λ k. (
-          subst (λ z. Contains z x) p.whole (Contains-append_left p.front p.rest x k),
-          ⊎_elim (λ e. absurd (((block.names x.id).0 e).1 (p.from x k))) (λ e. e) (cases_Bool (out x.id)),
-        ))
-        (λ k. (
-          subst (λ z. Contains z x) q.whole (Contains-append_right q.front q.rest x k),
-          ⊎_elim
-              (λ e. (let i : Includes q.front x.id = q.to x.id ((block.names x.id).0 e).0 in
-              absurd (Pairwise-across Apart q.front q.rest (subst (Pairwise Apart) (sym q.whole) l.once) i.0 x i.1 k i.2)))
-              (λ e. e)
-              (cases_Bool (out x.id)),
-        ))
-        (Contains-append_cases p.front q.rest x h)
-
-    to_left : (x : Taken) → Contains order x → out x.id ≡ false → Contains left x
-    unfolding left
-    to_left x h e = ⊎_elim
-        (λ k. Contains-append_left p.front q.rest x k)
-        (λ k. ⊎_elim
-        (λ j. absurd (true≢false (sym ((block.names x.id).1 (
-          q.from x (subst (λ z. Contains z x) behind.1 (Contains-append_right p.front middle x j)),
-          (λ s. (let i : Includes p.front x.id = p.to x.id s in Pairwise-across Apart p.front (middle ++ q.rest) once i.0 x i.1 k i.2)),
-        )) ∙ e)))
-        (λ j. Contains-append_right p.front q.rest x j)
-        (Contains-append_cases middle q.rest x k))
-        (Contains-append_cases p.front (middle ++ q.rest) x (subst (λ z. Contains z x) (sym whole) h))
-
-    left_is_legal : IsLegalOrder mutex (without out ms) left end
-    left_is_legal = record {
-      invoked = λ x h. (let r = from_left x h in to_without out ms _ (l.invoked x r.0) r.1);
-      once = pairwise_left Apart once;
-      none_failed = λ x h f. l.none_failed x (from_left x h).0 (from_without out ms _ f).0;
-      all_done = λ id d. (
-          let r = from_without out ms _ d.1 in
-          let i : Includes order id = l.all_done id (d.0, r.0) in
-          (i.0, to_left i.0 i.1 (ap out i.2 ∙ r.1), i.2));
-      in_time = Pairwise-weaker InTime (λ x y. ¬ Precedes (without out ms) y.id x.id) left (λ x y i j n h. n (Precedes-from_without out ms y.id x.id h))
-          (pairwise_left InTime (subst (Pairwise InTime) (sym whole) l.in_time));
-      run = left_runs;
-      fits = λ x answer h d. l.fits x answer (from_left x h).0 (from_without out ms _ d).0;
+    pub piece_of : Piece order out
+    piece_of = record {
+      before = p.front;
+      middle = behind.0;
+      after = q.rest;
+      whole = whole;
+      free_before = p.free;
+      free_after = subst (λ k. Run mutex false k false) (sym behind.1) q.free;
+      named = λ x h. (block.names x.id).1 (
+        q.from x (subst (λ z. Contains z x) behind.1 (Contains-append_right p.front middle x h)),
+        (λ s. (let i : Includes p.front x.id = p.to x.id s in Pairwise-across Apart p.front (middle ++ q.rest) once i.0 x i.1 (Contains-append_left middle q.rest x h) i.2)),
+      );
+      others_before = λ x h. not_named x (λ e. ((block.names x.id).0 e).1 (p.from x h));
+      others_after = λ x h. not_named x (λ e. (let i : Includes q.front x.id = q.to x.id ((block.names x.id).0 e).0 in
+          Pairwise-across Apart q.front q.rest (subst (Pairwise Apart) (sym q.whole) l.once) i.0 x i.1 h i.2));
     }
-
-pub without_block : (ms : List Mark) (out : ℕ → Bool) → AreWellFormed ms → IsBlock ms out → IsLinearizable mutex ms → IsLinearizable mutex (without out ms)
-without_block ms out well block h = (left ms well h.0 h.1 h.2 out block, h.1, left_is_legal ms well h.0 h.1 h.2 out block)

@@ -21,3 +21,4 @@ pub mod Locks
 pub mod Instances
 pub mod Blocks
 pub mod Staying
+pub mod ManyBlocks

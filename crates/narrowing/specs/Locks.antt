@@ -1,5 +1,5 @@
 -- Promise: what may be left out of the history of a lock (this project's own)
-use Rattle.std.specs.Prelude.{◌≡◌, ◌≢◌, ◌↔◌, ◌⊎◌, ℕ, Bool, IsTrue, List, [], ◌++◌, length}
+use Rattle.std.specs.Prelude.{◌≡◌, ◌≢◌, ◌↔◌, ◌⊎◌, ℕ, Bool, IsTrue, List, [], ◌∷◌, ◌++◌, length}
 use Rattle.std.specs.List.{Contains}
 use Rattle.models.specs.declared.operation.Name.{Name}
 use Rattle.models.specs.declared.operation.Name.TheVariants.{Acquire, Release}
@@ -8,6 +8,7 @@ use Rattle.history.specs.Events.{Mark}
 use Rattle.history.specs.Events.Mark.{Invoked, Failed}
 use Rattle.linspec.specs.Operations.{IsInvoked, HasReturned, Precedes}
 use Rattle.linspec.specs.Orders.{Pairwise}
+use Rattle.narrowing.specs.LeftOut.{without}
 
 -- b is invoked after a: the history can be cut so that a is invoked before the cut, and b after it
 pub record IsInvokedAfter (marks : List Mark) (a b : ℕ) : Type 0 where
@@ -79,3 +80,12 @@ pub record IsBlock (marks : List Mark) (out : ℕ → Bool) : Type 0 where
   pub ends : IsFirstPart marks larger
   pub within : (id : ℕ) → Contains smaller id → Contains larger id
   pub names : (id : ℕ) → IsTrue (out id) ↔ (Contains larger id × (¬ Contains smaller id))
+
+-- each of these names a block; the history without what each of these names
+abbrev pub AreBlocks : List Mark → List (ℕ → Bool) → Type 0
+AreBlocks marks [] = Unit {0}
+AreBlocks marks (out ∷ outs) = IsBlock marks out × AreBlocks marks outs
+
+abbrev pub without_each : List (ℕ → Bool) → List Mark → List Mark
+without_each [] marks = marks
+without_each (out ∷ outs) marks = without_each outs (without out marks)

@@ -11,7 +11,7 @@ ghost use Rattle.linspec.specs.Verdicts.{IsRising, EndsShortestBadFront};
 ghost use Rattle.narrowing.specs.Intervals.{AsksForMore, HasNarrowerIntervals};
 ghost use Rattle.narrowing.specs.LeftOut.{without, entries_without, HaveFailed, HaveNotReturned, AreReads, AreForeign, HaveFailedBefore};
 ghost use Rattle.narrowing.specs.Registers.{DragsFinders, IsByValues};
-ghost use Rattle.narrowing.specs.Locks.{IsPair, IsLast, IsBlock};
+ghost use Rattle.narrowing.specs.Locks.{IsPair, IsLast, AreBlocks, without_each};
 ghost use Rattle.narrowing.specs.Counts.{AreQueueOperations, NeverRunsOut, AreDequeues, IsLeftOver, AreOfOneRank, is_one_of};
 ghost use Rattle.narrowing.specs.Bags.{AreValues, bag};
 ghost use Rattle.narrowing.specs.Renamed.{IsOneToOne, renamed};
@@ -133,7 +133,7 @@ pub fn reads_as_cas_law()
 
 /// Of a lock an acquire and a release that it precedes may be left out together, if no other release and acquire may stand
 /// between them in turn, the acquire invoked after the first one; a release and an acquire that it precedes, if no other acquire
-/// and release may, likewise; an acquire that each release precedes; a release that each acquire precedes; and a block: what
+/// and release may, likewise; an acquire that each release precedes; a release that each acquire precedes; and blocks: what
 /// stands in one piece in every order, with the lock free before and after. The rest of a linearizable history is linearizable.
 pub fn mutex_law()
     ensures pair { (marks : List Mark) (acquire release : ℕ) →
@@ -150,9 +150,9 @@ pub fn mutex_law()
     ensures last_release { (marks : List Mark) (release : ℕ) →
         AreWellFormed marks → IsLast marks Release Acquire release → IsLinearizable mutex marks
         → IsLinearizable mutex (without (λ id. nat_eq id release) marks) }
-    ensures block { (marks : List Mark) (out : ℕ → Bool) →
-        AreWellFormed marks → IsBlock marks out → IsLinearizable mutex marks
-        → IsLinearizable mutex (without out marks) }
+    ensures blocks { (marks : List Mark) (outs : List (ℕ → Bool)) →
+        AreWellFormed marks → AreBlocks marks outs → IsLinearizable mutex marks
+        → IsLinearizable mutex (without_each outs marks) }
 {}
 
 /// Of a set adds may be left out that another add of the same value precedes, which stays. And values may: all adds of them,

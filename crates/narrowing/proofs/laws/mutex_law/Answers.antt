@@ -1,6 +1,6 @@
 use Rattle.std.proofs.Common.{true, false}
 use Rattle.narrowing.proofs.Locks.{without_pair, without_last}
-use Rattle.narrowing.proofs.Blocks.{without_block}
+use Rattle.narrowing.proofs.ManyBlocks.{without_blocks}
 use Rattle.narrowing.proofs.laws.mutex_law.Goals as goal
 
 pub returns-clause-pair : goal.returns-clause-pair
@@ -15,5 +15,5 @@ returns-clause-last_acquire c marks acquire well is = without_last marks well tr
 pub returns-clause-last_release : goal.returns-clause-last_release
 returns-clause-last_release c marks release well is = without_last marks well false release is
 
-pub returns-clause-block : goal.returns-clause-block
-returns-clause-block c marks out well block = without_block marks out well block
+pub returns-clause-blocks : goal.returns-clause-blocks
+returns-clause-blocks c marks outs well blocks = without_blocks marks outs well blocks
