@@ -10,15 +10,14 @@ use Rattle.models.specs.Objects.{mutex}
 use Rattle.history.specs.Events.{Mark, IsFront}
 use Rattle.linspec.specs.MarkRule.{AreWellFormed}
 use Rattle.linspec.specs.Operations.{Precedes}
-use Rattle.linspec.specs.Orders.{Taken, Includes, Pairwise, Run, IsLegalOrder, IsLinearizable}
-use Rattle.linspec.proofs.Lists.{Contains-nil, Contains-head, Contains-tail, Contains-cons_cases, Pairwise-left, Pairwise-right, Pairwise-across, Pairwise-weaker, Pairwise-append, cut_at}
+use Rattle.linspec.specs.Orders.{Taken, Includes, Pairwise, Run, IsLegalOrder}
+use Rattle.linspec.proofs.Lists.{Contains-nil, Contains-head, Contains-tail, Contains-cons_cases, Pairwise-left, Pairwise-right, Pairwise-across, cut_at}
 use Rattle.linspec.proofs.Filters.{two_cuts, Pairwise-filter}
-use Rattle.linspec.proofs.Marks.{Precedes-returned, Run-append, Run-cut}
+use Rattle.linspec.proofs.Marks.{Precedes-returned, Run-cut}
 use Rattle.linspec.proofs.Counts.{no_longer_than}
-use Rattle.narrowing.specs.LeftOut.{without}
 use Rattle.narrowing.specs.Locks.{IsCalled, MayTakePlace, AreForced, StandFirst, IsFirstPart, IsBlock}
 use Rattle.narrowing.proofs.Once.{not_before_itself}
-use Rattle.narrowing.proofs.LeftOut.{step_of, from_without, to_without, Precedes-from_without}
+use Rattle.narrowing.proofs.LeftOut.{step_of}
 use Rattle.narrowing.proofs.Counting.{ids_of, count, from_ids, to_ids, each_once}
 use Rattle.narrowing.proofs.Locks.{name_at, name_at-once, mutex_view, called_in}
 

@@ -134,6 +134,9 @@ module _ (b : Bool) where
   swapped : (ys : List Taken) → Run mutex b ys b → Swapped b ys
   swapped ys run = (swapped_both ys).0 run
 
+joined : (order xs rest ys zs : List Taken) (p q : Taken) → order ≡ xs ++ p ∷ rest → rest ≡ ys ++ q ∷ zs → order ≡ xs ++ p ∷ (ys ++ q ∷ zs)
+joined order xs rest ys zs p q e f = subst (λ k. order ≡ xs ++ p ∷ k) f e
+
 -- who is called so, in an order
 pub called_in : (ms : List Mark) → AreWellFormed ms → (name : Name) (id : ℕ) (x : Taken) → IsCalled ms name id → x.id ≡ id → Contains ms (Invoked x.id x.op) → x.op.name ≡ name
 called_in ms well name id x called same h =
@@ -322,7 +325,7 @@ module _ (ms : List Mark) (well : AreWellFormed ms) (b : Bool) (first second : �
       (Contains-cons_cases i.0 c.1 j.0 k))
       (Contains-append_cases c.0 (i.0 ∷ c.1) j.0 (subst (λ k. Contains k j.0) c.2 j.1)) in
       let d = cut_at c.1 j.0 behind in
-      let whole : order ≡ c.0 ++ i.0 ∷ (d.0 ++ j.0 ∷ d.1) = c.2 ∙ ap (λ k. c.0 ++ i.0 ∷ k) d.2 in
+      let whole : order ≡ c.0 ++ i.0 ∷ (d.0 ++ j.0 ∷ d.1) = joined order c.0 c.1 d.0 d.1 i.0 j.0 c.2 d.2 in
       (left order h.1 l c.0 d.0 d.1 i.0 j.0 whole i.2 j.2, h.1, left_is_legal order h.1 l c.0 d.0 d.1 i.0 j.0 whole i.2 j.2)
 
 -- what each operation of the other name precedes is last, or takes no place

@@ -1,19 +1,19 @@
 -- several blocks of a lock's history, left out one after another
-use Rattle.std.proofs.Common.{◌≡◌, ◌≢◌, ℕ, ◌⊎◌, inl, inr, ⊎_elim, Bool, true, false, not, List, [], ◌∷◌, ◌++◌, refl, sym, ap, ◌∙◌, subst, append_assoc}
+use Rattle.std.proofs.Common.{◌≡◌, ◌≢◌, ℕ, ⊎_elim, Bool, false, not, List, [], ◌∷◌, ◌++◌, sym, ap, ◌∙◌, subst, append_assoc}
 use Rattle.std.specs.List.{filter, Contains}
-use Rattle.std.proofs.lemmas.Bool.{cases_Bool, true≢false, not-true}
+use Rattle.std.proofs.lemmas.Bool.{not-true}
 use Rattle.std.proofs.lemmas.List.{append-nil}
-use Rattle.std.proofs.lemmas.List.Elements.{Contains-append_left, Contains-append_right, Contains-append_cases, filter-append}
+use Rattle.std.proofs.lemmas.List.Elements.{Contains-append_left, filter-append}
 use Rattle.models.specs.Objects.{mutex}
 use Rattle.history.specs.Events.{Mark, IsFront}
 use Rattle.linspec.specs.MarkRule.{AreWellFormed}
 use Rattle.linspec.specs.Operations.{Precedes}
-use Rattle.linspec.specs.Orders.{Taken, Includes, Pairwise, Run, IsLegalOrder, IsLinearizable}
-use Rattle.linspec.proofs.Lists.{Contains-nil, Contains-head, Pairwise-weaker}
+use Rattle.linspec.specs.Orders.{Taken, Includes, Run, IsLegalOrder, IsLinearizable}
+use Rattle.linspec.proofs.Lists.{Pairwise-weaker}
 use Rattle.linspec.proofs.Filters.{two_cuts, filter-all, filter-none, from_filter, to_filter, Pairwise-filter}
 use Rattle.linspec.proofs.Marks.{Run-append, Run-cut}
 use Rattle.narrowing.specs.LeftOut.{without}
-use Rattle.narrowing.specs.Locks.{IsBlock, AreBlocks, without_each}
+use Rattle.narrowing.specs.Locks.{AreBlocks, without_each}
 use Rattle.narrowing.proofs.LeftOut.{from_without, to_without, Precedes-from_without}
 use Rattle.narrowing.proofs.Blocks.{Piece, one_end, piece_of}
 

@@ -2,6 +2,7 @@
 use Rattle.std.proofs.Common.{◌≡◌, ◌≢◌, ℕ, suc, ◌≤◌, ℤ, ⊎_elim, Bool, true, false, not, nat_eq, List, [], ◌∷◌, ◌++◌, length, refl, sym, ap, ◌∙◌, subst, append_assoc, arith}
 use Rattle.std.specs.List.{filter, Contains}
 use Rattle.std.proofs.lemmas.Bool.{cases_eq, true≢false, eq-eqb, ne_eqb}
+use Rattle.std.proofs.lemmas.List.{append-nil}
 use Rattle.std.proofs.lemmas.List.Elements.{Contains-append_left, Contains-append_right, Contains-push, Contains-push_cases, filter-append}
 use Rattle.models.specs.declared.operation.Name.{Name}
 use Rattle.models.specs.declared.operation.Name.TheVariants.{Dequeue}
@@ -18,7 +19,7 @@ use Rattle.linspec.proofs.Fates.{invoked_or_not, returned_or_not}
 use Rattle.narrowing.specs.LeftOut.{without}
 use Rattle.narrowing.specs.Locks.{IsInvokedAfter, IsCalled, MayTakePlace, IsPair, IsLast}
 use Rattle.narrowing.specs.Queues.{AreEnqueuesIn, AreDequeuesOf}
-use Rattle.narrowing.specs.Counts.{AreOfOneRank, is_one_of}
+use Rattle.narrowing.specs.Counts.{HasEnough, IsLeftOver, AreOfOneRank, is_one_of}
 use Rattle.narrowing.proofs.Once.{one_op, one_answer, returned_invoked}
 use Rattle.narrowing.proofs.LeftOut.{from_without, to_without, Precedes-to_without}
 use Rattle.narrowing.proofs.BadFronts.{well_front}
@@ -243,4 +244,152 @@ module _ (ms : List Mark) (well : AreWellFormed ms) (v : ℤ) (e d : ℕ) (rank 
         let l = left_dequeues ms well gone answered_front w dequeues those in
         let r = enough_left dequeues l.0 l.1 in
         (r.0, left_enqueues ms well gone invoked_front w r.0 r.1 r.2, r.3));
+  }
+
+-- an enqueue of no dequeue's rank
+module _ (ms : List Mark) (well : AreWellFormed ms) (w : ℤ) (f : ℕ) (other : IsLeftOver ms w f) where
+  left_in : IsFront other.before ms
+  left_in = (Invoked f other.op ∷ other.after, other.invoked)
+
+  -- where a pair of one rank is left out
+  module _ (v : ℤ) (e d : ℕ) (rank : AreOfOneRank ms v e d) (f_stays : is_one_of e d f ≡ false) where
+    pair_there : Contains ms (Invoked e rank.op)
+    pair_there = subst (λ k. Contains k (Invoked e rank.op)) rank.invoked (Contains-append_right rank.before_enqueue (Invoked e rank.op ∷ rank.after_enqueue) (Invoked e rank.op) (Contains-head (Invoked e rank.op) rank.after_enqueue))
+
+    answer_there : Contains ms (Returned d (Number v))
+    answer_there = subst (λ k. Contains k (Returned d (Number v))) rank.returned (Contains-append_right rank.before_dequeue (Returned d (Number v) ∷ rank.after_dequeue) (Returned d (Number v)) (Contains-head (Returned d (Number v)) rank.after_dequeue))
+
+    not_the_taker : (ids : List ℕ) → AreEnqueuesIn other.before ms w ids → (id : ℕ) → Contains ids id → id ≢ d
+    not_the_taker ids those id h q =
+        let p = those.each id h in
+        no_dequeue ms well (λ n. true) id p.0.0 rank.taker (in_longer other.before ms _ left_in p.0.1) (subst (λ n. Contains ms (Invoked n rank.taker)) (sym q) rank.invokes) p.0.2.0 rank.dequeues
+
+    enough_beside : (dequeues : List ℕ) → AreDequeuesOf ms w dequeues → ((id : ℕ) → Contains dequeues id → is_one_of e d id ≡ false)
+        → (enqueues : List ℕ) × AreEnqueuesIn other.before ms w enqueues × ((id : ℕ) → Contains enqueues id → is_one_of e d id ≡ false) × (length dequeues ≤ length enqueues)
+    enough_beside dequeues those stay = ⊎_elim
+        (λ (same : v ≡ w).
+        let more : AreDequeuesOf ms w (d ∷ dequeues) = record {
+          once = ((λ id h q. is_not_second e d id (stay id h) (sym q)), those.once);
+          each = λ id h. ⊎_elim
+              (λ q. subst (λ n. ((op : Op) × Contains ms (Invoked n op) × (op.name ≡ Dequeue)) × Contains ms (Returned n (Number w))) q
+              ((rank.taker, rank.invokes, rank.dequeues), subst (λ z. Contains ms (Returned d (Number z))) same answer_there))
+              (those.each id)
+              (Contains-cons_cases d dequeues id h);
+        } in
+        let r = other.enough (d ∷ dequeues) more in
+        let left : List ℕ = filter (λ id. not (nat_eq id e)) r.0 in
+        let bound : suc (length dequeues) ≤ length r.0 = r.2 in
+        let fewer : length r.0 ≤ suc (length left) = no_longer_than r.0 (e ∷ left) r.1.once (λ id h. ⊎_elim
+        (λ (q : id ≡ e). subst (Contains (e ∷ left)) (sym q) (Contains-head e left))
+        (λ ne. Contains-tail e left id (to_filter (λ id. not (nat_eq id e)) r.0 id h (ap not (ne_eqb id e ne))))
+        (cases_eq id e)) in (
+          left,
+          record { once = Pairwise-filter (λ id. not (nat_eq id e)) (λ a b. a ≢ b) r.0 r.1.once; each = λ id h. r.1.each id (from_filter (λ id. not (nat_eq id e)) r.0 id h).0 },
+          (λ id h. (let q = from_filter (λ id. not (nat_eq id e)) r.0 id h in
+              is_neither e d id (λ is. true≢false (sym q.1 ∙ ap not (eq-eqb id e is))) (not_the_taker r.0 r.1 id q.0))),
+          omega (arith, bound, fewer),
+        ))
+        (λ ne.
+        let r = other.enough dequeues those in (
+          r.0,
+          r.1,
+          (λ id h. is_neither e d id
+              (λ q. (let p = r.1.each id h in
+              ne (sym (another_value p.0.0 rank.op w v (one_op ms well e p.0.0 rank.op (in_longer other.before ms _ left_in (subst (λ n. Contains other.before (Invoked n p.0.0)) q p.0.1)) pair_there) p.0.2 rank.enqueues))))
+              (not_the_taker r.0 r.1 id h)),
+          r.2,
+        ))
+        (equal_or_not v w)
+
+    pub left_stays_by_pair : IsLeftOver (without (is_one_of e d) ms) w f
+    left_stays_by_pair = record {
+      op = other.op;
+      enqueues = other.enqueues;
+      before = without (is_one_of e d) other.before;
+      after = without (is_one_of e d) other.after;
+      invoked = cut_still ms (is_one_of e d) other.before other.after (Invoked f other.op) f_stays other.invoked;
+      enough = λ dequeues those. (
+          let l = left_dequeues ms well (is_one_of e d) ms w dequeues those in
+          let r = enough_beside dequeues l.0 l.1 in
+          (r.0, left_enqueues ms well (is_one_of e d) other.before w r.0 r.1 r.2, r.3));
+    }
+
+-- what an enqueue of no dequeue's rank leaves, where it is left out
+module _ (ms : List Mark) (well : AreWellFormed ms) (v : ℤ) (e : ℕ) (gone : IsLeftOver ms v e) where
+  abbrev alone : ℕ → Bool
+  alone id = nat_eq id e
+
+  alone_there : Contains ms (Invoked e gone.op)
+  alone_there = subst (λ k. Contains k (Invoked e gone.op)) gone.invoked (Contains-append_right gone.before (Invoked e gone.op ∷ gone.after) (Invoked e gone.op) (Contains-head (Invoked e gone.op) gone.after))
+
+  alone_new : IsNew gone.before e
+  alone_new = well gone.before gone.after (Invoked e gone.op) gone.invoked
+
+  -- as many enqueues in a front, where there are enough with it
+  enough_alone : (w : ℤ) (front answered : List Mark) → IsFront front ms → IsFront answered ms → HasEnough ms front answered w → (dequeues : List ℕ) → AreDequeuesOf answered w dequeues
+      → (enqueues : List ℕ) × AreEnqueuesIn front ms w enqueues × ((id : ℕ) → Contains enqueues id → alone id ≡ false) × (length dequeues ≤ length enqueues)
+  enough_alone w front answered is is_too enough dequeues those = ⊎_elim
+      (λ here. ⊎_elim
+      (λ (same : v ≡ w).
+      let own : here.0 ≡ gone.op = one_op ms well e here.0 gone.op (in_longer front ms _ is here.1) alone_there in
+      let behind : IsFront gone.before front = reaches front is.0 gone.before gone.after (Invoked e gone.op) (is.1 ∙ sym gone.invoked)
+      (subst (λ p. Contains front (Invoked e p)) own here.1) (λ h. alone_new (Invoked e gone.op) h refl) in
+      let all : AreDequeuesOf ms v dequeues = subst (λ z. AreDequeuesOf ms z dequeues) (sym same) (record {
+        once = those.once;
+        each = λ id h. (let p = those.each id h in ((p.0.0, in_longer answered ms _ is_too p.0.1, p.0.2), in_longer answered ms _ is_too p.1));
+      }) in
+      let r = gone.enough dequeues all in (
+        r.0,
+        subst (λ z. AreEnqueuesIn front ms z r.0) same (record { once = r.1.once; each = λ id h. (let p = r.1.each id h in ((p.0.0, in_longer gone.before front _ behind p.0.1, p.0.2), p.1)) }),
+        (λ id h. ne_eqb id e (λ q. (let p = r.1.each id h in alone_new (Invoked id p.0.0) p.0.1 q))),
+        r.2,
+      ))
+      (λ ne.
+      let r = enough dequeues those in (
+        r.0,
+        r.1,
+        (λ id h. ne_eqb id e (λ q. (let p = r.1.each id h in
+            ne (sym (another_value p.0.0 gone.op w v (one_op ms well e p.0.0 gone.op (in_longer front ms _ is (subst (λ n. Contains front (Invoked n p.0.0)) q p.0.1)) alone_there) p.0.2 gone.enqueues))))),
+        r.2,
+      ))
+      (equal_or_not v w))
+      (λ n.
+      let r = enough dequeues those in (
+        r.0,
+        r.1,
+        (λ id h. ne_eqb id e (λ q. (let p = r.1.each id h in n (p.0.0, subst (λ j. Contains front (Invoked j p.0.0)) q p.0.1)))),
+        r.2,
+      ))
+      (invoked_or_not front e)
+
+  pub left_stays : (w : ℤ) (f : ℕ) → f ≢ e → IsLeftOver ms w f → IsLeftOver (without alone ms) w f
+  left_stays w f ne other = record {
+    op = other.op;
+    enqueues = other.enqueues;
+    before = without alone other.before;
+    after = without alone other.after;
+    invoked = cut_still ms alone other.before other.after (Invoked f other.op) (ne_eqb f e ne) other.invoked;
+    enough = λ dequeues those. (
+        let l = left_dequeues ms well alone ms w dequeues those in
+        let r = enough_alone w other.before ms (Invoked f other.op ∷ other.after, other.invoked) ([], append-nil ms) other.enough dequeues l.0 in
+        (r.0, left_enqueues ms well alone other.before w r.0 r.1 r.2, r.3));
+  }
+
+  pub rank_stays_alone : (w : ℤ) (f g : ℕ) → f ≢ e → g ≢ e → AreOfOneRank ms w f g → AreOfOneRank (without alone ms) w f g
+  rank_stays_alone w f g ne me other = record {
+    op = other.op;
+    enqueues = other.enqueues;
+    before_enqueue = without alone other.before_enqueue;
+    after_enqueue = without alone other.after_enqueue;
+    invoked = cut_still ms alone other.before_enqueue other.after_enqueue (Invoked f other.op) (ne_eqb f e ne) other.invoked;
+    taker = other.taker;
+    dequeues = other.dequeues;
+    invokes = to_without alone ms _ other.invokes (ne_eqb g e me);
+    before_dequeue = without alone other.before_dequeue;
+    after_dequeue = without alone other.after_dequeue;
+    returned = cut_still ms alone other.before_dequeue other.after_dequeue (Returned g (Number w)) (ne_eqb g e me) other.returned;
+    enough = λ dequeues those. (
+        let l = left_dequeues ms well alone other.before_dequeue w dequeues those in
+        let r = enough_alone w other.before_enqueue other.before_dequeue (Invoked f other.op ∷ other.after_enqueue, other.invoked) (Returned g (Number w) ∷ other.after_dequeue, other.returned) other.enough dequeues l.0 in
+        (r.0, left_enqueues ms well alone other.before_enqueue w r.0 r.1 r.2, r.3));
   }

@@ -1,5 +1,5 @@
 //! Laws of histories that ask for more, and of histories without some of their operations.
-ghost use Rattle.std.specs.Prelude.{◌↔◌, ℕ, ℤ, nat_eq, Bool, IsFalse, Option, List, [], ◌∷◌, ◌++◌};
+ghost use Rattle.std.specs.Prelude.{◌≢◌, ◌↔◌, ℕ, ℤ, nat_eq, Bool, IsFalse, Option, List, [], ◌∷◌, ◌++◌};
 ghost use Rattle.models.specs.declared.model_kind.ModelKind.{ModelKind};
 ghost use Rattle.models.specs.declared.operation.Name.{Name};
 ghost use Rattle.models.specs.declared.operation.Name.TheVariants.{Acquire, Release};
@@ -209,8 +209,9 @@ pub fn unordered_queue_law()
         → IsLinearizable unordered_queue (without (λ id. nat_eq id enqueue) marks) }
 {}
 
-/// Several may be left out one after another: what the rules ask for of a lock's pair, of what is last, and of a pair of one
-/// rank of a queue without an order, holds still where other operations are left out, in a queue such a pair.
+/// Several may be left out one after another: what the rules ask for of a lock's pair and of what is last holds still where
+/// any others are left out; and of a pair of one rank, and of an enqueue of no dequeue's rank, in a queue without an order,
+/// where another such pair is, or another such enqueue.
 pub fn rules_stay_law()
     ensures pair { (out : ℕ → Bool) (marks : List Mark) (name other : Name) (first second : ℕ) →
         IsFalse (out first) → IsFalse (out second) → IsPair marks name other first second
@@ -222,6 +223,18 @@ pub fn rules_stay_law()
         → AreOfOneRank marks w other taker
         → IsFalse (is_one_of enqueue dequeue other) → IsFalse (is_one_of enqueue dequeue taker)
         → AreOfOneRank (without (is_one_of enqueue dequeue) marks) w other taker }
+    ensures rank_alone { (marks : List Mark) (v w : ℤ) (enqueue other taker : ℕ) →
+        AreWellFormed marks → IsLeftOver marks v enqueue → AreOfOneRank marks w other taker
+        → other ≢ enqueue → taker ≢ enqueue
+        → AreOfOneRank (without (λ id. nat_eq id enqueue) marks) w other taker }
+    ensures alone { (marks : List Mark) (v w : ℤ) (enqueue dequeue other : ℕ) →
+        AreWellFormed marks → AreOfOneRank marks v enqueue dequeue → IsLeftOver marks w other
+        → IsFalse (is_one_of enqueue dequeue other)
+        → IsLeftOver (without (is_one_of enqueue dequeue) marks) w other }
+    ensures alone_alone { (marks : List Mark) (v w : ℤ) (enqueue other : ℕ) →
+        AreWellFormed marks → IsLeftOver marks v enqueue → IsLeftOver marks w other
+        → other ≢ enqueue
+        → IsLeftOver (without (λ id. nat_eq id enqueue) marks) w other }
 {}
 
 /// How operations are numbered decides nothing: a history is linearizable exactly where it is so with other numbers, no two
