@@ -58,7 +58,7 @@ made_count old new [] made = omega (arith, made.count)
 made_count old new (call ∷ calls) made = omega (arith, made.1.count, made_count made.0 new calls made.2)
 
 -- a seat's tape has at least what it made since
-at_least : (n : ℕ) (old new : CoreSeat) (calls : Calls) → old.number ≡ n → HasMade old calls new
+pub at_least : (n : ℕ) (old new : CoreSeat) (calls : Calls) → old.number ≡ n → HasMade old calls new
     → length (calls_of n old.tape) + length calls ≤ length (calls_of n new.tape)
 at_least n old new calls e made =
     let has = asked_by any old new calls made (all_are calls) in

@@ -12,14 +12,14 @@ ghost use Rattle.board.specs.Seat.{IsFresh};
 ghost use Rattle.board.specs.CoreTape.{CoreTape, opening_tape, calls_on};
 ghost use Rattle.clients.specs.Calls.{CoreSeat};
 ghost use Rattle.clients.specs.Plays.{AreStrikes, HaveRun};
-ghost use Rattle.clients.specs.Runs.{ArePlayed, IsRun, calls_of};
+ghost use Rattle.clients.specs.Runs.{ArePlayed, AreServedInOrder, IsBegunBy, IsRun, calls_of};
 
 use machine::no_false_alarm;
 
 /// Where all seats of a board went to clients and the nemesis when they were new, and came back, the board's tape has calls
 /// of trials alone: each call of these seats is on it, once, and nothing else is. So each client has there just the calls
-/// that it made, from its first draw to its end, and the nemesis has its own on the last seat. What comes of a run has
-/// calls of trials alone for that. [`run_on`](crate::run_on) cites it.
+/// that it made, from its first draw to its end, and the nemesis has its own on the last seat, of which the first is before
+/// all calls of clients. What comes of a run has calls of trials alone for that. [`run_on`](crate::run_on) cites it.
 pub fn trials_alone()
     ensures trials { (m : Machine) (seats back : List CoreSeat) (tape : CoreTape)
         → IsFresh (opening_tape m) seats → HaveRun (λ seat. seat) seats back
@@ -36,13 +36,21 @@ pub fn trials_alone()
         → IsFresh (opening_tape m) seats → HaveRun (λ seat. seat) seats back
         → IsTapeOf (opening_tape m) back (length seats) tape
         → (seat : ℕ) → length seats ≤ seat → calls_of seat tape ≡ [] }
+    ensures begun { (m : Machine) (threads : ℕ) (seats back : List CoreSeat) (tape : CoreTape)
+        → length seats ≡ threads + 1 → IsFresh (opening_tape m) seats
+        → HaveRun (λ seat. seat) seats back
+        → IsTapeOf (opening_tape m) back (length seats) tape → IsBegunBy threads tape }
     ensures run { (threads : ℕ) (first last : Machine) (run : IsRun threads first last)
         → AreOfTrial (calls_on run.tape) }
 {}
 
-/// No run of a strict store is a false alarm: the history to which it leads is linearizable, over all keys together. So no
-/// verdict on it is Illegal. [`run_trial`](crate::run_trial) cites it.
+/// No run of a strict store is a false alarm: the history to which it leads is linearizable, over all keys together, and its
+/// operations in the order in which they were served are a legal order of it. So no verdict on it is Illegal.
+/// [`run_trial`](crate::run_trial) cites it.
 pub fn no_false_alarm_in_a_run()
+    ensures order { (setup : Setup) (threads : ℕ) (m : Machine) → setup.mode ≡ Strict
+        → IsCount setup.replicas → (run : IsRun threads (opening setup) m)
+        → AreServedInOrder run.tape m }
     ensures linearizable { (setup : Setup) (threads : ℕ) (m : Machine) → setup.mode ≡ Strict
         → IsCount setup.replicas → IsRun threads (opening setup) m
         → IsLinearizable (product (kind_of m.judged)) (marks (entries_in m.judged)) }
