@@ -1,5 +1,6 @@
 //! Laws of runs.
 ghost use Rattle.std.specs.Prelude.{◌≡◌, ◌+◌, ◌≤◌, ℕ, List, [], length};
+ghost use mathlib.Core.List.{IsPrefix};
 ghost use Rattle.history.specs.Events.{marks};
 ghost use Rattle.linspec.specs.Orders.{IsLinearizable, product};
 ghost use Rattle.linspec.specs.declared.verdict.Verdict.{Verdict};
@@ -9,7 +10,7 @@ ghost use Rattle.linspec.specs.JudgedHistory.{kind_of, entries_in, IsVerdictOn};
 ghost use Rattle.machine.specs.Machine.{Machine, Setup, opening, AreOfTrial};
 ghost use Rattle.board.specs.Tape.{IsTapeOf};
 ghost use Rattle.board.specs.Seat.{IsFresh};
-ghost use Rattle.board.specs.CoreTape.{CoreTape, opening_tape, calls_on};
+ghost use Rattle.board.specs.CoreTape.{CoreTape, LeadsTo, opening_tape, calls_on};
 ghost use Rattle.clients.specs.Calls.{CoreSeat};
 ghost use Rattle.clients.specs.Plays.{AreStrikes, HaveRun};
 ghost use Rattle.clients.specs.Runs.{ArePlayed, AreServedInOrder, IsBegunBy, IsRun, calls_of};
@@ -43,6 +44,22 @@ pub fn trials_alone()
     ensures run { (threads : ℕ) (first last : Machine) (run : IsRun threads first last)
         → AreOfTrial (calls_on run.tape) }
 {}
+
+/// Where a tape opens on a strict store and its calls are of trials alone, refused ones among them, the operations in the
+/// order in which they were served on it are a legal order of the history to which it leads, over all keys together. So no
+/// verdict on that is Illegal. It is said of the tapes of which `no_false_alarm_on_a_tape` of `board` says that their
+/// histories are linearizable; no call cites it.
+pub fn serves_are_the_order()
+    ensures order { (setup : Setup) (tape : CoreTape) (m : Machine) → setup.mode ≡ Strict
+        → IsCount setup.replicas → IsPrefix (opening_tape (opening setup)) tape
+        → AreOfTrial (calls_on tape) → LeadsTo tape m → AreServedInOrder tape m }
+    ensures verdict { (setup : Setup) (tape : CoreTape) (m : Machine) (key index : ℕ)
+        → setup.mode ≡ Strict → IsCount setup.replicas
+        → IsPrefix (opening_tape (opening setup)) tape → AreOfTrial (calls_on tape)
+        → LeadsTo tape m → ¬ IsVerdictOn m.judged (Verdict.Illegal key index) }
+{
+    no_false_alarm();
+}
 
 /// No run of a strict store is a false alarm: the history to which it leads is linearizable, over all keys together, and its
 /// operations in the order in which they were served are a legal order of it. So no verdict on it is Illegal.

@@ -32,13 +32,13 @@ abbrev pub digits_spelled : List ℕ → Option ℕ
 digits_spelled text = if are_digits text then Some (digits_value 10 text) else None
 
 -- what stands behind this byte, where the text begins with it
-abbrev pub behind : ℕ → List ℕ → Option (List ℕ)
-behind byte [] = None
-behind byte (first ∷ rest) = if first == byte then Some rest else None
+abbrev pub after_byte : ℕ → List ℕ → Option (List ℕ)
+after_byte byte [] = None
+after_byte byte (first ∷ rest) = if first == byte then Some rest else None
 
 -- a plus may stand before the digits
 abbrev pub number_spelled : List ℕ → Option ℕ
-number_spelled text = digits_spelled (unwrap_or (behind 43 text) text)
+number_spelled text = digits_spelled (unwrap_or (after_byte 43 text) text)
 
 abbrev pub is_from_to : ℕ → ℕ → ℕ → Bool
 is_from_to least most n = nat_le least n && nat_le n most
@@ -54,7 +54,7 @@ count_behind (Some digits) text = option_map (λ n. 0) (digits_spelled digits)
 count_behind None text = option_map (λ n. min n (2 ^ 32 - 1)) (number_spelled text)
 
 abbrev pub count_spelled : List ℕ → Option ℕ
-count_spelled text = count_behind (behind 45 text) text
+count_spelled text = count_behind (after_byte 45 text) text
 
 -- Names
 
@@ -73,39 +73,39 @@ switch_named text =
 -- Configurations: the tests of the texts, in order
 
 -- the text of the option spells a value, and so it goes on
-abbrev pub reads : {A B : Type 0} → OptionName → Option A → (A → Result B Misspelled) → Result B Misspelled
-reads option None rest = Err (Unread option)
-reads option (Some x) rest = rest x
+abbrev pub needs : {A B : Type 0} → OptionName → Option A → (A → Result B Misspelled) → Result B Misspelled
+needs option None rest = Err (Unread option)
+needs option (Some x) rest = rest x
 
 -- it passes the test, and so it goes on
-abbrev pub passes : {B : Type 0} → Refusal → Bool → Result B Misspelled → Result B Misspelled
-passes why false rest = Err (Refused why)
-passes why true rest = rest
+abbrev pub allows : {B : Type 0} → Refusal → Bool → Result B Misspelled → Result B Misspelled
+allows why false rest = Err (Refused why)
+allows why true rest = rest
 
 -- there is one, and so it goes on
-abbrev pub goes_on : {A B : Type 0} → Result A Misspelled → (A → Result B Misspelled) → Result B Misspelled
-goes_on (Err why) rest = Err why
-goes_on (Ok x) rest = rest x
+abbrev pub result_then : {A B : Type 0} → Result A Misspelled → (A → Result B Misspelled) → Result B Misspelled
+result_then (Err why) rest = Err why
+result_then (Ok x) rest = rest x
 
 -- how the object is opened to judge
 abbrev pub judging_spelled : JudgingTexts → Result Setup Misspelled
 judging_spelled texts =
-    reads Budget (count_spelled texts.budget.now) (λ budget.
-    reads Concurrency (count_spelled texts.concurrency.now) (λ concurrency.
-    reads Model (kind_named texts.model.now) (λ kind.
-    passes BadBudget (is_from_to 1 65536 budget)
-    (passes BadConcurrency (is_from_to 1 64 concurrency)
+    needs Budget (count_spelled texts.budget.now) (λ budget.
+    needs Concurrency (count_spelled texts.concurrency.now) (λ concurrency.
+    needs Model (kind_named texts.model.now) (λ kind.
+    allows BadBudget (is_from_to 1 65536 budget)
+    (allows BadConcurrency (is_from_to 1 64 concurrency)
     (Ok (judging concurrency kind budget))))))
 
 -- what clients and faults do
 abbrev pub plan_spelled : RunTexts → Result RunPlan Misspelled
 plan_spelled texts =
-    reads Seed (number_within 0 (2 ^ 63 - 1) texts.seed.now) (λ seed.
-    reads Operations (number_within 0 100000 texts.operations.now) (λ operations.
-    reads Keys (number_within 1 64 texts.keys.now) (λ keys.
-    reads Replicas (count_spelled texts.replicas.now) (λ replicas.
-    reads OfMode (mode_named texts.mode.now) (λ mode.
-    reads Faults (switch_named texts.faults.now) (λ has_faults.
+    needs Seed (number_within 0 (2 ^ 63 - 1) texts.seed.now) (λ seed.
+    needs Operations (number_within 0 100000 texts.operations.now) (λ operations.
+    needs Keys (number_within 1 64 texts.keys.now) (λ keys.
+    needs Replicas (count_spelled texts.replicas.now) (λ replicas.
+    needs OfMode (mode_named texts.mode.now) (λ mode.
+    needs Faults (switch_named texts.faults.now) (λ has_faults.
     Ok (record {
       seed = seed;
       operations = operations;
@@ -118,10 +118,10 @@ plan_spelled texts =
 -- how the object is opened for a run. Of 64 seats the nemesis takes one
 abbrev pub run_spelled : RunTexts → Result Setup Misspelled
 run_spelled texts =
-    goes_on (judging_spelled texts.judging) (λ judge.
-    goes_on (plan_spelled texts) (λ plan.
-    passes BadConcurrency (nat_le judge.concurrency 63)
-    (passes NoSuchReplica (is_from_to 1 7 plan.replicas)
+    result_then (judging_spelled texts.judging) (λ judge.
+    result_then (plan_spelled texts) (λ plan.
+    allows BadConcurrency (nat_le judge.concurrency 63)
+    (allows NoSuchReplica (is_from_to 1 7 plan.replicas)
     (Ok (run_setup plan judge)))))
 
 -- where no option says otherwise

@@ -19,12 +19,12 @@ pub record IsRunText (m : Machine) (text : List ℕ) (status : ℕ) : Type 0 whe
   pub status_is : status ≡ status_of verdict
 
 -- it is the line of the refusal; or that of want of memory, where there was none for the line
-abbrev pub IsLineOf : Refusal → List ℕ → Type 0
-IsLineOf why text = (text ≡ refusal_line why) ⊎ (text ≡ refusal_line NoMemory)
+abbrev pub IsRefusalText : Refusal → List ℕ → Type 0
+IsRefusalText why text = (text ≡ refusal_line why) ⊎ (text ≡ refusal_line NoMemory)
 
 -- what a run says: what it came to, or why there was none, by the first test that it does not pass
 abbrev pub MaySay : Setup → List ℕ → ℕ → Type 0
 MaySay setup text status =
     (IsSetup setup
     × ((m : Machine) × IsRun setup.concurrency (opening setup) m × IsRunText m text status))
-    ⊎ ((why : Refusal) × HasNoRun setup why × IsLineOf why text × (status ≡ 3))
+    ⊎ ((why : Refusal) × HasNoRun setup why × IsRefusalText why text × (status ≡ 3))
