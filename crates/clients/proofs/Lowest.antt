@@ -1,6 +1,6 @@
 -- Which place was the first to meet a refusal.
-use Rattle.std.proofs.Common.{◌≡◌, ℕ, zero, suc, ◌<◌, Option, Some, None, List, [], ◌∷◌, ◌++◌, length, map, refl, arith}
-use Rattle.std.specs.Prelude.{slice_index_or}
+use Rattle.std.proofs.Common.{◌≡◌, ℕ, zero, suc, ◌<◌, true, Option, Some, None, List, [], ◌∷◌, ◌++◌, length, map, refl, ap, subst, ◌∙◌, arith}
+use Rattle.std.specs.Prelude.{is_some, slice_index_or}
 use Rattle.std.specs.List.{All}
 use Rattle.edn.specs.declared.refusal.Refusal.{Refusal}
 use Rattle.clients.specs.Playing.{first_met}
@@ -22,11 +22,16 @@ module _ {E : Type 0} (why_of : E → Option Refusal) where
       let here : why_of e ≡ None = none 0 e (omega arith) in
       rw here (none_met all (λ k d within. none (suc k) d (omega (arith, within))))
 
-  pub met_at : (all : List E) (place : ℕ) (e : E) (why : Option Refusal) (refusal : Refusal) → place < length all
-      → why_of (slice_index_or all place e) ≡ why → why ≡ Some refusal
-      → ((k : ℕ) (d : E) → k < place → why_of (slice_index_or all k d) ≡ None) → first_met (map why_of all) ≡ Some refusal
-  met_at [] place e why refusal within at is before = absurd (omega (arith, within))
-  met_at (x ∷ all) zero e why refusal within at is before = rw (at, is) refl
-  met_at (x ∷ all) (suc place) e why refusal within at is before =
+  some_first : (o : Option Refusal) (rest : List (Option Refusal)) → is_some o ≡ true → o ≡ first_met (o ∷ rest)
+  some_first None rest some = absurd (cc some)
+  some_first (Some why) rest some = refl
+
+  -- the first that met one
+  pub met_at : (all : List E) (place : ℕ) (e : E) → place < length all → e ≡ slice_index_or all place e → is_some (why_of e) ≡ true
+      → ((k : ℕ) (d : E) → k < place → why_of (slice_index_or all k d) ≡ None) → why_of e ≡ first_met (map why_of all)
+  met_at [] place e within at some before = absurd (omega (arith, within))
+  met_at (x ∷ all) zero e within at some before =
+      ap why_of at ∙ some_first (why_of x) (map why_of all) (subst (λ (y : E). is_some (why_of y) ≡ true) at some)
+  met_at (x ∷ all) (suc place) e within at some before =
       let here : why_of x ≡ None = before 0 x (omega arith) in
-      rw here (met_at all place e why refusal (omega (arith, within)) at is (λ k d less. before (suc k) d (omega (arith, less))))
+      rw here (met_at all place e (omega (arith, within)) at some (λ k d less. before (suc k) d (omega (arith, less))))

@@ -1,5 +1,5 @@
 -- The calls of one seat on a tape: where there are no more of them than it made since it was so, they are just those.
-use Rattle.std.proofs.Common.{◌≡◌, ℕ, ◌+◌, ◌≤◌, Bool, true, false, List, [], ◌∷◌, ◌++◌, length, refl, sym, ap, subst, ◌∙◌, arith, length-append, append_assoc}
+use Rattle.std.proofs.Common.{◌≡◌, ℕ, ◌+◌, ◌≤◌, Bool, true, false, [], ◌∷◌, ◌++◌, length, refl, sym, ap, subst, ◌∙◌, arith, length-append, append_assoc}
 use Rattle.std.specs.Prelude.{◌==◌, ◌&&◌, if◌then◌else◌}
 use mathlib.Core.List.{IsPrefix}
 use Rattle.machine.specs.declared.command.Command.{Command}
@@ -7,7 +7,7 @@ use Rattle.board.specs.declared.tape.TapeEntry.TheVariants.{Opening, Call}
 use Rattle.board.specs.CoreTape.{CoreReply, CoreTape}
 use Rattle.clients.specs.Calls.{CoreSeat, Calls, HasMade}
 use Rattle.clients.specs.Runs.{calls_of}
-use Rattle.clients.proofs.Asking.{one_if, asked, HasAskedOnly, AreSuch, asked_by, same_number}
+use Rattle.clients.proofs.Asking.{one_if, asked, AreSuch, asked_by, same_number}
 
 abbrev pub any : Command → Bool
 any command = true

@@ -3,6 +3,7 @@ use Rattle.std.proofs.Common.{◌≡◌, ◌≢◌, ◌⊎◌, ℕ, ◌-◌, ◌
 use Rattle.std.specs.Prelude.{◌==◌, nat_lt, min, if◌then◌else◌, option_map, MatchOption}
 use Rattle.std.specs.List.{list_all}
 use Rattle.std.specs.Char.{is_ascii_digit}
+use Rattle.std.specs.Option.{ok_or}
 use Rattle.std.specs.Result.{OkIff, result_unwrap_or}
 use Rattle.std.specs.Str.Parse.{digits_value, ParsesUnsigned}
 use Rattle.std.proofs.lemmas.Bool.{cases_lt}
@@ -45,3 +46,12 @@ pub no_minus : (text : List ℕ) (r : Option ℕ) → ((rest : List ℕ) → tex
     → option_map (λ n. min n (2 ^ 32 - 1)) r ≡ count_spelled text
 no_minus text r other is =
     ap (option_map (λ n. min n (2 ^ 32 - 1))) is ∙ cut_again (number_spelled text) ∙ ap (λ o. count_behind o text) (sym (not_after 45 text other))
+
+-- what a value that was asked for says of the option's text
+pub was_some : {A E : Type 0} (o p : Option A) (e : E) (r : Result A E) (x : A) → o ≡ p → r ≡ ok_or o e → r ≡ Ok x → p ≡ Some x
+was_some None p e r x same asked is = absurd (cc (sym is ∙ asked))
+was_some (Some y) p e r x same asked is = sym same ∙ ap Some (cc (sym asked ∙ is))
+
+pub was_none : {A E : Type 0} (o p : Option A) (e : E) (r : Result A E) (why : E) → o ≡ p → r ≡ ok_or o e → r ≡ Err why → (p ≡ None) × (e ≡ why)
+was_none None p e r why same asked is = (sym same, cc (sym asked ∙ is))
+was_none (Some y) p e r why same asked is = absurd (cc (sym is ∙ asked))

@@ -1,5 +1,5 @@
 //! What the texts of options spell: how the one-thread object is opened.
-ghost use Rattle.std.specs.Prelude.{◌≡◌, ◌⊎◌, ◌-◌, ◌^◌, ◌<◌, ◌≤◌, Ok, Err, IfOk, IfErr, IsOk, MatchResult, min, option_map};
+ghost use Rattle.std.specs.Prelude.{◌≡◌, ◌⊎◌, ◌-◌, ◌^◌, ◌<◌, ◌≤◌, Ok, Err, IfOk, IfErr, IfSome, IsOk, MatchResult, min, option_map};
 ghost use Rattle.edn.specs.declared.refusal.Refusal.TheVariants.{NoMemory};
 ghost use Rattle.harness.specs.Setups.{setup_of, IsSetup};
 ghost use Rattle.jepmon.specs.Options.{are_digits, count_spelled, default_run, default_setup, digits_spelled, judging_spelled, mode_named, number_spelled, number_within, plan_spelled, run_spelled, switch_named};
@@ -183,7 +183,7 @@ impl RunTexts<'_> {
             seed,
             operations: operations as u32,
             keys: keys as u16,
-            replicas: u8::try_from(replicas).unwrap_or(u8::MAX),
+            replicas: byte_of(replicas),
             mode,
             has_faults,
         })
@@ -225,7 +225,8 @@ fn number_in(text: &str) -> Option<u64>
 // The number of an option that is from the least to the most.
 fn within(text: &str, least: u64, most: u64) -> Option<u64>
     requires { most < 2 ^ 64 - 1 }
-    ensures { result ≡ number_within least most text.now }
+    ensures spelled { result ≡ number_within least most text.now }
+    ensures limits { IfSome result (λ number. (least ≤ number) × (number ≤ most)) }
 {
     let number = number_in(text)?;
     if least <= number && number <= most {
@@ -240,6 +241,13 @@ fn clipped(number: u64) -> u32
     ensures { result ≡ min number (2 ^ 32 - 1) }
 {
     u32::try_from(number).unwrap_or(u32::MAX)
+}
+
+// The number, or the greatest u8 where it is greater.
+fn byte_of(number: u32) -> u8
+    ensures { result ≡ min number 255 }
+{
+    u8::try_from(number).unwrap_or(u8::MAX)
 }
 
 /// The number of an option that tells by another fault than no number that it is out of its limits: however long its text is,

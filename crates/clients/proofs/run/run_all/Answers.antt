@@ -1,4 +1,4 @@
-use Rattle.std.proofs.Common.{◌≡◌, ℕ, ◌<◌, ◌≤◌, ◌^◌, ◌++◌, ◌∷◌, [], List, sym, subst, arith, rules, ◌∙◌, ap, length, map, Ok, IfOk}
+use Rattle.std.proofs.Common.{◌≡◌, ℕ, ◌<◌, ◌≤◌, ◌^◌, ◌++◌, ◌∷◌, [], List, sym, subst, arith, rules, ◌∙◌, ap, length, map, IfOk}
 use Rattle.std.specs.List.{All, enumerate_from}
 use Rattle.std.specs.Option.{option_to_list}
 use Rattle.clients.specs.Plays.{HaveRun}

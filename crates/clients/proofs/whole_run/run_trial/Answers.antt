@@ -1,9 +1,9 @@
-use Rattle.std.proofs.Common.{◌≡◌, ℕ, ◌-◌, subst, inr, arith}
+use Rattle.std.proofs.Common.{◌≡◌, ℕ, ◌-◌, sym, subst, inr, arith}
 use Rattle.harness.specs.CoreView.{CoreView}
 use Rattle.harness.specs.Setups.{setup_of}
 use Rattle.machine.specs.Machine.{opening}
-use Rattle.clients.specs.Runs.{IsRun}
-use Rattle.clients.proofs.Results.{ok_then, err_then}
+use Rattle.clients.specs.Runs.{HasNoRun, IsRun}
+use Rattle.clients.proofs.Results.{ok_then, err_then, err_from}
 use Rattle.clients.proofs.Refusing.{not_begun}
 use Rattle.clients.proofs.whole_run.run_trial.Goals as goal
 
@@ -27,7 +27,8 @@ returns-clause-refused g c =
 
 pub returns-in_err-blank-clause-refused : goal.returns-in_err-blank-clause-refused
 returns-in_err-blank-clause-refused g c =
-    not_begun c.args.config _ _ (λ less. omega (arith, less, c.saturating_add-seats.ensures)) c.in_err-blank.ensures.refused
+    let begun = not_begun c.args.config c.saturating_add-seats.result c.in_err-blank.field-0.0 (λ less. omega (arith, less, c.saturating_add-seats.ensures)) c.in_err-blank.ensures.refused in
+    err_from c.from_residual.result c.from_residual.ensures.1 (λ why is. subst (λ w. HasNoRun (setup_of c.args.config) w) (sym is) begun)
 
 pub returns-clause-linearizable : goal.returns-clause-linearizable
 returns-clause-linearizable g c = λ strict.
