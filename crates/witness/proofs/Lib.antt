@@ -5,3 +5,6 @@ pub mod Outcomes
 pub mod InTurn
 pub mod QueueNeeds
 pub mod Ahead
+pub mod EventsThere
+pub mod FatesFound
+pub mod KnownFates

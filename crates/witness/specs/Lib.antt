@@ -1,3 +1,5 @@
 pub mod Calls
 pub mod Taking
 pub mod Needs
+pub mod Orders
+pub mod Fates

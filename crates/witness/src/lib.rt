@@ -2,6 +2,8 @@
 #![tactic(auto)]
 
 mod calls;
+mod confirm;
+mod fates;
 mod misfit;
 mod needs;
 mod queue;
@@ -9,5 +11,7 @@ mod running;
 mod taking;
 
 pub use calls::Call;
-pub use misfit::{Halt, Misfit};
+pub use confirm::Confirmation;
+pub use fates::{Fate, fates_of};
+pub use misfit::{Halt, Misfit, Unfit};
 pub use running::first_halt;

@@ -13,9 +13,9 @@ pub enum Misfit {
     Failed,
     /// It has returned before an operation was invoked that stands before it.
     TooLate,
-    /// It can't take place in the state that the others leave.
+    /// It can't take place behind those that stand before it.
     CannotTakePlace,
-    /// It finds something else than it has answered.
+    /// It would find something else there than it has answered.
     AnotherAnswer,
     /// The operation has returned, and is not in the order.
     LeftOut,
@@ -26,5 +26,15 @@ pub enum Misfit {
 pub struct Halt {
     /// The place of the call, from 0.
     pub at: usize,
+    pub why: Misfit,
+}
+
+/// What does not fit of an order.
+#[derive(Clone, Copy, Debug, PartialEq, Eq)]
+pub struct Unfit {
+    /// The place in the order, from 0; of what is left out, behind the last one.
+    pub place: usize,
+    /// The index that stands there, or that of the invocation that is left out.
+    pub event: u32,
     pub why: Misfit,
 }
