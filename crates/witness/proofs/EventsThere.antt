@@ -1,5 +1,5 @@
 -- the events that entries come from
-use Rattle.std.proofs.Common.{◌≡◌, ℕ, zero, suc, ◌+◌, ◌<◌, true, nat_eq, Option, Some, None, option_map, List, [], ◌∷◌, ◌++◌, length, slice_get, refl, sym, ap, ◌∙◌, subst, ⊎_elim, arith}
+use Rattle.std.proofs.Common.{◌≡◌, ℕ, zero, suc, ◌+◌, ◌<◌, true, nat_eq, Option, Some, None, option_map, unwrap_or, List, [], ◌∷◌, ◌++◌, length, slice_get, refl, sym, ap, ◌∙◌, subst, ⊎_elim, arith}
 use Rattle.std.specs.List.{Contains}
 use Rattle.std.proofs.lemmas.List.Elements.{Contains-append_cases}
 use Rattle.models.specs.declared.operation.Op.{Op}
@@ -17,6 +17,7 @@ use Rattle.history.specs.Events.Mark.{Invoked, Returned, Failed, Crashed}
 use Rattle.linspec.proofs.Lists.{Contains-nil, Contains-cons_cases}
 use Rattle.witness.specs.Orders.{is_of}
 use Rattle.witness.specs.Fates.{op_in, op_at, answer_at}
+use Rattle.witness.specs.Placing.{key_at}
 
 -- what an event that speaks of an operation is
 pub record Speaks (kind : EventKind) (process : Process) (body : Body) (o : OpEvent) : Type 0 where
@@ -104,6 +105,12 @@ is_of-key key x event o there said = ap (is_of key) there ∙ ap (λ p. is_of_ke
 pub of_its_key : (events : List Event) (e : Entry) → EntryOf events e → (key : ℕ) → is_of key (slice_get events e.index) ≡ nat_eq e.key key
 of_its_key events e h key = is_of-key key (slice_get events e.index) h.event h.says h.there h.said ∙ ap (λ k. nat_eq k key) (sym h.key_is)
 
+key_of-at : (x : Option Event) (event : Event) (o : OpEvent) → x ≡ Some event → op_event event ≡ Some o → key_at x ≡ o.key
+key_of-at x event o there said = ap key_at there ∙ ap (λ p. unwrap_or (option_map (λ (w : OpEvent). w.key) p) 0) said
+
+pub key_there : (events : List Event) (e : Entry) → EntryOf events e → key_at (slice_get events e.index) ≡ e.key
+key_there events e h = key_of-at (slice_get events e.index) h.event h.says h.there h.said ∙ sym h.key_is
+
 -- an invocation
 invokes : (i l : ℕ) (kind : EventKind) (op : Op) (id : ℕ) (invoked : Op) → mark_by_act i l (act_by kind op) ≡ Invoked id invoked → (i ≡ id) × (op ≡ invoked)
 invokes i l Invoke op id invoked e = ((let t : i ≡ id = cc in t), (let t : op ≡ invoked = cc in t))
@@ -133,9 +140,3 @@ answer_of_return events e id answer h is =
     let s = speaks h.event.kind h.event.process h.event.body h.says h.said in
     let by : mark_by_act e.index h.last (act_by h.event.kind s.op) ≡ Returned id answer = ap (λ (o : OpEvent). mark_by_act e.index h.last o.act) (sym s.says) ∙ sym h.mark_is ∙ is in
     ap (option_map (λ (op : Op). answer_of op.part)) (the_op (slice_get events e.index) h.event h.says s h.there) ∙ ap Some (returns e.index h.last h.event.kind s.op id answer by)
-
--- what is there is within
-pub within : {X : Type 0} (xs : List X) (i : ℕ) (x : X) → slice_get xs i ≡ Some x → i < length xs
-within [] i x e = cc
-within (y ∷ xs) zero x e = omega arith
-within (y ∷ xs) (suc i) x e = let r = within xs i x e in omega (arith, r)

@@ -8,3 +8,8 @@ pub mod Ahead
 pub mod EventsThere
 pub mod FatesFound
 pub mod KnownFates
+pub mod Sound
+pub mod Late
+pub mod ByKeys
+pub mod Placings
+pub mod Witnesses

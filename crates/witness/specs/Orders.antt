@@ -13,8 +13,8 @@ use Rattle.witness.specs.declared.calls.Call.{Call}
 use Rattle.witness.specs.declared.misfit.Misfit.{Misfit}
 use Rattle.witness.specs.declared.misfit.Misfit.TheVariants.{NoEvent, NoInvocation, Twice, Failed as HasFailed, TooLate, CannotTakePlace, AnotherAnswer, LeftOut}
 use Rattle.witness.specs.declared.misfit.Unfit.{Unfit}
-use Rattle.witness.specs.declared.confirm.Confirmation.{Confirmation}
-use Rattle.witness.specs.declared.confirm.Confirmation.TheVariants.{Linearizable, NoOrder}
+use Rattle.witness.specs.declared.confirming.Confirmation.{Confirmation}
+use Rattle.witness.specs.declared.confirming.Confirmation.TheVariants.{Linearizable, NoOrder}
 use Rattle.witness.specs.Calls.{HaltsBehind}
 
 -- what events say of operations, of all and of those of a key

@@ -1,17 +1,20 @@
 //! Whether an order of the operations of a history shows that it is linearizable.
 #![tactic(auto)]
 
+mod answers;
 mod calls;
-mod confirm;
+mod confirming;
 mod fates;
+mod keys;
 mod misfit;
 mod needs;
+mod placing;
 mod queue;
 mod running;
 mod taking;
 
 pub use calls::Call;
-pub use confirm::Confirmation;
+pub use confirming::{Confirmation, confirm};
 pub use fates::{Fate, fates_of};
 pub use misfit::{Halt, Misfit, Unfit};
 pub use running::first_halt;

@@ -35,6 +35,6 @@ pub struct Unfit {
     /// The place in the order, from 0; of what is left out, behind the last one.
     pub place: usize,
     /// The index that stands there, or that of the invocation that is left out.
-    pub event: u32,
+    pub event: usize,
     pub why: Misfit,
 }
