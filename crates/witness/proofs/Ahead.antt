@@ -1,14 +1,14 @@
 -- what is ahead of a place of calls
-use Rattle.std.proofs.Common.{◌≡◌, ◌↔◌, ℕ, zero, suc, ◌+◌, ◌-◌, ◌<◌, ◌≤◌, ℤ, nat_eq, IsTrue, Option, Some, None, List, [], ◌∷◌, ◌++◌, length, take, drop, get_or, refl, sym, ap, ◌∙◌, subst, append_assoc, arith}
+use Rattle.std.proofs.Common.{◌≡◌, ◌↔◌, ℕ, ◌+◌, ◌-◌, ◌<◌, ◌≤◌, ℤ, nat_eq, IsTrue, Some, None, List, [], ◌∷◌, ◌++◌, length, take, drop, get_or, refl, sym, ap, ◌∙◌, subst, append_assoc, arith}
 use Rattle.std.proofs.lemmas.Bool.{eqb-true, eq-eqb}
 use Rattle.std.proofs.lemmas.List.{take_more, length-take-le}
-use Rattle.models.specs.Objects.{Object, unordered_queue}
+use Rattle.models.specs.Objects.{unordered_queue}
 use Rattle.models.specs.Runs.{times_in}
 use Rattle.witness.specs.declared.calls.Call.{Call}
 use Rattle.witness.specs.declared.needs.Needs.{Needs}
 use Rattle.witness.specs.declared.misfit.Misfit.TheVariants.{CannotTakePlace, AnotherAnswer}
-use Rattle.witness.specs.Calls.{CanRun, IsHalt, HaltsBehind, unanswered}
-use Rattle.witness.specs.Needs.{Suffices, AreNeeds, NeedsOf, AreBefore}
+use Rattle.witness.specs.Calls.{CanRun, IsHalt, unanswered}
+use Rattle.witness.specs.Needs.{AreNeeds, AreBefore}
 use Rattle.witness.proofs.InTurn.{from_place, cut_at}
 use Rattle.witness.proofs.Runs.{CanRun-right}
 

@@ -1,5 +1,5 @@
 -- the events that entries come from
-use Rattle.std.proofs.Common.{◌≡◌, ℕ, zero, suc, ◌+◌, ◌<◌, true, nat_eq, Option, Some, None, option_map, unwrap_or, List, [], ◌∷◌, ◌++◌, length, slice_get, refl, sym, ap, ◌∙◌, subst, ⊎_elim, arith}
+use Rattle.std.proofs.Common.{◌≡◌, ℕ, suc, ◌+◌, nat_eq, Option, Some, None, option_map, unwrap_or, List, [], ◌∷◌, slice_get, refl, sym, ap, ◌∙◌, subst, ⊎_elim, arith}
 use Rattle.std.specs.List.{Contains}
 use Rattle.std.proofs.lemmas.List.Elements.{Contains-append_cases}
 use Rattle.models.specs.declared.operation.Op.{Op}
@@ -12,8 +12,8 @@ use Rattle.history.specs.declared.event.Process.{Process}
 use Rattle.history.specs.declared.event.Process.TheVariants.{Client, Nemesis}
 use Rattle.history.specs.declared.event.Body.{Body}
 use Rattle.history.specs.declared.event.Body.TheVariants.{Op as AnOp, Fault as AFault}
-use Rattle.history.specs.Events.{Mark, Entry, OpEvent, op_event, op_event_in, act_by, mark_by_act, entry_by, entries_by, last_after, entries_from, entries_of, indexed_from, is_of_key}
-use Rattle.history.specs.Events.Mark.{Invoked, Returned, Failed, Crashed}
+use Rattle.history.specs.Events.{Entry, OpEvent, op_event, op_event_in, act_by, mark_by_act, entry_by, entries_by, last_after, entries_from, entries_of, indexed_from, is_of_key}
+use Rattle.history.specs.Events.Mark.{Invoked, Returned}
 use Rattle.linspec.proofs.Lists.{Contains-nil, Contains-cons_cases}
 use Rattle.witness.specs.Orders.{is_of}
 use Rattle.witness.specs.Fates.{op_in, op_at, answer_at}

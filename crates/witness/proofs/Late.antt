@@ -1,24 +1,22 @@
 -- operations of a key in their order, one more
-use Rattle.std.proofs.Common.{◌≡◌, ◌≢◌, ℕ, zero, suc, ◌+◌, ◌<◌, ◌≤◌, ◌⊎◌, inl, inr, ⊎_elim, Option, Some, None, List, [], ◌∷◌, ◌++◌, length, map, take, drop, get_or, max, refl, sym, ap, ◌∙◌, subst, append_assoc, arith}
+use Rattle.std.proofs.Common.{◌≡◌, ℕ, suc, ◌+◌, ◌<◌, ◌≤◌, ◌⊎◌, inl, inr, ⊎_elim, List, [], ◌∷◌, ◌++◌, length, take, drop, get_or, max, refl, sym, ap, ◌∙◌, subst, append_assoc, arith}
 use Rattle.std.specs.List.{Contains}
 use Rattle.std.proofs.lemmas.Bool.{cases_order}
-use Rattle.std.proofs.lemmas.List.{take_more, map-append, get_or_default, length-append, length-take-le, take-append-drop}
-use Rattle.std.proofs.lemmas.List.Elements.{Contains-append_left, Contains-append_right, Contains-push, Contains-push_cases}
+use Rattle.std.proofs.lemmas.List.{take_more, map-append, get_or_default, length-append, take-append-drop}
+use Rattle.std.proofs.lemmas.List.Elements.{Contains-append_left, Contains-push, Contains-push_cases}
 use Rattle.history.specs.declared.event.Event.{Event}
 use Rattle.models.specs.declared.model_kind.ModelKind.{ModelKind}
 use Rattle.models.specs.Objects.{object_of}
-use Rattle.linspec.specs.Orders.{Pairwise}
-use Rattle.linspec.proofs.Lists.{Contains-nil, Contains-head, Contains-tail, Contains-cons_cases, Pairwise-append}
-use Rattle.linspec.proofs.Filters.{to_map, from_map}
+use Rattle.linspec.proofs.Lists.{Contains-nil, Contains-cons_cases, Pairwise-append}
 use Rattle.witness.specs.declared.calls.Call.{Call}
 use Rattle.witness.specs.declared.fates.Fate.{Fate}
 use Rattle.witness.specs.declared.misfit.Misfit.{Misfit}
 use Rattle.witness.specs.declared.misfit.Misfit.TheVariants.{NoEvent, NoInvocation, Twice, Failed, TooLate, CannotTakePlace, AnotherAnswer, LeftOut}
 use Rattle.witness.specs.declared.misfit.Unfit.{Unfit}
 use Rattle.witness.specs.declared.placing.Stand.{Stand}
-use Rattle.witness.specs.Calls.{CanRun, HaltsBehind, IsHalt}
+use Rattle.witness.specs.Calls.{HaltsBehind, IsHalt}
 use Rattle.witness.specs.Fates.{fate_at}
-use Rattle.witness.specs.KeyOrders.{ids_of, IsBefore, AreInTime, IsCallBy, AreCallsBy, CanRunBy, HaltsBy, IsUnfitFor, KeyUnfit}
+use Rattle.witness.specs.KeyOrders.{ids_of, IsBefore, AreInTime, IsCallBy, AreCallsBy, IsUnfitFor, KeyUnfit}
 use Rattle.witness.proofs.InTurn.{cut_at}
 
 pub ids_more : (stands : List Stand) (at : ℕ) (s : Stand) → at < length stands → s ≡ get_or stands at s → ids_of (take (at + 1) stands) ≡ ids_of (take at stands) ++ s.id ∷ []

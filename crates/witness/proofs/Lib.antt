@@ -13,3 +13,5 @@ pub mod Late
 pub mod ByKeys
 pub mod Placings
 pub mod Witnesses
+pub mod Reasons
+pub mod Refuting

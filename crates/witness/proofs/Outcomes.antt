@@ -1,5 +1,5 @@
 -- kinds of which an operation has one outcome at most in a state
-use Rattle.std.proofs.Common.{◌≡◌, ◌≢◌, ◌↔◌, ℕ, zero, suc, ◌<◌, ◌≤◌, IsTrue, false, inl, inr, ⊎_elim, Option, Some, None, Result, Ok, Err, MatchOption, MatchResult, List, [], ◌∷◌, ◌++◌, length, map, refl, sym, ap, ◌∙◌, subst, arith}
+use Rattle.std.proofs.Common.{◌≡◌, ◌≢◌, ◌↔◌, ℕ, zero, suc, ◌<◌, ◌≤◌, IsTrue, false, inl, ⊎_elim, Option, Some, None, Result, Ok, Err, MatchOption, MatchResult, List, [], ◌∷◌, ◌++◌, length, refl, sym, ap, ◌∙◌, subst, arith}
 use Rattle.std.proofs.lemmas.Bool.{true≢false}
 use Rattle.std.proofs.lemmas.List.{length-append, length-map}
 use Rattle.models.specs.declared.operation.Op.{Op}
@@ -59,10 +59,14 @@ module _ (kind : ModelKind) (s : (object_of kind).State) (c : Call) where
         (same_state kind t the_step.0 (sym (ap (λ (r : AnyState × Found). r.0) same) ∙ the_step.1), sym (ap (λ (r : AnyState × Found). r.1) same))
 
     pub one_taken : FitsIf x.1 c.answer → (t : (object_of kind).State) × (x.0 ≡ any kind t) × LeadsTo (object_of kind) s c t
-    one_taken fits = (the_step.0, the_step.1, λ later. (
-      (λ h. subst (CanRun (object_of kind) later) (no_other h.1 h.0 h.2).0 h.4),
-      (λ h. (x.1, the_step.0, the_step.2, fits, h)),
-    ))
+    one_taken fits = (
+      the_step.0,
+      the_step.1,
+      λ later. (
+        (λ h. subst (CanRun (object_of kind) later) (no_other h.1 h.0 h.2).0 h.4),
+        (λ h. (x.1, the_step.0, the_step.2, fits, h)),
+      ),
+    )
 
     pub one_unfit : ¬ FitsIf x.1 c.answer → ¬ CanRun (object_of kind) (c ∷ []) s
     one_unfit unfit h = unfit (subst (λ f. FitsIf f c.answer) (no_other h.1 h.0 h.2).1 h.3)

@@ -1,12 +1,11 @@
 -- operations that are placed, one more
-use Rattle.std.proofs.Common.{◌≡◌, ◌≢◌, ◌↔◌, ℕ, zero, suc, ◌+◌, ◌<◌, ◌≤◌, inl, inr, ⊎_elim, Bool, true, false, Option, Some, None, MatchOption, List, [], ◌∷◌, ◌++◌, length, take, drop, get_or, set, slice_get, refl, sym, ap, ◌∙◌, subst, append_assoc, arith, get_or-set_same, get_or-set_other}
+use Rattle.std.proofs.Common.{◌≡◌, ◌≢◌, ◌↔◌, ℕ, ◌+◌, ◌<◌, ◌≤◌, ⊎_elim, Bool, true, false, Option, Some, None, MatchOption, List, [], ◌∷◌, ◌++◌, length, take, drop, get_or, set, slice_get, sym, ap, ◌∙◌, subst, append_assoc, arith, get_or-set_same, get_or-set_other}
 use Rattle.std.specs.List.{Contains}
 use Rattle.std.proofs.lemmas.Bool.{cases_eq, true≢false}
 use Rattle.std.proofs.lemmas.Option.{slice_get-get_or}
-use Rattle.std.proofs.lemmas.List.{take_more, take_all, take-append-drop, length-take-le, append-nil, get_or_default, length-set}
+use Rattle.std.proofs.lemmas.List.{take_more, take_all, take-append-drop, length-take-le, get_or_default, length-set}
 use Rattle.std.proofs.lemmas.List.Elements.{Contains-append_left, Contains-push, Contains-push_cases}
 use Rattle.history.specs.declared.event.Event.{Event}
-use Rattle.history.specs.Events.{IsFront}
 use Rattle.linspec.specs.Orders.{Pairwise}
 use Rattle.linspec.proofs.Lists.{Contains-nil, Contains-cons_cases, Pairwise-append}
 use Rattle.witness.specs.declared.fates.Fate.{Fate}

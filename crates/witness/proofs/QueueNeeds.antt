@@ -1,11 +1,10 @@
 -- calls of a queue without an order, from the last to the first
-use Rattle.std.proofs.Common.{◌≡◌, ◌≢◌, ◌↔◌, ℕ, zero, suc, ◌+◌, ◌-◌, ◌<◌, ◌≤◌, ℤ, inl, inr, ⊎_elim, Option, Some, None, List, [], ◌∷◌, ◌++◌, length, get_or, remove, refl, sym, ap, ◌∙◌, subst, arith}
+use Rattle.std.proofs.Common.{◌≡◌, ◌≢◌, ◌↔◌, ℕ, ◌+◌, ◌-◌, ◌<◌, ◌≤◌, ℤ, inl, ⊎_elim, Option, Some, None, List, [], ◌∷◌, length, get_or, remove, refl, sym, ap, ◌∙◌, subst, arith}
 use Rattle.std.specs.List.{Contains}
 use Rattle.models.specs.declared.operation.Name.{Name}
 use Rattle.models.specs.declared.operation.Name.TheVariants.{Enqueue, Dequeue}
 use Rattle.models.specs.declared.operation.Part.{Part}
 use Rattle.models.specs.declared.operation.Part.TheVariants.{Nil, Int}
-use Rattle.models.specs.declared.operation.Op.{Op}
 use Rattle.models.specs.declared.finding.Found.{Found}
 use Rattle.models.specs.declared.finding.Found.TheVariants.{Unit as Done, Item}
 use Rattle.models.specs.declared.finding.Answer.{Answer}
@@ -18,9 +17,9 @@ use Rattle.models.proofs.Unordered.{dequeue_is}
 use Rattle.witness.specs.declared.calls.Call.{Call}
 use Rattle.witness.specs.declared.needs.Needs.{Needs}
 use Rattle.witness.specs.Calls.{FitsIf, CanRun}
-use Rattle.witness.specs.Needs.{Suffices, AreNeeds, NeedsOf, AreBefore, AreBeforeAll}
-use Rattle.witness.proofs.Bags.{one_if, one_if-same, one_if-other, one_if-most, times_with, length_with, times_without, length_without, times_remove, length_remove, in_if_counted, counted_if_in, nothing_counted, more_often, cases_int, fewer}
-use Rattle.witness.proofs.Runs.{fits_done, CanRun-right}
+use Rattle.witness.specs.Needs.{AreNeeds, AreBefore}
+use Rattle.witness.proofs.Bags.{one_if, one_if-same, one_if-other, times_with, length_with, times_without, length_without, times_remove, length_remove, in_if_counted, nothing_counted, more_often, cases_int, fewer}
+use Rattle.witness.proofs.Runs.{fits_done}
 
 -- no calls need nothing
 pub none_needed : AreNeeds [] (record { values = []; more = 0 })
@@ -68,9 +67,9 @@ module _ (c : Call) (later : List Call) where
       (λ h.
           let n = (after (with_one v s)).0 ((put_runs s).0 h) in
           let own : (w : ℤ) → times_in w needs.values ≤ times_in w s = λ w. ⊎_elim
-              (λ (e : v ≡ w). let none : times_in v needs.values ≡ 0 = nothing_counted v needs.values out in let q : times_in w needs.values ≡ 0 = ap (λ x. times_in x needs.values) (sym e) ∙ none in omega (arith, q))
-              (λ ne. let b = times_with w v s in let e = n.has w in let q = one_if-other v w ne in omega (arith, b, e, q))
-              (cases_int v w) in
+          (λ (e : v ≡ w). let none : times_in v needs.values ≡ 0 = nothing_counted v needs.values out in let q : times_in w needs.values ≡ 0 = ap (λ x. times_in x needs.values) (sym e) ∙ none in omega (arith, q))
+          (λ ne. let b = times_with w v s in let e = n.has w in let q = one_if-other v w ne in omega (arith, b, e, q))
+          (cases_int v w) in
           record {
             has = own;
             has_more = (let b = length_with v s in let e = n.has_more in let k = fewer needs.values s own in omega (arith, b, e, k));

@@ -1,6 +1,5 @@
 -- calls one after another, in parts
-use Rattle.std.proofs.Common.{◌≡◌, ◌↔◌, Option, Some, None, List, [], ◌∷◌, ◌++◌, refl}
-use Rattle.models.specs.declared.finding.Found.{Found}
+use Rattle.std.proofs.Common.{Option, Some, None, List, [], ◌∷◌, ◌++◌}
 use Rattle.models.specs.declared.finding.Found.TheVariants.{Unit as Done}
 use Rattle.models.specs.declared.finding.Answer.{Answer}
 use Rattle.models.specs.Objects.{Object}

@@ -1,33 +1,31 @@
 -- what is known of a history's events, and of the fates of its operations
-use Rattle.std.proofs.Common.{◌≡◌, ◌≢◌, ℕ, ◌<◌, ◌≤◌, ◌⊎◌, inl, inr, true, nat_eq, Option, Some, None, List, [], ◌∷◌, ◌++◌, length, slice_get, refl, sym, ap, ◌∙◌, subst, ⊎_elim, arith}
-use Rattle.std.specs.List.{filter, Contains}
-use Rattle.std.proofs.lemmas.Bool.{eqb-true, eq-eqb}
+use Rattle.std.proofs.Common.{◌≡◌, ℕ, ◌<◌, nat_eq, Some, List, [], ◌∷◌, length, slice_get, refl, sym, ap, ◌∙◌, subst, ⊎_elim, arith}
+use Rattle.std.specs.List.{Contains}
 use Rattle.std.proofs.lemmas.Option.{slice_get_within}
 use Rattle.models.specs.declared.operation.Op.{Op}
 use Rattle.models.specs.declared.finding.Answer.{Answer}
 use Rattle.history.specs.declared.event.Event.{Event}
-use Rattle.history.specs.Events.{Mark, Entry, marks, of_key, entries_of, indexed_from}
+use Rattle.history.specs.Events.{Mark, Entry, marks, entries_of, indexed_from}
 use Rattle.history.specs.Events.Mark.{Invoked, Returned, Failed}
 use Rattle.history.specs.WellFormed.{IsHistoryOf}
 use Rattle.history.proofs.ProcessRule.{is_history}
 use Rattle.linspec.specs.Operations.{IsInvoked, HasReturned, Precedes}
-use Rattle.linspec.specs.Orders.{Pairwise}
 use Rattle.linspec.specs.MarkRule.{id_of, AreWellFormed, IsKeyed}
 use Rattle.linspec.specs.Verdicts.{IsRising}
 use Rattle.linspec.proofs.Histories.{of_history}
-use Rattle.linspec.proofs.Lists.{Contains-nil, Contains-head, Contains-tail, Contains-cons_cases, cut_at, Pairwise-across, Pairwise-right}
-use Rattle.std.proofs.lemmas.List.Elements.{Contains-append_left, Contains-append_right, Contains-append_cases, Contains-push}
+use Rattle.linspec.proofs.Lists.{Contains-nil, Contains-head, Contains-cons_cases, cut_at, Pairwise-across, Pairwise-right}
+use Rattle.std.proofs.lemmas.List.Elements.{Contains-append_left, Contains-append_right, Contains-append_cases}
 use Rattle.linspec.proofs.Filters.{to_map, from_map, map-cut}
 use Rattle.linspec.proofs.Fronts.{marks-append}
-use Rattle.linspec.proofs.Keyed.{from_of_key, to_of_key, from_marks, of_key-marks, Precedes-whole, Precedes-key}
+use Rattle.linspec.proofs.Keyed.{to_of_key, from_marks, of_key-marks, Precedes-whole, Precedes-key}
 use Rattle.witness.specs.declared.fates.Fate.{Fate}
 use Rattle.witness.specs.declared.fates.Fate.TheVariants.{NoOperation, Pending, Returned as ReturnedAt, Failed as HasFailed}
 use Rattle.witness.specs.Orders.{marks_in, marks_of_key, is_of}
-use Rattle.witness.specs.Fates.{fate_in, fate_at, op_at, answer_at, AreFates}
+use Rattle.witness.specs.Fates.{fate_at, op_at, answer_at, AreFates}
 use Rattle.witness.specs.Placing.{MayStand, MustStand, key_at}
 use Rattle.witness.specs.KeyOrders.{IsBefore}
-use Rattle.witness.proofs.EventsThere.{EntryOf, entry_of, of_its_key, key_there, invocation_at, answer_of_return}
-use Rattle.witness.proofs.KnownFates.{IsPending, IsReturned, HasAFailure, Knows, knows}
+use Rattle.witness.proofs.EventsThere.{entry_of, of_its_key, key_there, invocation_at, answer_of_return}
+use Rattle.witness.proofs.KnownFates.{IsReturned, Knows, knows}
 
 abbrev pub entries : List Event → List Entry
 entries events = entries_of (indexed_from 0 events)
@@ -202,12 +200,12 @@ module _ (events : List Event) (sound : IsSound events) where
         let s = is_there x h in
         let c = cut_at (entries events) s.entry s.there in
         let first : Contains c.0 k.entry = ⊎_elim
-            (λ i. i)
-            (λ i. ⊎_elim
-            (λ (q : s.entry ≡ k.entry). let at = ap (λ (w : Entry). w.index) q in let a = s.at in let d = k.at in absurd (omega (arith, at, a, d, b.2)))
-            (λ j. let l : s.entry.index < k.entry.index = (Pairwise-right (λ (e f : Entry). e.index < f.index) c.0 (s.entry ∷ c.1) (subst IsRising c.2 sound.rising)).0 k.entry j in let a = s.at in let d = k.at in absurd (omega (arith, l, a, d, b.2)))
-            (Contains-cons_cases s.entry c.1 k.entry i))
-            (Contains-append_cases c.0 (s.entry ∷ c.1) k.entry (subst (λ l. Contains l k.entry) c.2 k.there)) in
+        (λ i. i)
+        (λ i. ⊎_elim
+        (λ (q : s.entry ≡ k.entry). let at = ap (λ (w : Entry). w.index) q in let a = s.at in let d = k.at in absurd (omega (arith, at, a, d, b.2)))
+        (λ j. let l : s.entry.index < k.entry.index = (Pairwise-right (λ (e f : Entry). e.index < f.index) c.0 (s.entry ∷ c.1) (subst IsRising c.2 sound.rising)).0 k.entry j in let a = s.at in let d = k.at in absurd (omega (arith, l, a, d, b.2)))
+        (Contains-cons_cases s.entry c.1 k.entry i))
+        (Contains-append_cases c.0 (s.entry ∷ c.1) k.entry (subst (λ l. Contains l k.entry) c.2 k.there)) in
         record {
           before = marks c.0;
           after = marks (s.entry ∷ c.1);

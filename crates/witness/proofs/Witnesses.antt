@@ -1,35 +1,31 @@
 -- an order that fits is a witness
-use Rattle.std.proofs.Common.{◌≡◌, ◌≢◌, ◌↔◌, ℕ, zero, suc, ◌+◌, ◌<◌, ◌≤◌, ◌⊎◌, inl, inr, ⊎_elim, Bool, true, false, nat_eq, cond, Option, Some, None, MatchOption, List, [], ◌∷◌, ◌++◌, length, map, slice_get, refl, sym, ap, ◌∙◌, subst, append_assoc, arith}
-use Rattle.std.specs.List.{filter, Contains}
-use Rattle.std.proofs.lemmas.Bool.{cases_Bool, eq-eqb, eqb-true}
-use Rattle.std.proofs.lemmas.List.{append-nil, map-append}
-use Rattle.std.proofs.lemmas.Option.{slice_get_within}
-use Rattle.std.proofs.lemmas.List.Elements.{Contains-append_left, Contains-append_right, Contains-append_cases, filter-append}
+use Rattle.std.proofs.Common.{◌≡◌, ◌≢◌, ℕ, ◌+◌, ⊎_elim, Bool, true, false, nat_eq, cond, Option, Some, None, List, [], ◌∷◌, map, slice_get, refl, sym, ap, ◌∙◌, subst}
+use Rattle.std.specs.List.{Contains}
+use Rattle.std.proofs.lemmas.Bool.{eq-eqb, eqb-true}
 use Rattle.models.specs.declared.model_kind.ModelKind.{ModelKind}
 use Rattle.models.specs.declared.operation.Op.{Op}
 use Rattle.models.specs.declared.finding.Answer.{Answer}
 use Rattle.models.specs.declared.finding.Found.{Found}
 use Rattle.models.specs.Objects.{Object, object_of, Fits}
 use Rattle.history.specs.declared.event.Event.{Event}
-use Rattle.history.specs.Events.{Mark, Entry, marks, of_key, IsFront}
+use Rattle.history.specs.Events.{Mark, Entry}
 use Rattle.history.specs.Events.Mark.{Invoked, Returned, Failed}
-use Rattle.linspec.specs.Operations.{IsInvoked, HasReturned, Precedes}
+use Rattle.linspec.specs.Operations.{HasReturned, Precedes}
 use Rattle.linspec.specs.MarkRule.{id_of}
-use Rattle.linspec.specs.Orders.{Taken, Pairwise, Includes, Run, IsLegalOrder}
-use Rattle.linspec.proofs.Lists.{Contains-nil, Contains-head, Contains-tail, Contains-cons_cases, Pairwise-weaker, Pairwise-across, Pairwise-left}
-use Rattle.linspec.proofs.Filters.{filter-yes, filter-no, from_filter, to_filter, to_map, from_map, Pairwise-filter}
+use Rattle.linspec.specs.Orders.{Taken, Pairwise, Run}
+use Rattle.linspec.proofs.Lists.{Contains-nil, Contains-head, Contains-tail, Contains-cons_cases, Pairwise-weaker}
+use Rattle.linspec.proofs.Filters.{from_filter, to_filter, to_map, from_map, Pairwise-filter}
 use Rattle.linspec.proofs.Keyed.{from_of_key}
 use Rattle.witness.specs.declared.calls.Call.{Call}
 use Rattle.witness.specs.declared.fates.Fate.{Fate}
 use Rattle.witness.specs.declared.fates.Fate.TheVariants.{NoOperation, Pending, Returned as ReturnedAt, Failed as HasFailed}
-use Rattle.witness.specs.declared.misfit.Unfit.{Unfit}
 use Rattle.witness.specs.declared.placing.Stand.{Stand}
 use Rattle.witness.specs.Calls.{FitsIf, CanRun}
 use Rattle.witness.specs.Orders.{marks_in, marks_of_key, IsOrder, is_of, among, IsWitness, HasAnswer, IsCall, AreCalls}
-use Rattle.witness.specs.Fates.{fate_at, op_at, answer_at, AreFates}
-use Rattle.witness.specs.Placing.{MayStand, MustStand, key_at, stands_from, AreAll, ArePlaced}
-use Rattle.witness.specs.KeyOrders.{ids_of, on_key, IsBefore, AreInTime, answer_by, IsCallBy, AreCallsBy, AreThere, CanRunBy, KeyFits}
-use Rattle.witness.proofs.Sound.{entries, IsSound, IsThere, is_there, one_op, one_answer, its_key, to_key, in_whole, whole_precedes, may, must, returned, returned_at, not_returned, from_precedes}
+use Rattle.witness.specs.Fates.{fate_at, AreFates}
+use Rattle.witness.specs.Placing.{MayStand, MustStand, key_at, stands_from}
+use Rattle.witness.specs.KeyOrders.{ids_of, on_key, IsBefore, answer_by, IsCallBy, AreCallsBy, KeyFits}
+use Rattle.witness.proofs.Sound.{entries, IsSound, IsThere, is_there, one_answer, its_key, to_key, in_whole, whole_precedes, may, must, returned, returned_at, not_returned, from_precedes}
 
 -- pairwise of what a function makes
 pub Pairwise-map : {X Y : Type 0} (f : X → Y) (R : Y → Y → Type 0) (xs : List X) → Pairwise R (map f xs) → Pairwise (λ x y. R (f x) (f y)) xs

@@ -1,5 +1,5 @@
 -- Invariant: what calls need of the queue without an order that they begin in
-use Rattle.std.specs.Prelude.{◌↔◌, ℕ, ℤ, ◌+◌, ◌≤◌, List, ◌∷◌, ◌++◌, length, MatchOption, Option}
+use Rattle.std.specs.Prelude.{◌↔◌, ℤ, ◌+◌, ◌≤◌, List, ◌∷◌, ◌++◌, length, MatchOption, Option}
 use Rattle.models.specs.Objects.{unordered_queue}
 use Rattle.models.specs.Runs.{times_in}
 use Rattle.witness.specs.declared.calls.Call.{Call}

@@ -11,7 +11,7 @@ use Rattle.linspec.specs.Operations.{IsInvoked, HasReturned, Precedes}
 use Rattle.linspec.specs.Orders.{Taken, IsLegalOrder}
 use Rattle.witness.specs.declared.calls.Call.{Call}
 use Rattle.witness.specs.declared.misfit.Misfit.{Misfit}
-use Rattle.witness.specs.declared.misfit.Misfit.TheVariants.{NoEvent, NoInvocation, Twice, Failed as HasFailed, TooLate, CannotTakePlace, AnotherAnswer, LeftOut}
+use Rattle.witness.specs.declared.misfit.Misfit.TheVariants.{NoEvent, NoInvocation, Twice, Failed as HasFailed, TooLate, LeftOut}
 use Rattle.witness.specs.declared.misfit.Unfit.{Unfit}
 use Rattle.witness.specs.declared.confirming.Confirmation.{Confirmation}
 use Rattle.witness.specs.declared.confirming.Confirmation.TheVariants.{Linearizable, NoOrder}

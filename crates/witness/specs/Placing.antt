@@ -1,16 +1,15 @@
 -- Invariant: the operations that stand in an order, by what became of them
-use Rattle.std.specs.Prelude.{◌≡◌, ◌≢◌, ℕ, ◌+◌, ◌<◌, ◌≤◌, true, Option, Some, None, MatchOption, unwrap_or, option_and_then, List, [], ◌∷◌, length, slice_get, slice_index_or}
+use Rattle.std.specs.Prelude.{◌≡◌, ◌≢◌, ℕ, ◌+◌, ◌≤◌, Option, Some, MatchOption, unwrap_or, option_and_then, List, [], ◌∷◌, length, slice_get}
 use Rattle.std.specs.List.{Contains}
 use Rattle.history.specs.declared.event.Event.{Event}
 use Rattle.history.specs.Events.{key_of, IsFront}
 use Rattle.linspec.specs.Orders.{Pairwise}
 use Rattle.witness.specs.declared.misfit.Misfit.{Misfit}
-use Rattle.witness.specs.declared.misfit.Misfit.TheVariants.{NoEvent, NoInvocation, Twice, Failed as ThatFailed, TooLate, CannotTakePlace, AnotherAnswer, LeftOut}
+use Rattle.witness.specs.declared.misfit.Misfit.TheVariants.{NoEvent, NoInvocation, Twice, Failed as ThatFailed, LeftOut}
 use Rattle.witness.specs.declared.misfit.Unfit.{Unfit}
 use Rattle.witness.specs.declared.fates.Fate.{Fate}
 use Rattle.witness.specs.declared.fates.Fate.TheVariants.{NoOperation, Pending, Returned, Failed}
 use Rattle.witness.specs.declared.placing.Stand.{Stand}
-use Rattle.witness.specs.declared.placing.Placed.{Placed}
 use Rattle.witness.specs.Orders.{StandsBehind}
 use Rattle.witness.specs.Fates.{fate_at}
 

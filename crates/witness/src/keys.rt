@@ -102,13 +102,7 @@ fn earlier(a: Option<Unfit>, b: Option<Unfit>) -> Option<Unfit>
     ensures none { result ≡ None → (a ≡ None) × (b ≡ None) }
 {
     match (a, b) {
-        (Some(x), Some(y)) => {
-            if y.place < x.place {
-                b
-            } else {
-                a
-            }
-        }
+        (Some(x), Some(y)) => { if y.place < x.place { b } else { a } }
         (None, _) => b,
         (_, None) => a,
     }

@@ -51,13 +51,7 @@ fn misfit_of(fates: &[Fate], taken: &[bool], id: usize) -> Option<Misfit>
     match fates[id] {
         Fate::NoOperation => Some(Misfit::NoInvocation),
         Fate::Failed => Some(Misfit::Failed),
-        Fate::Pending | Fate::Returned(_) => {
-            if taken[id] {
-                Some(Misfit::Twice)
-            } else {
-                None
-            }
-        }
+        Fate::Pending | Fate::Returned(_) => { if taken[id] { Some(Misfit::Twice) } else { None } }
     }
 }
 

@@ -12,11 +12,7 @@ use models::{AnyState, ModelKind};
 use std::alloc::{AllocError, Global};
 
 // The same, of any kind but a queue without an order, where each call has one outcome at most.
-fn halt_in_turn(
-    alloc: Global,
-    kind: ModelKind,
-    calls: &[Call],
-) -> Result<Option<Halt>, AllocError>
+fn halt_in_turn(alloc: Global, kind: ModelKind, calls: &[Call]) -> Result<Option<Halt>, AllocError>
     requires { kind ≢ ModelKind.UnorderedQueue }
     ensures { let o = object_of kind in IfOk result (λ first.
         MatchOption first (CanRun o calls.now o.start) (λ halt. IsHalt o calls.now halt.at halt.why)) }

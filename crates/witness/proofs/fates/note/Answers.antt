@@ -1,5 +1,5 @@
 -- the fate of the operation that an event speaks of
-use Rattle.std.proofs.Common.{◌<◌, length, vec_len, sym, subst}
+use Rattle.std.proofs.Common.{◌<◌, length, sym, subst}
 use Rattle.witness.specs.Fates.{last_in}
 use Rattle.witness.proofs.FatesFound.{IsNotedBy, noted_by, target_within, fates_noted}
 use Rattle.witness.proofs.fates.note.Goals as goal

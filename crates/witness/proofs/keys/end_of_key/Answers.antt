@@ -1,5 +1,5 @@
 -- the same key, one place further
-use Rattle.std.proofs.Common.{◌≡◌, ◌<◌, ◌≤◌, length, sym, arith}
+use Rattle.std.proofs.Common.{arith}
 use Rattle.witness.specs.declared.placing.Stand.{Stand}
 use Rattle.witness.proofs.ByKeys.{same_more, same_first}
 use Rattle.witness.proofs.keys.end_of_key.Goals as goal

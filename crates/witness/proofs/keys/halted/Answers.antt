@@ -1,5 +1,5 @@
 -- where the calls halt
-use Rattle.std.proofs.Common.{◌≡◌, Option, Some, MatchOption, sym, subst}
+use Rattle.std.proofs.Common.{MatchOption, subst}
 use Rattle.models.specs.Objects.{object_of}
 use Rattle.witness.specs.declared.misfit.Halt.{Halt}
 use Rattle.witness.specs.Calls.{CanRun, IsHalt}

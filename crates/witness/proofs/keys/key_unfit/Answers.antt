@@ -1,5 +1,5 @@
 -- too late, or halted before
-use Rattle.std.proofs.Common.{◌≡◌, Option, Some, MatchOption, take, sym, subst}
+use Rattle.std.proofs.Common.{MatchOption, take, subst}
 use Rattle.witness.specs.declared.placing.Stand.{Stand}
 use Rattle.witness.specs.KeyOrders.{ids_of, CanRunBy, KeyUnfit}
 use Rattle.witness.proofs.Late.{unfit_in_all, late_unfit}

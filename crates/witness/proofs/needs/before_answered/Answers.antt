@@ -1,5 +1,5 @@
 -- a value that is answered
-use Rattle.std.proofs.Common.{◌≡◌, ℤ, FitsSigned, to_z, of_z, w64, rules, Some, ◌∷◌, ap, sym, ◌∙◌, subst}
+use Rattle.std.proofs.Common.{ℤ, FitsSigned, w64, rules, Some, ◌∷◌, ap, sym, ◌∙◌, subst}
 use Rattle.std.proofs.lemmas.Int.{to_z-of_z}
 use Rattle.models.specs.Multisets.{with_one}
 use Rattle.witness.specs.Needs.{AreNeeds}

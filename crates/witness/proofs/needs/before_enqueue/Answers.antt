@@ -1,5 +1,5 @@
 -- a value that is put in
-use Rattle.std.proofs.Common.{◌≡◌, ◌-◌, ℤ, pos, get_or, to_z, of_z, w64, List, ◌∷◌, sym, ap, ◌∙◌, subst}
+use Rattle.std.proofs.Common.{◌≡◌, pos, to_z, of_z, w64, ◌∷◌, sym, ◌∙◌, subst}
 use Rattle.std.specs.List.{Contains}
 use Rattle.std.proofs.lemmas.Int.{to_z-of_z}
 use Rattle.witness.specs.Needs.{AreNeeds}

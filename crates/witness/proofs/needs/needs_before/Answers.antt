@@ -1,5 +1,5 @@
 -- by the operation
-use Rattle.std.proofs.Common.{◌≡◌, FitsSigned, to_z, of_z, w64, rules, ap, sym, ◌∙◌}
+use Rattle.std.proofs.Common.{FitsSigned, w64, rules, ap, sym, ◌∙◌}
 use Rattle.std.proofs.lemmas.Int.{to_z-of_z}
 use Rattle.models.specs.declared.operation.Op.{Op}
 use Rattle.models.specs.declared.operation.Part.TheVariants.{Int}

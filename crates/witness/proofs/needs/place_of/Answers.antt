@@ -1,5 +1,5 @@
 -- a place among values that never fall
-use Rattle.std.proofs.Common.{◌≡◌, ◌≢◌, ◌+◌, ◌-◌, ◌/◌, ◌<◌, ◌≤◌, ◌<ℤ◌, ◌≤ℤ◌, ℕ, ℤ, pos, length, get_or, FitsSigned, to_z, of_z, w64, rules, sym, ap, ◌∙◌, subst, arith}
+use Rattle.std.proofs.Common.{◌≡◌, ◌+◌, ◌-◌, ◌/◌, ◌≤◌, ◌<ℤ◌, ◌≤ℤ◌, ℕ, pos, length, get_or, FitsSigned, to_z, of_z, w64, rules, ap, ◌∙◌, subst, arith}
 use Rattle.std.proofs.lemmas.Int.{ints, to_z-of_z}
 use Rattle.witness.proofs.Searching.{below_middle, above_middle, none_in}
 use Rattle.witness.proofs.needs.place_of.Goals as goal
@@ -44,6 +44,6 @@ returns-else-low-len c =
     (λ i l. subst (λ z. get_or xs i (pos 0) <ℤ z) passed (c.places.invariant.below i l))
     (λ i le l. subst (λ z. z ≤ℤ get_or xs i (pos 0)) passed (c.places.invariant.above i (let t = c.places-test.false in omega (arith, t, le)) l))
     (λ l e. elim c.else-low-len.branch [
-      else-low-len-via-then-low-len+else-get-value-2 w ↦ w.if-get-value-2.false (ap (of_z w64) (w.get-then-low-len.ensures.value ∙ e))
-    | else-low-len-via-else-low-len w ↦ absurd (let t = w.if-low-len.false in let b = c.len.ensures.is in omega (arith, t, b, l))
+      | else-low-len-via-then-low-len+else-get-value-2 w ↦ w.if-get-value-2.false (ap (of_z w64) (w.get-then-low-len.ensures.value ∙ e))
+      | else-low-len-via-else-low-len w ↦ absurd (let t = w.if-low-len.false in let b = c.len.ensures.is in omega (arith, t, b, l))
     ])

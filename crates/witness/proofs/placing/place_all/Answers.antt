@@ -1,11 +1,10 @@
 -- operations of an order, one after another
-use Rattle.std.proofs.Common.{◌≡◌, ◌↔◌, ℕ, ◌+◌, ◌<◌, true, false, Bool, Option, Some, None, MatchOption, List, [], ◌∷◌, ◌++◌, length, take, get_or, slice_get, replicate, sym, ap, ◌∙◌, subst, refl}
+use Rattle.std.proofs.Common.{◌≡◌, ℕ, ◌<◌, true, false, Bool, MatchOption, List, [], ◌∷◌, ◌++◌, length, get_or, ap, ◌∙◌, subst}
 use Rattle.witness.specs.declared.misfit.Misfit.TheVariants.{LeftOut}
 use Rattle.witness.specs.declared.misfit.Unfit.{Unfit}
-use Rattle.witness.specs.declared.placing.Stand.{Stand}
 use Rattle.witness.specs.Fates.{fate_at}
-use Rattle.witness.specs.Placing.{IsBarred, MayStand, MustStand, ArePlaced, key_at}
-use Rattle.witness.proofs.Placings.{ArePlacedUpTo, one_placed, stopped, all_placed}
+use Rattle.witness.specs.Placing.{IsBarred, MayStand, MustStand}
+use Rattle.witness.proofs.Placings.{one_placed, stopped, all_placed}
 use Rattle.witness.proofs.placing.place_all.Goals as goal
 
 pub returns-in-Some : goal.returns-in-Some

@@ -1,5 +1,5 @@
 -- with nothing after them
-use Rattle.std.proofs.Common.{◌≡◌, ◌↔◌, Bool, IsTrue, List, [], ◌++◌, subst}
+use Rattle.std.proofs.Common.{◌↔◌, IsTrue, List, [], ◌++◌, subst}
 use Rattle.std.proofs.lemmas.List.{append-nil}
 use Rattle.std.proofs.lemmas.Result.{IfOk-weaker}
 use Rattle.models.specs.Objects.{unordered_queue}

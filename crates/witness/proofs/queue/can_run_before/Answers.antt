@@ -1,5 +1,5 @@
 -- what the empty queue has
-use Rattle.std.proofs.Common.{◌≡◌, ◌↔◌, [], ◌++◌, Option, Some, None, IsTrue, true, false, sym, ap, ◌∙◌, subst}
+use Rattle.std.proofs.Common.{◌↔◌, [], ◌++◌, IsTrue, sym, ◌∙◌, subst}
 use Rattle.std.proofs.lemmas.Bool.{true≢false, eqb-true}
 use Rattle.models.specs.Objects.{unordered_queue}
 use Rattle.witness.specs.Calls.{CanRun}
@@ -14,11 +14,11 @@ returns-after-len-eq0 c = λ later h.
     let needs = c.in-Some.needs in
     let are = subst (NeedsOf calls) c.in-Some.is (c.in_ok-needs.ensures later h) in
     elim c.if-len-eq0.branch [
-      then-len-eq0 w ↦ subst (λ b. IsTrue b ↔ CanRun unordered_queue calls []) (sym w.result-is) (met calls needs are (sym c.len.ensures.is ∙ w.if-len-eq0.true))
-    | else-len-eq0 w ↦ (
-      (λ t. absurd (w.if-len-eq0.false (eqb-true c.len.result 0 (sym w.result-is ∙ t)))),
-      (λ r. absurd (unmet calls needs are (λ e. w.if-len-eq0.false (c.len.ensures.is ∙ e)) r)),
-    )
+      | then-len-eq0 w ↦ subst (λ b. IsTrue b ↔ CanRun unordered_queue calls []) (sym w.result-is) (met calls needs are (sym c.len.ensures.is ∙ w.if-len-eq0.true))
+      | else-len-eq0 w ↦ (
+        (λ t. absurd (w.if-len-eq0.false (eqb-true c.len.result 0 (sym w.result-is ∙ t)))),
+        (λ r. absurd (unmet calls needs are (λ e. w.if-len-eq0.false (c.len.ensures.is ∙ e)) r)),
+      )
     ]
 
 pub returns-in-None : goal.returns-in-None

@@ -1,5 +1,5 @@
 -- by halves
-use Rattle.std.proofs.Common.{◌≡◌, ℕ, zero, suc, ◌+◌, ◌-◌, ◌<◌, ◌≤◌, List, [], length, take, sym, subst, arith}
+use Rattle.std.proofs.Common.{◌≡◌, ℕ, zero, suc, ◌+◌, ◌-◌, ◌≤◌, List, [], length, take, sym, subst, arith}
 use Rattle.std.proofs.lemmas.List.{take_all}
 use Rattle.models.specs.Objects.{unordered_queue}
 use Rattle.witness.specs.declared.calls.Call.{Call}

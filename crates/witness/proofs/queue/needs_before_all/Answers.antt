@@ -1,5 +1,5 @@
 -- calls from the last to the first
-use Rattle.std.proofs.Common.{◌≡◌, ◌+◌, ◌-◌, ◌<◌, ◌≤◌, Option, Some, None, IfSome, List, ◌++◌, length, drop, sym, ap, subst, arith}
+use Rattle.std.proofs.Common.{◌≡◌, ◌+◌, ◌≤◌, IfSome, ◌++◌, drop, sym, subst, arith}
 use Rattle.witness.specs.declared.needs.Needs.{Needs}
 use Rattle.witness.specs.Needs.{AreNeeds, AreBefore}
 use Rattle.witness.proofs.Ahead.{none_ahead, needs_more, no_more}

@@ -1,11 +1,10 @@
 -- calls in turn
-use Rattle.std.proofs.Common.{◌≡◌, ◌+◌, ◌<◌, Result, Ok, Err, List, [], ◌∷◌, ◌++◌, length, take, get_or, sym, ap, ◌∙◌, subst}
+use Rattle.std.proofs.Common.{◌≡◌, [], ◌∷◌, ◌++◌, take, sym, ap, ◌∙◌, subst}
 use Rattle.std.proofs.lemmas.List.{append-nil, take_more, take_all}
-use Rattle.models.specs.AnyState.{any}
 use Rattle.models.specs.Objects.{object_of}
 use Rattle.witness.specs.Calls.{CanRun}
 use Rattle.witness.specs.Taking.{Takes, IsAfter}
-use Rattle.witness.proofs.InTurn.{at_start, one_more, halt_at}
+use Rattle.witness.proofs.InTurn.{one_more, halt_at}
 use Rattle.witness.proofs.running.halt_in_turn.Goals as goal
 
 pub returns-in-Err : goal.returns-in-Err
