@@ -15,6 +15,4 @@ mod taking;
 
 pub use calls::Call;
 pub use confirming::{Confirmation, confirm};
-pub use fates::{Fate, fates_of};
-pub use misfit::{Halt, Misfit, Unfit};
-pub use running::first_halt;
+pub use misfit::{Misfit, Unfit};
