@@ -1,0 +1,17 @@
+pub mod Bags
+pub mod Searching
+pub mod Runs
+pub mod Outcomes
+pub mod InTurn
+pub mod QueueNeeds
+pub mod Ahead
+pub mod EventsThere
+pub mod FatesFound
+pub mod KnownFates
+pub mod Sound
+pub mod Late
+pub mod ByKeys
+pub mod Placings
+pub mod Witnesses
+pub mod Reasons
+pub mod Refuting

@@ -1,0 +1,168 @@
+-- the reason why an order is no witness
+use Rattle.std.proofs.Common.{◌≡◌, ◌≢◌, ℕ, zero, suc, ◌+◌, ⊎_elim, nat_eq, Option, Some, None, MatchOption, List, [], ◌∷◌, ◌++◌, slice_get, sym, ap, ◌∙◌, subst, append_assoc, arith}
+use Rattle.std.specs.List.{Contains}
+use Rattle.std.proofs.lemmas.List.{map-append}
+use Rattle.std.proofs.lemmas.Option.{slice_get_within, get_or_from_slice_get}
+use Rattle.std.proofs.lemmas.List.Elements.{Contains-append_left, Contains-append_right, filter-append}
+use Rattle.models.specs.declared.model_kind.ModelKind.{ModelKind}
+use Rattle.history.specs.declared.event.Event.{Event}
+use Rattle.linspec.proofs.Lists.{Contains-nil, Contains-head, Contains-cons_cases}
+use Rattle.linspec.specs.Orders.{Pairwise}
+use Rattle.linspec.proofs.Filters.{from_filter, from_map}
+use Rattle.witness.specs.declared.fates.Fate.{Fate}
+use Rattle.witness.specs.declared.misfit.Misfit.{Misfit}
+use Rattle.witness.specs.declared.misfit.Misfit.TheVariants.{NoEvent, NoInvocation, Twice, Failed, TooLate, CannotTakePlace, AnotherAnswer, LeftOut}
+use Rattle.witness.specs.declared.misfit.Unfit.{Unfit}
+use Rattle.witness.specs.declared.placing.Stand.{Stand}
+use Rattle.witness.specs.Orders.{is_of, among, StandsBehind, IsMisfit, IsUnfit, IsWitness}
+use Rattle.witness.specs.Fates.{fate_at, AreFates}
+use Rattle.witness.specs.Placing.{MayStand, key_at, stands_from, StopsFor, Stops, AreAll, ArePlaced}
+use Rattle.witness.specs.KeyOrders.{ids_of, on_key, AreThere, KeyFits, IsUnfitFor, FindsAll}
+use Rattle.witness.proofs.Sound.{IsSound, is_there, may, returned, not_invoked, has_failed, to_precedes}
+use Rattle.witness.proofs.Witnesses.{ids_on_key, is_of_there, is_call, are_calls, witness_of}
+
+-- what stands at a place
+pub get_in : {X : Type 0} (xs : List X) (k : ℕ) (x : X) → slice_get xs k ≡ Some x → Contains xs x
+get_in xs k x e = (k, slice_get_within xs k x e, get_or_from_slice_get xs k x x e)
+
+get_front : {X : Type 0} (xs rest : List X) (k : ℕ) (x : X) → slice_get xs k ≡ Some x → slice_get (xs ++ rest) k ≡ Some x
+get_front [] rest k x e = cc
+get_front (y ∷ xs) rest zero x e = e
+get_front (y ∷ xs) rest (suc k) x e = get_front xs rest k x e
+
+stand_of : (events : List Event) (n : ℕ) (ids : List ℕ) (s : Stand) → Contains (stands_from events n ids) s → (k : ℕ) × (s.place ≡ n + k) × (slice_get ids k ≡ Some s.id)
+stand_of events n [] s h = absurd (Contains-nil s h)
+stand_of events n (id ∷ ids) s h =
+    ⊎_elim
+    (λ (e : record { key = key_at (slice_get events id); place = n; id = id } ≡ s). (0, (let p : n ≡ s.place = ap (λ (x : Stand). x.place) e in omega (arith, p)), ap (λ (x : Stand). Some x.id) e))
+    (λ k. let r = stand_of events (n + 1) ids s k in (suc r.0, (let p = r.1 in omega (arith, p)), r.2))
+    (Contains-cons_cases (record { key = key_at (slice_get events id); place = n; id = id }) (stands_from events (n + 1) ids) s h)
+
+module _ (events : List Event) (sound : IsSound events) (fates : List Fate) (are : AreFates events fates) (order : List ℕ) (stands : List Stand) (stop : Option Unfit) (placed : ArePlaced events fates order stands stop) where
+  abbrev ids : List ℕ
+  ids = placed.ids
+
+  standing : (s : Stand) → Contains stands s → (k : ℕ) × (s.place ≡ 0 + k) × (slice_get ids k ≡ Some s.id)
+  standing s h = stand_of events 0 ids s (subst (λ l. Contains l s) placed.are h)
+
+  pub there : AreThere events stands
+  there s h =
+      let k = standing s h in
+      let t = is_there events sound s.id (may events sound fates are s.id (placed.may s.id (get_in ids k.0 s.id k.2))).0 in
+      (t.op, t.op_is)
+
+  of_key : (key : ℕ) → ids_of (on_key key stands) ≡ among events key ids
+  of_key key =
+      ap (λ l. ids_of (on_key key l)) placed.are
+      ∙ ids_on_key events key 0 ids (λ id h. is_of_there events sound fates are id key (is_there events sound id (may events sound fates are id (placed.may id h)).0))
+
+  -- all fit
+  pub fits : (kind : ModelKind) → FindsAll kind events fates stop stands None → IsWitness kind events order
+  fits kind f =
+      let ends : AreAll fates order ids = subst (λ s. MatchOption s (AreAll fates order ids) (Stops fates order ids)) f.0 placed.ends in
+      let all : ids ≡ order = ends.all in
+      witness_of events sound fates are kind order
+      (λ id h. placed.may id (subst (λ l. Contains l id) (sym all) h))
+      (subst (λ l. Pairwise (λ x y. x ≢ y) l) all placed.once)
+      ends.each
+      (λ key. subst (λ l. KeyFits kind events fates (among events key l)) all (subst (KeyFits kind events fates) (of_key key) (f.1 key)))
+
+  -- one can't stand there
+  stop_reason : (kind : ModelKind) (place id : ℕ) (why : Misfit) → StopsFor fates order ids place id why → IsMisfit kind events order place id why
+  stop_reason kind place id NoEvent s = (s.0, (let l = are.long in let b = s.2 in omega (arith, l, b)))
+  stop_reason kind place id NoInvocation s = (s.0, not_invoked events sound fates are id s.2)
+  stop_reason kind place id Twice s = (s.0, (ids, s.1, s.2))
+  stop_reason kind place id Failed s = (s.0, has_failed events sound fates are id s.2)
+  stop_reason kind place id TooLate s = absurd s.2
+  stop_reason kind place id CannotTakePlace s = absurd s.2
+  stop_reason kind place id AnotherAnswer s = absurd s.2
+  stop_reason kind place id LeftOut s = (s.0, (returned events sound fates are id s.1).1, s.2)
+
+  -- one of a key does not fit
+  module _ (kind : ModelKind) (key : ℕ) (before : List Stand) (here : Stand) (after : List Stand) (cut : before ++ here ∷ after ≡ on_key key stands) where
+    in_stands : (s : Stand) → Contains (before ++ here ∷ after) s → Contains stands s
+    in_stands s h = (from_filter (λ (x : Stand). nat_eq x.key key) stands s (subst (λ l. Contains l s) cut h)).0
+
+    may_here : (s : Stand) → Contains (before ++ here ∷ after) s → MayStand (fate_at fates s.id)
+    may_here s h = let k = standing s (in_stands s h) in placed.may s.id (get_in ids k.0 s.id k.2)
+
+    may_before : (id : ℕ) → Contains (ids_of before) id → MayStand (fate_at fates id)
+    may_before id h =
+        let s = from_map (λ (x : Stand). x.id) before id h in
+        subst (λ i. MayStand (fate_at fates i)) s.2 (may_here s.0 (Contains-append_left before (here ∷ after) s.0 s.1))
+
+    here_in : Contains (before ++ here ∷ after) here
+    here_in = Contains-append_right before (here ∷ after) here (Contains-head here after)
+
+    at_place : slice_get order here.place ≡ Some here.id
+    at_place =
+        let k = standing here (in_stands here here_in) in
+        let p : here.place ≡ k.0 = let q = k.1 in omega (arith, q) in
+        let front = placed.front in
+        subst (λ n. slice_get order n ≡ Some here.id) (sym p) (subst (λ l. slice_get l k.0 ≡ Some here.id) front.1 (get_front ids front.0 k.0 here.id k.2))
+
+    stands_behind : StandsBehind (among events key order) (ids_of before) here.id
+    stands_behind =
+        let front = placed.front in
+        let mapped : ids_of before ++ here.id ∷ ids_of after ≡ among events key ids = sym (map-append (λ (x : Stand). x.id) before (here ∷ after)) ∙ ap ids_of cut ∙ of_key key in
+        let whole : among events key ids ++ among events key front.0 ≡ among events key order = sym (filter-append (λ i. is_of key (slice_get events i)) ids front.0) ∙ ap (among events key) front.1 in (
+          ids_of after ++ among events key front.0,
+          append_assoc (ids_of before) (here.id ∷ []) (ids_of after ++ among events key front.0)
+              ∙ sym (append_assoc (ids_of before) (here.id ∷ ids_of after) (among events key front.0))
+              ∙ ap (λ l. l ++ among events key front.0) mapped
+              ∙ whole,
+        )
+
+    key_reason : (why : Misfit) → IsUnfitFor kind events fates (ids_of before) here.id why → IsMisfit kind events order here.place here.id why
+    key_reason TooLate w = (
+      at_place,
+      record {
+        key = key;
+        before = ids_of before;
+        stands = stands_behind;
+        other = w.0;
+        earlier = w.1;
+        precedes = to_precedes events sound fates are here.id w.0 w.2 (may events sound fates are w.0 (may_before w.0 w.1)).0;
+      },
+    )
+    key_reason CannotTakePlace w = (
+      at_place,
+      record {
+        key = key;
+        before = ids_of before;
+        stands = stands_behind;
+        calls = w.calls;
+        call = w.call;
+        are = are_calls events sound fates are (ids_of before) w.calls may_before w.are;
+        is = is_call events sound fates are here.id w.call (may_here here here_in) w.is;
+        halts = w.halts;
+      },
+    )
+    key_reason AnotherAnswer w = (
+      at_place,
+      record {
+        key = key;
+        before = ids_of before;
+        stands = stands_behind;
+        calls = w.calls;
+        call = w.call;
+        are = are_calls events sound fates are (ids_of before) w.calls may_before w.are;
+        is = is_call events sound fates are here.id w.call (may_here here here_in) w.is;
+        halts = w.halts;
+      },
+    )
+    key_reason NoEvent w = absurd w.halts
+    key_reason NoInvocation w = absurd w.halts
+    key_reason Twice w = absurd w.halts
+    key_reason Failed w = absurd w.halts
+    key_reason LeftOut w = absurd w.halts
+
+  pub reason : (kind : ModelKind) (u : Unfit) → FindsAll kind events fates stop stands (Some u) → IsUnfit kind events order u
+  reason kind u f =
+      ⊎_elim
+      (λ e. stop_reason kind u.place u.event u.why (subst (λ s. MatchOption s (AreAll fates order ids) (Stops fates order ids)) e placed.ends))
+      (λ k.
+      let w = k.1 in
+      let m : IsMisfit kind events order w.here.place w.here.id u.why = key_reason kind k.0 w.before w.here w.after w.cut u.why w.unfit_for in
+      subst (λ p. IsMisfit kind events order p u.event u.why) (sym w.place_is) (subst (λ i. IsMisfit kind events order w.here.place i u.why) (sym w.event_is) m))
+      f

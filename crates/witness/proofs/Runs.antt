@@ -1,0 +1,27 @@
+-- calls one after another, in parts
+use Rattle.std.proofs.Common.{Option, Some, None, List, [], ◌∷◌, ◌++◌}
+use Rattle.models.specs.declared.finding.Found.TheVariants.{Unit as Done}
+use Rattle.models.specs.declared.finding.Answer.{Answer}
+use Rattle.models.specs.Objects.{Object}
+use Rattle.witness.specs.declared.calls.Call.{Call}
+use Rattle.witness.specs.Calls.{FitsIf, CanRun}
+
+-- the last of them can run from some state
+pub CanRun-right : (o : Object) (xs ys : List Call) (s : o.State) → CanRun o (xs ++ ys) s → (t : o.State) × CanRun o ys t
+CanRun-right o [] ys s h = (s, h)
+CanRun-right o (x ∷ xs) ys s h = CanRun-right o xs ys h.1 h.4
+
+-- the first of them can run
+pub CanRun-left : (o : Object) (xs ys : List Call) (s : o.State) → CanRun o (xs ++ ys) s → CanRun o xs s
+CanRun-left o [] ys s h = tt
+CanRun-left o (x ∷ xs) ys s h = (h.0, h.1, h.2, h.3, CanRun-left o xs ys h.1 h.4)
+
+-- what finds nothing fits
+pub fits_done : (answer : Option Answer) → FitsIf Done answer
+fits_done None = tt
+fits_done (Some answer) = tt
+
+-- where the last may follow, so may what it may be followed by
+pub CanRun-change : (o : Object) (xs ys zs : List Call) (s : o.State) → ((t : o.State) → CanRun o ys t → CanRun o zs t) → CanRun o (xs ++ ys) s → CanRun o (xs ++ zs) s
+CanRun-change o [] ys zs s to h = to s h
+CanRun-change o (x ∷ xs) ys zs s to h = (h.0, h.1, h.2, h.3, CanRun-change o xs ys zs h.1 to h.4)

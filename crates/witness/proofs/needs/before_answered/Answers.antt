@@ -1,0 +1,21 @@
+-- a value that is answered
+use Rattle.std.proofs.Common.{ℤ, FitsSigned, w64, rules, Some, ◌∷◌, ap, sym, ◌∙◌, subst}
+use Rattle.std.proofs.lemmas.Int.{to_z-of_z}
+use Rattle.models.specs.Multisets.{with_one}
+use Rattle.witness.specs.Needs.{AreNeeds}
+use Rattle.witness.proofs.QueueNeeds.{before_one, before_none}
+use Rattle.witness.proofs.needs.before_answered.Goals as goal
+
+pub returns-in-Number-clause-needs : goal.returns-in-Number-clause-needs
+returns-in-Number-clause-needs c = λ call is part answered later after.
+    let x : ℤ = c.in-Number.value in
+    let fits : FitsSigned w64 x = search rules in
+    subst (λ values. AreNeeds (call ∷ later) (record { values = values; more = c.args.needs.more }))
+    (sym (c.in_ok-with-in-Number.ensures ∙ ap (λ v. with_one v c.args.needs.values) (to_z-of_z w64 x fits)))
+    (before_one call later is part c.args.needs x (answered ∙ ap Some c.in-Number.is) after)
+
+pub returns : goal.returns
+returns c = record {
+  needs = λ call is part answered later after s. before_none call later is part c.args.answer.now answered c.in_default.not-Number s;
+  more = tt;
+}

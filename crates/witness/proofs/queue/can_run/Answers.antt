@@ -1,0 +1,16 @@
+-- with nothing after them
+use Rattle.std.proofs.Common.{◌↔◌, IsTrue, List, [], ◌++◌, subst}
+use Rattle.std.proofs.lemmas.List.{append-nil}
+use Rattle.std.proofs.lemmas.Result.{IfOk-weaker}
+use Rattle.models.specs.Objects.{unordered_queue}
+use Rattle.witness.specs.declared.calls.Call.{Call}
+use Rattle.witness.specs.Calls.{CanRun}
+use Rattle.witness.specs.Needs.{AreNeeds}
+use Rattle.witness.proofs.queue.can_run.Goals as goal
+
+pub returns : goal.returns
+returns c = IfOk-weaker c.can_run_before.result
+    (λ b. (later : List Call) → AreNeeds later c.no_needs.result → IsTrue b ↔ CanRun unordered_queue (c.args.calls.now ++ later) [])
+    (λ b. IsTrue b ↔ CanRun unordered_queue c.args.calls.now [])
+    (λ b h. subst (λ l. IsTrue b ↔ CanRun unordered_queue l []) (append-nil c.args.calls.now) (h [] c.no_needs.ensures.needs))
+    c.can_run_before.ensures

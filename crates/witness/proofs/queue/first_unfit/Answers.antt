@@ -1,0 +1,33 @@
+-- by halves
+use Rattle.std.proofs.Common.{◌≡◌, ℕ, zero, suc, ◌+◌, ◌-◌, ◌≤◌, List, [], length, take, sym, subst, arith}
+use Rattle.std.proofs.lemmas.List.{take_all}
+use Rattle.models.specs.Objects.{unordered_queue}
+use Rattle.witness.specs.declared.calls.Call.{Call}
+use Rattle.witness.specs.Calls.{CanRun}
+use Rattle.witness.proofs.queue.first_unfit.Goals as goal
+
+some_unfit : (calls : List Call) (high : ℕ) → ¬ CanRun unordered_queue (take high calls) [] → 1 ≤ high
+some_unfit calls zero h = absurd (h tt)
+some_unfit calls (suc n) h = omega arith
+
+pub halves-init : goal.halves-init
+halves-init c = record {
+  ordered = omega arith;
+  within = omega arith;
+  halts = subst (λ l. ¬ CanRun unordered_queue l []) (sym (take_all (length c.args.calls.now) c.args.calls.now (omega arith))) c.requires;
+}
+
+pub overflow_sub-result : goal.overflow_sub-result
+overflow_sub-result c = some_unfit c.args.calls.now c.halves.high c.halves.invariant.halts
+
+pub returns-clause-within : goal.returns-clause-within
+returns-clause-within c =
+    let some = some_unfit c.args.calls.now c.halves.high c.halves.invariant.halts in
+    let within = c.halves.invariant.within in
+    omega (arith, some, within)
+
+pub returns-clause-halts : goal.returns-clause-halts
+returns-clause-halts c =
+    let some = some_unfit c.args.calls.now c.halves.high c.halves.invariant.halts in
+    let e : c.halves.high ≡ c.halves.high - 1 + 1 = omega (arith, some) in
+    subst (λ n. ¬ CanRun unordered_queue (take n c.args.calls.now) []) e c.halves.invariant.halts

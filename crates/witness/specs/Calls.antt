@@ -1,0 +1,37 @@
+-- Promise: operations one after another, each with its answer (a legal sequential history; Herlihy and Wing 1990, section 2)
+use Rattle.std.specs.Prelude.{◌≡◌, ℕ, Option, Some, None, List, [], ◌∷◌, ◌++◌, length}
+use Rattle.models.specs.declared.finding.Found.{Found}
+use Rattle.models.specs.declared.finding.Answer.{Answer}
+use Rattle.models.specs.Objects.{Object, Fits}
+use Rattle.witness.specs.declared.calls.Call.{Call}
+use Rattle.witness.specs.declared.misfit.Misfit.{Misfit}
+use Rattle.witness.specs.declared.misfit.Misfit.TheVariants.{CannotTakePlace, AnotherAnswer}
+
+-- what was found fits the answer, if there is one
+abbrev pub FitsIf : Found → Option Answer → Type 0
+FitsIf found None = Unit {0}
+FitsIf found (Some answer) = Fits found answer
+
+-- from the state s on the calls can take place one after another, and each finds what fits its answer
+abbrev pub CanRun : (o : Object) → List Call → o.State → Type 0
+CanRun o [] s = Unit {0}
+CanRun o (c ∷ calls) s = (found : Found) × (t : o.State) × o.Steps s c.op found t × FitsIf found c.answer × CanRun o calls t
+
+-- the call without its answer
+abbrev pub unanswered : Call → Call
+unanswered c = record { op = c.op; answer = None }
+
+-- behind these the call can't take place; or only with another answer
+abbrev pub HaltsBehind : Object → List Call → Call → Misfit → Type 0
+HaltsBehind o before c CannotTakePlace = ¬ CanRun o (before ++ unanswered c ∷ []) o.start
+HaltsBehind o before c AnotherAnswer = ¬ CanRun o (before ++ c ∷ []) o.start
+HaltsBehind o before c _ = ⊥
+
+-- the calls halt at this place for this
+pub record IsHalt (o : Object) (calls : List Call) (at : ℕ) (why : Misfit) : Type 0 where
+  pub before : List Call
+  pub call : Call
+  pub after : List Call
+  pub cut : before ++ call ∷ after ≡ calls
+  pub place : length before ≡ at
+  pub halts : HaltsBehind o before call why

@@ -1,0 +1,103 @@
+-- Promise: an order of a history's operations, which shows that it is linearizable (Herlihy and Wing 1990, section 2)
+use Rattle.std.specs.Prelude.{◌≡◌, ℕ, ◌≤◌, Bool, false, Option, Some, None, List, [], ◌∷◌, ◌++◌, length, map, slice_get}
+use Rattle.std.specs.List.{filter, Contains}
+use Rattle.models.specs.declared.model_kind.ModelKind.{ModelKind}
+use Rattle.models.specs.declared.finding.Answer.{Answer}
+use Rattle.models.specs.Objects.{Object, object_of}
+use Rattle.history.specs.declared.event.Event.{Event}
+use Rattle.history.specs.Events.{Mark, marks, entries_of, indexed_from, of_key, is_event_of, IsFront}
+use Rattle.history.specs.Events.Mark.{Invoked, Returned, Failed}
+use Rattle.linspec.specs.Operations.{IsInvoked, HasReturned, Precedes}
+use Rattle.linspec.specs.Orders.{Taken, IsLegalOrder}
+use Rattle.witness.specs.declared.calls.Call.{Call}
+use Rattle.witness.specs.declared.misfit.Misfit.{Misfit}
+use Rattle.witness.specs.declared.misfit.Misfit.TheVariants.{NoEvent, NoInvocation, Twice, Failed as HasFailed, TooLate, LeftOut}
+use Rattle.witness.specs.declared.misfit.Unfit.{Unfit}
+use Rattle.witness.specs.declared.confirming.Confirmation.{Confirmation}
+use Rattle.witness.specs.declared.confirming.Confirmation.TheVariants.{Linearizable, NoOrder}
+use Rattle.witness.specs.Calls.{HaltsBehind}
+
+-- what events say of operations, of all and of those of a key
+abbrev pub marks_in : List Event → List Mark
+marks_in events = marks (entries_of (indexed_from 0 events))
+
+abbrev pub marks_of_key : List Event → ℕ → List Mark
+marks_of_key events key = marks (of_key key (entries_of (indexed_from 0 events)))
+
+-- the operations whose invocations have these indices, one after another, are a legal order of the history
+pub record IsOrder (o : Object) (marks : List Mark) (ids : List ℕ) : Type 0 where
+  pub order : List Taken
+  pub ids_are : map (λ x. x.id) order ≡ ids
+  pub state : o.State
+  pub legal : IsLegalOrder o marks order state
+
+-- of these indices, those of events of the key, in their order
+abbrev pub is_of : ℕ → Option Event → Bool
+is_of key None = false
+is_of key (Some e) = is_event_of key e
+
+abbrev pub among : List Event → ℕ → List ℕ → List ℕ
+among events key ids = filter (λ id. is_of key (slice_get events id)) ids
+
+-- the order is of operations of the history, and those of each key, which is an object of this kind, are a legal order of its own
+-- history, in which they stand
+pub record IsWitness (kind : ModelKind) (events : List Event) (order : List ℕ) : Type 0 where
+  pub invoked : (id : ℕ) → Contains order id → IsInvoked (marks_in events) id
+  pub each : (key : ℕ) → IsOrder (object_of kind) (marks_of_key events key) (among events key order)
+
+-- the operation with its answer, if it has returned
+abbrev pub HasAnswer : List Mark → ℕ → Option Answer → Type 0
+HasAnswer marks id None = ¬ HasReturned marks id
+HasAnswer marks id (Some answer) = Contains marks (Returned id answer)
+
+pub record IsCall (marks : List Mark) (id : ℕ) (c : Call) : Type 0 where
+  pub invoked : Contains marks (Invoked id c.op)
+  pub answered : HasAnswer marks id c.answer
+
+abbrev pub AreCalls : List Mark → List ℕ → List Call → Type 0
+AreCalls marks [] [] = Unit {0}
+AreCalls marks (id ∷ ids) (c ∷ calls) = IsCall marks id c × AreCalls marks ids calls
+AreCalls marks _ _ = ⊥
+
+-- the operation stands in the order behind these
+abbrev pub StandsBehind : List ℕ → List ℕ → ℕ → Type 0
+StandsBehind order before id = IsFront (before ++ id ∷ []) order
+
+-- it has returned before an operation of its key is invoked that stands before it
+pub record IsTooLate (events : List Event) (order : List ℕ) (id : ℕ) : Type 0 where
+  pub key : ℕ
+  pub before : List ℕ
+  pub stands : StandsBehind (among events key order) before id
+  pub other : ℕ
+  pub earlier : Contains before other
+  pub precedes : Precedes (marks_in events) id other
+
+-- behind those of its key that stand before it, the operation can't take place, or only with another answer
+pub record HaltsThere (kind : ModelKind) (events : List Event) (order : List ℕ) (id : ℕ) (why : Misfit) : Type 0 where
+  pub key : ℕ
+  pub before : List ℕ
+  pub stands : StandsBehind (among events key order) before id
+  pub calls : List Call
+  pub call : Call
+  pub are : AreCalls (marks_in events) before calls
+  pub is : IsCall (marks_in events) id call
+  pub halts : HaltsBehind (object_of kind) calls call why
+
+-- why the operation at this place of the order, whose invocation has this index, does not fit; or, behind the last place, why the
+-- operation must be in the order
+abbrev pub IsMisfit : ModelKind → List Event → List ℕ → ℕ → ℕ → Misfit → Type 0
+IsMisfit kind events order place id NoEvent = (slice_get order place ≡ Some id) × (length events ≤ id)
+IsMisfit kind events order place id NoInvocation = (slice_get order place ≡ Some id) × ¬ IsInvoked (marks_in events) id
+IsMisfit kind events order place id Twice = (slice_get order place ≡ Some id) × ((before : List ℕ) × StandsBehind order before id × Contains before id)
+IsMisfit kind events order place id HasFailed = (slice_get order place ≡ Some id) × Contains (marks_in events) (Failed id)
+IsMisfit kind events order place id TooLate = (slice_get order place ≡ Some id) × IsTooLate events order id
+IsMisfit kind events order place id LeftOut = (place ≡ length order) × HasReturned (marks_in events) id × ¬ Contains order id
+IsMisfit kind events order place id why = (slice_get order place ≡ Some id) × HaltsThere kind events order id why
+
+abbrev pub IsUnfit : ModelKind → List Event → List ℕ → Unfit → Type 0
+IsUnfit kind events order unfit = IsMisfit kind events order unfit.place unfit.event unfit.why
+
+-- where it is said that the order is none, the reason is so
+abbrev pub HasReason : ModelKind → List Event → List ℕ → Confirmation → Type 0
+HasReason kind events order Linearizable = Unit {0}
+HasReason kind events order (NoOrder unfit) = IsUnfit kind events order unfit

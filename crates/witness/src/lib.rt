@@ -1,0 +1,18 @@
+//! Whether an order of the operations of a history shows that it is linearizable.
+#![tactic(auto)]
+
+mod answers;
+mod calls;
+mod confirming;
+mod fates;
+mod keys;
+mod misfit;
+mod needs;
+mod placing;
+mod queue;
+mod running;
+mod taking;
+
+pub use calls::Call;
+pub use confirming::{Confirmation, confirm};
+pub use misfit::{Misfit, Unfit};
