@@ -1,6 +1,6 @@
 -- What clients and faults do passes each test, for any kind and any keys.
-use Rattle.std.proofs.Common.{◌≡◌, ℕ, zero, suc, ◌+◌, ◌<◌, ◌≤◌, Bool, true, false, List, [], ◌∷◌, ◌++◌, arith}
-use Rattle.std.specs.Prelude.{nat_eq, nat_lt, count_by, if◌then◌else◌, IsTrue}
+use Rattle.std.proofs.Common.{refl, ℕ, zero, suc, ◌+◌, ◌≤◌, Bool, true, false, List, [], ◌∷◌, ◌++◌, arith}
+use Rattle.std.specs.Prelude.{nat_eq, if◌then◌else◌}
 use Rattle.std.proofs.lemmas.Bool.Decides.{nat_tests}
 use Rattle.models.specs.declared.model_kind.ModelKind.{ModelKind}
 use Rattle.models.specs.declared.model_kind.ModelKind.TheVariants.{Register, CasRegister, Mutex, FifoQueue, UnorderedQueue, Set}
@@ -41,7 +41,7 @@ keys_pass test kind (suc n) = all_append (Passes test) (on_keys kind n) (on_key 
 -- faults name replica 0 alone, once
 once : AreOnce (0 ∷ [])
 once r = go (nat_eq 0 r) where
-  go : (b : Bool) → (if b then 1 else 0) ≤ 1
+  go : (b : Bool) → 0 + (if b then 1 else 0) ≤ 1
   go true = omega arith
   go false = omega arith
 
@@ -50,7 +50,7 @@ below n some = grind (arith, nat_tests)
 
 present : (n : ℕ) → 1 ≤ n → (strike : Bool) → Each (λ x. FaultPasses (IsPresent n) x.1) (faults strike)
 present n some false = tt
-present n some true = (below n some, (tt, (tt, (below n some, (below n some, tt)))))
+present n some true = (below n some, (refl, (refl, (below n some, (below n some, tt)))))
 
 in_tables : (strike : Bool) → Each (λ x. FaultPasses IsInTables x.1) (faults strike)
 in_tables false = tt
