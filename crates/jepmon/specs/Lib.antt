@@ -1,3 +1,4 @@
 pub mod CommandLine
 pub mod Options
 pub mod RunText
+pub mod Stops
