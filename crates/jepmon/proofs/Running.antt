@@ -31,14 +31,14 @@ not_begun config seats why begin = inl begin
 pub none_came : (config : Config) (seats : ℕ) (why : Refusal) → MayNotBegin config seats why ⊎ MayNotRun why → MayNotOpen (setup_of config) why ⊎ MayNotRun why
 none_came config seats why cause = ⊎_elim (λ begin. not_begun config seats why begin) (λ run. inr run) cause
 
-module _ (before after : Option (List ℕ)) (has_failed : Bool) (status : ℕ) where
+module _ (before after : Option (List ℕ)) (has_failed is_flushed : Bool) (status : ℕ) where
   -- the status is the text's, or 3
-  pub never_one : (text : List ℕ) (said : ℕ) → said ≢ 1 → IsPut text said before after has_failed status → status ≢ 1
-  never_one text said other put = λ one. ⊎_elim (λ a. other (sym a.2 ∙ one)) (λ b. absurd (omega (arith, b.5, one))) put
+  pub never_one : (text : List ℕ) (said : ℕ) → said ≢ 1 → IsPut text said before after has_failed is_flushed status → status ≢ 1
+  never_one text said other put = λ one. ⊎_elim (λ a. other (sym a.3 ∙ one)) (λ b. absurd (omega (arith, b.5, one))) put
 
   -- the line of a refusal, or that of want of memory
   pub says_why : (setup : Setup) (why : Refusal) → MayNotOpen setup why ⊎ MayNotRun why → (line : Result (String Global) AllocError) → IfOk line (λ text. string_bytes text ≡ refusal_line why)
-      → IsPut (line_or_no_memory line) 3 before after has_failed status
-      → (text : List ℕ) × (said : ℕ) × MaySay setup text said × IsPut text said before after has_failed status
-  says_why setup why cause (Ok text) is put = (refusal_line why, 3, inr (why, cause, refl, refl), subst (λ l. IsPut l 3 before after has_failed status) is put)
+      → IsPut (line_or_no_memory line) 3 before after has_failed is_flushed status
+      → (text : List ℕ) × (said : ℕ) × MaySay setup text said × IsPut text said before after has_failed is_flushed status
+  says_why setup why cause (Ok text) is put = (refusal_line why, 3, inr (why, cause, refl, refl), subst (λ l. IsPut l 3 before after has_failed is_flushed status) is put)
   says_why setup why cause (Err e) is put = (refusal_line NoMemory, 3, inr (NoMemory, inr (inl tt), refl, refl), put)

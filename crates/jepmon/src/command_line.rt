@@ -2,7 +2,9 @@
 ghost use Rattle.std.specs.Prelude.{◌≡◌, ◌≤◌, length, IfOk, IfSome, Ok, false};
 ghost use Rattle.harness.specs.Setups.{setup_of, IsSetup};
 ghost use Rattle.harness.specs.declared.config.Config.{Config};
+ghost use Rattle.clap.specs.Words.{kind_of};
 ghost use Rattle.jepmon.specs.CommandLine.{default_setup, IsWithinLimits};
+ghost use Rattle.jepmon.specs.Stops.{IsUsageFault};
 
 use crate::help;
 use clap::error::ErrorKind;
@@ -201,7 +203,9 @@ fn config_of(alloc: Global, name: &str, options: &ArgMatches) -> Result<Config, 
 
 /// Why there is no order of words that are no text: `Usage`, or `Refused` with `NoMemory` where there is no memory to say
 /// it.
-pub fn no_text(alloc: Global) -> Stop {
+pub fn no_text(alloc: Global) -> Stop
+    ensures { IsUsageFault result }
+{
     match program(alloc) {
         Ok(mut command) => usage(&mut command, "the words are no UTF-8"),
         Err(_) => Stop::Refused(Refusal::NoMemory),
@@ -359,7 +363,9 @@ fn named<'a>(
 }
 
 // A usage fault with this message.
-fn usage(command: &mut Command, message: &str) -> Stop {
+fn usage(command: &mut Command, message: &str) -> Stop
+    ensures { IsUsageFault result }
+{
     match command.error(ErrorKind::ValueValidation, message) {
         Ok(error) => stop_of(error),
         Err(_) => Stop::Refused(Refusal::NoMemory),
@@ -411,7 +417,9 @@ fn is_script_with_file(words: &[String]) -> bool {
 }
 
 // What an error of the command line is to the program.
-fn stop_of(error: clap::Error) -> Stop {
+fn stop_of(error: clap::Error) -> Stop
+    ensures { kind_of error ≡ ErrorKind.ValueValidation → IsUsageFault result }
+{
     if error.kind() == ErrorKind::OutOfMemory {
         return Stop::Refused(Refusal::NoMemory);
     }

@@ -1,5 +1,6 @@
 //! What the program ends with.
-ghost use Rattle.std.specs.Prelude.{◌≡◌, MatchOption, MatchResult};
+ghost use Rattle.std.specs.Prelude.{◌≡◌, ◌⊎◌, MatchOption, MatchResult};
+ghost use Rattle.jepmon.specs.Stops.{IsHelp};
 ghost use Rattle.checks.specs.ExitStatus.{status_of};
 
 use crate::command_line::Stop;
@@ -55,7 +56,9 @@ pub fn status_of_stop<P: Print + Eprint, L: Onlooker>(
     alloc: Global,
     stop: &Stop,
     onlooker: &L,
-) -> u8 {
+) -> u8
+    ensures { (result ≡ 3) ⊎ ((result ≡ 0) × IsHelp stop.now) }
+{
     match stop {
         Stop::Help(help) => match help.print(rt) {
             Ok(()) => 0,

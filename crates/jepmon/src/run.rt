@@ -8,7 +8,7 @@ ghost use Rattle.jepmon.specs.RunText.{IsRunText, MaySay};
 use checks::{put_refused, put_text, status_of_verdict};
 use clients::{Watch, run_trial};
 use harness::{Config, Core};
-use line_loop::{Failed, refusal_text};
+use line_loop::{Failed, Flushes, refusal_text};
 use onlookers::Onlooker;
 use report::report;
 use std::alloc::{AllocError, Global};
@@ -16,26 +16,25 @@ use std::io::Write;
 use std::sync::Wait;
 use std::thread::Threads;
 
-/// Runs clients and the nemesis against a store in the process, each in a thread of its own, writes the report of what they
-/// came to, and gives the exit status: that of the verdict. Or it writes the line of a refusal, and gives 3, which it is
-/// too where the writer has failed.
+/// Runs clients and the nemesis against a store in the process, each in a thread of its own, writes and flushes the
+/// report of what they came to, and gives the exit status: that of the verdict. Or it writes and flushes the line of a refusal,
+/// and gives 3, which it is too where the writer has failed.
 ///
 /// Where the store is strict, the status is never that of an illegal verdict, in whatever order the threads run. A thread
 /// that can't be started is run by another one. Nothing is written before all clients have ended. It waits for them and for
 /// the writer, and costs what [`run_trial`] and [`report`] cost. The watch is told meanwhile how far they have come, and
 /// the onlooker of the end.
-pub fn run_store<X: Threads + Wait + Sync, W: Write + Failed, L: Onlooker, V: Watch + Send + Drop>(
-    rt: &X,
-    alloc: Global,
-    config: Config,
-    writer: &mut W,
-    onlooker: &L,
-    watch: V,
-) -> u8
+pub fn run_store<
+    X: Threads + Wait + Sync,
+    W: Write + Failed + Flushes,
+    L: Onlooker,
+    V: Watch + Send + Drop,
+>(rt: &X, alloc: Global, config: Config, writer: &mut W, onlooker: &L, watch: V) -> u8
     requires { W.has_failed writer.old ≡ false }
     ensures told { (text : List ℕ) × (status : ℕ) × MaySay (setup_of config) text status
         × IsPut text status
-        (W.contents writer.old) (W.contents writer.new) (W.has_failed writer.new) result }
+        (W.contents writer.old) (W.contents writer.new)
+        (W.has_failed writer.new) (W.is_flushed writer.new) result }
     ensures never_illegal { config.mode ≡ Strict → result ≢ 1 }
 {
     match run_trial(rt, alloc, config, watch) {

@@ -11,7 +11,7 @@ pub returns-in-Ok-report_text-clause-never_illegal :
 returns-in-Ok-report_text-clause-never_illegal g c = λ strict.
     let told = c.in-Ok-report_text.ensures in
     let never = c.in-Ok.ensures.never_illegal strict in
-    never_one (g.W.Write.contents c.args.writer.now) (g.W.Write.contents c.put_text.new.writer) (g.W.Failed.has_failed c.put_text.new.writer) c.put_text.result c.as_slice.result.now c.in-Ok-report_text.status
+    never_one (g.W.Write.contents c.args.writer.now) (g.W.Write.contents c.put_text.new.writer) (g.W.Failed.has_failed c.put_text.new.writer) (g.W.Flushes.is_flushed c.put_text.new.writer) c.put_text.result c.as_slice.result.now c.in-Ok-report_text.status
     (λ one. not_one c.in-Ok.core.machine.judged told.verdict told.judged never (sym told.status_is ∙ one)) c.put_text.ensures
 
 pub returns-in-Ok-report_text-clause-told : goal.returns-in-Ok-report_text-clause-told
@@ -31,6 +31,6 @@ returns-in-Ok-clause-told g c = (refusal_line NoMemory, 3, inr (NoMemory, inr (i
 
 pub returns-clause-told : goal.returns-clause-told
 returns-clause-told g c =
-    says_why (g.W.Write.contents c.args.writer.now) (g.W.Write.contents c.put_refused-in-Err.new.writer) (g.W.Failed.has_failed c.put_refused-in-Err.new.writer) c.put_refused-in-Err.result (setup_of c.args.config)
+    says_why (g.W.Write.contents c.args.writer.now) (g.W.Write.contents c.put_refused-in-Err.new.writer) (g.W.Failed.has_failed c.put_refused-in-Err.new.writer) (g.W.Flushes.is_flushed c.put_refused-in-Err.new.writer) c.put_refused-in-Err.result (setup_of c.args.config)
     c.in-Err.refusal (none_came c.args.config (c.args.config.concurrency + 1) c.in-Err.refusal c.in-Err.ensures.refused)
     c.refusal_text.result c.refusal_text.ensures c.put_refused-in-Err.ensures
