@@ -137,7 +137,9 @@ fn config_of(alloc: Global, name: &str, options: &ArgMatches) -> Result<Config, 
 fn judging_texts<'a>(options: &ArgMatches<'a>) -> JudgingTexts<'a> {
     let defaults = JudgingTexts::defaults();
     JudgingTexts {
-        concurrency: options.get_str("concurrency").unwrap_or(defaults.concurrency),
+        concurrency: options
+            .get_str("concurrency")
+            .unwrap_or(defaults.concurrency),
         model: options.get_str("model").unwrap_or(defaults.model),
         budget: options.get_str("budget").unwrap_or(defaults.budget),
     }

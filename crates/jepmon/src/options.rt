@@ -93,10 +93,10 @@ impl JudgingTexts<'_> {
         ensures within { IfOk result (λ config. IsSetup (setup_of config)) }
     {
         let budget = count_in(self.budget).ok_or(Misspelled::Unread(OptionName::Budget))?;
-        let concurrency =
-            count_in(self.concurrency).ok_or(Misspelled::Unread(OptionName::Concurrency))?;
-        let kind =
-            ModelKind::of_name(self.model).ok_or(Misspelled::Unread(OptionName::Model))?;
+        let concurrency = count_in(self.concurrency).ok_or(Misspelled::Unread(
+            OptionName::Concurrency,
+        ))?;
+        let kind = ModelKind::of_name(self.model).ok_or(Misspelled::Unread(OptionName::Model))?;
         if budget < 1 || budget > MOST_BUDGET {
             return Err(Misspelled::Refused(Refusal::BadBudget));
         }
@@ -172,11 +172,11 @@ impl RunTexts<'_> {
             (λ why. plan_spelled self.now ≡ Err why) }
     {
         let seed = within(self.seed, 0, MOST_SEED).ok_or(Misspelled::Unread(OptionName::Seed))?;
-        let operations = within(self.operations, 0, MOST_OPERATIONS)
-            .ok_or(Misspelled::Unread(OptionName::Operations))?;
+        let operations = within(self.operations, 0, MOST_OPERATIONS).ok_or(Misspelled::Unread(
+            OptionName::Operations,
+        ))?;
         let keys = within(self.keys, 1, MOST_KEYS).ok_or(Misspelled::Unread(OptionName::Keys))?;
-        let replicas =
-            count_in(self.replicas).ok_or(Misspelled::Unread(OptionName::Replicas))?;
+        let replicas = count_in(self.replicas).ok_or(Misspelled::Unread(OptionName::Replicas))?;
         let mode = mode_in(self.mode).ok_or(Misspelled::Unread(OptionName::Mode))?;
         let has_faults = switch_in(self.faults).ok_or(Misspelled::Unread(OptionName::Faults))?;
         Ok(RunPlan {

@@ -29,14 +29,7 @@ pub fn run_store<
     W: Write + Failed + Flushes,
     L: Onlooker,
     V: Watch + Send + Drop,
->(
-    rt: &X,
-    alloc: Global,
-    config: Config,
-    writer: &mut W,
-    onlooker: &L,
-    watch: V,
-) -> u8
+>(rt: &X, alloc: Global, config: Config, writer: &mut W, onlooker: &L, watch: V) -> u8
     requires { W.has_failed writer.old ≡ false }
     ensures told { (text : List ℕ) × (status : ℕ) × MaySay (setup_of config) text status
         × IsPut text status

@@ -20,9 +20,11 @@ returns-in-Ok-report_text-clause-told g c = (
   c.in-Ok-report_text.status,
   inl (
     c.in-Ok.ensures.limits,
-    (c.in-Ok.core.machine,
-    c.in-Ok.ensures.run,
-    subst (λ text. IsRunText c.in-Ok.core.machine text c.in-Ok-report_text.status) (sym c.as_slice.ensures.value) c.in-Ok-report_text.ensures),
+    (
+      c.in-Ok.core.machine,
+      c.in-Ok.ensures.run,
+      subst (λ text. IsRunText c.in-Ok.core.machine text c.in-Ok-report_text.status) (sym c.as_slice.ensures.value) c.in-Ok-report_text.ensures,
+    ),
   ),
   c.put_text.ensures,
 )
