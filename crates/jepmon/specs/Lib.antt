@@ -1,4 +1,3 @@
 pub mod CommandLine
-pub mod Options
 pub mod RunText
 pub mod Stops
