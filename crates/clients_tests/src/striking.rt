@@ -74,11 +74,7 @@ impl Watch for Counting<'_> {
 
 // Faults that are due before the first event, and change nothing.
 fn heals(alloc: Global) -> Result<Schedule, AllocError> {
-    Ok(Schedule::new(vec![in alloc;
-        (0, Fault::Heal),
-        (0, Fault::Heal),
-        (0, Fault::Heal),
-    ]?))
+    Ok(Schedule::new(vec![in alloc; (0, Fault::Heal), (0, Fault::Heal), (0, Fault::Heal)]?))
 }
 
 /// The nemesis strikes each fault that is due, one after the other, while the client waits. No clause says so: a nemesis that
@@ -115,6 +111,8 @@ fn strike<B: Tag + Send + Sync, R: Threads + Wait + Abort + Sync>(
     let events = core.monitor().history().events();
     assert!(rt; !tries.missed.load(Ordering::SeqCst));
     assert_eq!(rt; events.len(), 5);
-    let firsts = events.iter().take_while(|event| matches!(event.process, Process::Nemesis));
+    let firsts = events
+        .iter()
+        .take_while(|event| matches!(event.process, Process::Nemesis));
     assert_eq!(rt; firsts.count(), 3);
 }

@@ -127,7 +127,9 @@ impl Gathering {
     // Whether it is so within so many turns, or was missed before.
     fn all_begin(&self) -> bool {
         for _ in 0..TURNS {
-            if self.begun.load(Ordering::SeqCst) >= self.pieces || self.missed.load(Ordering::SeqCst) {
+            if self.begun.load(Ordering::SeqCst) >= self.pieces
+                || self.missed.load(Ordering::SeqCst)
+            {
                 return true;
             }
             thread::yield_now();
