@@ -1,11 +1,11 @@
-//! What frontiers answer where no command shows it: each event by its own call, a blown budget twice, and the counts of steps.
+//! What frontiers answer where no command shows it: a blown budget twice, a change that is dropped, and the counts of steps.
 use crate::plain::part;
 use frontier::Step::{Alive, Dead, Over};
-use frontier::{AnyFrontier, Frontier, Step};
+use frontier::{AnyFrontier, Step};
 use history::EventKind;
-use history::EventKind::{Fail as Failed, Invoke, Ok as Done};
+use history::EventKind::{Fail as Failed, Info, Invoke, Ok as Done};
 use models::Name::{Enqueue, Read, Write};
-use models::{Answer, ModelKind, Name, Op, Register};
+use models::{ModelKind, Name, Op};
 use std::alloc::{AllocError, Global};
 use std::test::Fail;
 
@@ -98,90 +98,81 @@ fn ok_applies_each_once(rt: HostRuntime) -> Result<(), Fail> {
     Ok(())
 }
 
-/// An event by its own call.
-enum Call {
-    Invoke(Name, &'static [i64]),
-    Ok(i64),
-    Fail,
-    Crash,
-}
-
-// What the call for this operation answers; an invocation and a crash leave the frontier alive.
-fn answer(frontier: &mut Frontier<Register>, id: u32, call: &Call) -> Result<Step, AllocError> {
-    match call {
-        Call::Invoke(name, values) => frontier.invoke(id, op(*name, values))?,
-        Call::Ok(value) => return frontier.ok(id, &Answer::Number(*value)),
-        Call::Fail => return frontier.fail(id),
-        Call::Crash => frontier.crash(id)?,
-    }
-    Ok(Alive)
-}
-
-// The place of the first call that the frontier answers otherwise.
-fn first_other(
-    frontier: &mut Frontier<Register>,
-    rows: &[(u32, Call, Step)],
-) -> Result<Option<usize>, AllocError> {
-    for (place, (id, call, want)) in rows.iter().enumerate() {
-        if answer(frontier, *id, call)? != *want {
+// The place of the first event that a new frontier of a register answers otherwise.
+fn first_other(alloc: Global, budget: u32, rows: &[Row]) -> Result<Option<usize>, AllocError> {
+    let mut frontier = AnyFrontier::start(alloc, ModelKind::Register, budget)?;
+    for (place, row) in rows.iter().enumerate() {
+        if !is_answered(&mut frontier, row)? {
             return Ok(Some(place));
         }
     }
     Ok(None)
 }
 
-// The same, of a new frontier.
-fn first_other_of_new(
-    alloc: Global,
-    budget: u32,
-    rows: &[(u32, Call, Step)],
-) -> Result<Option<usize>, AllocError> {
-    let mut frontier = Frontier::start(alloc, budget)?;
-    first_other(&mut frontier, rows)
-}
-
-const BLOWN: [(u32, Call, Step); 2] = [
-    (0, Call::Invoke(Write, &[3]), Alive),
-    (0, Call::Ok(3), Over),
+const BLOWN: [Row; 2] = [
+    (0, Invoke, Write, &[3], Alive),
+    (0, Done, Write, &[3], Over),
 ];
 
 // Just before the ok there are two ends: the write has taken place or not.
 #[test]
 fn budget_one_blown_by_a_write(rt: HostRuntime) -> Result<(), Fail> {
-    assert_eq!(rt; first_other_of_new(rt.alloc(), 1, &BLOWN)?, None);
+    assert_eq!(rt; first_other(rt.alloc(), 1, &BLOWN)?, None);
     Ok(())
 }
 
-const FAILED_WRITE: [(u32, Call, Step); 4] = [
-    (0, Call::Invoke(Write, &[1]), Alive),
-    (1, Call::Invoke(Read, &[]), Alive),
-    (1, Call::Ok(1), Alive),
-    (0, Call::Fail, Dead),
+const FAILED_WRITE: [Row; 4] = [
+    (0, Invoke, Write, &[1], Alive),
+    (1, Invoke, Read, &[], Alive),
+    (1, Done, Read, &[1], Alive),
+    (0, Failed, Write, &[1], Dead),
 ];
 
 // A read has found a write that then fails.
 #[test]
 fn failed_write_was_read(rt: HostRuntime) -> Result<(), Fail> {
-    assert_eq!(rt; first_other_of_new(rt.alloc(), 4096, &FAILED_WRITE)?, None);
+    assert_eq!(rt; first_other(rt.alloc(), 4096, &FAILED_WRITE)?, None);
     Ok(())
 }
 
-const CRASHED_WRITE: [(u32, Call, Step); 10] = [
-    (0, Call::Invoke(Write, &[1]), Alive),
-    (0, Call::Ok(1), Alive),
-    (2, Call::Invoke(Write, &[2]), Alive),
-    (2, Call::Crash, Alive),
-    (4, Call::Invoke(Read, &[]), Alive),
-    (4, Call::Ok(1), Alive),
-    (6, Call::Invoke(Read, &[]), Alive),
-    (6, Call::Ok(2), Alive),
-    (8, Call::Invoke(Read, &[]), Alive),
-    (8, Call::Ok(1), Dead),
+const CRASHED_WRITE: [Row; 10] = [
+    (0, Invoke, Write, &[1], Alive),
+    (0, Done, Write, &[1], Alive),
+    (2, Invoke, Write, &[2], Alive),
+    (2, Info, Write, &[2], Alive),
+    (4, Invoke, Read, &[], Alive),
+    (4, Done, Read, &[1], Alive),
+    (6, Invoke, Read, &[], Alive),
+    (6, Done, Read, &[2], Alive),
+    (8, Invoke, Read, &[], Alive),
+    (8, Done, Read, &[1], Dead),
 ];
 
 // A write of 2 has crashed after a write of 1: a read may find 1 and the next one 2, and then none finds 1.
 #[test]
 fn crashed_write_takes_place_later(rt: HostRuntime) -> Result<(), Fail> {
-    assert_eq!(rt; first_other_of_new(rt.alloc(), 4096, &CRASHED_WRITE)?, None);
+    assert_eq!(rt; first_other(rt.alloc(), 4096, &CRASHED_WRITE)?, None);
+    Ok(())
+}
+
+// Each event is prepared as an ok, a fail and an info of the same operation first, where it is one of these, and what that gives
+// is dropped.
+fn is_answered_after_others(frontier: &mut AnyFrontier, row: &Row) -> Result<bool, AllocError> {
+    let (id, kind, name, values, _) = *row;
+    if kind != Invoke {
+        for other in [Done, Failed, Info] {
+            let _dropped = frontier.prepare(id, other, &op(name, values))?;
+        }
+    }
+    is_answered(frontier, row)
+}
+
+// A change that is not committed leaves nothing: each event is answered as if no other had been prepared before it.
+#[test]
+fn dropped_change_leaves_nothing(rt: HostRuntime) -> Result<(), Fail> {
+    let mut frontier = AnyFrontier::start(rt.alloc(), ModelKind::Register, 4096)?;
+    for (place, row) in CRASHED_WRITE.iter().enumerate() {
+        assert!(rt; is_answered_after_others(&mut frontier, row)?, "at {place}");
+    }
     Ok(())
 }

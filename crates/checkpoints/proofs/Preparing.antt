@@ -11,7 +11,8 @@ use Rattle.frontier.specs.Meaning.{Keeps}
 use Rattle.frontier.specs.AnyFrontier.{AnyStandsFor, AnyWillStandFor, any_budget_of, kind_of_frontier}
 use Rattle.checkpoints.specs.declared.live_key.LiveKey.{LiveKey}
 use Rattle.checkpoints.specs.Noted.{noted_of}
-use Rattle.checkpoints.specs.LiveKey.{IsLiveKey, WillBeLive, ClosesDone, id_by, closed_by}
+use Rattle.checkpoints.specs.declared.next.Going.{Going}
+use Rattle.checkpoints.specs.LiveKey.{IsLiveKey, WillBeLive, id_by, closed_by}
 use Rattle.checkpoints.specs.KeyState.{IsAlive}
 use Rattle.checkpoints.proofs.Noting.{noted_others, noted_as, noted_here}
 use Rattle.checkpoints.proofs.Judging.{knows_then, knows_still, closed_then}
@@ -29,8 +30,8 @@ module _ (kind : ModelKind) (budget : ℕ) (events : List (ℕ × Event)) (index
   }
 
   -- what is prepared is the event
-  pub will_be_live : after.closes ≡ closed_by p event.kind → AnyWillStandFor after.frontier (marks (entries_of (events ++ (index, event) ∷ []))) → WillBeLive kind budget (events ++ (index, event) ∷ []) after
-  will_be_live closes stands = record {
+  pub will_be_live : (going : Going) → going.closes ≡ closed_by p event.kind → AnyWillStandFor after.frontier going.change (marks (entries_of (events ++ (index, event) ∷ []))) → WillBeLive kind budget (events ++ (index, event) ∷ []) after going
+  will_be_live going closes stands = record {
     stands = stands;
     kind_is = kind_stays ∙ is_live.kind_is;
     budget_is = budget_stays ∙ is_live.budget_is;
@@ -38,16 +39,3 @@ module _ (kind : ModelKind) (budget : ℕ) (events : List (ℕ × Event)) (index
         (noted_others index p event.kind (noted_of live.invocations) (noted_of after.invocations) noted) (noted_here index p event.kind (noted_of live.invocations) (noted_of after.invocations) noted);
     closed = λ q is. closed_then kind budget events index event live is_live alive history p is_client op is_op q (sym closes ∙ is);
   }
-
-  -- it has the event, and what that completes is to be closed
-  pub live_then : after.closes ≡ closed_by p event.kind → AnyStandsFor after.frontier (marks (entries_of (events ++ (index, event) ∷ []))) → IsLiveKey kind budget (events ++ (index, event) ∷ []) after × ClosesDone (events ++ (index, event) ∷ []) after
-  live_then closes stands = (
-    record {
-      stands = stands;
-      kind_is = kind_stays ∙ is_live.kind_is;
-      budget_is = budget_stays ∙ is_live.budget_is;
-      knows = knows_then kind budget events index event live is_live alive history p is_client op is_op after
-          (noted_others index p event.kind (noted_of live.invocations) (noted_of after.invocations) noted) (noted_here index p event.kind (noted_of live.invocations) (noted_of after.invocations) noted);
-    },
-    λ q is. closed_then kind budget events index event live is_live alive history p is_client op is_op q (sym closes ∙ is),
-  )

@@ -37,9 +37,9 @@ status_right kind budget events state stands s is = subst (IsKeyStatus (object_o
 -- the status of what a state becomes is that of what it is judged by then
 pub next_right : (kind : ModelKind) (budget : ℕ) (events : List (ℕ × Event)) (state : KeyState) (next : Next) → IsNext kind budget events state next → (s : KeyStatus) → s ≡ status_by state next → IsKeyStatus (object_of kind) budget (entries_of events) s
 next_right kind budget events state Stays is s eq = status_right kind budget events state is s eq
-next_right kind budget events (Alive live) Goes is s eq = subst (IsKeyStatus (object_of kind) budget (entries_of events)) (sym eq) is.0
-next_right kind budget events (Dead i) Goes is s eq = absurd is
-next_right kind budget events (Over i) Goes is s eq = absurd is
+next_right kind budget events (Alive live) (Goes going) is s eq = subst (IsKeyStatus (object_of kind) budget (entries_of events)) (sym eq) is.0
+next_right kind budget events (Dead i) (Goes going) is s eq = absurd is
+next_right kind budget events (Over i) (Goes going) is s eq = absurd is
 next_right kind budget events state (Dies i) is s eq = status_right kind budget events (Dead i) is s eq
 next_right kind budget events state (Blows i) is s eq = status_right kind budget events (Over i) is s eq
 next_right kind budget events state (Becomes other) is s eq = status_right kind budget events other.value is s eq

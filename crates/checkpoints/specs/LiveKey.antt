@@ -9,6 +9,7 @@ use Rattle.history.specs.ProcessRule.{busy_after}
 use Rattle.frontier.specs.AnyFrontier.{AnyStandsFor, AnyWillStandFor, any_budget_of, kind_of_frontier}
 use Rattle.checkpoints.specs.Noted.{noted_of}
 use Rattle.checkpoints.specs.declared.live_key.LiveKey.{LiveKey}
+use Rattle.checkpoints.specs.declared.next.Going.{Going}
 
 -- the last invocation of each process, and the key of each process's open operation, after events
 abbrev pub invocations_from : (ℕ → ℕ) → List (ℕ × Event) → ℕ → ℕ
@@ -38,19 +39,15 @@ pub record IsLiveKey (kind : ModelKind) (budget : ℕ) (events : List (ℕ × Ev
   pub budget_is : any_budget_of live.frontier ≡ budget
   pub knows : KnowsOpen events live
 
--- once what is prepared is carried out, the frontier will stand for the events, and what is open after
--- them is known. The process that is closed then has no open operation
+-- once this is carried out, the frontier will stand for the events, and what is open after them is known. The process
+-- that is closed then has no open operation
 pub record WillBeLive (kind : ModelKind) (budget : ℕ) (events : List (ℕ × Event)) (live : LiveKey)
-    : Type 0 where
-  pub stands : AnyWillStandFor live.frontier (marks (entries_of events))
+    (going : Going) : Type 0 where
+  pub stands : AnyWillStandFor live.frontier going.change (marks (entries_of events))
   pub kind_is : kind_of_frontier live.frontier ≡ kind
   pub budget_is : any_budget_of live.frontier ≡ budget
   pub knows : KnowsOpen events live
-  pub closed : (p : ℕ) → live.closes ≡ Some p → busy_of events p ≡ None
-
--- the process that is to be closed has no open operation
-abbrev pub ClosesDone : List (ℕ × Event) → LiveKey → Type 0
-ClosesDone events live = (p : ℕ) → live.closes ≡ Some p → busy_of events p ≡ None
+  pub closed : (p : ℕ) → going.closes ≡ Some p → busy_of events p ≡ None
 
 -- the operation that an event is of, where this one was open
 abbrev pub id_by : ℕ → EventKind → Option ℕ → Option ℕ

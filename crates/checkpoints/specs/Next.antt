@@ -6,22 +6,22 @@ use Rattle.linspec.specs.declared.verdict.KeyStatus.{KeyStatus}
 use Rattle.checkpoints.specs.LiveKey.{WillBeLive}
 use Rattle.checkpoints.specs.declared.key_state.KeyState.{KeyState}
 use Rattle.checkpoints.specs.declared.key_state.KeyState.TheVariants.{Alive, Dead, Over}
+use Rattle.checkpoints.specs.declared.next.Going.{Going}
 use Rattle.checkpoints.specs.declared.next.Next.{Next}
 use Rattle.checkpoints.specs.declared.next.Next.TheVariants.{Stays, Goes, Dies, Blows, Becomes}
 use Rattle.checkpoints.specs.KeyState.{status_of, IsAlive, IsKeyState}
 
--- the key will be alive after the events, once it carries out what it has prepared. A key that is dead
--- or over has nothing to carry out
-abbrev pub GoesOn : ModelKind → ℕ → List (ℕ × Event) → KeyState → Type 0
-GoesOn kind budget events (Alive live) =
-    IsAlive kind budget events × WillBeLive kind budget events live
-GoesOn kind budget events (Dead i) = ⊥
-GoesOn kind budget events (Over i) = ⊥
+-- the key will be alive after the events, once it carries this out. A key that is dead or over has nothing to carry out
+abbrev pub GoesOn : ModelKind → ℕ → List (ℕ × Event) → KeyState → Going → Type 0
+GoesOn kind budget events (Alive live) going =
+    IsAlive kind budget events × WillBeLive kind budget events live going
+GoesOn kind budget events (Dead i) going = ⊥
+GoesOn kind budget events (Over i) going = ⊥
 
 -- where this becomes of a key whose state is this one now, its state then is right for the events
 abbrev pub IsNext : ModelKind → ℕ → List (ℕ × Event) → KeyState → Next → Type 0
 IsNext kind budget events state Stays = IsKeyState kind budget events state
-IsNext kind budget events state Goes = GoesOn kind budget events state
+IsNext kind budget events state (Goes going) = GoesOn kind budget events state going
 IsNext kind budget events state (Dies i) = IsKeyState kind budget events (Dead i)
 IsNext kind budget events state (Blows i) = IsKeyState kind budget events (Over i)
 IsNext kind budget events state (Becomes other) = IsKeyState kind budget events other.value
@@ -29,7 +29,7 @@ IsNext kind budget events state (Becomes other) = IsKeyState kind budget events 
 -- what is known of the key then. A key that goes on is alive now and then
 abbrev pub status_by : KeyState → Next → KeyStatus
 status_by state Stays = status_of state
-status_by state Goes = status_of state
+status_by state (Goes going) = status_of state
 status_by state (Dies i) = status_of (Dead i)
 status_by state (Blows i) = status_of (Over i)
 status_by state (Becomes other) = status_of other.value

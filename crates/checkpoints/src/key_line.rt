@@ -12,7 +12,7 @@ ghost use Rattle.checkpoints.specs.Lent.{AreLentBy, places_of};
 
 use crate::key_state::KeyState;
 use crate::next::Next;
-use crate::saving::{Saves, go_on, gone_back, judged_anew, keep_or_renew, prepare_event};
+use crate::saving::{Saves, gone_back, judged_anew, keep_or_renew, prepare_event};
 use crate::told::Told;
 use history::Event;
 use linspec::KeyStatus;
@@ -291,9 +291,10 @@ impl KeyLine {
         drop_prepared(&mut self.prepared);
         self.places.reserve(1)?;
         let count = self.places.len();
-        go_on(&mut self.state, &mut self.saved, count, index, event)?;
+        let next = prepare_event(&mut self.state, &mut self.saved, count, index, event)?;
         self.places.push_reserved(index);
         self.told = self.told.with(&index, event);
+        self.state.commit(next);
         self.replayed = self.replayed.saturating_add(1);
         Ok(())
     }

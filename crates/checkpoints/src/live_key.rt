@@ -1,29 +1,27 @@
 //! A key that is alive, with the ends of its events.
-ghost use Rattle.std.specs.Prelude.{◌≡◌, ℕ, List, [], ◌∷◌, ◌++◌, nat_eq, if◌then◌else◌, IfOk, OnOk, OnErr, MatchResult};
+ghost use Rattle.std.specs.Prelude.{◌≡◌, ℕ, List, [], ◌∷◌, ◌++◌, nat_eq, if◌then◌else◌, IfOk, OnOk, OnErr};
 ghost use Rattle.models.specs.declared.model_kind.ModelKind.{ModelKind};
 ghost use Rattle.history.specs.declared.event.Event.{Event};
 ghost use Rattle.history.specs.ProcessRule.{IsHistory};
-ghost use Rattle.checkpoints.specs.LiveKey.{IsLiveKey, WillBeLive, ClosesDone, id_by, closed_by};
-ghost use Rattle.checkpoints.specs.KeyState.{IsAlive, IsKeyState, state_by};
+ghost use Rattle.checkpoints.specs.LiveKey.{IsLiveKey, WillBeLive, id_by, closed_by};
+ghost use Rattle.checkpoints.specs.KeyState.{IsAlive};
 ghost use Rattle.checkpoints.specs.Next.{IsNext};
 ghost use Rattle.checkpoints.specs.Noted.{noted_of};
 ghost use Rattle.checkpoints.specs.declared.key_state.KeyState.{KeyState};
 
 use crate::invocations::Invocations;
-use crate::next::Next;
+use crate::next::{Going, Next};
 use frontier::{AnyFrontier, Step};
 use history::{Body, Event, EventKind, Process};
 use linspec::laws::never_kills_law;
 use models::ModelKind;
 use std::alloc::{AllocError, Global};
 
-/// The ends of the events so far, and for each process with an open operation the index of its invocation. Where one more
-/// event is prepared, the frontier has it, and `closes` is the process that it leaves with no open operation, if it does.
+/// The ends of the events so far, and for each process with an open operation the index of its invocation.
 #[derive(Drop)]
 pub(crate) struct LiveKey {
     frontier: AnyFrontier,
     invocations: Invocations,
-    closes: Option<u32>,
 }
 
 impl LiveKey {
@@ -35,11 +33,10 @@ impl LiveKey {
         Ok(LiveKey {
             frontier,
             invocations: Invocations::new(alloc),
-            closes: None,
         })
     }
 
-    /// A key with the same events. Nothing is prepared of it.
+    /// A key with the same events.
     pub(crate) fn copy(&self) -> Result<Self, AllocError>
         ensures { (kind : ModelKind) (budget : ℕ) (events : List (ℕ × Event))
             → IsLiveKey kind budget events self.now → IfOk result (IsLiveKey kind budget events) }
@@ -49,12 +46,11 @@ impl LiveKey {
         Ok(LiveKey {
             frontier,
             invocations,
-            closes: None,
         })
     }
 
-    /// Prepares one more event, and says what becomes of the key. It stands as it stood until [`commit`](Self::commit), also on
-    /// `AllocError`, and what was prepared before is dropped. The ends are not copied.
+    /// Prepares one more event, and says what becomes of the key. It stands as it stood, also on `AllocError`. The ends are not
+    /// copied.
     pub(crate) fn prepare(&mut self, index: u32, event: &Event) -> Result<Next, AllocError>
         ensures now { (kind : ModelKind) (budget : ℕ) (events : List (ℕ × Event))
             → IsLiveKey kind budget events self.old → IsAlive kind budget events
@@ -78,68 +74,25 @@ impl LiveKey {
         let Some(id) = noted(&mut self.invocations, process, index, event.kind)? else {
             return Ok(Next::Stays);
         };
-        self.closes = closing(process, event.kind);
-        match self.frontier.prepare(id, event.kind, op)? {
-            Step::Alive => Ok(Next::Goes),
+        let closes = closing(process, event.kind);
+        let (step, change) = self.frontier.prepare(id, event.kind, op)?;
+        match step {
+            Step::Alive => Ok(Next::Goes(Going { change, closes })),
             Step::Dead => Ok(Next::Dies(index)),
             Step::Over => Ok(Next::Blows(index)),
         }
     }
 
-    /// One more event is prepared and carried out, with nothing kept between the two, and it is said what comes of it: where that is
-    /// Dead or Over, the key is so at this event. On `AllocError` it stands as it stood.
-    pub(crate) fn go_on(&mut self, index: u32, event: &Event) -> Result<Step, AllocError>
+    /// Carries this out: the ends go on, and an operation that is completed is open no more. Takes no memory.
+    pub(crate) fn commit(&mut self, going: Going)
         ensures { (kind : ModelKind) (budget : ℕ) (events : List (ℕ × Event))
-            → IsLiveKey kind budget events self.old → IsAlive kind budget events
-            → IsHistory (events ++ (index, event.now) ∷ [])
-            → MatchResult result
-            (λ step. IsKeyState kind budget (events ++ (index, event.now) ∷ [])
-            (state_by step index self.new))
-            (λ _. IsLiveKey kind budget events self.new) }
+            → WillBeLive kind budget events self.old going → IsLiveKey kind budget events self.new }
     {
-        never_kills_law();
-        // An event that speaks of no operation changes nothing.
-        let Process::Client(process) = event.process else {
-            return Ok(Step::Alive);
-        };
-        let Body::Op(op) = &event.body else {
-            return Ok(Step::Alive);
-        };
-        // By the process rule every completion finds an open operation.
-        let Some(id) = noted(&mut self.invocations, process, index, event.kind)? else {
-            return Ok(Step::Alive);
-        };
-        self.closes = closing(process, event.kind);
-        match self.frontier.observe(id, event.kind, op)? {
-            Step::Alive => {
-                self.close();
-                Ok(Step::Alive)
-            }
-            Step::Dead => Ok(Step::Dead),
-            Step::Over => Ok(Step::Over),
-        }
-    }
-
-    // An operation that is completed is open no more.
-    fn close(&mut self)
-        ensures { (kind : ModelKind) (budget : ℕ) (events : List (ℕ × Event))
-            → IsLiveKey kind budget events self.old → ClosesDone events self.old
-            → IsLiveKey kind budget events self.new }
-    {
-        if let Some(process) = self.closes.take() {
+        let Going { change, closes } = going;
+        if let Some(process) = closes {
             self.invocations.forget(process);
         }
-    }
-
-    /// Carries out what is prepared: the ends go on, and an operation that is completed is open no more. Takes no memory.
-    pub(crate) fn commit(&mut self)
-        ensures { (kind : ModelKind) (budget : ℕ) (events : List (ℕ × Event))
-            → WillBeLive kind budget events self.old → IsLiveKey kind budget events self.new }
-    {
-        if let Some(process) = self.closes.take() {
-            self.invocations.forget(process);
-        }
-        self.frontier.commit();
+        self.frontier.commit(change);
     }
 }
 

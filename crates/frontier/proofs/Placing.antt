@@ -13,7 +13,7 @@ use Rattle.products.specs.Products.{Family, rows_in}
 use Rattle.frontier.specs.declared.as_products.AsProducts.{AsProducts}
 use Rattle.frontier.specs.declared.change.Fresh.{Fresh}
 use Rattle.frontier.specs.declared.frontier.Frontier.{Frontier}
-use Rattle.frontier.specs.Kept.{IsIdle, IsListed, call_of, rows_by, table_of}
+use Rattle.frontier.specs.Kept.{IsListed, StandsFor, call_of, rows_by, table_of}
 use Rattle.frontier.proofs.Generating.{generates_after_invoke}
 use Rattle.frontier.proofs.Including.{included_more}
 use Rattle.frontier.proofs.Lengthening.{rows_longer}
@@ -43,10 +43,10 @@ products_are_longer form held kept more is same longer rows =
 -- a frontier where the rows have the place, and the calls have room
 module _ {M : Type 0} (o : Object) (reads : ReadsLeave o) (f g : Frontier M o.State) (fresh : Fresh) (is : f.fresh ≡ Some fresh)
     (rows : List (List ℕ)) (longer : AreLonger (rows_of (table_of f)) rows) (table : table_of g ≡ with_rows (table_of f) rows)
-    (all : g.calls.items ≡ f.calls.items ++ call_of fresh ∷ []) (so_many : g.tried ≡ f.tried) (none : g.fresh ≡ None) (next : g.next ≡ f.next) where
-  pub listed_longer : (marks : List Mark) → IsIdle o f marks → IsListed o g marks
-  listed_longer marks idle =
-      let but = but_of o f marks fresh is idle.stands in
+    (all : g.calls.items ≡ f.calls.items ++ call_of fresh ∷ []) (so_many : g.tried ≡ f.tried) (none : g.fresh ≡ None) where
+  pub listed_longer : (marks : List Mark) → StandsFor o f marks → IsListed o g marks
+  listed_longer marks given =
+      let but = but_of o f marks fresh is given in
       let before = but.before in
       let stands = but.lists in
       let call = call_of fresh in
@@ -60,7 +60,6 @@ module _ {M : Type 0} (o : Object) (reads : ReadsLeave o) (f g : Frontier M o.St
       let closed : AreClosed o (take f.tried (f.calls.items ++ call ∷ [])) stands.kept =
       subst (λ l. AreClosed o l stands.kept) (sym (tried_still f.tried f.calls.items call stands.tried)) stands.closed in
       record {
-        nothing = next ∙ idle.nothing;
         none = none;
         lists = lists_is o g marks (before ++ Invoked fresh.id fresh.op ∷ []) but.is
             (stands_by o g (before ++ Invoked fresh.id fresh.op ∷ []) stands.kept (subst (λ l. AreShown (table_of g) l stands.kept) (sym all) shown)

@@ -1,5 +1,5 @@
 -- frontiers with an operation that has no place in the rows yet, and with a change that is prepared
-use Rattle.std.proofs.Common.{◌≡◌, ◌∙◌, ℕ, Option, Some, None, Result, Ok, Err, OnOk, OnErr, List, [], ◌∷◌, ◌++◌, refl, sym, subst}
+use Rattle.std.proofs.Common.{◌≡◌, ◌∙◌, ℕ, Option, Some, None, Result, Ok, Err, List, [], ◌∷◌, ◌++◌, refl, sym, subst}
 use Rattle.std.specs.declared.alloc.AllocError.{AllocError}
 use Rattle.models.specs.Objects.{Object}
 use Rattle.history.specs.Events.{Mark}
@@ -11,8 +11,9 @@ use Rattle.frontier.specs.declared.change.Fresh.{Fresh}
 use Rattle.frontier.specs.declared.frontier.Frontier.{Frontier}
 use Rattle.ends.specs.declared.pending_op.PendingOp.{PendingOp}
 use Rattle.ends.specs.declared.table.Table.{Table}
-use Rattle.frontier.specs.Meaning.{Keeps}
-use Rattle.frontier.specs.Kept.{IsIdle, IsListed, IsOf, Lists, ListsBut, Makes, StandsFor, StandsWith, WillStandFor, table_of}
+use Rattle.frontier.specs.declared.frontier.Step.{Step}
+use Rattle.frontier.specs.Meaning.{Keeps, Observes}
+use Rattle.frontier.specs.Kept.{IsListed, IsOf, Lists, ListsBut, Makes, StandsFor, StandsWith, TriesToList, WillStandFor, table_of}
 use Rattle.ends.specs.Tables.{AreShown, Widens, rows_of}
 use Rattle.ends.proofs.Showing.{shown_more}
 use Rattle.frontier.proofs.Standing.{stands_too}
@@ -40,13 +41,6 @@ module _ {M : Type 0} (o : Object) (f g : Frontier M o.State) where
   pub stands_like : IsOf g (table_of f) f.calls.items f.tried f.fresh → (marks : List Mark) → StandsFor o f marks → StandsFor o g marks
   stands_like is marks s = stands_to (lists_like is.0 is.1 is.2) is.3 marks s
 
-  -- nothing is prepared
-  pub idle_like : IsOf g (table_of f) f.calls.items f.tried f.fresh → g.next ≡ Nothing → (marks : List Mark) → StandsFor o f marks → IsIdle o g marks
-  idle_like is nothing marks s = record { nothing = nothing; stands = stands_like is marks s }
-
-  pub idle_still : IsOf g (table_of f) f.calls.items f.tried f.fresh → g.next ≡ f.next → (marks : List Mark) → IsIdle o f marks → IsIdle o g marks
-  idle_still is next marks idle = idle_like is (next ∙ idle.nothing) marks idle.stands
-
 module _ {M : Type 0} (o : Object) (f : Frontier M o.State) (marks : List Mark) where
   pub listed_stands : f.fresh ≡ None → Lists o f marks → StandsFor o f marks
   listed_stands none l = record { stands = subst (λ x. StandsWith o f x marks) (sym none) l }
@@ -54,51 +48,57 @@ module _ {M : Type 0} (o : Object) (f : Frontier M o.State) (marks : List Mark) 
   pub but_of : (fresh : Fresh) → f.fresh ≡ Some fresh → StandsFor o f marks → ListsBut o f fresh marks
   but_of fresh some s = subst (λ x. StandsWith o f x marks) some s.stands
 
-  -- what is listed is idle without a fresh operation
-  pub idle_of : IsListed o f marks → IsIdle o f marks
-  idle_of l = record { nothing = l.nothing; stands = listed_stands l.none l.lists }
+  -- without a fresh operation what stands is listed
+  pub listed_of : StandsFor o f marks → f.fresh ≡ None → IsListed o f marks
+  listed_of s none = record { none = none; lists = subst (λ x. StandsWith o f x marks) none s.stands }
 
-  pub listed_of : IsIdle o f marks → f.fresh ≡ None → IsListed o f marks
-  listed_of idle none = record { nothing = idle.nothing; none = none; lists = subst (λ x. StandsWith o f x marks) none idle.stands.stands }
-
-  pub idle_will : IsIdle o f marks → WillStandFor o f marks
-  idle_will idle = record { will = λ g makes. stands_like o f g (subst (λ n. Makes n f g) idle.nothing makes) marks idle.stands }
+  pub nothing_will : StandsFor o f marks → WillStandFor o f Nothing marks
+  nothing_will s = record { will = λ g makes. stands_like o f g makes marks s }
 
   -- an invocation is prepared
-  pub will_invoke : (fresh : Fresh) → f.next ≡ ToInvoked fresh → MayFollow marks (Invoked fresh.id fresh.op) → Lists o f marks → WillStandFor o f (marks ++ Invoked fresh.id fresh.op ∷ [])
-  will_invoke fresh is may l = record {
-    will = λ g makes.
-        let made = subst (λ n. Makes n f g) is makes in record {
-          stands = subst (λ x. StandsWith o g x (marks ++ Invoked fresh.id fresh.op ∷ [])) (sym made.3)
-              (record { before = marks; is = refl; may = may; lists = lists_like o f g made.0 made.1 made.2 marks l });
-        };
+  pub will_invoke : (fresh : Fresh) → MayFollow marks (Invoked fresh.id fresh.op) → Lists o f marks → WillStandFor o f (ToInvoked fresh) (marks ++ Invoked fresh.id fresh.op ∷ [])
+  will_invoke fresh may l = record {
+    will = λ g made. record {
+      stands = subst (λ x. StandsWith o g x (marks ++ Invoked fresh.id fresh.op ∷ [])) (sym made.3)
+          (record { before = marks; is = refl; may = may; lists = lists_like o f g made.0 made.1 made.2 marks l });
+    };
   }
 
   -- another event is
-  pub will_by : (next : Change o.State) → f.next ≡ next → f.fresh ≡ None → (table : Table o.State) (calls : List PendingOp) (tried : ℕ) → ((g : Frontier M o.State) → Makes next f g → IsOf g table calls tried f.fresh)
-      → ((g : Frontier M o.State) → (table_of g) ≡ table → g.calls.items ≡ calls → g.tried ≡ tried → Lists o g marks) → WillStandFor o f marks
-  will_by next is none table calls tried made lists = record {
+  pub will_by : (change : Change) → f.fresh ≡ None → (table : Table o.State) (calls : List PendingOp) (tried : ℕ) → ((g : Frontier M o.State) → Makes change f g → IsOf g table calls tried f.fresh)
+      → ((g : Frontier M o.State) → (table_of g) ≡ table → g.calls.items ≡ calls → g.tried ≡ tried → Lists o g marks) → WillStandFor o f change marks
+  will_by change none table calls tried made lists = record {
     will = λ g makes.
-        let m = made g (subst (λ n. Makes n f g) is makes) in
+        let m = made g makes in
         record { stands = subst (λ x. StandsWith o g x marks) (sym (m.3 ∙ none)) (lists g m.0 m.1 m.2) };
   }
 
--- where what is idle stays so
-pub listed_again : {M : Type 0} (o : Object) (f g : Frontier M o.State) (marks : List Mark) → Keeps (IsIdle o f) (IsIdle o g) → g.fresh ≡ f.fresh → IsListed o f marks → IsListed o g marks
-listed_again o f g marks keeps fresh l = listed_of o g marks (keeps marks (idle_of o f marks l)) (fresh ∙ l.none)
+-- where what stands stays so
+pub listed_again : {M : Type 0} (o : Object) (f g : Frontier M o.State) → Keeps (StandsFor o f) (StandsFor o g) → g.fresh ≡ f.fresh → (marks : List Mark) → IsListed o f marks → IsListed o g marks
+listed_again o f g keeps fresh marks l = listed_of o g marks (keeps marks (listed_stands o f marks l.none l.lists)) (fresh ∙ l.none)
 
 pub lists_is : {M : Type 0} (o : Object) (f : Frontier M o.State) (marks before : List Mark) → marks ≡ before → Lists o f before → Lists o f marks
 lists_is o f marks before is l = subst (Lists o f) (sym is) l
 
+-- where the calls take the fresh one, or not, after what keeps what is stood for
+pub tries_after : {M : Type 0} (o : Object) (f mid g : Frontier M o.State) (r : Result (Unit {0}) AllocError) → Keeps (StandsFor o f) (StandsFor o mid) → TriesToList o mid g r → TriesToList o f g r
+tries_after o f mid g (Ok x) to tries = λ marks stands. tries marks (to marks stands)
+tries_after o f mid g (Err e) to tries = λ marks stands. tries marks (to marks stands)
+
+-- and where products become rows then
+pub tries_before : {M : Type 0} (o : Object) (f mid g : Frontier M o.State) (r : Result (Unit {0}) AllocError) → Keeps (StandsFor o f) (IsListed o mid) → Keeps (StandsFor o mid) (StandsFor o g) → g.fresh ≡ mid.fresh → TriesToList o f g r
+tries_before o f mid g (Ok x) to keeps fresh = λ marks stands. listed_again o mid g keeps fresh marks (to marks stands)
+tries_before o f mid g (Err e) to keeps fresh = λ marks stands. let l = to marks stands in keeps marks (listed_stands o mid marks l.none l.lists)
+
 -- what is prepared is carried out
-pub made_by : {M : Type 0} (o : Object) (f g : Frontier M o.State) (marks : List Mark) (next : Change o.State) → next ≡ f.next → Makes next f g → WillStandFor o f marks → StandsFor o g marks
-made_by o f g marks next is made w = w.will g (subst (λ n. Makes n f g) is made)
+pub made_by : {M : Type 0} (o : Object) (f g : Frontier M o.State) (marks : List Mark) (change next : Change) → change ≡ next → Makes next f g → WillStandFor o f change marks → StandsFor o g marks
+made_by o f g marks change next is made w = w.will g (subst (λ n. Makes n f g) (sym is) made)
 
--- where the calls take the fresh one, and where they do not
-pub ok_keeps : (old mid new : List Mark → Type 0) (r : Result (Unit {0}) AllocError) → Keeps old mid → OnOk r (Keeps mid new) → OnOk r (Keeps old new)
-ok_keeps old mid new (Ok x) to on = λ marks stands. on marks (to marks stands)
-ok_keeps old mid new (Err e) to on = tt
-
-pub err_keeps : (old mid new : List Mark → Type 0) (r : Result (Unit {0}) AllocError) → Keeps old mid → OnErr r (Keeps mid new) → OnErr r (Keeps old new)
-err_keeps old mid new (Ok x) to on = tt
-err_keeps old mid new (Err e) to on = λ marks stands. on marks (to marks stands)
+pub seen_after : (o : Object) (budget : ℕ) (old mid new : List Mark → Type 0) (mark : Mark) (step : Step) → Keeps mid new → Observes o budget old mid mark step → Observes o budget old new mark step
+seen_after o budget old mid new mark step keeps seen = record {
+  answer = seen.answer;
+  brings = record {
+    over = λ over marks stands. keeps marks (seen.brings.over over marks stands);
+    taken = λ other marks stands may. keeps (marks ++ mark ∷ []) (seen.brings.taken other marks stands may);
+  };
+}

@@ -18,7 +18,7 @@ use Rattle.product_ends.proofs.RowsIn.{contains_rows_in}
 use Rattle.product_ends.proofs.Saying.{reordered}
 use Rattle.frontier.specs.declared.as_products.AsProducts.{AsProducts}
 use Rattle.frontier.specs.declared.frontier.Frontier.{Frontier}
-use Rattle.frontier.specs.Kept.{IsIdle, Lists, rows_by, table_of}
+use Rattle.frontier.specs.Kept.{Lists, StandsFor, rows_by, table_of}
 use Rattle.frontier.proofs.Preparing.{stands_to}
 use Rattle.frontier.proofs.Standing.{generates_of, stands_shown}
 
@@ -38,8 +38,8 @@ module _ {M : Type 0} (o : Object) (f g : Frontier M o.State) (calls : g.calls.i
       stands_shown o g marks l.kept f.calls.items calls (again l.kept l.shown) (generates_of o f marks l) l.well_kept.pending l.well_kept.calls_once l.well_kept.included
       (subst (λ n. n ≤ length f.calls.items) (sym tried) l.tried) (subst (λ n. AreClosed o (take n f.calls.items) l.kept) (sym tried) l.closed)
 
-  pub idle_again : g.fresh ≡ f.fresh → g.next ≡ f.next → (marks : List Mark) → IsIdle o f marks → IsIdle o g marks
-  idle_again fresh next marks idle = record { nothing = next ∙ idle.nothing; stands = stands_to o f g lists_again fresh marks idle.stands }
+  pub stands_again : g.fresh ≡ f.fresh → (marks : List Mark) → StandsFor o f marks → StandsFor o g marks
+  stands_again fresh = stands_to o f g lists_again fresh
 
 -- rows in the words of the code
 module _ {S : Type 0} (t : Table S) (form : Option (Box (AsProducts S))) (none : form ≡ None) (calls : List PendingOp) where

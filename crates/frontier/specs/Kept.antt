@@ -1,6 +1,6 @@
 -- Invariant: how a frontier keeps the ends of the histories of one key that it stands for. No layer above cites how:
 -- public clauses cite `StandsFor`, `WillStandFor`, `budget_of` and `applied_of` alone
-use Rattle.std.specs.Prelude.{◌≡◌, ◌≢◌, ◌↔◌, ℕ, ◌-◌, ◌≤◌, false, Option, Some, None, List, [], ◌∷◌, ◌++◌, length, take}
+use Rattle.std.specs.Prelude.{◌≡◌, ◌≢◌, ◌↔◌, ℕ, ◌-◌, ◌≤◌, false, Option, Some, None, Result, MatchResult, List, [], ◌∷◌, ◌++◌, length, take}
 use Rattle.std.specs.List.{filter}
 use Rattle.models.specs.Objects.{Object}
 use Rattle.history.specs.Events.{Mark}
@@ -12,6 +12,7 @@ use Rattle.ends.specs.declared.table.Table.{Table}
 use Rattle.frontier.specs.declared.change.Fresh.{Fresh}
 use Rattle.frontier.specs.declared.change.Change.{Change}
 use Rattle.frontier.specs.declared.change.Change.TheVariants.{Nothing, Anew, Done, Invoked as ToInvoked}
+use Rattle.frontier.specs.Meaning.{Keeps}
 use Rattle.frontier.specs.declared.frontier.Frontier.{Frontier}
 use Rattle.frontier.specs.declared.frontier.Step.{Step}
 use Rattle.frontier.specs.declared.frontier.Step.TheVariants.{Alive, Dead, Over}
@@ -39,6 +40,11 @@ table_of f = with_rows f.table (rows_by f.as_products (rows_of f.table))
 -- the rows that are left
 abbrev pub left_of : {M S : Type 0} → Frontier M S → List (List ℕ)
 left_of f = left_by f.as_products f.room.rows
+
+-- the spare table, where there is one, else this one
+abbrev pub spare_by : {S : Type 0} → Option (Box (Table S)) → Table S → Table S
+spare_by None table = table
+spare_by (Some spare) table = spare.value
 
 -- a frontier that keeps these ends represents the end: operations that may still take place lead to
 -- it, one after another, from an end that is kept (Lowe 2017)
@@ -84,7 +90,6 @@ IsOf g table calls tried fresh =
 -- the frontier is this one but for what is worked in
 pub record IsAlike {M S : Type 0} (f g : Frontier M S) : Type 0 where
   pub same : IsOf g (table_of f) f.calls.items f.tried f.fresh
-  pub next : g.next ≡ f.next
   pub budget : g.budget ≡ f.budget
   pub applied : g.applied ≡ f.applied
 
@@ -93,22 +98,17 @@ abbrev pub call_of : Fresh → PendingOp
 call_of fresh = record { id = fresh.id; op = fresh.op; crashed = false }
 
 -- the change makes the other frontier of this one
-abbrev pub Makes : {M S : Type 0} → Change S → Frontier M S → Frontier M S → Type 0
+abbrev pub Makes : {M S : Type 0} → Change → Frontier M S → Frontier M S → Type 0
 Makes Nothing f g = IsOf g (table_of f) f.calls.items f.tried f.fresh
 Makes (ToInvoked fresh) f g = IsOf g (table_of f) f.calls.items f.tried (Some fresh)
 Makes (Done id tried) f g =
     IsOf g (with_rows (table_of f) (left_of f)) (filter (is_other id) f.calls.items) tried f.fresh
-Makes (Anew calls table tried) f g = IsOf g table.value calls.items tried f.fresh
+Makes (Anew calls tried) f g = IsOf g (spare_by f.spare f.table) calls.items tried f.fresh
 
--- with what is prepared the frontier will stand for the history
-pub record WillStandFor {M : Type 0} (o : Object) (f : Frontier M o.State) (marks : List Mark)
-    : Type 0 where
-  pub will : (g : Frontier M o.State) → Makes f.next f g → StandsFor o g marks
-
--- with the rows that are left in place of its own, and without the operation among its calls, the frontier will stand for the history
-abbrev pub WillBeWithout : {M : Type 0} → ℕ → (o : Object) → Frontier M o.State → List Mark → Type 0
-WillBeWithout {M} id o f marks =
-    (g : Frontier M o.State) → Makes (Done id (length f.calls.items - 1)) f g → StandsFor o g marks
+-- with the change the frontier will stand for the history
+pub record WillStandFor {M : Type 0} (o : Object) (f : Frontier M o.State) (change : Change)
+    (marks : List Mark) : Type 0 where
+  pub will : (g : Frontier M o.State) → Makes change f g → StandsFor o g marks
 
 -- the step where so many ends are left: Alive where there are some, else Dead
 pub record IsStepOf (ends : ℕ) (step : Step) : Type 0 where
@@ -116,18 +116,18 @@ pub record IsStepOf (ends : ℕ) (step : Step) : Type 0 where
   pub dead : (step ≡ Dead) ↔ (ends ≡ 0)
   pub never_over : step ≢ Over
 
--- the frontier stands for the history, and nothing is prepared
-pub record IsIdle {M : Type 0} (o : Object) (f : Frontier M o.State) (marks : List Mark)
-    : Type 0 where
-  pub nothing : f.next ≡ Nothing
-  pub stands : StandsFor o f marks
-
--- its rows and calls are those of the whole history, and nothing is prepared
+-- its rows and calls are those of the whole history
 pub record IsListed {M : Type 0} (o : Object) (f : Frontier M o.State) (marks : List Mark)
     : Type 0 where
-  pub nothing : f.next ≡ Nothing
   pub none : f.fresh ≡ None
   pub lists : Lists o f marks
+
+-- each call gets its place in the rows, or the frontier stands for what it stood for
+abbrev pub TriesToList : {M E : Type 0} (o : Object) → Frontier M o.State → Frontier M o.State
+    → Result (Unit {0}) E → Type 0
+TriesToList o f g result =
+    MatchResult result (λ _. Keeps (StandsFor o f) (IsListed o g))
+    (λ _. Keeps (StandsFor o f) (StandsFor o g))
 
 -- the greatest number of ends that an ok may meet
 abbrev pub budget_of : {M S : Type 0} → Frontier M S → ℕ

@@ -96,3 +96,9 @@ pub record Answers (o : Object) (budget : ℕ) (old : List Mark → Type 0) (mar
   pub right : (marks : List Mark) → old marks → MayFollow marks mark
       → IsAnswer o budget marks mark step
   pub over_at_ok : step ≡ Over → IsReturn mark
+
+-- the event gets a right answer, and each history that was stood for has it then, but after Over
+pub record Observes (o : Object) (budget : ℕ) (old new : List Mark → Type 0) (mark : Mark)
+    (step : Step) : Type 0 where
+  pub answer : Answers o budget old mark step
+  pub brings : TakesUnlessOver old new mark step

@@ -2,11 +2,12 @@
 ghost use Rattle.std.specs.Prelude.{◌≡◌, ◌↔◌, List, [], IfOk, MatchResult};
 ghost use Rattle.models.specs.Objects.{object_of, of_table};
 ghost use Rattle.history.specs.Events.{Mark};
-ghost use Rattle.frontier.specs.Meaning.{Answers, CostsAtMost, Keeps, TakesUnlessOver, mark_by};
+ghost use Rattle.frontier.specs.Meaning.{CostsAtMost, Keeps, Observes, mark_by};
 ghost use Rattle.frontier.specs.AnyFrontier.{AnyStandsFor, AnyWillStandFor, any_applied_of, any_budget_of};
 ghost use Rattle.frontier.specs.AnyFrontier.{kind_of_frontier};
 ghost use Rattle.frontier.specs.Kept.{StandsFor, applied_of, budget_of};
 
+use crate::change::Change;
 use crate::frontier::{Frontier, Step};
 use history::EventKind;
 use models::{
@@ -58,14 +59,6 @@ macro_rules! applied_of {
     };
 }
 
-macro_rules! observe_of {
-    ($any:expr, $id:expr, $event:expr, $op:expr; $($K:ident $name:literal),*) => {
-        match $any {
-            $(AnyFrontier::$K(frontier) => frontier.observe($id, $event, $op),)*
-        }
-    };
-}
-
 macro_rules! prepare_of {
     ($any:expr, $id:expr, $event:expr, $op:expr; $($K:ident $name:literal),*) => {
         match $any {
@@ -75,9 +68,9 @@ macro_rules! prepare_of {
 }
 
 macro_rules! commit_of {
-    ($any:expr; $($K:ident $name:literal),*) => {
+    ($any:expr, $change:expr; $($K:ident $name:literal),*) => {
         match $any {
-            $(AnyFrontier::$K(frontier) => frontier.commit(),)*
+            $(AnyFrontier::$K(frontier) => frontier.commit($change),)*
         }
     };
 }
@@ -117,16 +110,13 @@ impl AnyFrontier {
         each_kind!(start_of; kind, alloc, budget)
     }
 
-    /// An event of an operation: [`Frontier::observe`], at its cost. The id is the index of the operation's invocation, which
-    /// is new where the event is one, and else is that of an open operation; the part of an ok is the answer. Over where the
-    /// event is an ok and more ends than the budget stand just before it: then, and on `AllocError`, the frontier stands for
-    /// what it stood for. An invocation and an info are answered Alive, since they kill nothing.
+    /// An event of an operation: [`prepare`](Self::prepare) and [`commit`](Self::commit) in one, at their cost. After Over, and on
+    /// `AllocError`, the frontier stands for what it stood for.
     pub fn observe(&mut self, id: u32, kind: EventKind, op: &Op) -> Result<Step, AllocError>
-        ensures step { let object = object_of (kind_of_frontier self.old) in
-            let old = AnyStandsFor self.old in
-            IfOk result (Answers object (any_budget_of self.old) old (mark_by id kind op.now)) }
-        ensures kept { let old = AnyStandsFor self.old in let new = AnyStandsFor self.new in
-            MatchResult result (TakesUnlessOver old new (mark_by id kind op.now))
+        ensures seen { let object = object_of (kind_of_frontier self.old) in
+            let old = AnyStandsFor self.old in let new = AnyStandsFor self.new in
+            MatchResult result
+            (Observes object (any_budget_of self.old) old new (mark_by id kind op.now))
             (λ _. Keeps old new) }
         ensures kind { kind_of_frontier self.new ≡ kind_of_frontier self.old }
         ensures budget { any_budget_of self.new ≡ any_budget_of self.old }
@@ -134,19 +124,27 @@ impl AnyFrontier {
             CostsAtMost (any_budget_of self.old) old (mark_by id kind op.now)
             (any_applied_of self.old) (any_applied_of self.new) }
     {
-        each_kind!(observe_of; self, id, kind, op)
+        let (step, change) = self.prepare(id, kind, op)?;
+        self.commit(change);
+        Ok(step)
     }
 
-    /// Prepares an event of an operation, and gives its answer: [`Frontier::prepare`], at its cost. The frontier stands for
-    /// what it stood for until [`commit`](Self::commit). After Over nothing is prepared; after `AllocError` no commit must
-    /// follow. What was prepared before is dropped.
-    pub fn prepare(&mut self, id: u32, kind: EventKind, op: &Op) -> Result<Step, AllocError>
-        ensures step { let object = object_of (kind_of_frontier self.old) in
+    /// Prepares an event of an operation, and gives its answer, with the change that [`commit`](Self::commit) carries out:
+    /// [`Frontier::prepare`], at its cost. The id is the index of the operation's invocation, which is new where the event is one,
+    /// and else is that of an open operation; the part of an ok is the answer. Over where the event is an ok and more ends than
+    /// the budget stand just before it. An invocation and an info are answered Alive, since they kill nothing. The frontier stands
+    /// for what it stood for, also on `AllocError`.
+    pub fn prepare(
+        &mut self,
+        id: u32,
+        kind: EventKind,
+        op: &Op,
+    ) -> Result<(Step, Change), AllocError>
+        ensures seen { let object = object_of (kind_of_frontier self.old) in
             let old = AnyStandsFor self.old in
-            IfOk result (Answers object (any_budget_of self.old) old (mark_by id kind op.now)) }
+            IfOk result (λ seen. Observes object (any_budget_of self.old) old
+            (AnyWillStandFor self.new seen.1) (mark_by id kind op.now) seen.0) }
         ensures now { Keeps (AnyStandsFor self.old) (AnyStandsFor self.new) }
-        ensures next { let old = AnyStandsFor self.old in let next = AnyWillStandFor self.new in
-            IfOk result (TakesUnlessOver old next (mark_by id kind op.now)) }
         ensures kind { kind_of_frontier self.new ≡ kind_of_frontier self.old }
         ensures budget { any_budget_of self.new ≡ any_budget_of self.old }
         ensures cost { let old = AnyStandsFor self.old in
@@ -156,14 +154,14 @@ impl AnyFrontier {
         each_kind!(prepare_of; self, id, kind, op)
     }
 
-    /// Carries out what is prepared, if anything is: [`Frontier::commit`]. Takes no memory.
-    pub fn commit(&mut self)
-        ensures stands { Keeps (AnyWillStandFor self.old) (AnyStandsFor self.new) }
+    /// Carries out the change: [`Frontier::commit`]. Takes no memory.
+    pub fn commit(&mut self, change: Change)
+        ensures stands { Keeps (AnyWillStandFor self.old change) (AnyStandsFor self.new) }
         ensures kind { kind_of_frontier self.new ≡ kind_of_frontier self.old }
         ensures budget { any_budget_of self.new ≡ any_budget_of self.old }
         ensures cost { any_applied_of self.new ≡ any_applied_of self.old }
     {
-        each_kind!(commit_of; self)
+        each_kind!(commit_of; self, change)
     }
 
     /// How many steps were made so far: [`Frontier::applied`]. Takes no memory.
@@ -173,8 +171,7 @@ impl AnyFrontier {
         each_kind!(applied_of; self)
     }
 
-    /// An equal frontier, which shares the items of queues and the members that were found; nothing is prepared of it:
-    /// [`Frontier::copy`]. `AllocError` where there is no memory for it. Takes the time of the calls, the rows, the states and
+    /// An equal frontier, which shares the items of queues and the members that were found: [`Frontier::copy`]. `AllocError` where there is no memory for it. Takes the time of the calls, the rows, the states and
     /// what was found.
     pub fn copy(&self) -> Result<Self, AllocError>
         ensures same { IfOk result (λ f. (marks : List Mark)

@@ -1,5 +1,5 @@
 //! Frontiers, and what each event does to one.
-ghost use Rattle.std.specs.Prelude.{◌≡◌, ◌≢◌, ◌↔◌, ◌<◌, ◌≤◌, ◌+◌, ◌*◌, ◌++◌, ◌∷◌, ℕ, List, Some, None, [], true, false, length, take, IfOk, IsSome, OnOk, OnErr, MatchResult};
+ghost use Rattle.std.specs.Prelude.{◌≡◌, ◌≢◌, ◌<◌, ◌≤◌, ◌+◌, ◌*◌, ◌++◌, ◌∷◌, ◌↔◌, ℕ, List, Some, None, [], true, false, length, take, IfOk, IsSome, OnOk, MatchResult};
 ghost use Rattle.std.specs.Vec.{vec_capacity, vec_len};
 ghost use Rattle.std.specs.List.{filter};
 ghost use Rattle.models.specs.Objects.{of_table};
@@ -9,20 +9,18 @@ ghost use Rattle.linspec.specs.Ends.{End};
 ghost use Rattle.linspec.specs.Orders.{Pairwise};
 ghost use Rattle.ends.specs.EndSteps.{Along, AreClosed, Fails, ReachesMoreThan, is_other};
 ghost use Rattle.ends.specs.Tables.{AreShown, HasEachOnce, IsAdvanced, IsOpenAt, ShowTheSame, ShownWith, Widens, rows_of, with_rows};
-ghost use Rattle.frontier.specs.Kept.{StandsFor, WillStandFor, WillBeWithout, IsListed, IsIdle, IsStepOf};
-ghost use Rattle.frontier.specs.Meaning.{Answers, Keeps, Takes, TakesUnlessOver};
-ghost use Rattle.frontier.specs.Kept.{IsAlike, IsOf, applied_of, budget_of, call_of, left_of, rows_by, table_of};
-ghost use Rattle.frontier.specs.Meaning.{CostsAtMost, mark_by};
+ghost use Rattle.frontier.specs.Kept.{IsAlike, IsListed, IsOf, IsStepOf, StandsFor, TriesToList, WillStandFor};
+ghost use Rattle.frontier.specs.Kept.{applied_of, budget_of, call_of, left_of, rows_by, spare_by, table_of};
+ghost use Rattle.frontier.specs.Meaning.{CostsAtMost, Keeps, Observes, mark_by};
 
 use crate::as_products::{self, AsProducts};
-use crate::change::{self, Change, Fresh};
+use crate::change::{Change, Fresh, copied_fresh};
+use crate::spare;
 use ends::{KeptEnd, PendingOp, Room, Table};
 use history::EventKind;
 use models::{Answer, Op, SeqObject};
 use rows::RowSet;
 use std::alloc::{AllocError, Global};
-use std::hash::Hash;
-use std::mem::{replace, swap};
 
 // Two clients of a key have no more calls.
 const FEW_CALLS: usize = 2;
@@ -43,8 +41,8 @@ pub enum Step {
 /// tries operations: it finds all ends there are just before it, and keeps those that include the operation with what
 /// fits the answer.
 ///
-/// An event can be prepared, which may fail and leaves what the frontier stands for, and then committed, which takes no
-/// memory. What was prepared before is dropped.
+/// An event is prepared, which may fail and leaves what the frontier stands for, and gives a [`Change`]; that is then committed,
+/// which takes no memory. A change that is not committed is dropped, and undoes nothing.
 #[derive(Drop)]
 pub struct Frontier<M: SeqObject> {
     alloc: Global,
@@ -57,7 +55,6 @@ pub struct Frontier<M: SeqObject> {
     spare: Option<Box<Table<M::State>>>,
     room: Room<M::State>,
     as_products: Option<Box<AsProducts<M::State>>>,
-    next: Change<M::State>,
 }
 
 // Alive where some end is left, else Dead.
@@ -65,18 +62,6 @@ fn step_of(ends: usize) -> Step
     ensures { IsStepOf ends result }
 {
     if ends == 0 { Step::Dead } else { Step::Alive }
-}
-
-// The table that is kept for another one to be made in its memory, or a new one without ends. `AllocError` where there is no memory
-// for that.
-fn spare_table<S: Hash + Drop>(
-    alloc: Global,
-    spare: &mut Option<Box<Table<S>>>,
-) -> Result<Box<Table<S>>, AllocError> {
-    match spare.take() {
-        Some(table) => Ok(table),
-        None => Ok(Box::new(alloc, ends::empty(alloc))?),
-    }
 }
 
 impl<M: SeqObject> Frontier<M> {
@@ -107,24 +92,18 @@ impl<M: SeqObject> Frontier<M> {
             spare: None,
             room: Room::for_two(alloc)?,
             as_products: None,
-            next: Change::Nothing,
         })
     }
 
-    /// Any event of an operation: [`invoke`](Self::invoke), [`ok`](Self::ok), [`fail`](Self::fail) or [`crash`](Self::crash) by
-    /// the kind of the event, at its cost. The id is the index of the operation's invocation, and the part of an ok is the
-    /// answer. An invocation and an info are answered Alive, since they kill nothing. Over where the event is an ok and more
-    /// ends than the budget stand just before it: then, and on `AllocError`, the frontier stands for what it stood for; the
-    /// steps that were made stay counted, the call that was noted last may have its place in the rows, and rows may have become
-    /// products, or products rows. It is [`prepare`](Self::prepare) and [`commit`](Self::commit) in one, with nothing kept between
-    /// the two.
+    /// Any event of an operation: [`prepare`](Self::prepare) and [`commit`](Self::commit) in one, at their cost. Over where the
+    /// event is an ok and more ends than the budget stand just before it: then, and on `AllocError`, the frontier stands for what
+    /// it stood for; the steps that were made stay counted, the call that was noted last may have its place in the rows, and rows
+    /// may have become products, or products rows.
     pub fn observe(&mut self, id: u32, kind: EventKind, op: &Op) -> Result<Step, AllocError>
-        ensures step { let object = of_table M.State M.start_state M.apply_to in
-            let old = StandsFor object self.old in
-            IfOk result (Answers object (budget_of self.old) old (mark_by id kind op.now)) }
-        ensures kept { let object = of_table M.State M.start_state M.apply_to in
+        ensures seen { let object = of_table M.State M.start_state M.apply_to in
             let old = StandsFor object self.old in let new = StandsFor object self.new in
-            MatchResult result (TakesUnlessOver old new (mark_by id kind op.now))
+            MatchResult result
+            (Observes object (budget_of self.old) old new (mark_by id kind op.now))
             (λ _. Keeps old new) }
         ensures budget { budget_of self.new ≡ budget_of self.old }
         ensures cost { let object = of_table M.State M.start_state M.apply_to in
@@ -132,35 +111,43 @@ impl<M: SeqObject> Frontier<M> {
             CostsAtMost (budget_of self.old) old (mark_by id kind op.now)
             (applied_of self.old) (applied_of self.new) }
     {
-        match kind {
-            EventKind::Invoke => {
-                self.invoke(id, op.copy()?)?;
-                Ok(Step::Alive)
-            }
-            EventKind::Ok => {
-                let answer = Answer::of_part(op.part.copy()?);
-                self.ok(id, &answer)
-            }
-            EventKind::Fail => self.fail(id),
-            EventKind::Info => {
-                self.crash(id)?;
-                Ok(Step::Alive)
-            }
-        }
+        let (step, change) = self.prepare(id, kind, op)?;
+        self.commit(change);
+        Ok(step)
     }
 
-    /// Prepares any event of an operation, and gives its answer, as [`observe`](Self::observe) does, at the same cost. The
-    /// frontier stands for what it stood for until [`commit`](Self::commit). After Over nothing is prepared; after `AllocError`
-    /// no commit must follow.
-    pub fn prepare(&mut self, id: u32, kind: EventKind, op: &Op) -> Result<Step, AllocError>
-        ensures step { let object = of_table M.State M.start_state M.apply_to in
+    /// Prepares any event of an operation, and gives its answer, with the change that [`commit`](Self::commit) carries out. The id
+    /// is the index of the operation's invocation, which is new where the event is one, and else is that of an open operation; the
+    /// part of an ok is the answer. An invocation and an info are answered Alive, since they kill nothing. Over where the event is
+    /// an ok and more ends than the budget stand just before it: then the change is Nothing. The frontier stands for what it stood
+    /// for, also on `AllocError`.
+    ///
+    /// An invocation tries nothing: it gives the call that was noted last its place in the rows, which are made anew where they
+    /// have no room for it, or in the products; before that rows may become products, or products rows, or products get new
+    /// numbers. So does each other event first. It takes the time of the rows or of a copy of the products; where products are
+    /// made or get new numbers, at most the square of how many there are.
+    ///
+    /// An ok, where the ends are rows, tries each operation that may still take place at most once on each end, as a rule once in
+    /// each state of an end, and on the ends that the last ok left only the operations invoked since; looks what comes of it up in
+    /// an index. Where they are products, it tries each operation once in each state that is met, and compares each product that
+    /// comes of it with the others. It goes on with no end once these are more than the budget.
+    ///
+    /// A fail leaves the ends that do not include the operation: it looks at one number of each row, or one set of each product,
+    /// and puts what is left, without it, with the others. An info makes the rows anew; products become rows before that, one for
+    /// each kept end. A read that has crashed is set aside, since it decides nothing any more: ends that differed by it alone are
+    /// one then.
+    pub fn prepare(
+        &mut self,
+        id: u32,
+        kind: EventKind,
+        op: &Op,
+    ) -> Result<(Step, Change), AllocError>
+        ensures seen { let object = of_table M.State M.start_state M.apply_to in
             let old = StandsFor object self.old in
-            IfOk result (Answers object (budget_of self.old) old (mark_by id kind op.now)) }
+            IfOk result (λ seen. Observes object (budget_of self.old) old
+            (WillStandFor object self.new seen.1) (mark_by id kind op.now) seen.0) }
         ensures now { let object = of_table M.State M.start_state M.apply_to in
             Keeps (StandsFor object self.old) (StandsFor object self.new) }
-        ensures next { let object = of_table M.State M.start_state M.apply_to in
-            let old = StandsFor object self.old in let next = WillStandFor object self.new in
-            IfOk result (TakesUnlessOver old next (mark_by id kind op.now)) }
         ensures budget { budget_of self.new ≡ budget_of self.old }
         ensures cost { let object = of_table M.State M.start_state M.apply_to in
             let old = StandsFor object self.old in
@@ -168,34 +155,28 @@ impl<M: SeqObject> Frontier<M> {
             (applied_of self.old) (applied_of self.new) }
     {
         match kind {
-            EventKind::Invoke => {
-                self.prepare_invoke(id, op.copy()?)?;
-                Ok(Step::Alive)
-            }
+            EventKind::Invoke => self.prepare_invoke(id, op.copy()?),
             EventKind::Ok => {
                 let answer = Answer::of_part(op.part.copy()?);
                 self.prepare_ok(id, &answer)
             }
             EventKind::Fail => self.prepare_fail(id),
-            EventKind::Info => {
-                self.prepare_crash(id)?;
-                Ok(Step::Alive)
-            }
+            EventKind::Info => self.prepare_crash(id),
         }
     }
 
-    /// Carries out what is prepared, if anything is. Takes no memory, and the time of the calls and of what it drops.
-    pub fn commit(&mut self)
+    /// Carries out the change. Takes no memory, and the time of the calls and of what it drops.
+    pub fn commit(&mut self, change: Change)
         ensures stands { let object = of_table M.State M.start_state M.apply_to in
-            Keeps (WillStandFor object self.old) (StandsFor object self.new) }
+            Keeps (WillStandFor object self.old change) (StandsFor object self.new) }
         ensures budget { budget_of self.new ≡ budget_of self.old }
         ensures cost { applied_of self.new ≡ applied_of self.old }
     {
-        match replace(&mut self.next, Change::Nothing) {
+        match change {
             Change::Nothing => {}
             Change::Invoked(fresh) => self.fresh = Some(fresh),
             Change::Done(id, tried) => self.take_left(id, tried),
-            Change::Anew(calls, table, tried) => self.take_anew(calls, table, tried),
+            Change::Anew(calls, tried) => self.take_spare(calls, tried),
         }
     }
 
@@ -227,61 +208,42 @@ impl<M: SeqObject> Frontier<M> {
         }
     }
 
-    // These calls and this table take the place of the others, and so many of the calls count as tried.
+    // These calls and the spare table take the place of the others, and so many of the calls count as tried.
     #[inline(never)]
-    fn take_anew(&mut self, calls: Vec<PendingOp>, table: Box<Table<M::State>>, tried: usize)
-        ensures is { IsOf self.new table.value calls.items tried self.old.fresh }
+    fn take_spare(&mut self, calls: Vec<PendingOp>, tried: usize)
+        ensures is { IsOf self.new (spare_by self.old.spare self.old.table) calls.items tried
+            self.old.fresh }
         ensures budget { budget_of self.new ≡ budget_of self.old }
         ensures cost { applied_of self.new ≡ applied_of self.old }
     {
-        self.calls = calls;
-        self.table = Box::into_inner(table);
+        spare::trade(&mut self.table, &mut self.spare);
         self.as_products = None;
+        self.calls = calls;
         self.tried = tried;
     }
 
-    /// An operation is invoked, whose id (the index of its invocation) no event before it has. On `AllocError` the frontier
-    /// stands for what it stood for. Tries nothing: it notes the call, and gives the one that was noted before its place in the
-    /// rows, which are made anew where they have no room for it, or in the products. Before that rows may become products, or
-    /// products rows, or products get new numbers. Takes the time of the rows or of a copy of the products; where products are made
-    /// or get new numbers, at most the square of how many there are.
-    pub fn invoke(&mut self, id: u32, op: Op) -> Result<(), AllocError>
-        ensures kept { let object = of_table M.State M.start_state M.apply_to in
-            let old = StandsFor object self.old in let new = StandsFor object self.new in
-            MatchResult result (λ _. Takes old new (Invoked id op)) (λ _. Keeps old new) }
-        ensures budget { budget_of self.new ≡ budget_of self.old }
-        ensures cost { applied_of self.new ≡ applied_of self.old }
-    {
-        self.list_fresh()?;
-        self.fresh = Some(Fresh { id, op });
-        Ok(())
-    }
-
-    // The first half of `invoke`: it is noted at `commit`, and gets its place in the rows with the next event.
-    fn prepare_invoke(&mut self, id: u32, op: Op) -> Result<(), AllocError>
+    // An invocation, which is noted when it is committed, and gets its place in the rows with the next event.
+    fn prepare_invoke(&mut self, id: u32, op: Op) -> Result<(Step, Change), AllocError>
+        ensures seen { let object = of_table M.State M.start_state M.apply_to in
+            let old = StandsFor object self.old in
+            IfOk result (λ seen. Observes object (budget_of self.old) old
+            (WillStandFor object self.new seen.1) (Invoked id op) seen.0) }
         ensures now { let object = of_table M.State M.start_state M.apply_to in
             Keeps (StandsFor object self.old) (StandsFor object self.new) }
-        ensures next { let object = of_table M.State M.start_state M.apply_to in
-            let old = StandsFor object self.old in let next = WillStandFor object self.new in
-            OnOk result (Takes old next (Invoked id op)) }
         ensures budget { budget_of self.new ≡ budget_of self.old }
         ensures cost { applied_of self.new ≡ applied_of self.old }
     {
         self.list_fresh()?;
-        self.next = Change::Invoked(Fresh { id, op });
-        Ok(())
+        Ok((Step::Alive, Change::Invoked(Fresh { id, op })))
     }
 
-    // Drops what is prepared, and takes the fresh operation among the calls, with a place in each row.
+    // Takes the fresh operation among the calls, with a place in each row.
     fn list_fresh(&mut self) -> Result<(), AllocError>
         ensures listed { let object = of_table M.State M.start_state M.apply_to in
-            OnOk result (Keeps (StandsFor object self.old) (IsListed object self.new)) }
-        ensures nothing { let object = of_table M.State M.start_state M.apply_to in
-            OnErr result (Keeps (StandsFor object self.old) (IsIdle object self.new)) }
+            TriesToList object self.old self.new result }
         ensures budget { budget_of self.new ≡ budget_of self.old }
         ensures cost { applied_of self.new ≡ applied_of self.old }
     {
-        change::drop_change(&mut self.next);
         if self.fresh.is_none() {
             return Ok(());
         }
@@ -289,13 +251,11 @@ impl<M: SeqObject> Frontier<M> {
         self.place_fresh()
     }
 
-    // The same, where nothing is prepared, and the rows or products have the form in which they get the place.
+    // The same, where the rows or products have the form in which they get the place.
     fn place_fresh(&mut self) -> Result<(), AllocError>
         requires fresh { IsSome self.old.fresh }
         ensures listed { let object = of_table M.State M.start_state M.apply_to in
-            OnOk result (Keeps (IsIdle object self.old) (IsListed object self.new)) }
-        ensures nothing { let object = of_table M.State M.start_state M.apply_to in
-            OnErr result (Keeps (IsIdle object self.old) (IsIdle object self.new)) }
+            TriesToList object self.old self.new result }
         ensures budget { budget_of self.new ≡ budget_of self.old }
         ensures cost { applied_of self.new ≡ applied_of self.old }
     {
@@ -321,7 +281,6 @@ impl<M: SeqObject> Frontier<M> {
         requires room { vec_len self.old.calls < vec_capacity self.old.calls }
         ensures is { (fresh : Fresh) → self.old.fresh ≡ Some fresh → IsOf self.new (table_of self.old)
             (self.old.calls.items ++ call_of fresh ∷ []) self.old.tried None }
-        ensures next { self.new.next ≡ self.old.next }
         ensures budget { budget_of self.new ≡ budget_of self.old }
         ensures cost { applied_of self.new ≡ applied_of self.old }
     {
@@ -345,7 +304,7 @@ impl<M: SeqObject> Frontier<M> {
     // their numbers are no longer used. On `AllocError` the frontier stands for what it stood for.
     fn choose_form(&mut self) -> Result<(), AllocError>
         ensures keeps { let object = of_table M.State M.start_state M.apply_to in
-            Keeps (IsIdle object self.old) (IsIdle object self.new) }
+            Keeps (StandsFor object self.old) (StandsFor object self.new) }
         ensures fresh { self.new.fresh ≡ self.old.fresh }
         ensures budget { budget_of self.new ≡ budget_of self.old }
         ensures cost { applied_of self.new ≡ applied_of self.old }
@@ -366,7 +325,7 @@ impl<M: SeqObject> Frontier<M> {
     fn make_products(&mut self) -> Result<(), AllocError>
         requires rows { self.old.as_products ≡ None }
         ensures keeps { let object = of_table M.State M.start_state M.apply_to in
-            Keeps (IsIdle object self.old) (IsIdle object self.new) }
+            Keeps (StandsFor object self.old) (StandsFor object self.new) }
         ensures fresh { self.new.fresh ≡ self.old.fresh }
         ensures budget { budget_of self.new ≡ budget_of self.old }
         ensures cost { applied_of self.new ≡ applied_of self.old }
@@ -383,7 +342,7 @@ impl<M: SeqObject> Frontier<M> {
     #[inline(never)]
     fn make_rows(&mut self) -> Result<(), AllocError>
         ensures keeps { let object = of_table M.State M.start_state M.apply_to in
-            Keeps (IsIdle object self.old) (IsIdle object self.new) }
+            Keeps (StandsFor object self.old) (StandsFor object self.new) }
         ensures rows { OnOk result (self.new.as_products ≡ None) }
         ensures fresh { self.new.fresh ≡ self.old.fresh }
         ensures budget { budget_of self.new ≡ budget_of self.old }
@@ -401,7 +360,7 @@ impl<M: SeqObject> Frontier<M> {
     #[inline(never)]
     fn renumber(&mut self) -> Result<(), AllocError>
         ensures keeps { let object = of_table M.State M.start_state M.apply_to in
-            Keeps (IsIdle object self.old) (IsIdle object self.new) }
+            Keeps (StandsFor object self.old) (StandsFor object self.new) }
         ensures fresh { self.new.fresh ≡ self.old.fresh }
         ensures budget { budget_of self.new ≡ budget_of self.old }
         ensures cost { applied_of self.new ≡ applied_of self.old }
@@ -427,14 +386,12 @@ impl<M: SeqObject> Frontier<M> {
         self.table.states.len() / 10 > self.table.rows.len().saturating_add(8)
     }
 
-    // The same as `list_fresh`, with another table, in the memory of the one before.
+    // The same as `list_fresh`, with another table, in the memory of the spare one.
     #[inline(never)]
     fn list_anew(&mut self) -> Result<(), AllocError>
         requires rows { self.old.as_products ≡ None }
         ensures listed { let object = of_table M.State M.start_state M.apply_to in
-            OnOk result (Keeps (IsIdle object self.old) (IsListed object self.new)) }
-        ensures nothing { let object = of_table M.State M.start_state M.apply_to in
-            OnErr result (Keeps (IsIdle object self.old) (IsIdle object self.new)) }
+            TriesToList object self.old self.new result }
         ensures budget { budget_of self.new ≡ budget_of self.old }
         ensures cost { applied_of self.new ≡ applied_of self.old }
     {
@@ -448,63 +405,22 @@ impl<M: SeqObject> Frontier<M> {
             crashed: false,
         })?;
         let ends = ends::ends_of::<M>(self.alloc, &self.table, &self.calls)?;
-        let mut spare = spare_table(self.alloc, &mut self.spare)?;
-        ends::refill::<M>(self.alloc, &mut *spare, &ends, &calls)?;
-        swap(&mut self.table, &mut *spare);
-        ends::clear(&mut *spare);
-        self.spare = Some(spare);
-        self.calls = calls;
+        spare::fill::<M>(self.alloc, &mut self.spare, &ends, &calls)?;
+        let tried = self.tried;
+        self.take_spare(calls, tried);
         self.fresh = None;
         Ok(())
     }
 
-    /// An open operation has returned with this answer. Over where more ends than the budget stand just before it: then, and on
-    /// `AllocError`, the frontier stands for what it stood for; the steps that were made stay counted. Where the ends are rows,
-    /// tries each operation that may still take place at most once on each end, as a rule once in each state of an end, and on the
-    /// ends that the last ok left only the operations invoked since; looks what comes of it up in an index. Where they are
-    /// products, tries each operation once in each state that is met, and compares each product that comes of it with the others.
-    /// Goes on with no end once these are more than the budget.
-    pub fn ok(&mut self, id: u32, answer: &Answer) -> Result<Step, AllocError>
-        ensures step { let object = of_table M.State M.start_state M.apply_to in
+    // An ok: finds all ends there are just before it, and puts the rows that are left after it into the room, which take the
+    // others' place when it is committed.
+    fn prepare_ok(&mut self, id: u32, answer: &Answer) -> Result<(Step, Change), AllocError>
+        ensures seen { let object = of_table M.State M.start_state M.apply_to in
             let old = StandsFor object self.old in
-            IfOk result (Answers object (budget_of self.old) old (Returned id answer.now)) }
-        ensures kept { let object = of_table M.State M.start_state M.apply_to in
-            let old = StandsFor object self.old in let new = StandsFor object self.new in
-            MatchResult result (TakesUnlessOver old new (Returned id answer.now))
-            (λ _. Keeps old new) }
-        ensures budget { budget_of self.new ≡ budget_of self.old }
-        ensures cost { let object = of_table M.State M.start_state M.apply_to in
-            let old = StandsFor object self.old in
-            CostsAtMost (budget_of self.old) old (Returned id answer.now)
-            (applied_of self.old) (applied_of self.new) }
-    {
-        if self.find_left(id, answer)? {
-            let step = step_of(self.left());
-            let tried = self.calls.len().saturating_sub(1);
-            self.take_left(id, tried);
-            Ok(step)
-        } else {
-            Ok(Step::Over)
-        }
-    }
-
-    // Finds all ends there are just before an ok, and puts the rows that are left after it into the room. False where there are more
-    // ends than the budget. What was prepared is dropped, and the frontier stands for what it stood for.
-    fn find_left(&mut self, id: u32, answer: &Answer) -> Result<bool, AllocError>
+            IfOk result (λ seen. Observes object (budget_of self.old) old
+            (WillStandFor object self.new seen.1) (Returned id answer.now) seen.0) }
         ensures now { let object = of_table M.State M.start_state M.apply_to in
             Keeps (StandsFor object self.old) (StandsFor object self.new) }
-        ensures idle { let object = of_table M.State M.start_state M.apply_to in
-            OnOk result (Keeps (StandsFor object self.old) (IsIdle object self.new)) }
-        ensures over { let object = of_table M.State M.start_state M.apply_to in
-            let old = StandsFor object self.old in IfOk result (λ all. all ≡ false →
-            Answers object (budget_of self.old) old (Returned id answer.now) Step.Over) }
-        ensures step { let object = of_table M.State M.start_state M.apply_to in
-            let old = StandsFor object self.old in IfOk result (λ all. all ≡ true →
-            (s : Step) → IsStepOf (length (left_of self.new)) s →
-            Answers object (budget_of self.old) old (Returned id answer.now) s) }
-        ensures left { let object = of_table M.State M.start_state M.apply_to in
-            let old = StandsFor object self.old in IfOk result (λ all. all ≡ true →
-            Takes old (WillBeWithout id object self.new) (Returned id answer.now)) }
         ensures budget { budget_of self.new ≡ budget_of self.old }
         ensures cost { let object = of_table M.State M.start_state M.apply_to in
             let old = StandsFor object self.old in
@@ -513,8 +429,11 @@ impl<M: SeqObject> Frontier<M> {
     {
         self.list_fresh()?;
         self.suit_outcomes()?;
-        let all = self.advance(id, answer)?;
-        Ok(all)
+        if !self.advance(id, answer)? {
+            return Ok((Step::Over, Change::Nothing));
+        }
+        let tried = self.calls.len().saturating_sub(1);
+        Ok((step_of(self.left()), Change::Done(id, tried)))
     }
 
     // Products become rows where an operation may have several outcomes. On `AllocError` the frontier stands for what it stood
@@ -553,7 +472,6 @@ impl<M: SeqObject> Frontier<M> {
         ensures is { IsOf self.new (table_of self.new) self.old.calls.items self.old.tried self.old.fresh }
         ensures widens { Widens (table_of self.old) (table_of self.new) }
         ensures rows { rows_of (table_of self.new) ≡ rows_of (table_of self.old) }
-        ensures next { self.new.next ≡ self.old.next }
         ensures budget { budget_of self.new ≡ budget_of self.old }
         ensures cost { applied_of self.new
             ≤ applied_of self.old + (budget_of self.old + 1) * length self.old.calls.items }
@@ -598,30 +516,6 @@ impl<M: SeqObject> Frontier<M> {
         }
     }
 
-    // The first half of `ok`: the rows that are left are put into the room, and take the others' place at `commit`.
-    fn prepare_ok(&mut self, id: u32, answer: &Answer) -> Result<Step, AllocError>
-        ensures step { let object = of_table M.State M.start_state M.apply_to in
-            let old = StandsFor object self.old in
-            IfOk result (Answers object (budget_of self.old) old (Returned id answer.now)) }
-        ensures now { let object = of_table M.State M.start_state M.apply_to in
-            Keeps (StandsFor object self.old) (StandsFor object self.new) }
-        ensures next { let object = of_table M.State M.start_state M.apply_to in
-            let old = StandsFor object self.old in let next = WillStandFor object self.new in
-            IfOk result (TakesUnlessOver old next (Returned id answer.now)) }
-        ensures budget { budget_of self.new ≡ budget_of self.old }
-        ensures cost { let object = of_table M.State M.start_state M.apply_to in
-            let old = StandsFor object self.old in
-            CostsAtMost (budget_of self.old) old (Returned id answer.now)
-            (applied_of self.old) (applied_of self.new) }
-    {
-        if !self.find_left(id, answer)? {
-            return Ok(Step::Over);
-        }
-        let tried = self.calls.len().saturating_sub(1);
-        self.next = Change::Done(id, tried);
-        Ok(step_of(self.left()))
-    }
-
     /// How many steps were made so far: how often an operation was tried in a state, also in an ok that was answered Over or
     /// found no memory. Stops at the greatest u64. Takes no memory, and constant time.
     pub fn applied(&self) -> u64
@@ -630,41 +524,21 @@ impl<M: SeqObject> Frontier<M> {
         self.applied
     }
 
-    /// An open operation did not take place. Never Over. On `AllocError` the frontier stands for what it stood for. Leaves the
-    /// ends that do not include the operation: looks at one number of each row, or one set of each product, and puts what is left,
-    /// without it, with the others.
-    pub fn fail(&mut self, id: u32) -> Result<Step, AllocError>
-        ensures step { let object = of_table M.State M.start_state M.apply_to in
+    // A fail: the rows that are left are put into the room, and take the others' place when it is committed.
+    fn prepare_fail(&mut self, id: u32) -> Result<(Step, Change), AllocError>
+        ensures seen { let object = of_table M.State M.start_state M.apply_to in
             let old = StandsFor object self.old in
-            IfOk result (Answers object (budget_of self.old) old (Failed id)) }
-        ensures kept { let object = of_table M.State M.start_state M.apply_to in
-            let old = StandsFor object self.old in let new = StandsFor object self.new in
-            MatchResult result (TakesUnlessOver old new (Failed id)) (λ _. Keeps old new) }
-        ensures budget { budget_of self.new ≡ budget_of self.old }
-        ensures cost { applied_of self.new ≡ applied_of self.old }
-    {
-        let step = self.prepare_fail(id)?;
-        self.commit();
-        Ok(step)
-    }
-
-    // The first half of `fail`: the rows that are left are put into the room, and take the others' place at `commit`.
-    fn prepare_fail(&mut self, id: u32) -> Result<Step, AllocError>
-        ensures step { let object = of_table M.State M.start_state M.apply_to in
-            let old = StandsFor object self.old in
-            IfOk result (Answers object (budget_of self.old) old (Failed id)) }
+            IfOk result (λ seen. Observes object (budget_of self.old) old
+            (WillStandFor object self.new seen.1) (Failed id) seen.0) }
         ensures now { let object = of_table M.State M.start_state M.apply_to in
             Keeps (StandsFor object self.old) (StandsFor object self.new) }
-        ensures next { let object = of_table M.State M.start_state M.apply_to in
-            let old = StandsFor object self.old in let next = WillStandFor object self.new in
-            IfOk result (TakesUnlessOver old next (Failed id)) }
         ensures budget { budget_of self.new ≡ budget_of self.old }
         ensures cost { applied_of self.new ≡ applied_of self.old }
     {
         self.list_fresh()?;
         self.find_failed(id)?;
-        self.next = Change::Done(id, self.tried.saturating_sub(1));
-        Ok(step_of(self.left()))
+        let tried = self.tried.saturating_sub(1);
+        Ok((step_of(self.left()), Change::Done(id, tried)))
     }
 
     // Puts what is left of the ends after the fail into the room.
@@ -692,29 +566,15 @@ impl<M: SeqObject> Frontier<M> {
         }
     }
 
-    /// An open operation has crashed: it may take place at any later moment, or never. A read is set aside, since it decides
-    /// nothing any more: ends that differed by it alone are one then. On `AllocError` the frontier stands for what it stood
-    /// for. Makes its rows anew; products become rows before that, one for each kept end.
-    pub fn crash(&mut self, id: u32) -> Result<(), AllocError>
-        ensures kept { let object = of_table M.State M.start_state M.apply_to in
-            let old = StandsFor object self.old in let new = StandsFor object self.new in
-            MatchResult result (λ _. Takes old new (Crashed id)) (λ _. Keeps old new) }
-        ensures budget { budget_of self.new ≡ budget_of self.old }
-        ensures cost { applied_of self.new ≡ applied_of self.old }
-    {
-        self.prepare_crash(id)?;
-        self.commit();
-        Ok(())
-    }
-
-    // The first half of `crash`: makes the rows that take the others' place at `commit`.
+    // An info: makes the rows, in the spare table, that take the others' place when it is committed.
     #[inline(never)]
-    fn prepare_crash(&mut self, id: u32) -> Result<(), AllocError>
+    fn prepare_crash(&mut self, id: u32) -> Result<(Step, Change), AllocError>
+        ensures seen { let object = of_table M.State M.start_state M.apply_to in
+            let old = StandsFor object self.old in
+            IfOk result (λ seen. Observes object (budget_of self.old) old
+            (WillStandFor object self.new seen.1) (Crashed id) seen.0) }
         ensures now { let object = of_table M.State M.start_state M.apply_to in
             Keeps (StandsFor object self.old) (StandsFor object self.new) }
-        ensures next { let object = of_table M.State M.start_state M.apply_to in
-            let old = StandsFor object self.old in let next = WillStandFor object self.new in
-            OnOk result (Takes old next (Crashed id)) }
         ensures budget { budget_of self.new ≡ budget_of self.old }
         ensures cost { applied_of self.new ≡ applied_of self.old }
     {
@@ -724,18 +584,14 @@ impl<M: SeqObject> Frontier<M> {
         let after = ends::crashed_ends::<M>(self.alloc, &ends, id, counts)?;
         let mut calls = ends::copy_calls(self.alloc, &self.calls)?;
         ends::crash_call(&mut calls, id, counts);
-        let table = ends::of_ends::<M>(self.alloc, &after, &calls)?;
-        let boxed = Box::new(self.alloc, table)?;
-        self.next = Change::Anew(calls, boxed, 0);
-        Ok(())
+        spare::fill::<M>(self.alloc, &mut self.spare, &after, &calls)?;
+        Ok((Step::Alive, Change::Anew(calls, 0)))
     }
 
     // The same as `list_fresh`, and products become rows.
     fn list_as_rows(&mut self) -> Result<(), AllocError>
         ensures listed { let object = of_table M.State M.start_state M.apply_to in
-            OnOk result (Keeps (StandsFor object self.old) (IsListed object self.new)) }
-        ensures nothing { let object = of_table M.State M.start_state M.apply_to in
-            OnErr result (Keeps (StandsFor object self.old) (IsIdle object self.new)) }
+            TriesToList object self.old self.new result }
         ensures rows { OnOk result (self.new.as_products ≡ None) }
         ensures budget { budget_of self.new ≡ budget_of self.old }
         ensures cost { applied_of self.new ≡ applied_of self.old }
@@ -765,13 +621,12 @@ impl<M: SeqObject> Frontier<M> {
             budget: self.budget,
             applied: self.applied,
             calls: ends::copy_calls(self.alloc, &self.calls)?,
-            fresh: change::copied_fresh(&self.fresh)?,
+            fresh: copied_fresh(&self.fresh)?,
             tried: self.tried,
             table,
             spare: None,
             room: Room::new(self.alloc),
             as_products,
-            next: Change::Nothing,
         })
     }
 

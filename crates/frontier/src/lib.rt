@@ -3,8 +3,10 @@
 
 pub mod any_frontier;
 mod as_products;
-mod change;
+pub mod change;
 pub mod frontier;
+mod spare;
 
 pub use any_frontier::AnyFrontier;
+pub use change::Change;
 pub use frontier::{Frontier, Step};

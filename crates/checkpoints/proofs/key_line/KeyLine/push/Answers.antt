@@ -3,16 +3,16 @@ use Rattle.history.specs.declared.event.Event.{Event}
 use Rattle.checkpoints.proofs.Soundness.{history_seen, many_places, gone_on, IsSoundLine-dropped}
 use Rattle.checkpoints.proofs.key_line.KeyLine.push.Goals as goal
 
-pub invariant_of-self-in_err-go_on : goal.invariant_of-self-in_err-go_on
-invariant_of-self-in_err-go_on c =
+pub invariant_of-self-in_err-next : goal.invariant_of-self-in_err-next
+invariant_of-self-in_err-next c =
     let events = c.self.inside.told.events in
     let now = c.self.invariant.now in
     let h = history_seen _ _ _ _ _ _ c.self.view_is (c.args.index, c.args.event.now) c.requires in
     let all : c.len-count.result ≡ length c.self.inside.places.items = omega (arith, c.reserve.new.self.ok.0, c.self.inside.places.ok.0) in
     let many = many_places c.self.inside.kind c.self.inside.budget events c.self.inside.places.items c.self.inside.state c.self.inside.saved.items now in
-    IsSoundLine-dropped _ _ _ _ _ _ _ _ c.self.invariant c.go_on.new.state
-    (c.in_err-go_on.ensures.stands c.self.inside.kind c.self.inside.budget events now.stands h)
-    _ c.reserve.ensures.items _ (c.go_on.ensures.saved c.self.inside.kind c.self.inside.budget events (sym many ∙ sym all) now.stands now.saved_are) _ _ c.drop_prepared.ensures
+    IsSoundLine-dropped _ _ _ _ _ _ _ _ c.self.invariant c.prepare_event.new.state
+    (c.prepare_event.ensures.now c.self.inside.kind c.self.inside.budget events now.stands h)
+    _ c.reserve.ensures.items _ (c.prepare_event.ensures.saved c.self.inside.kind c.self.inside.budget events (sym many ∙ sym all) now.stands now.saved_are) _ _ c.drop_prepared.ensures
 
 pub invariant_of-self-2 : goal.invariant_of-self-2
 invariant_of-self-2 c =
@@ -25,8 +25,8 @@ invariant_of-self-2 c =
     let h = history_seen _ _ _ _ _ _ c.self.view_is x c.requires in
     let all : c.len-count.result ≡ length places = omega (arith, c.reserve.new.self.ok.0, c.self.inside.places.ok.0) in
     let many = many_places kind budget events places c.self.inside.state c.self.inside.saved.items now in
-    gone_on kind budget events places c.self.inside.state c.self.inside.saved.items now x c.go_on.new.state _ _
+    gone_on kind budget events places c.self.inside.state c.self.inside.saved.items now x c.commit.new.self _ _
     (c.push_reserved.ensures.items ∙ ap (λ l. l ++ c.args.index ∷ []) c.reserve.ensures.items) h
-    (c.in_ok-go_on.ensures.stands kind budget events now.stands h)
-    (c.in_ok-go_on.ensures.more kind budget events (sym many ∙ sym all) now.stands now.saved_are)
+    (c.commit.ensures kind budget (events ++ x ∷ []) (c.in_ok-next.ensures.next kind budget events now.stands h))
+    (c.in_ok-next.ensures.more kind budget events (sym many ∙ sym all) now.stands now.saved_are)
     _ c.with-self-inside.ensures _ _ c.drop_prepared.ensures

@@ -23,8 +23,8 @@ loop-index-preserved c =
     record {
       stands = λ kind budget before events first history at.
           (let one = one_more_behind c.args.lent.now c.args.places.now events at i _ 0 (omega arith) refl before _ c.index-lent-index.is in
-          subst (λ l. IsKeyState kind budget l c.go_on.new.self) (sym one)
-          (c.in_ok-go_on.ensures kind budget (before ++ take i events) (c.loop-index.invariant.stands kind budget before events first history at) (subst IsHistory one (IsHistory-front before events (i + 1) history))));
+          subst (λ l. IsKeyState kind budget l c.commit.new.self) (sym one)
+          (c.commit.ensures kind budget _ (c.in_ok-next.ensures.next kind budget (before ++ take i events) (c.loop-index.invariant.stands kind budget before events first history at) (subst IsHistory one (IsHistory-front before events (i + 1) history)))));
       counted = c.saturating_add-count.ensures ∙ ap (λ n. count_on n 1) c.loop-index.invariant.counted ∙ count_on_more c.args.replayed.now i;
     }
 

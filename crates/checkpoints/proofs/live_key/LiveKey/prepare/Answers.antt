@@ -22,46 +22,46 @@ pub returns-in_default-2-clause-next : goal.returns-in_default-2-clause-next
 returns-in_default-2-clause-next c kind budget events is_live alive history =
     absurd (never_none kind budget events c.args.index c.args.event.now c.args.self.now is_live alive history _ c.in-Client.is _ c.in-Op.is _ c.in_ok-id.ensures.id c.in_default-2.is)
 
-pub returns-in_err-prepare-clause-now : goal.returns-in_err-prepare-clause-now
-returns-in_err-prepare-clause-now c kind budget events is_live alive history =
+pub returns-in_err-step-clause-now : goal.returns-in_err-step-clause-now
+returns-in_err-step-clause-now c kind budget events is_live alive history =
     still_live kind budget events c.args.index c.args.event.now c.args.self.now is_live alive history _ c.in-Client.is _ c.in-Op.is
-    (record { frontier = c.prepare.new.self; invocations = c.noted.new.invocations; closes = c.closing-self.result })
+    (record { frontier = c.prepare.new.self; invocations = c.noted.new.invocations })
     c.prepare.ensures.kind c.prepare.ensures.budget c.in_ok-id.ensures.invocations c.prepare.ensures.now
 
 pub returns-in-Alive-clause-now : goal.returns-in-Alive-clause-now
 returns-in-Alive-clause-now c kind budget events is_live alive history =
     still_live kind budget events c.args.index c.args.event.now c.args.self.now is_live alive history _ c.in-Client.is _ c.in-Op.is
-    (record { frontier = c.prepare.new.self; invocations = c.noted.new.invocations; closes = c.closing-self.result })
+    (record { frontier = c.prepare.new.self; invocations = c.noted.new.invocations })
     c.prepare.ensures.kind c.prepare.ensures.budget c.in_ok-id.ensures.invocations c.prepare.ensures.now
 
 pub returns-in-Dead-clause-now : goal.returns-in-Dead-clause-now
 returns-in-Dead-clause-now c kind budget events is_live alive history =
     still_live kind budget events c.args.index c.args.event.now c.args.self.now is_live alive history _ c.in-Client.is _ c.in-Op.is
-    (record { frontier = c.prepare.new.self; invocations = c.noted.new.invocations; closes = c.closing-self.result })
+    (record { frontier = c.prepare.new.self; invocations = c.noted.new.invocations })
     c.prepare.ensures.kind c.prepare.ensures.budget c.in_ok-id.ensures.invocations c.prepare.ensures.now
 
 pub returns-in-Over-clause-now : goal.returns-in-Over-clause-now
 returns-in-Over-clause-now c kind budget events is_live alive history =
     still_live kind budget events c.args.index c.args.event.now c.args.self.now is_live alive history _ c.in-Client.is _ c.in-Op.is
-    (record { frontier = c.prepare.new.self; invocations = c.noted.new.invocations; closes = c.closing-self.result })
+    (record { frontier = c.prepare.new.self; invocations = c.noted.new.invocations })
     c.prepare.ensures.kind c.prepare.ensures.budget c.in_ok-id.ensures.invocations c.prepare.ensures.now
 
 pub returns-in-Alive-clause-next : goal.returns-in-Alive-clause-next
 returns-in-Alive-clause-next c kind budget events is_live alive history = (
-  status_stepped kind budget events c.args.index c.args.event.now c.args.self.now is_live alive history _ c.in-Client.is _ c.in-Op.is _ c.in_ok-id.ensures.id _ c.in-Some.is _ c.in_ok-prepare.ensures.step
+  status_stepped kind budget events c.args.index c.args.event.now c.args.self.now is_live alive history _ c.in-Client.is _ c.in-Op.is _ c.in_ok-id.ensures.id _ c.in-Some.is _ c.in_ok-step.ensures.seen.answer
       (record { invocation = c.never_kills_law.ensures.invocation kind; crash = c.never_kills_law.ensures.crash kind }) steps.Alive c.in-Alive.is,
   will_be_live kind budget events c.args.index c.args.event.now c.args.self.now is_live alive history _ c.in-Client.is _ c.in-Op.is
-      (record { frontier = c.prepare.new.self; invocations = c.noted.new.invocations; closes = c.closing-self.result })
-      c.prepare.ensures.kind c.prepare.ensures.budget c.in_ok-id.ensures.invocations c.closing-self.ensures
-      (marks_stepped kind budget events c.args.index c.args.event.now c.args.self.now is_live alive history _ c.in-Client.is _ c.in-Op.is _ c.in_ok-id.ensures.id _ c.in-Some.is _ (AnyWillStandFor c.prepare.new.self) c.in_ok-prepare.ensures.next c.in-Alive.is),
+      (record { frontier = c.prepare.new.self; invocations = c.noted.new.invocations })
+      c.prepare.ensures.kind c.prepare.ensures.budget c.in_ok-id.ensures.invocations (record { change = c.in_ok-step.change; closes = c.closing-closes.result }) c.closing-closes.ensures
+      (marks_stepped kind budget events c.args.index c.args.event.now c.args.self.now is_live alive history _ c.in-Client.is _ c.in-Op.is _ c.in_ok-id.ensures.id _ c.in-Some.is _ (AnyWillStandFor c.prepare.new.self c.in_ok-step.change) c.in_ok-step.ensures.seen.brings c.in-Alive.is),
 )
 
 pub returns-in-Dead-clause-next : goal.returns-in-Dead-clause-next
 returns-in-Dead-clause-next c kind budget events is_live alive history =
-    status_stepped kind budget events c.args.index c.args.event.now c.args.self.now is_live alive history _ c.in-Client.is _ c.in-Op.is _ c.in_ok-id.ensures.id _ c.in-Some.is _ c.in_ok-prepare.ensures.step
+    status_stepped kind budget events c.args.index c.args.event.now c.args.self.now is_live alive history _ c.in-Client.is _ c.in-Op.is _ c.in_ok-id.ensures.id _ c.in-Some.is _ c.in_ok-step.ensures.seen.answer
     (record { invocation = c.never_kills_law.ensures.invocation kind; crash = c.never_kills_law.ensures.crash kind }) steps.Dead c.in-Dead.is
 
 pub returns-in-Over-clause-next : goal.returns-in-Over-clause-next
 returns-in-Over-clause-next c kind budget events is_live alive history =
-    status_stepped kind budget events c.args.index c.args.event.now c.args.self.now is_live alive history _ c.in-Client.is _ c.in-Op.is _ c.in_ok-id.ensures.id _ c.in-Some.is _ c.in_ok-prepare.ensures.step
+    status_stepped kind budget events c.args.index c.args.event.now c.args.self.now is_live alive history _ c.in-Client.is _ c.in-Op.is _ c.in_ok-id.ensures.id _ c.in-Some.is _ c.in_ok-step.ensures.seen.answer
     (record { invocation = c.never_kills_law.ensures.invocation kind; crash = c.never_kills_law.ensures.crash kind }) steps.Over c.in-Over.is

@@ -3,6 +3,7 @@ use Rattle.models.specs.Objects.{of_table}
 use Rattle.history.specs.Events.Mark.{Invoked}
 use Rattle.ends.specs.declared.pending_op.PendingOp.{PendingOp}
 use Rattle.ends.specs.KeptEnds.{AreIncluded, end_kept}
+use Rattle.frontier.specs.Kept.{spare_by}
 use Rattle.frontier.proofs.Standing.{generates_of, shown_of, stands_shown}
 use Rattle.ends.specs.EndSteps.{Along, AreClosed}
 use Rattle.ends.specs.Tables.{IsThat, ShownWith}
@@ -12,16 +13,16 @@ use Rattle.frontier.proofs.Generating.{Generates, generates_after_invoke}
 use Rattle.frontier.proofs.Including.{included_more}
 use Rattle.frontier.proofs.Pending.{calls_after_invoke, once_after_invoke}
 use Rattle.frontier.proofs.Preparing.{but_of, lists_is}
-use Rattle.frontier.proofs.Reordering.{shown_rows, shown_with_rows}
+use Rattle.frontier.proofs.Reordering.{shown_rows}
 use Rattle.frontier.proofs.frontier.Frontier.list_anew.Goals as goal
 
 pub returns-clause-listed : goal.returns-clause-listed
-returns-clause-listed g c marks idle =
+returns-clause-listed g c marks given =
     let o = of_table g.row.M-State.Denot g.M.SeqObject.start_state g.M.SeqObject.apply_to in
     let f = c.args.self.now in
     let id = c.in-Some.fresh.id in
     let op = c.in-Some.fresh.op in
-    let but = but_of o f marks c.in-Some.fresh c.in-Some.is idle.stands in
+    let but = but_of o f marks c.in-Some.fresh c.in-Some.is given in
     let before = but.before in
     let stands = but.lists in
     let call : PendingOp = record { id = id; op = op; crashed = false } in
@@ -33,17 +34,15 @@ returns-clause-listed g c marks idle =
     let long : length (f.calls.items ++ call ∷ []) ≡ length f.calls.items + 1 = length-append f.calls.items (call ∷ []) in
     let tried : f.tried ≤ length (f.calls.items ++ call ∷ []) = omega (arith, le, long) in
     record {
-      nothing = idle.nothing;
       none = refl;
       lists = lists_is o _ marks (before ++ Invoked id op ∷ []) but.is
-          (stands_shown o _ (before ++ Invoked id op ∷ []) (map end_kept c.in_ok-ends.ends.items) (f.calls.items ++ call ∷ []) calls
-          (shown_with_rows _ f.as_products c.requires.rows (f.calls.items ++ call ∷ []) (Along IsThat (map end_kept c.in_ok-ends.ends.items))
-          (subst (λ t. ShownWith t (f.calls.items ++ call ∷ []) [] (Along IsThat (map end_kept c.in_ok-ends.ends.items))) (sym c.swap.ensures.x_after)
-          (subst (λ t. ShownWith t (f.calls.items ++ call ∷ []) [] (Along IsThat (map end_kept c.in_ok-ends.ends.items))) (sym c.deref_mut-2.ensures.value)
-          (shown_of c.refill.new.table c.deref-4.result.now (f.calls.items ++ call ∷ []) c.deref-3.result.now c.in_ok-ends.ends.items (c.deref-4.ensures.value ∙ calls) c.deref-3.ensures.value c.in_ok-refill.ensures included))))
+          (stands_shown o _ (before ++ Invoked id op ∷ []) (map end_kept c.in_ok-ends.ends.items) (f.calls.items ++ call ∷ []) (c.take_spare.ensures.is.1 ∙ calls)
+          (subst (λ t. ShownWith t (f.calls.items ++ call ∷ []) [] (Along IsThat (map end_kept c.in_ok-ends.ends.items))) (sym c.take_spare.ensures.is.0)
+          (shown_of (spare_by c.fill.new.spare f.table) c.deref-4.result.now (f.calls.items ++ call ∷ []) c.deref-3.result.now c.in_ok-ends.ends.items (c.deref-4.ensures.value ∙ calls) c.deref-3.ensures.value (λ are. c.in_ok-fill.ensures are f.table) included))
           (generates_after_invoke o g.met.M.SeqObject.reads (map end_kept c.in_ok-ends.ends.items) before id op but.may (subst (λ l. Generates o l before) (sym are) (generates_of o f before stands)))
           (calls_after_invoke f.calls.items before stands.well_kept.pending id op but.may)
           (once_after_invoke f.calls.items before stands.well_kept.pending id op but.may stands.well_kept.calls_once) included
-          tried
-          (subst (λ l. AreClosed o l (map end_kept c.in_ok-ends.ends.items)) (sym (tried_still f.tried f.calls.items call stands.tried)) (subst (AreClosed o (take f.tried f.calls.items)) (sym are) stands.closed)));
+          (subst (λ n. n ≤ length (f.calls.items ++ call ∷ [])) (sym c.take_spare.ensures.is.2) tried)
+          (subst (λ n. AreClosed o (take n (f.calls.items ++ call ∷ [])) (map end_kept c.in_ok-ends.ends.items)) (sym c.take_spare.ensures.is.2)
+          (subst (λ l. AreClosed o l (map end_kept c.in_ok-ends.ends.items)) (sym (tried_still f.tried f.calls.items call stands.tried)) (subst (AreClosed o (take f.tried f.calls.items)) (sym are) stands.closed))));
     }

@@ -4,16 +4,16 @@ use Rattle.models.specs.Objects.{of_table}
 use Rattle.ends.specs.EndSteps.{Along}
 use Rattle.ends.specs.Tables.{IsThat, ShownWith, with_rows}
 use Rattle.products.specs.Products.{Family, rows_in}
-use Rattle.frontier.proofs.Reordering.{idle_again, shown_rows}
+use Rattle.frontier.proofs.Reordering.{stands_again, shown_rows}
 use Rattle.frontier.proofs.frontier.Frontier.make_products.Goals as goal
 
 pub returns-in_ok-of_kept-clause-keeps : goal.returns-in_ok-of_kept-clause-keeps
 returns-in_ok-of_kept-clause-keeps g c marks =
     let o = of_table g.row.M-State.Denot g.M.SeqObject.start_state g.M.SeqObject.apply_to in
     let f = c.args.self.now in
-    idle_again o f _ refl refl
+    stands_again o f _ refl refl
     (λ ends shown.
     subst (λ (kept : Family). ShownWith (with_rows f.table (rows_in kept.1)) f.calls.items [] (Along IsThat ends)) (sym c.in_ok-of_kept.ensures)
     (subst (λ found. IfSome found (λ (kept : Family). ShownWith (with_rows f.table (rows_in kept.1)) f.calls.items [] (Along IsThat ends))) c.in-Some.is
     (c.in_ok-made.ensures f.calls.items ends (shown_rows f.table f.as_products c.requires.rows f.calls.items ends shown))))
-    refl refl marks
+    refl marks

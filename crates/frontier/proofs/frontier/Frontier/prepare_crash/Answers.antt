@@ -5,6 +5,7 @@ use Rattle.linspec.specs.Ends.{End}
 use Rattle.frontier.specs.declared.change.Change.TheVariants.{Anew}
 use Rattle.frontier.specs.declared.frontier.Frontier.{Frontier}
 use Rattle.ends.specs.KeptEnds.{end_kept}
+use Rattle.frontier.specs.Kept.{spare_by}
 use Rattle.ends.specs.EndSteps.{HasRead, after_crash, calls_after_crash}
 use Rattle.frontier.proofs.Standing.{generates_of, shown_of, stands_shown}
 use Rattle.ends.proofs.Closing.{closed_none}
@@ -16,6 +17,13 @@ use Rattle.frontier.proofs.Preparing.{lists_like, listed_stands, stands_like, wi
 use Rattle.frontier.proofs.Reordering.{shown_rows}
 use Rattle.frontier.proofs.frontier.Frontier.prepare_crash.Goals as goal
 
+pub returns-in_err-fill-clause-now : goal.returns-in_err-fill-clause-now
+returns-in_err-fill-clause-now g c marks given =
+    let o = of_table g.row.M-State.Denot g.M.SeqObject.start_state g.M.SeqObject.apply_to in
+    let f = c.list_as_rows.new.self in
+    let l = c.in_ok-list_as_rows.ensures.listed marks given in
+    stands_like o f _ (refl, refl, refl, refl) marks (listed_stands o f marks l.none l.lists)
+
 pub returns-clause-now : goal.returns-clause-now
 returns-clause-now g c marks given =
     let o = of_table g.row.M-State.Denot g.M.SeqObject.start_state g.M.SeqObject.apply_to in
@@ -23,47 +31,47 @@ returns-clause-now g c marks given =
     let l = c.in_ok-list_as_rows.ensures.listed marks given in
     stands_like o f _ (refl, refl, refl, refl) marks (listed_stands o f marks l.none l.lists)
 
-pub returns-clause-next : goal.returns-clause-next
-returns-clause-next g c marks given is_open =
+pub returns-clause-seen : goal.returns-clause-seen
+returns-clause-seen g c =
     let o = of_table g.row.M-State.Denot g.M.SeqObject.start_state g.M.SeqObject.apply_to in
     let f = c.list_as_rows.new.self in
     let id = c.args.id in
-    let l = c.in_ok-list_as_rows.ensures.listed marks given in
-    let stands = l.lists in
-    let counted = not c.is_read-counts.result in
-    let tells = tells_counted f.calls.items marks stands.well_kept.pending stands.well_kept.calls_once id is_open c.is_read-counts.result
-    (subst (λ l. IsTrue c.is_read-counts.result ↔ HasRead l id) c.deref.ensures.value c.is_read-counts.ensures) in
-    let calls = c.crash_call.ensures ∙ ap (calls_after_crash counted id) (c.in_ok-calls.ensures ∙ c.deref-4.ensures.value) in
-    let are = kept_ends o f marks stands c.deref-2.result.now c.deref-2.ensures.value c.in_ok-ends.ends.items
-    (λ once ends shown. c.in_ok-ends.ensures once ends (shown_rows f.table f.as_products c.in_ok-list_as_rows.ensures.rows c.deref-2.result.now ends shown)) in
-    let each = crash_each o counted stands.kept id (map end_kept c.in_ok-after.after.items) (c.in_ok-after.ensures ∙ ap (map (λ (e : End g.row.M-State.Denot). after_crash counted e id)) (ap (map end_kept) c.deref-3.ensures.value ∙ are)) in
-    let included = included_after_crash f.calls.items marks stands.well_kept.pending id is_open counted stands.kept (map end_kept c.in_ok-after.after.items) stands.well_kept.included each in
-    let none : 0 ≤ length (calls_after_crash counted id f.calls.items) = omega arith in
-    let h : Frontier g.row.M.Denot g.row.M-State.Denot = record {
-      alloc = f.alloc;
-      budget = f.budget;
-      applied = f.applied;
-      calls = c.crash_call.new.calls;
-      fresh = f.fresh;
-      tried = 0;
-      table = c.in_ok-table.table;
-      spare = f.spare;
-      room = f.room;
-      as_products = None;
-      next = f.next;
-    } in
-    let lists =
-    stands_shown o h (marks ++ Crashed id ∷ []) (map end_kept c.in_ok-after.after.items) (calls_after_crash counted id f.calls.items) calls
-    (shown_of c.in_ok-table.table c.deref-6.result.now (calls_after_crash counted id f.calls.items) c.deref-5.result.now c.in_ok-after.after.items (c.deref-6.ensures.value ∙ calls) c.deref-5.ensures.value c.in_ok-table.ensures included)
-    (generates_after_crash o stands.kept marks id is_open (generates_of o f marks stands) g.met.M.SeqObject.reads counted tells (map end_kept c.in_ok-after.after.items) each)
-    (pending_after_crash f.calls.items marks stands.well_kept.pending id is_open counted tells)
-    (once_after_crash counted f.calls.items id stands.well_kept.calls_once) included none (closed_none o (map end_kept c.in_ok-after.after.items)) in
-    will_by o _ (marks ++ Crashed id ∷ []) (Anew h.calls c.in_ok-boxed.boxed h.tried) refl l.none h.table h.calls.items h.tried (λ g made. (made.0 ∙ c.in_ok-boxed.ensures.ok, made.1, made.2, made.3))
-    (λ g table calls tried. lists_like o h g table calls tried (marks ++ Crashed id ∷ []) lists)
-
-pub returns-in_err-boxed-clause-now : goal.returns-in_err-boxed-clause-now
-returns-in_err-boxed-clause-now g c marks given =
-    let o = of_table g.row.M-State.Denot g.M.SeqObject.start_state g.M.SeqObject.apply_to in
-    let f = c.list_as_rows.new.self in
-    let l = c.in_ok-list_as_rows.ensures.listed marks given in
-    listed_stands o f marks l.none l.lists
+    record {
+      answer = record { right = λ marks given may. refl; over_at_ok = λ over. absurd (cc) };
+      brings = record {
+        over = λ over. absurd (cc);
+        taken = λ _ marks given is_open.
+            let l = c.in_ok-list_as_rows.ensures.listed marks given in
+            let stands = l.lists in
+            let counted = not c.is_read-counts.result in
+            let tells = tells_counted f.calls.items marks stands.well_kept.pending stands.well_kept.calls_once id is_open c.is_read-counts.result
+            (subst (λ l. IsTrue c.is_read-counts.result ↔ HasRead l id) c.deref.ensures.value c.is_read-counts.ensures) in
+            let calls = c.crash_call.ensures ∙ ap (calls_after_crash counted id) (c.in_ok-calls.ensures ∙ c.deref-4.ensures.value) in
+            let are = kept_ends o f marks stands c.deref-2.result.now c.deref-2.ensures.value c.in_ok-ends.ends.items
+            (λ once ends shown. c.in_ok-ends.ensures once ends (shown_rows f.table f.as_products c.in_ok-list_as_rows.ensures.rows c.deref-2.result.now ends shown)) in
+            let each = crash_each o counted stands.kept id (map end_kept c.in_ok-after.after.items) (c.in_ok-after.ensures ∙ ap (map (λ (e : End g.row.M-State.Denot). after_crash counted e id)) (ap (map end_kept) c.deref-3.ensures.value ∙ are)) in
+            let included = included_after_crash f.calls.items marks stands.well_kept.pending id is_open counted stands.kept (map end_kept c.in_ok-after.after.items) stands.well_kept.included each in
+            let none : 0 ≤ length (calls_after_crash counted id f.calls.items) = omega arith in
+            let table = spare_by c.fill.new.spare f.table in
+            let h : Frontier g.row.M.Denot g.row.M-State.Denot = record {
+              alloc = f.alloc;
+              budget = f.budget;
+              applied = f.applied;
+              calls = c.crash_call.new.calls;
+              fresh = f.fresh;
+              tried = 0;
+              table = table;
+              spare = f.spare;
+              room = f.room;
+              as_products = None;
+            } in
+            let lists =
+            stands_shown o h (marks ++ Crashed id ∷ []) (map end_kept c.in_ok-after.after.items) (calls_after_crash counted id f.calls.items) calls
+            (shown_of table c.deref-6.result.now (calls_after_crash counted id f.calls.items) c.deref-5.result.now c.in_ok-after.after.items (c.deref-6.ensures.value ∙ calls) c.deref-5.ensures.value (λ are. c.in_ok-fill.ensures are f.table) included)
+            (generates_after_crash o stands.kept marks id is_open (generates_of o f marks stands) g.met.M.SeqObject.reads counted tells (map end_kept c.in_ok-after.after.items) each)
+            (pending_after_crash f.calls.items marks stands.well_kept.pending id is_open counted tells)
+            (once_after_crash counted f.calls.items id stands.well_kept.calls_once) included none (closed_none o (map end_kept c.in_ok-after.after.items)) in
+            will_by o _ (marks ++ Crashed id ∷ []) (Anew h.calls 0) l.none h.table h.calls.items 0 (λ g made. made)
+            (λ g table calls tried. lists_like o h g table calls tried (marks ++ Crashed id ∷ []) lists);
+      };
+    }

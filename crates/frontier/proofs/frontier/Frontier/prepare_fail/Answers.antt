@@ -5,8 +5,8 @@ use Rattle.history.specs.Events.Mark.{Failed}
 use Rattle.frontier.specs.declared.change.Change.TheVariants.{Done}
 use Rattle.ends.specs.EndSteps.{is_other}
 use Rattle.ends.specs.Tables.{with_rows}
-use Rattle.frontier.specs.Kept.{StandsFor, left_of, table_of}
-use Rattle.frontier.specs.Meaning.{Answers}
+use Rattle.frontier.specs.Kept.{StandsFor, WillStandFor, left_of, table_of}
+use Rattle.frontier.specs.Meaning.{Observes}
 use Rattle.frontier.proofs.Standing.{same_step, step_by}
 use Rattle.frontier.proofs.Judging.{failed_by, generates_failed, stands_failed}
 use Rattle.frontier.proofs.Preparing.{listed_stands, stands_like, will_by}
@@ -19,24 +19,6 @@ returns-in_err-find_failed-clause-now g c marks given =
     let l = c.in_ok-list_fresh.ensures.listed marks given in
     stands_like o f _ c.find_failed.ensures.alike.same marks (listed_stands o f marks l.none l.lists)
 
-pub returns-clause-step : goal.returns-clause-step
-returns-clause-step g c =
-    let o = of_table g.row.M-State.Denot g.M.SeqObject.start_state g.M.SeqObject.apply_to in
-    let f = c.list_fresh.new.self in
-    let id = c.args.id in
-    let left = left_of c.find_failed.new.self in
-    let t = with_rows (table_of f) left in
-    let is = same_step c.left.result (length left) c.step_of.result c.left.ensures c.step_of.ensures in
-    subst (λ b. Answers o b (StandsFor o c.args.self.now) (Failed id) c.step_of.result) c.in_ok-list_fresh.ensures.budget
-    (record {
-      right = λ marks given is_open.
-          let l = c.in_ok-list_fresh.ensures.listed marks given in
-          let s = failed_by o f marks l.lists f.calls.items refl t id is_open c.in_ok-find_failed.ensures.failed in
-          step_by o s.more (length left) s.shown.long marks (Failed id) (generates_failed o f marks l.lists t id is_open s)
-          f.budget (λ none. none) _ is.alive is.dead is.never_over;
-      over_at_ok = λ over. absurd (c.step_of.ensures.never_over over);
-    })
-
 pub returns-clause-now : goal.returns-clause-now
 returns-clause-now g c marks given =
     let o = of_table g.row.M-State.Denot g.M.SeqObject.start_state g.M.SeqObject.apply_to in
@@ -44,21 +26,34 @@ returns-clause-now g c marks given =
     let l = c.in_ok-list_fresh.ensures.listed marks given in
     stands_like o f _ c.find_failed.ensures.alike.same marks (listed_stands o f marks l.none l.lists)
 
-pub returns-clause-next : goal.returns-clause-next
-returns-clause-next g c =
+pub returns-clause-seen : goal.returns-clause-seen
+returns-clause-seen g c =
     let o = of_table g.row.M-State.Denot g.M.SeqObject.start_state g.M.SeqObject.apply_to in
     let f = c.list_fresh.new.self in
     let id = c.args.id in
     let left = left_of c.find_failed.new.self in
     let t = with_rows (table_of f) left in
-    let tried = c.saturating_sub.result in
+    let tried = c.saturating_sub-tried.result in
+    let step = c.step_of.result in
+    let is = same_step c.left.result (length left) step c.left.ensures c.step_of.ensures in
     let same = c.find_failed.ensures.alike.same in
-    record {
-      over = λ over. absurd (c.step_of.ensures.never_over over);
-      taken = λ _ marks given is_open.
-          let l = c.in_ok-list_fresh.ensures.listed marks given in
-          let s = failed_by o f marks l.lists f.calls.items refl t id is_open c.in_ok-find_failed.ensures.failed in
-          will_by o _ (marks ++ Failed id ∷ []) (Done id tried) refl (same.3 ∙ l.none) t (filter (is_other id) f.calls.items) tried
-          (λ g made. (made.0 ∙ ap (λ u. with_rows u left) same.0, made.1 ∙ ap (filter (is_other id)) same.1, made.2, made.3))
-          (λ g table calls is. stands_failed o f marks l.lists t id is_open s g table calls (is ∙ c.saturating_sub.ensures ∙ ap (λ n. n - 1) same.2));
-    }
+    subst (λ b. Observes o b (StandsFor o c.args.self.now) (WillStandFor o c.find_failed.new.self (Done id tried)) (Failed id) step) c.in_ok-list_fresh.ensures.budget
+    (record {
+      answer = record {
+        right = λ marks given is_open.
+            let l = c.in_ok-list_fresh.ensures.listed marks given in
+            let s = failed_by o f marks l.lists f.calls.items refl t id is_open c.in_ok-find_failed.ensures.failed in
+            step_by o s.more (length left) s.shown.long marks (Failed id) (generates_failed o f marks l.lists t id is_open s)
+            f.budget (λ none. none) step is.alive is.dead is.never_over;
+        over_at_ok = λ over. absurd (is.never_over over);
+      };
+      brings = record {
+        over = λ over. absurd (is.never_over over);
+        taken = λ _ marks given is_open.
+            let l = c.in_ok-list_fresh.ensures.listed marks given in
+            let s = failed_by o f marks l.lists f.calls.items refl t id is_open c.in_ok-find_failed.ensures.failed in
+            will_by o _ (marks ++ Failed id ∷ []) (Done id tried) (same.3 ∙ l.none) t (filter (is_other id) f.calls.items) tried
+            (λ g made. (made.0 ∙ ap (λ u. with_rows u left) same.0, made.1 ∙ ap (filter (is_other id)) same.1, made.2, made.3))
+            (λ g table calls so_many. stands_failed o f marks l.lists t id is_open s g table calls (so_many ∙ c.saturating_sub-tried.ensures ∙ ap (λ n. n - 1) same.2));
+      };
+    })
