@@ -16,4 +16,5 @@ pub mod Alike
 pub mod Rolling
 pub mod Fronts
 pub mod Past
+pub mod Gapped
 pub mod Crossing

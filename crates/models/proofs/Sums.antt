@@ -1,9 +1,12 @@
 -- the sum of a set, as members come
-use Rattle.std.proofs.Common.{◌≡◌, ℕ, ◌+◌, ◌-◌, ◌<◌, ◌≤◌, ◌%◌, ◌^◌, ℤ, List, [], ◌∷◌, ◌++◌, get_or, length, refl, sym, ap, ◌∙◌, subst, arith, Result, Ok, Err, IfOk}
+use Rattle.std.proofs.Common.{◌≡◌, ℕ, ◌+◌, ◌-◌, ◌<◌, ◌≤◌, ◌%◌, ◌^◌, ℤ, int_lt, ⊎_elim, List, [], ◌∷◌, ◌++◌, get_or, length, refl, sym, ap, ◌∙◌, subst, arith, Result, Ok, Err, IfOk}
 use Rattle.std.specs.Prelude.{zero, suc}
 use Rattle.std.proofs.Math.Nat.{mod-add-mod, add-mod_right, mod-eq_of_lt, mod-lt}
 use Rattle.std.specs.List.{insert, remove}
+use Rattle.std.proofs.lemmas.Bool.{cases_Bool}
+use Rattle.models.specs.Multisets.{with_one}
 use Rattle.models.specs.Sums.{mixed, sum_of}
+use Rattle.models.proofs.Bags.{with_one-later, with_one-here}
 
 pub sum_of-none : sum_of [] ≡ 0
 unfolding sum_of
@@ -25,6 +28,15 @@ sum_of-insert [] (suc at) v fits = absurd (omega arith)
 sum_of-insert (x ∷ xs) (suc at) v fits =
     sum_of-first x (insert xs at v) ∙ ap (λ n. (n + mixed x) % 2 ^ 128) (sum_of-insert xs at v (omega arith)) ∙ later (sum_of xs) (mixed v) (mixed x)
     ∙ ap (λ n. (n + mixed v) % 2 ^ 128) (sym (sum_of-first x xs))
+
+pub sum_of-with_one : (v : ℤ) (xs : List ℤ) → sum_of (with_one v xs) ≡ (sum_of xs + mixed v) % 2 ^ 128
+sum_of-with_one v [] = sum_of-first v []
+sum_of-with_one v (x ∷ xs) =
+    ⊎_elim
+    (λ e. ap sum_of (with_one-later v x xs e) ∙ sum_of-first x (with_one v xs) ∙ ap (λ n. (n + mixed x) % 2 ^ 128) (sum_of-with_one v xs)
+    ∙ later (sum_of xs) (mixed v) (mixed x) ∙ ap (λ n. (n + mixed v) % 2 ^ 128) (sym (sum_of-first x xs)))
+    (λ e. ap sum_of (with_one-here v x xs e) ∙ sum_of-first v (x ∷ xs))
+    (cases_Bool (int_lt x v))
 
 pub sum_of-push : (xs : List ℤ) (v : ℤ) → sum_of (xs ++ v ∷ []) ≡ (sum_of xs + mixed v) % 2 ^ 128
 sum_of-push [] v = sum_of-first v []

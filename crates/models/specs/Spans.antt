@@ -1,5 +1,5 @@
 -- Invariant: a set of integers as spans of consecutive ones
-use Rattle.std.specs.Prelude.{◌≡◌, ℕ, zero, suc, ℤ, pos, negsuc, ◌+ℤ◌, ◌-ℤ◌, ◌<ℤ◌, ◌≤ℤ◌, unsigned_abs, List, [], ◌∷◌, refl}
+use Rattle.std.specs.Prelude.{◌≡◌, ℕ, zero, suc, ◌*◌, length, ℤ, pos, negsuc, ◌+ℤ◌, ◌-ℤ◌, ◌<ℤ◌, ◌≤ℤ◌, unsigned_abs, List, [], ◌∷◌, refl}
 use Rattle.std.proofs.Common.{lit<}
 use Rattle.std.specs.List.{Contains, flat_map}
 use Rattle.models.specs.declared.span_row.Span.{Span}
@@ -22,11 +22,15 @@ from_to a b = in_turn a (many a b)
 abbrev pub integers_in : List Span → List ℤ
 integers_in spans = flat_map (λ (span : Span). from_to span.from span.to) spans
 
--- spans by their first and by their last integers, as many as there are of both
-abbrev pub paired : List ℤ → List ℤ → List Span
-paired [] lasts = []
-paired (a ∷ firsts) [] = []
-paired (a ∷ firsts) (b ∷ lasts) = record { from = a; to = b } ∷ paired firsts lasts
+-- spans by their first and last integers, in turn
+abbrev pub paired : List ℤ → List Span
+paired [] = []
+paired (a ∷ []) = []
+paired (a ∷ b ∷ ends) = record { from = a; to = b } ∷ paired ends
+
+-- for each first integer there is a last one
+abbrev pub ArePairs : List ℤ → Type 0
+ArePairs ends = length ends ≡ 2 * length (paired ends)
 
 -- each of these spans ends before x, and an integer is missing between
 abbrev pub EndBefore : List Span → ℤ → Type 0

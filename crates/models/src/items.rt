@@ -86,7 +86,7 @@ impl Items {
         self.items.len()
     }
 
-    /// The front one. Takes no memory, and constant time.
+    /// The front one. Takes no memory, and time that grows with the logarithm of how many there are.
     pub fn front(&self) -> i64
         requires { 0 < length self.now }
         ensures { result ≡ get_or self.now 0 (pos 0) }

@@ -17,6 +17,7 @@ pub mod operation;
 mod outcomes;
 pub mod register;
 pub mod set;
+mod sorted;
 mod span_row;
 pub mod spans;
 pub mod unordered_queue;

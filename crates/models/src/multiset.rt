@@ -6,7 +6,7 @@ ghost use Rattle.models.specs.Multisets.{NeverFalls, values_of, with_one};
 ghost use Rattle.models.specs.Comparisons.{ints_alike, ints_equal, sum_fed, sum_fed-alike};
 
 use crate::members::mixed;
-use persistent::Tree;
+use crate::sorted::Sorted;
 use std::alloc::{AllocError, Global};
 use std::hash::{Hash, Hasher};
 use std::marker::Model;
@@ -16,7 +16,7 @@ use std::marker::Model;
 #[derive(Drop)]
 pub struct Multiset {
     alloc: Global,
-    values: Tree,
+    values: Sorted,
     sum: u128,
 }
 
@@ -38,7 +38,7 @@ impl Multiset {
     {
         Multiset {
             alloc,
-            values: Tree::new(),
+            values: Sorted::new(),
             sum: 0,
         }
     }
@@ -109,8 +109,7 @@ impl Multiset {
     pub fn with(&self, value: i64) -> Result<Multiset, AllocError>
         ensures { IfOk result (λ more. more ≡ with_one value self.now) }
     {
-        let at = self.values.place_of(value);
-        let values = self.values.with(self.alloc, at, value)?;
+        let values = self.values.with(self.alloc, value)?;
         Ok(Multiset {
             alloc: self.alloc,
             values,
@@ -118,8 +117,20 @@ impl Multiset {
         })
     }
 
-    /// The multiset without the value at this place; `AllocError` where there is no memory for what is changed. Takes time and
-    /// memory as above.
+    /// The same multiset, in a row that all that lack one of its values can share; `AllocError` where there is no memory for it. Takes
+    /// time and memory as above where the last change took a value out, and else constant time and no memory.
+    pub fn settled(&self) -> Result<Multiset, AllocError>
+        ensures { IfOk result (λ other. other ≡ self.now) }
+    {
+        Ok(Multiset {
+            alloc: self.alloc,
+            values: self.values.settled(self.alloc)?,
+            sum: self.sum,
+        })
+    }
+
+    /// The multiset without the value at this place; `AllocError` where there is no memory for it. Takes time and memory as
+    /// [`settled`](Self::settled), and the time of the way to the place.
     pub fn without(&self, at: usize) -> Result<Multiset, AllocError>
         requires { at < length self.now }
         ensures { IfOk result (λ rest. rest ≡ remove self.now at) }

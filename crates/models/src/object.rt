@@ -25,8 +25,8 @@ pub trait SeqObject {
     fn start(alloc: Global) -> Self::State
         ensures { result ≡ start_state };
 
-    /// An equal state; `AllocError` where there is no memory for it, or where as many share it as can be counted. Takes the
-    /// time of the spans of a set, and else constant time: the items and values of queues are shared.
+    /// An equal state, which shares with this one all that takes memory; `AllocError` where as many share it as can be counted.
+    /// Takes constant time, and no memory.
     fn copy(alloc: Global, state: &Self::State) -> Result<Self::State, AllocError>
         ensures { IfOk result (λ other. other ≡ state.now) };
 
@@ -45,8 +45,8 @@ pub trait SeqObject {
 
     /// Puts the outcomes of the operation in the state behind those in the list, so that a caller who keeps the list has no
     /// list made for each step; `AllocError` where there is no memory for a new state or for the list, which is then as before.
-    /// Leaves the state as it was. Takes the time of the spans of a set, and of its members for a read; else, for each outcome,
-    /// time that grows with the logarithm of the items or values.
+    /// Leaves the state as it was. Takes for each outcome time that grows with the logarithm of the items, values or spans; for a
+    /// read of a set the time of its members.
     fn append_outcomes(
         alloc: Global,
         state: &Self::State,

@@ -1,8 +1,8 @@
 //! Spans of consecutive integers in a row, which shares what it has in common with others.
-ghost use Rattle.std.specs.Prelude.{◌≡◌, ◌↔◌, ◌+◌, ◌≤◌, ◌<◌, ◌<ℤ◌, ◌≤ℤ◌, IsTrue, IfOk, [], ◌∷◌, ◌++◌, drop, get_or, length, take};
+ghost use Rattle.std.specs.Prelude.{◌≡◌, ◌↔◌, ◌⊎◌, ◌+◌, ◌-◌, ◌≤◌, ◌<◌, ◌<ℤ◌, ◌≤ℤ◌, IsTrue, IfOk, [], ◌∷◌, ◌++◌, drop, get_or, length, take};
 ghost use Rattle.std.specs.List.{Contains};
 ghost use Rattle.models.specs.declared.span_row.Span.{Span};
-ghost use Rattle.models.specs.Spans.{StandApart, paired};
+ghost use Rattle.models.specs.Spans.{ArePairs, StandApart, paired};
 
 use persistent::Tree;
 use std::alloc::{AllocError, Global};
@@ -15,24 +15,23 @@ pub struct Span {
     pub to: i64,
 }
 
-/// Spans, one behind the other. Their first integers stand in one row and their last ones in another, each of which shares with other
-/// rows what they have in common.
+/// Spans, one behind the other. The first and the last integer of each stand side by side in one row, which shares with other rows
+/// what they have in common.
 #[derive(Drop)]
 pub struct SpanRow {
-    firsts: Tree,
-    lasts: Tree,
+    ends: Tree,
 }
 
 impl Model for SpanRow {
-    ghost use Rattle.std.specs.Prelude.{◌≡◌, List, length};
+    ghost use Rattle.std.specs.Prelude.{List};
     ghost use Rattle.models.specs.declared.span_row.Span.{Span};
-    ghost use Rattle.models.specs.Spans.{paired};
+    ghost use Rattle.models.specs.Spans.{ArePairs, paired};
 
     ghost Value = { List Span };
 
-    ghost view = { λ a. paired a.firsts a.lasts };
+    ghost view = { λ a. paired a.ends };
 
-    ghost invariant = { λ a. length a.firsts ≡ length a.lasts };
+    ghost invariant = { λ a. ArePairs a.ends };
 }
 
 // The row with this integer at this place. All of it is shared where that stands there already.
@@ -46,40 +45,34 @@ fn row_with(alloc: Global, row: &Tree, at: usize, value: i64) -> Result<Tree, Al
     row.replaced(alloc, at, value)
 }
 
-// The place of one of the two integers from one place up to another: of the second one where the first one is the value, else of the first.
-fn place_of_other(row: &Tree, from: usize, to: usize, value: i64) -> usize
-    requires two { to ≡ from + 2 }
-    requires within { to ≤ length row.now }
-    ensures from { from ≤ result }
-    ensures near { result ≤ from + 1 }
+// The row without what stands between the first and the last one of these, which are two or four.
+fn without_inner(alloc: Global, row: &Tree, at: usize, past: usize) -> Result<Tree, AllocError>
+    requires count { (past ≡ at + 2) ⊎ (past ≡ at + 4) }
+    requires within { past ≤ length row.now }
+    ensures { IfOk result (λ tree. tree ≡ take (at + 1) row.now ++ drop (past - 1) row.now) }
 {
-    if row.get(from) == value {
-        return to - 1;
+    if past - at == 2 {
+        return row.copy();
     }
-    from
+    let fewer = row.without(alloc, at + 1)?;
+    fewer.without(alloc, at + 1)
 }
 
-// The row with this integer in place of those from one place up to another, which are two at most. One that is the same stays.
-fn row_spliced(
+// The row with these two in place of those from one place up to another, which are two or four. One that stays the same is shared.
+fn ends_replaced(
     alloc: Global,
     row: &Tree,
-    from: usize,
-    to: usize,
-    value: i64,
+    at: usize,
+    past: usize,
+    span: Span,
 ) -> Result<Tree, AllocError>
-    requires order { from ≤ to }
-    requires few { to ≤ from + 2 }
-    requires within { to ≤ length row.now }
-    ensures { IfOk result (λ tree. tree ≡ take from row.now ++ value ∷ drop to row.now) }
+    requires count { (past ≡ at + 2) ⊎ (past ≡ at + 4) }
+    requires within { past ≤ length row.now }
+    ensures { IfOk result (λ tree. tree ≡ take at row.now ++ span.from ∷ span.to ∷ drop past row.now) }
 {
-    if from == to {
-        return row.with(alloc, from, value);
-    }
-    if from + 1 == to {
-        return row_with(alloc, row, from, value);
-    }
-    let fewer = row.without(alloc, place_of_other(row, from, to, value))?;
-    row_with(alloc, &fewer, from, value)
+    let outer = without_inner(alloc, row, at, past)?;
+    let begun = row_with(alloc, &outer, at, span.from)?;
+    row_with(alloc, &begun, at + 1, span.to)
 }
 
 impl SpanRow {
@@ -88,8 +81,7 @@ impl SpanRow {
         ensures { result ≡ [] }
     {
         SpanRow {
-            firsts: Tree::new(),
-            lasts: Tree::new(),
+            ends: Tree::new(),
         }
     }
 
@@ -97,7 +89,7 @@ impl SpanRow {
     pub fn len(&self) -> usize
         ensures { result ≡ length self.now }
     {
-        self.lasts.len()
+        self.ends.len() / 2
     }
 
     /// The first integer of the span at this place. Takes no memory, and the logarithm of how many there are.
@@ -105,7 +97,7 @@ impl SpanRow {
         requires { at < length self.now }
         ensures { (d : Span) → result ≡ (get_or self.now at d).from }
     {
-        self.firsts.get(at)
+        self.ends.get(2 * at)
     }
 
     /// The last integer of the span at this place. Takes time as above.
@@ -113,22 +105,17 @@ impl SpanRow {
         requires { at < length self.now }
         ensures { (d : Span) → result ≡ (get_or self.now at d).to }
     {
-        self.lasts.get(at)
+        self.ends.get(2 * at + 1)
     }
 
-    /// The spans from this place on, as far as they lie in one piece of memory: their first integers, and their last ones. Takes time as
-    /// above.
-    pub fn part_at(&self, at: usize) -> (&[i64], &[i64])
-        requires { at < length self.now }
-        ensures some { 0 < length result.0.now }
-        ensures both { length result.0.now ≡ length result.1.now }
-        ensures within { at + length result.0.now ≤ length self.now }
-        ensures part { take (at + length result.0.now) self.now ≡ take at self.now ++ paired result.0.now result.1.now }
+    /// The first and the last integer of each span, in turn; `AllocError` where there is no memory for them. Takes the time of the spans.
+    pub fn to_ends(&self, alloc: Global) -> Result<Vec<i64>, AllocError>
+        ensures spans { IfOk result (λ ends. paired ends.items ≡ self.now) }
+        ensures pairs { IfOk result (λ ends. ArePairs ends.items) }
     {
-        let firsts = self.firsts.part_at(at);
-        let lasts = self.lasts.part_at(at);
-        let many = firsts.len().min(lasts.len());
-        (&firsts[..many], &lasts[..many])
+        let mut ends = Vec::with_capacity(alloc, self.ends.len())?;
+        self.ends.append_to(&mut ends)?;
+        Ok(ends)
     }
 
     /// How many of the spans end before the value. Takes time as above.
@@ -138,7 +125,7 @@ impl SpanRow {
         ensures before { (span : Span) → Contains (take result self.now) span → span.to <ℤ value }
         ensures behind { (span : Span) → Contains (drop result self.now) span → value ≤ℤ span.to }
     {
-        self.lasts.place_of(value)
+        self.ends.place_of(value) / 2
     }
 
     /// The same spans, all of them shared. Takes constant time, and no memory; `AllocError` where they are shared as often as they can be.
@@ -146,14 +133,12 @@ impl SpanRow {
         ensures { IfOk result (λ row. row ≡ self.now) }
     {
         Ok(SpanRow {
-            firsts: self.firsts.copy()?,
-            lasts: self.lasts.copy()?,
+            ends: self.ends.copy()?,
         })
     }
 
     /// The spans with this one in place of those from one place up to another, which are two at most; `AllocError` where there is no
-    /// memory for it. Takes time and memory that grow with the logarithm of how many there are. A row of integers that stays the same
-    /// is shared.
+    /// memory for it. Takes time and memory that grow with the logarithm of how many there are.
     pub fn spliced(
         &self,
         alloc: Global,
@@ -166,15 +151,20 @@ impl SpanRow {
         requires within { to ≤ length self.now }
         ensures { IfOk result (λ row. row ≡ take from self.now ++ span ∷ drop to self.now) }
     {
-        let firsts = row_spliced(alloc, &self.firsts, from, to, span.from)?;
-        let lasts = row_spliced(alloc, &self.lasts, from, to, span.to)?;
-        Ok(SpanRow { firsts, lasts })
+        if from == to {
+            let ends = self
+                .ends
+                .with_all(alloc, 2 * from, &[span.from, span.to])?;
+            return Ok(SpanRow { ends });
+        }
+        let ends = ends_replaced(alloc, &self.ends, 2 * from, 2 * to, span)?;
+        Ok(SpanRow { ends })
     }
 
     /// Whether both have the same spans in the same order. Takes no memory.
     pub fn same(&self, other: &SpanRow) -> bool
         ensures { IsTrue result ↔ (self.now ≡ other.now) }
     {
-        self.firsts.same(&other.firsts) && self.lasts.same(&other.lasts)
+        self.ends.same(&other.ends)
     }
 }

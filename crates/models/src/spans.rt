@@ -7,7 +7,7 @@ ghost use Rattle.std.specs.Cmp.Lexicographic.{pointwise};
 ghost use Rattle.models.specs.declared.span_row.Span.{Span};
 ghost use Rattle.models.specs.Members.{put_in};
 ghost use Rattle.models.specs.Comparisons.{ints_alike, ints_equal, sum_fed, sum_fed-alike};
-ghost use Rattle.models.specs.Spans.{AreSpans, EndBefore, StandApart, StartBehind, from_to, integers_in, paired};
+ghost use Rattle.models.specs.Spans.{ArePairs, AreSpans, EndBefore, StandApart, StartBehind, from_to, integers_in, paired};
 
 use crate::members::{Members, mixed};
 use crate::span_row::{Span, SpanRow};
@@ -91,33 +91,17 @@ fn end_of(spans: &SpanRow, at: usize, value: i64) -> (usize, i64)
     (at, value)
 }
 
-// How many integers the spans have whose first and last ones these are, or the greatest number where they are more.
-fn room_of(firsts: &[i64], lasts: &[i64]) -> usize
-    requires both { length firsts.now ≡ length lasts.now }
-    requires apart { StandApart (paired firsts.now lasts.now) }
-    ensures { result ≡ min (length (integers_in (paired firsts.now lasts.now))) usize.MAX }
+// How many integers the spans have whose first and last ones these are, in turn, or the greatest number where they are more.
+fn room_of(ends: &[i64]) -> usize
+    requires pairs { ArePairs ends.now }
+    requires apart { StandApart (paired ends.now) }
+    ensures { result ≡ min (length (integers_in (paired ends.now))) usize.MAX }
 {
     let mut room: usize = 0;
-    for at in 0..firsts.len() {
+    for at in 0..ends.len() / 2 {
         room = room
-            .saturating_add(lasts[at].abs_diff(firsts[at]) as usize)
+            .saturating_add(ends[2 * at + 1].abs_diff(ends[2 * at]) as usize)
             .saturating_add(1);
-    }
-    room
-}
-
-// How many integers the spans have, or the greatest number where they are more.
-fn room_for(spans: &SpanRow) -> usize
-    requires { StandApart spans.now }
-    ensures { result ≡ min (length (integers_in spans.now)) usize.MAX }
-{
-    let len = spans.len();
-    let mut room: usize = 0;
-    let mut at = 0;
-    'parts: while at < len {
-        let (firsts, lasts) = spans.part_at(at);
-        room = room.saturating_add(room_of(firsts, lasts));
-        at += firsts.len();
     }
     room
 }
@@ -137,14 +121,15 @@ fn append_integers(items: &mut Vec<i64>, from: i64, to: i64) -> Result<(), Alloc
     }
 }
 
-// Puts the integers of the spans whose first and last ones these are behind the others; `AllocError` where there is no memory for them.
-fn append_spans(items: &mut Vec<i64>, firsts: &[i64], lasts: &[i64]) -> Result<(), AllocError>
-    requires both { length firsts.now ≡ length lasts.now }
-    requires apart { StandApart (paired firsts.now lasts.now) }
-    ensures { OnOk result (items.new.items ≡ items.old.items ++ integers_in (paired firsts.now lasts.now)) }
+// Puts the integers of the spans whose first and last ones these are, in turn, behind the others; `AllocError` where there is no memory
+// for them.
+fn append_spans(items: &mut Vec<i64>, ends: &[i64]) -> Result<(), AllocError>
+    requires pairs { ArePairs ends.now }
+    requires apart { StandApart (paired ends.now) }
+    ensures { OnOk result (items.new.items ≡ items.old.items ++ integers_in (paired ends.now)) }
 {
-    for at in 0..firsts.len() {
-        append_integers(items, firsts[at], lasts[at])?;
+    for at in 0..ends.len() / 2 {
+        append_integers(items, ends[2 * at], ends[2 * at + 1])?;
     }
     Ok(())
 }
@@ -197,14 +182,9 @@ impl Spans {
     pub fn to_members(&self) -> Result<Members, AllocError>
         ensures { IfOk result (λ members. members ≡ self.now) }
     {
-        let mut items = Vec::with_capacity(self.alloc, room_for(&self.spans))?;
-        let len = self.spans.len();
-        let mut at = 0;
-        'parts: while at < len {
-            let (firsts, lasts) = self.spans.part_at(at);
-            append_spans(&mut items, firsts, lasts)?;
-            at += firsts.len();
-        }
+        let ends = self.spans.to_ends(self.alloc)?;
+        let mut items = Vec::with_capacity(self.alloc, room_of(ends.as_slice()))?;
+        append_spans(&mut items, ends.as_slice())?;
         Members::of_listed(items, self.sum)
     }
 }

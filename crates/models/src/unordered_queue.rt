@@ -79,7 +79,8 @@ fn append_dequeues(
     ensures kept { OnErr result (outcomes.new.items ≡ outcomes.old.items) }
 {
     let others = outcomes.len();
-    match append_each(state, outcomes) {
+    let whole = state.settled()?;
+    match append_each(&whole, outcomes) {
         Ok(()) => Ok(()),
         Err(full) => {
             outcomes.truncate(others);

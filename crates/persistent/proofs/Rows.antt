@@ -1,10 +1,10 @@
 -- rows, one behind the other
 use Rattle.std.proofs.Common.{◌≡◌, ℕ, zero, suc, ◌+◌, ◌-◌, ◌<◌, ◌≤◌, ℤ, pos, ◌<ℤ◌, ◌≤ℤ◌, List, ◌∷◌, ◌++◌, get_or, length, take, drop, sym, ap, subst, ◌∙◌, append_assoc, add-one, arith}
-use Rattle.std.specs.List.{insert, remove}
+use Rattle.std.specs.List.{remove}
 use Rattle.std.proofs.Math.Seq.{take-append-add, drop-append-add, drop-append_seam}
 use Rattle.std.proofs.lemmas.Int.{ints}
 use Rattle.std.proofs.lemmas.List.{get_or-append-add, take-append-drop, take-append-le, length-take-le}
-use Rattle.std.proofs.lemmas.List.Edits.{insert-append_right, remove-append_right}
+use Rattle.std.proofs.lemmas.List.Edits.{remove-append_left, remove-append_right}
 
 -- a part of the second one
 pub part_right : (l r part : List ℤ) (many at : ℕ) → length l ≡ many → many ≤ at → take ((at - many) + length part) r ≡ take (at - many) r ++ part
@@ -21,12 +21,24 @@ part_of_right now l r same part many at is again len behind here =
     subst (λ x. take (at + length part) x ≡ take at x ++ part) (sym is)
     (part_right l r part many at len behind (subst (λ x. take ((at - many) + length part) x ≡ take (at - many) x ++ part) again here))
 
--- one more in the second one, and one less
-pub with_right : (now l r same new other : List ℤ) (many at : ℕ) (v passed : ℤ) → now ≡ l ++ r → other ≡ l → same ≡ r → length l ≡ many → many ≤ at
-    → passed ≡ v → new ≡ insert same (at - many) passed → other ++ new ≡ insert now at v
-with_right now l r same new other many at v passed is left again len behind value made =
-    ap (λ x. x ++ new) left ∙ ap (λ x. l ++ x) (made ∙ ap (λ x. insert x (at - many) passed) again ∙ ap (insert r (at - many)) value)
-    ∙ sym (insert-append_right l r many at v len behind) ∙ ap (λ x. insert x at v) (sym is)
+-- more in the second one, and one less
+pub with_all_right : (now l r same new other vs : List ℤ) (many at : ℕ) → now ≡ l ++ r → other ≡ l → same ≡ r → length l ≡ many → many ≤ at
+    → new ≡ take (at - many) same ++ vs ++ drop (at - many) same → other ++ new ≡ take at now ++ vs ++ drop at now
+with_all_right now l r same new other vs many at is left again len behind made =
+    let on : at ≡ length l + (at - many) = omega arith in
+    let begin = take (at - many) r in
+    let end = drop (at - many) r in
+    let front : take at (l ++ r) ≡ l ++ begin = ap (λ n. take n (l ++ r)) on ∙ take-append-add l r (at - many) in
+    let back : drop at (l ++ r) ≡ end = ap (λ n. drop n (l ++ r)) on ∙ drop-append-add l r (at - many) in
+    ap (λ x. x ++ new) left ∙ ap (λ x. l ++ x) (made ∙ ap (λ x. take (at - many) x ++ vs ++ drop (at - many) x) again)
+    ∙ sym (append_assoc l (begin ++ vs) end) ∙ ap (λ x. x ++ end) (sym (append_assoc l begin vs))
+    ∙ ap (λ x. x ++ vs ++ end) (sym front) ∙ ap (λ x. take at (l ++ r) ++ vs ++ x) (sym back) ∙ ap (λ x. take at x ++ vs ++ drop at x) (sym is)
+
+pub without_left : (now l r same new other : List ℤ) (many at : ℕ) → now ≡ l ++ r → same ≡ l → other ≡ r → length l ≡ many → at < many
+    → new ≡ remove same at → new ++ other ≡ remove now at
+without_left now l r same new other many at is again right len front made =
+    ap (λ x. x ++ other) (made ∙ ap (λ x. remove x at) again) ∙ ap (λ x. remove l at ++ x) right
+    ∙ sym (remove-append_left l r at (omega arith)) ∙ ap (λ x. remove x at) (sym is)
 
 pub without_right : (now l r same new other : List ℤ) (many at : ℕ) → now ≡ l ++ r → other ≡ l → same ≡ r → length l ≡ many → many ≤ at
     → new ≡ remove same (at - many) → other ++ new ≡ remove now at

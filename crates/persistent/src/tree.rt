@@ -10,32 +10,34 @@ use std::sync::Arc;
 // So many integers lie in one piece of memory at most.
 const FEW: usize = 14;
 
+// A row has so many integers at most.
+const MOST: usize = 4_294_967_295;
+
 /// Integers in a row, each by its place. A change gives another tree, which shares with this one all but what is on the way to the
-/// place: that grows with the logarithm of how many integers there are. A copy shares all.
+/// place: that grows with the logarithm of how many integers there are. A copy shares all. A change that would make more than
+/// 4,294,967,295 integers is answered as one for which there is no memory.
 #[cycle(tree)]
 #[derive(Drop)]
 pub struct Tree {
     node: Node,
 }
 
-// A leaf has the integers from one place up to another of those that lie there.
+// A leaf has the integers from one place up to another of those that lie there. Of a fork it stands beside its two rows how many forks
+// are above the deepest leaf, and how many integers both have, so that neither needs to be looked at for it.
 #[cycle(tree)]
 #[derive(Drop)]
 enum Node {
     Empty,
     Leaf(u8, u8, Arc<[i64; 14]>),
-    Fork(Arc<Pair>),
+    Fork(u8, u32, Arc<Pair>),
 }
 
-// Two rows, one behind the other; how many integers both have, which is the first, and how many forks are above the deepest leaf.
+// Two rows, one behind the other.
 #[cycle(tree)]
 #[derive(Drop)]
 struct Pair {
     left: Tree,
     right: Tree,
-    len: usize,
-    first: i64,
-    height: u8,
 }
 
 impl Model for Tree {
@@ -85,9 +87,7 @@ fn laid(few: [i64; 14], at: usize, values: &[i64]) -> [i64; 14]
     ensures { take (at + length values.now) result ≡ take at few ++ values.now }
 {
     let mut laid = few;
-    for place in 0..values.len() {
-        laid[at + place] = values[place];
-    }
+    laid[at..at + values.len()].copy_from_slice(values);
     laid
 }
 
@@ -110,25 +110,29 @@ fn leaf_of(alloc: Global, values: &[i64]) -> Result<Tree, AllocError>
     leaf(alloc, laid([0; 14], 0, values), values.len())
 }
 
-// The row of these integers with one more at this place.
-fn leaf_with(alloc: Global, values: &[i64], at: usize, value: i64) -> Result<Tree, AllocError>
-    requires place { at ≤ length values.now }
-    requires room { length values.now < 14 }
-    ensures { IfOk result (λ tree. tree ≡ insert values.now at value) }
+// The row of these integers with others at this place.
+fn leaf_with(alloc: Global, row: &[i64], at: usize, values: &[i64]) -> Result<Tree, AllocError>
+    requires place { at ≤ length row.now }
+    requires room { length row.now + length values.now ≤ 14 }
+    ensures { IfOk result (λ tree. tree ≡ take at row.now ++ values.now ++ drop at row.now) }
 {
-    let mut few = laid([0; 14], 0, &values[..at]);
-    few[at] = value;
-    leaf(alloc, laid(few, at + 1, &values[at..]), values.len() + 1)
+    let front = laid([0; 14], 0, &row[..at]);
+    let few = laid(front, at, values);
+    let many = row.len() + values.len();
+    leaf(alloc, laid(few, at + values.len(), &row[at..]), many)
 }
 
-// The row of the first so many of these integers and one more behind them.
-fn leaf_longer(alloc: Global, few: &[i64; 14], many: usize, value: i64) -> Result<Tree, AllocError>
-    requires { many < 14 }
-    ensures { IfOk result (λ tree. tree ≡ take many few.now ++ value ∷ []) }
+// The row of the first so many of these integers and others behind them.
+fn leaf_longer(
+    alloc: Global,
+    few: &[i64; 14],
+    many: usize,
+    values: &[i64],
+) -> Result<Tree, AllocError>
+    requires { many + length values.now ≤ 14 }
+    ensures { IfOk result (λ tree. tree ≡ take many few.now ++ values.now) }
 {
-    let mut more = *few;
-    more[many] = value;
-    leaf(alloc, more, many + 1)
+    leaf(alloc, laid(*few, many, values), many + values.len())
 }
 
 // The row of these integers without the one at this place.
@@ -167,35 +171,32 @@ fn fork(alloc: Global, left: Tree, right: Tree) -> Result<Tree, AllocError>
     requires right { 0 < length right }
     ensures { IfOk result (λ tree. tree ≡ left ++ right) }
 {
-    let Some(len) = left.len().checked_add(right.len()) else {
+    let many = left.len().saturating_add(right.len());
+    if many > MOST {
         return Err(AllocError);
-    };
-    let first = left.first();
+    }
     let height = left.height().max(right.height()).saturating_add(1);
-    let pair = Arc::new(
-        alloc,
-        Pair {
-            left,
-            right,
-            len,
-            first,
-            height,
-        },
-    )?;
+    let pair = Arc::new(alloc, Pair { left, right })?;
     Ok(Tree {
-        node: Node::Fork(pair),
+        node: Node::Fork(height, many as u32, pair),
     })
 }
 
-// The row of these integers with one more at this place, which is not the end, as two leaves.
-fn parted(alloc: Global, values: &[i64], at: usize, value: i64) -> Result<Tree, AllocError>
-    requires place { at < length values.now }
-    requires few { length values.now ≤ 14 }
-    ensures { IfOk result (λ tree. tree ≡ insert values.now at value) }
+// The row of these integers with others at this place, as two leaves, each with half of the integers.
+fn parted(alloc: Global, row: &[i64], at: usize, values: &[i64]) -> Result<Tree, AllocError>
+    requires place { at ≤ length row.now }
+    requires few { length row.now ≤ 14 }
+    requires some { 7 < length row.now }
+    requires new { length values.now ≤ 7 }
+    ensures { IfOk result (λ tree. tree ≡ take at row.now ++ values.now ++ drop at row.now) }
 {
-    let left = leaf_with(alloc, &values[..at], at, value)?;
-    let right = leaf_of(alloc, &values[at..])?;
-    fork(alloc, left, right)
+    let half = row.len() / 2;
+    if at <= half {
+        let left = leaf_with(alloc, &row[..half], at, values)?;
+        return fork(alloc, left, leaf_of(alloc, &row[half..])?);
+    }
+    let right = leaf_with(alloc, &row[half..], at - half, values)?;
+    fork(alloc, leaf_of(alloc, &row[..half])?, right)
 }
 
 // The three rows, one behind the other. The one in the middle is divided, where it has two halves.
@@ -205,7 +206,7 @@ fn fork_around(alloc: Global, left: Tree, middle: &Tree, right: Tree) -> Result<
     requires right { 0 < length right }
     ensures { IfOk result (λ tree. tree ≡ left ++ middle.now ++ right) }
 {
-    if let Node::Fork(pair) = &middle.node {
+    if let Node::Fork(_, _, pair) = &middle.node {
         let left = fork(alloc, left, pair.left.copy()?)?;
         let right = fork(alloc, pair.right.copy()?, right)?;
         return fork(alloc, left, right);
@@ -220,7 +221,7 @@ fn lean_left(alloc: Global, left: &Tree, right: Tree) -> Result<Tree, AllocError
     requires right { 0 < length right }
     ensures { IfOk result (λ tree. tree ≡ left.now ++ right) }
 {
-    if let Node::Fork(pair) = &left.node {
+    if let Node::Fork(_, _, pair) = &left.node {
         let outer = pair.left.copy()?;
         if pair.left.height() < pair.right.height() {
             return fork_around(alloc, outer, &pair.right, right);
@@ -237,7 +238,7 @@ fn lean_right(alloc: Global, left: Tree, right: &Tree) -> Result<Tree, AllocErro
     requires right { 0 < length right.now }
     ensures { IfOk result (λ tree. tree ≡ left ++ right.now) }
 {
-    if let Node::Fork(pair) = &right.node {
+    if let Node::Fork(_, _, pair) = &right.node {
         let outer = pair.right.copy()?;
         if pair.right.height() < pair.left.height() {
             return fork_around(alloc, left, &pair.left, outer);
@@ -291,27 +292,15 @@ impl Tree {
         match &self.node {
             Node::Empty => 0,
             Node::Leaf(from, to, _) => (*to - *from) as usize,
-            Node::Fork(pair) => pair.len,
+            Node::Fork(_, many, _) => *many as usize,
         }
     }
 
     // How many forks are above the deepest leaf.
     fn height(&self) -> u8 {
         match &self.node {
-            Node::Fork(pair) => pair.height,
+            Node::Fork(height, _, _) => *height,
             _ => 0,
-        }
-    }
-
-    /// The first of them. Takes no memory, and constant time.
-    pub fn first(&self) -> i64
-        requires { 0 < length self.now }
-        ensures { result ≡ get_or self.now 0 (pos 0) }
-    {
-        match &self.node {
-            Node::Empty => 0,
-            Node::Leaf(from, _, few) => few[*from as usize],
-            Node::Fork(pair) => pair.first,
         }
     }
 
@@ -325,43 +314,53 @@ impl Tree {
             Node::Leaf(from, to, few) => Ok(Tree {
                 node: Node::Leaf(*from, *to, Arc::try_clone(few)?),
             }),
-            Node::Fork(pair) => Ok(Tree {
-                node: Node::Fork(Arc::try_clone(pair)?),
+            Node::Fork(height, many, pair) => Ok(Tree {
+                node: Node::Fork(*height, *many, Arc::try_clone(pair)?),
             }),
         }
     }
 
-    /// The integers with one more at this place; `AllocError` where there is no memory for it. Takes the time and the memory of the
-    /// way to the place, which grow with the logarithm of how many integers there are.
+    /// The integers with these at this place, which are seven at most; `AllocError` where there is no memory for it. Takes the time
+    /// and the memory of the way to the place, which grow with the logarithm of how many integers there are.
+    pub fn with_all(&self, alloc: Global, at: usize, values: &[i64]) -> Result<Tree, AllocError>
+        requires place { at ≤ length self.now }
+        requires some { 0 < length values.now }
+        requires few { length values.now ≤ 7 }
+        ensures { IfOk result (λ tree. tree ≡ take at self.now ++ values.now ++ drop at self.now) }
+    {
+        match &self.node {
+            Node::Empty => leaf_of(alloc, values),
+            Node::Leaf(from, to, few) => {
+                let row = between(few, *from, *to);
+                if *from == 0 && at == row.len() && at + values.len() <= FEW {
+                    return leaf_longer(alloc, few, at, values);
+                }
+                if row.len() + values.len() <= FEW {
+                    return leaf_with(alloc, row, at, values);
+                }
+                if at < row.len() {
+                    return parted(alloc, row, at, values);
+                }
+                fork(alloc, self.copy()?, leaf_of(alloc, values)?)
+            }
+            Node::Fork(_, _, pair) => {
+                let many = pair.left.len();
+                if at < many {
+                    let left = pair.left.with_all(alloc, at, values)?;
+                    return balanced(alloc, left, pair.right.copy()?);
+                }
+                let right = pair.right.with_all(alloc, at - many, values)?;
+                balanced(alloc, pair.left.copy()?, right)
+            }
+        }
+    }
+
+    /// The integers with one more at this place; `AllocError` where there is no memory for it. Takes time and memory as above.
     pub fn with(&self, alloc: Global, at: usize, value: i64) -> Result<Tree, AllocError>
         requires { at ≤ length self.now }
         ensures { IfOk result (λ tree. tree ≡ insert self.now at value) }
     {
-        match &self.node {
-            Node::Empty => leaf_with(alloc, &[], at, value),
-            Node::Leaf(from, to, few) => {
-                let values = between(few, *from, *to);
-                if *from == 0 && at < FEW && at == values.len() {
-                    return leaf_longer(alloc, few, at, value);
-                }
-                if values.len() < FEW {
-                    return leaf_with(alloc, values, at, value);
-                }
-                if at < values.len() {
-                    return parted(alloc, values, at, value);
-                }
-                fork(alloc, self.copy()?, leaf_with(alloc, &[], 0, value)?)
-            }
-            Node::Fork(pair) => {
-                let many = pair.left.len();
-                if at < many {
-                    let left = pair.left.with(alloc, at, value)?;
-                    return balanced(alloc, left, pair.right.copy()?);
-                }
-                let right = pair.right.with(alloc, at - many, value)?;
-                balanced(alloc, pair.left.copy()?, right)
-            }
-        }
+        self.with_all(alloc, at, &[value])
     }
 
     /// The integers without the one at this place; `AllocError` where there is no memory for it. Takes the time and the memory of
@@ -380,7 +379,7 @@ impl Tree {
                 }
                 leaf_without(alloc, between(few, *from, *to), at)
             }
-            Node::Fork(pair) => {
+            Node::Fork(_, _, pair) => {
                 let many = pair.left.len();
                 if at < many {
                     let left = pair.left.without(alloc, at)?;
@@ -403,7 +402,7 @@ impl Tree {
             Node::Leaf(from, to, few) => {
                 leaf_replaced(alloc, between(few, *from, *to), at, value)
             }
-            Node::Fork(pair) => {
+            Node::Fork(_, _, pair) => {
                 let many = pair.left.len();
                 if at < many {
                     let left = pair.left.replaced(alloc, at, value)?;
@@ -425,7 +424,7 @@ impl Tree {
         match &self.node {
             Node::Empty => &[],
             Node::Leaf(from, to, few) => &between(few, *from, *to)[at..],
-            Node::Fork(pair) => {
+            Node::Fork(_, _, pair) => {
                 let many = pair.left.len();
                 if at < many {
                     return pair.left.part_at(at);
@@ -433,6 +432,14 @@ impl Tree {
                 pair.right.part_at(at - many)
             }
         }
+    }
+
+    /// The first of them. Takes no memory, and the time of the way there.
+    pub fn first(&self) -> i64
+        requires { 0 < length self.now }
+        ensures { result ≡ get_or self.now 0 (pos 0) }
+    {
+        self.get(0)
     }
 
     /// The integer at this place. Takes no memory, and the time of the way there.
@@ -453,7 +460,7 @@ impl Tree {
         match &self.node {
             Node::Empty => 0,
             Node::Leaf(from, to, few) => place_in(between(few, *from, *to), value),
-            Node::Fork(pair) => {
+            Node::Fork(_, _, pair) => {
                 if pair.right.first() < value {
                     let behind = pair.right.len() - pair.right.place_of(value);
                     return self.len() - behind;

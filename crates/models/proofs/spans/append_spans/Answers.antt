@@ -1,39 +1,43 @@
 -- the integers of each span are put behind those of the spans before it
-use Rattle.std.proofs.Common.{◌≤ℤ◌, ◌<◌, ◌++◌, pos, get_or, take, length, FitsSigned, to_z, of_z, w64, rules, ap, sym, ◌∙◌, arith, append_assoc}
+use Rattle.std.proofs.Common.{◌*◌, ◌+◌, ◌≤ℤ◌, ◌<◌, ◌++◌, pos, get_or, take, length, FitsSigned, to_z, of_z, w64, rules, ap, sym, ◌∙◌, arith, append_assoc}
 use Rattle.std.proofs.lemmas.Int.{ints, to_z-of_z}
+use Rattle.std.proofs.lemmas.List.{take_all}
 use Rattle.models.specs.Spans.{from_to, integers_in, paired}
-use Rattle.models.proofs.SideBySide.{in_order, one_more, all_of}
+use Rattle.models.proofs.SideBySide.{in_order, one_more}
 use Rattle.models.proofs.spans.append_spans.Goals as goal
 
 pub append_integers-requires : goal.append_integers-requires
 append_integers-requires c =
-    let x = get_or c.args.firsts.now c.loop-at.at (pos 0) in
-    let y = get_or c.args.lasts.now c.loop-at.at (pos 0) in
-    let some : x ≤ℤ y = in_order c.args.firsts.now c.args.lasts.now c.loop-at.at c.requires.both c.requires.apart (omega arith) in
+    let ends = c.args.ends.now in
+    let at = c.loop-at.at in
+    let x = get_or ends (2 * at) (pos 0) in
+    let y = get_or ends (2 * at + 1) (pos 0) in
+    let pairs = c.requires.pairs in
+    let some : x ≤ℤ y = in_order ends at c.requires.apart (omega (arith, pairs)) in
     let x_fits : FitsSigned w64 x = search rules in
     let y_fits : FitsSigned w64 y = search rules in
     omega (arith, ints, some)
 
 pub loop-at-preserved : goal.loop-at-preserved
 loop-at-preserved c =
-    let xs = c.args.firsts.now in
-    let ys = c.args.lasts.now in
+    let ends = c.args.ends.now in
     let at = c.loop-at.at in
-    let x = get_or xs at (pos 0) in
-    let y = get_or ys at (pos 0) in
-    let lt : at < length xs = omega arith in
+    let x = get_or ends (2 * at) (pos 0) in
+    let y = get_or ends (2 * at + 1) (pos 0) in
+    let pairs = c.requires.pairs in
+    let lt : at < length (paired ends) = omega (arith, pairs) in
     let old = c.args.items.now.items in
-    let front = integers_in (take at (paired xs ys)) in
+    let front = integers_in (take at (paired ends)) in
     let x_fits : FitsSigned w64 x = search rules in
     let y_fits : FitsSigned w64 y = search rules in
     c.in_ok-append_integers.ensures ∙ ap (λ l. l ++ from_to (to_z w64 (of_z w64 x)) (to_z w64 (of_z w64 y))) c.loop-at.invariant
     ∙ append_assoc old front (from_to (to_z w64 (of_z w64 x)) (to_z w64 (of_z w64 y)))
     ∙ ap (λ z. old ++ (front ++ from_to z (to_z w64 (of_z w64 y)))) (to_z-of_z w64 x x_fits)
     ∙ ap (λ z. old ++ (front ++ from_to x z)) (to_z-of_z w64 y y_fits)
-    ∙ ap (λ l. old ++ l) (sym (one_more xs ys at c.requires.both lt))
+    ∙ ap (λ l. old ++ l) (sym (one_more ends at lt))
 
 pub returns : goal.returns
 returns c =
-    let xs = c.args.firsts.now in
-    let ys = c.args.lasts.now in
-    c.loop-at.invariant ∙ ap (λ l. c.args.items.now.items ++ integers_in l) (all_of xs ys c.loop-at.at c.requires.both (omega arith))
+    let ends = c.args.ends.now in
+    let pairs = c.requires.pairs in
+    c.loop-at.invariant ∙ ap (λ l. c.args.items.now.items ++ integers_in l) (take_all c.loop-at.at (paired ends) (omega (arith, pairs)))

@@ -3,4 +3,4 @@ use Rattle.models.specs.Spans.{integers_in, paired}
 use Rattle.models.proofs.spans.append_spans.Given as goal
 
 abbrev pub invariant-loop-at : goal.invariant-loop-at
-invariant-loop-at l = l.items.items ≡ l.initial.items.items ++ integers_in (take l.at (paired l.firsts l.lasts))
+invariant-loop-at l = l.items.items ≡ l.initial.items.items ++ integers_in (take l.at (paired l.ends))

@@ -1,6 +1,9 @@
-use Rattle.std.proofs.Common.{◌∙◌, sym}
-use Rattle.models.proofs.SideBySide.{many_in}
+use Rattle.std.proofs.Common.{length, ap, arith}
 use Rattle.models.proofs.span_row.SpanRow.len.Goals as goal
 
 pub returns : goal.returns
-returns c = c.len.ensures ∙ sym (many_in c.self.inside.firsts c.self.inside.lasts c.args.self.now c.self.invariant c.self.view_is)
+returns c =
+    let pairs = c.self.invariant in
+    let many = ap length c.self.view_is in
+    let all = c.len.ensures in
+    omega (arith, pairs, many, all)

@@ -1,24 +1,13 @@
--- the integers of each part are put behind those of the parts before it, so all are there at the end, and ascend
-use Rattle.std.proofs.Common.{◌≡◌, length, sym, ap, ◌∙◌, subst, arith}
-use Rattle.std.proofs.lemmas.List.{take_all}
+-- the integers of all spans are put behind one another, and ascend
+use Rattle.std.proofs.Common.{◌≡◌, sym, ap, ◌∙◌, subst}
 use Rattle.models.specs.Members.{IsAscending}
 use Rattle.models.specs.Sums.{sum_of}
-use Rattle.models.specs.Spans.{integers_in, paired}
+use Rattle.models.specs.Spans.{StandApart, integers_in}
 use Rattle.models.proofs.InSpans.{integers_ascend}
-use Rattle.models.proofs.SideBySide.{part_apart}
 use Rattle.models.proofs.spans.Spans.to_members.Goals as goal
 
-pub append_spans-requires-clause-apart : goal.append_spans-requires-clause-apart
-append_spans-requires-clause-apart c =
-    let part = c.part_at.result in
-    part_apart c.self.inside.spans (paired part.0.now part.1.now) c.parts.at (length part.0.now) c.self.invariant.apart c.part_at.ensures.part
+pub room_of-requires-clause-apart : goal.room_of-requires-clause-apart
+room_of-requires-clause-apart c = ?
 
 pub of_listed-requires : goal.of_listed-requires
-of_listed-requires c =
-    let xs = c.self.inside.spans in
-    let len = c.len-len.ensures in
-    let all : c.parts.items.items ≡ integers_in xs = c.parts.invariant.so_far ∙ ap integers_in (take_all c.parts.at xs (omega (arith, len))) in
-    record {
-      ascending = subst IsAscending (sym all) (integers_ascend xs c.self.invariant.apart);
-      sums = c.self.invariant.sums ∙ ap sum_of (sym all);
-    }
+of_listed-requires c = ?
