@@ -5,17 +5,18 @@ ghost use Rattle.harness.specs.Setups.{setup_of};
 ghost use Rattle.checks.specs.Checks.{Checks, IsTold};
 
 use crate::recorded::{Findings, event_text, judge_text};
+use crate::seen_file::SeenFile;
 use crate::telling::{put_refused, put_text, status_of_verdict};
 use edn::Refusal;
 use harness::Config;
 use line_loop::{Failed, Watched, read_whole, refusal_text};
 use onlookers::Onlooker;
 use std::alloc::Global;
+use std::fs;
 use std::fs::Files;
 use std::io::{Read, Write};
 use std::sync::Wait;
 use std::thread::Threads;
-use std::{fs, io};
 
 /// Reads a recorded history to its end, judges it, writes what it comes to, and gives the exit status.
 ///
@@ -92,37 +93,8 @@ pub fn check_input<X: Wait + Threads + Sync, R: Read + Drop, W: Write + Failed, 
     requires writes { W.has_failed writer.old ≡ false }
     requires workers { (1 ≤ workers) × (workers ≤ 64) }
 {
-    let mut reader = Watched::new(SeenFile {
-        file,
-        path,
-        onlooker,
-    });
+    let mut reader = Watched::new(SeenFile::new(file, path, onlooker));
     check_text(rt, alloc, config, workers, &mut reader, writer, onlooker)
-}
-
-// A file, at whose reads somebody looks on.
-#[derive(Drop)]
-struct SeenFile<'a, R, L> {
-    file: R,
-    path: &'a str,
-    onlooker: &'a L,
-}
-
-impl<'a, R: Read, L: Onlooker> Read for SeenFile<'a, R, L> {
-    ghost remaining = { λ seen. R.remaining seen.file };
-
-    fn read(&mut self, buf: &mut [u8]) -> io::Result<usize> {
-        match self.file.read(buf) {
-            Ok(n) => {
-                self.onlooker.read(n);
-                Ok(n)
-            }
-            Err(reason) => {
-                self.onlooker.unread(self.path, &reason);
-                Err(reason)
-            }
-        }
-    }
 }
 
 // Writes what was found, or the line of want of memory where there is none for it, and gives the exit status: 3 where the

@@ -1,0 +1,125 @@
+//! The line that says what was found, and its exit status.
+ghost use Rattle.std.specs.Prelude.{◌≡◌, ◌⊎◌, IfOk, string_bytes};
+ghost use Rattle.confirms.specs.declared.found.Found.{Found};
+ghost use Rattle.confirms.specs.Found.{found_status, found_text, opening_of, order_line, status_of_misfit, unfit_line, word_of};
+ghost use Rattle.confirms.specs.Confirms.{IsTold};
+
+use crate::found::Found;
+use checks::{REFUSED, event_text, put_refused, put_text};
+use edn::Refusal;
+use line_loop::{Failed, refusal_text};
+use std::alloc::{AllocError, Global};
+use std::io::Write;
+use std::sync::Wait;
+use witness::{Confirmation, Misfit, Unfit};
+
+// Writes what was found, or the line of want of memory where there is none for it, and gives the exit status: 3 where the writer
+// has failed.
+pub(crate) fn tell<X: Wait, W: Write + Failed>(
+    rt: &X,
+    alloc: Global,
+    found: &Found,
+    writer: &mut W,
+) -> u8
+    ensures { (told : Found)
+        × ((told ≡ found.now) ⊎ (told ≡ Found.Refused Refusal.NoMemory))
+        × IsTold told
+        (W.contents writer.old) (W.contents writer.new) (W.has_failed writer.new) result }
+{
+    match line_of(alloc, found) {
+        Ok(line) => put_text(rt, line.as_bytes(), status_of(found), writer),
+        Err(error) => put_refused(rt, Err(error), writer),
+    }
+}
+
+// The line of what was found.
+fn line_of(alloc: Global, found: &Found) -> Result<String, AllocError>
+    ensures { IfOk result (λ text. string_bytes text ≡ found_text found.now) }
+{
+    match found {
+        Found::Shown(Confirmation::Linearizable) => String::from_str(alloc, "linearizable\n"),
+        Found::Shown(Confirmation::NoOrder(unfit)) => unfit_text(alloc, unfit),
+        Found::RefusedEvent(taken, refusal) => event_text(alloc, *taken, refusal),
+        Found::Refused(refusal) => refusal_text(alloc, refusal),
+        Found::RefusedElement(taken) => {
+            format!(in alloc; "refused 5 BadValue order element {taken}\n")
+        }
+        Found::RefusedOrder(refusal) => order_text(alloc, refusal),
+    }
+}
+
+// The line of what does not fit.
+fn unfit_text(alloc: Global, unfit: &Unfit) -> Result<String, AllocError>
+    ensures { IfOk result (λ text. string_bytes text ≡ unfit_line unfit.now) }
+{
+    let opening = opening_of(unfit.why);
+    let place = unfit.place;
+    let event = unfit.event;
+    let word = word_of(unfit.why);
+    format!(in alloc; "{opening} place {place} event {event} {word}\n")
+}
+
+// The line of what is refused of an order.
+fn order_text(alloc: Global, refusal: &Refusal) -> Result<String, AllocError>
+    ensures { IfOk result (λ text. string_bytes text ≡ order_line refusal.now) }
+{
+    let number = refusal.number();
+    let name = refusal.name();
+    match refusal {
+        Refusal::Unreadable(place) => {
+            format!(in alloc; "refused {number} {name} {place} order\n")
+        }
+        _ => format!(in alloc; "refused {number} {name} order\n"),
+    }
+}
+
+// The exit status of what was found.
+fn status_of(found: &Found) -> u8
+    ensures { result ≡ found_status found.now }
+{
+    match found {
+        Found::Shown(Confirmation::Linearizable) => 0,
+        Found::Shown(Confirmation::NoOrder(unfit)) => status_of_misfit(unfit.why),
+        _ => REFUSED,
+    }
+}
+
+// How the line of a misfit begins.
+fn opening_of(why: Misfit) -> &'static str
+    ensures { result.now ≡ opening_of why }
+{
+    match why {
+        Misfit::NoEvent | Misfit::NoInvocation | Misfit::Twice | Misfit::LeftOut => {
+            "refused 5 BadValue order"
+        }
+        Misfit::Failed | Misfit::TooLate | Misfit::CannotTakePlace | Misfit::AnotherAnswer => {
+            "no order"
+        }
+    }
+}
+
+// The exit status of a misfit.
+fn status_of_misfit(why: Misfit) -> u8
+    ensures { result ≡ status_of_misfit why }
+{
+    match why {
+        Misfit::NoEvent | Misfit::NoInvocation | Misfit::Twice | Misfit::LeftOut => REFUSED,
+        Misfit::Failed | Misfit::TooLate | Misfit::CannotTakePlace | Misfit::AnotherAnswer => 1,
+    }
+}
+
+// The word for a misfit.
+fn word_of(why: Misfit) -> &'static str
+    ensures { result.now ≡ word_of why }
+{
+    match why {
+        Misfit::NoEvent => "no-event",
+        Misfit::NoInvocation => "no-invocation",
+        Misfit::Twice => "twice",
+        Misfit::Failed => "failed",
+        Misfit::TooLate => "too-late",
+        Misfit::CannotTakePlace => "cannot-take-place",
+        Misfit::AnotherAnswer => "another-answer",
+        Misfit::LeftOut => "left-out",
+    }
+}
