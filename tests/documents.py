@@ -4,14 +4,15 @@
 A fenced block `console` is a session: a line that begins with `$ ` is a command, lines after it that begin with `> ` continue it,
 and what follows is what it prints, on standard output and standard error together, where a line `...` stands for any lines.
 The commands of a block run one after the other in one shell, in a folder of their own in which the repository's files and
-folders stand, with `jepmon` and the tools' commands on the path, as if they were installed. A block `python` must be Python; where it begins with a comment `# NAME.py`, it is a
-file of that name for the sessions after it, and else listed as not run. So is each other block, and each command within a line
-that no session has. A command in an indented block is a fault.
+folders stand, with `jepmon` and the tools' commands on the path, as if they were installed. A block `python` must be Python; where it begins with a
+comment `# NAME.py`, it is a file of that name for the sessions after it, and else listed as not run. So is each other block, and
+each command within a line that no session has. A command in an indented block is a fault.
 """
 import difflib
 import os
 import pathlib
 import re
+import signal
 import subprocess
 import sys
 import tempfile
@@ -58,8 +59,8 @@ def session(lines):
 
 def run(commands, files):
     """The lines that each of these commands prints, run in one shell, beside these files."""
-    told = f"\ntold=$?; printf '{MARK}'; (exit $told)\n"
-    script = "exec 2>&1\n" + "".join(command + told for command in commands)
+    ending = f"\ntold=$?; printf '{MARK}'; (exit $told)\n"
+    script = "exec 2>&1\n" + "".join(command + ending for command in commands)
     with tempfile.TemporaryDirectory() as folder:
         room, tools = pathlib.Path(folder, "room"), pathlib.Path(folder, "tools")
         room.mkdir()
@@ -72,10 +73,15 @@ def run(commands, files):
         for name in TOOLS:
             (tools / f"jepmon-{name}").write_text(f'#!/bin/sh\nPYTHONPATH={TOP}/python exec python3 -m jepmon {name} "$@"\n')
             (tools / f"jepmon-{name}").chmod(0o755)
-        ran = subprocess.run(["bash", "-c", script], cwd=room, stdin=subprocess.DEVNULL, stdout=subprocess.PIPE, timeout=120,
-                             env={**os.environ, "PATH": f"{tools}:{os.environ['PATH']}", "LC_ALL": "C.UTF-8",
-                                  "PYTHONDONTWRITEBYTECODE": "1"})
-    return [text.splitlines() for text in ran.stdout.decode(errors="replace").split(MARK)[:-1]]
+        shell = subprocess.Popen(["bash", "-c", script], cwd=room, stdin=subprocess.DEVNULL, stdout=subprocess.PIPE, start_new_session=True,
+                                 env={**os.environ, "PATH": f"{tools}:{os.environ['PATH']}", "LC_ALL": "C.UTF-8",
+                                      "PYTHONDONTWRITEBYTECODE": "1"})
+        try:
+            told, _ = shell.communicate(timeout=120)
+        except subprocess.TimeoutExpired:
+            os.killpg(shell.pid, signal.SIGKILL)  # what it started, too: a build, where there is no program of these sources
+            raise
+    return [text.splitlines() for text in told.decode(errors="replace").split(MARK)[:-1]]
 
 
 def fits(shown, got):

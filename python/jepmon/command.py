@@ -9,7 +9,6 @@ import argparse
 import gc
 import io
 import os
-import pathlib
 import sys
 from typing import BinaryIO, Callable, Iterable, NoReturn, Optional, TextIO, Type, Union
 
@@ -32,12 +31,12 @@ def collect_seldom() -> None:
 def tool(name: str) -> str:
     """How a tool of this package is called, by the way in which this one was."""
     called = os.environ.get("JEPMON_CALLED")  # by a script of the repository, as ./jepmon-judge
-    if called and pathlib.PurePath(called).name == f"jepmon-{name}":
+    if called and os.path.basename(called) == f"jepmon-{name}":
         return called
-    path = pathlib.PurePath(sys.argv[0] if sys.argv else "")
-    if path.parent.name == "examples":
+    folder, script = os.path.split(sys.argv[0] if sys.argv else "")
+    if os.path.basename(folder) == "examples":
         return f"examples/{name}"
-    return f"python3 -m jepmon {name}" if path.parts[-2:] == ("jepmon", "__main__.py") else f"jepmon-{name}"
+    return f"python3 -m jepmon {name}" if (os.path.basename(folder), script) == ("jepmon", "__main__.py") else f"jepmon-{name}"
 
 
 def say(name: str, line: str) -> None:

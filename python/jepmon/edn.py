@@ -6,17 +6,20 @@ An atom is its own spelling, a collection is a Many. What can't be read is Unrea
 """
 from __future__ import annotations
 
-from typing import Iterable, Iterator, List, Match, NamedTuple, NoReturn, Optional, Tuple, Union
+from typing import Callable, Iterable, Iterator, List, Match, NamedTuple, NoReturn, Optional, Sequence, Tuple, Union
 
 from . import edn_profile
 from .edn_tokens import (ATOM, CLOSE, COMMENT, DEPTH_OF_MAP, END, MAP, MARKS, METADATA, OPEN, PREFIX, RUN, STRANGE, TOKEN, TOKEN_OR_MAP,
-                         UNENDED, atoms_of, kind_of, members_of, token_or)
+                         UNENDED, atoms_of, kind_of, members_of)
 from .edn_values import CLOSING, Many, Value, canonical, fields_of, has_twice, integer, keyword, shown, spelling, string
 
-__all__ = ["Element", "Many", "Reader", "Unreadable", "Value", "canonical", "fields_of", "integer", "keyword", "shown", "spelling",
+__all__ = ["Element", "Many", "Reader", "Rows", "Unreadable", "Value", "canonical", "fields_of", "integer", "keyword", "shown", "spelling",
            "string"]
 
 DEEPEST = 200  # collections, tags and discards in one another
+
+
+Rows = Sequence[Tuple[str, ...]]
 
 
 class Element(NamedTuple):
@@ -25,11 +28,15 @@ class Element(NamedTuple):
     line: int  # on which it begins
     text: str
     value: Value
-    plain: Optional[Match[str]] = None  # a flat map as it was asked for, in place of its value
+    rows: Rows = ()  # of a run: what was asked for of its elements, flat maps, one a line
 
-    def whole(self) -> Element:
-        """With its value."""
-        return self if self.plain is None else Element(self.line, self.text, Many("{", tuple(members_of(self.text[1:-1]))))
+    def each(self) -> Iterator[Element]:
+        """It, or the elements of the run, each with its value."""
+        if not self.rows:
+            yield self
+            return
+        for line, text in enumerate(self.text.split("\n")[:len(self.rows)], self.line):
+            yield Element(line, text, Many("{", tuple(members_of(text[text.index("{") + 1:text.rindex("}")]))))
 
 
 class Unreadable(Exception):
@@ -40,6 +47,7 @@ class Unreadable(Exception):
         self.line, self.reason, self.place = line, reason, place
 
 
+Find = Callable[[str, int], Tuple[Rows, int]]  # in a text, from a place on: a run, and the place behind it
 Open = Tuple[str, int, Optional[List[Value]]]  # what is open: its text and place, and the members that it is to stand among
 
 
@@ -51,6 +59,7 @@ class Reader:
         self._profile = edn_profile.Profile() if profile else None
         self._piece = ""
         self._before = 0  # characters before the piece
+        self._begun: Optional[int] = None  # the place in the piece from which on it is read anew, behind a run
         self._rest = 0  # the place in the piece from which on it is read together with the next one
         self._line, self._counted = line, 0  # the line of a place in the piece
         self._stack: List[Open] = []  # collections that are open, and prefixes that wait for an element, the innermost last
@@ -62,26 +71,26 @@ class Reader:
         self._element_place = 0  # of the element at the top, characters from 0
         self._held = ""  # the front of that element which stands before the piece
         self._begin = 0  # where the rest of it begins in the piece
-        self._plain: Optional[str] = None
+        self._find: Optional[Find] = None
 
     def elements(self) -> Iterator[Element]:
         """The elements of the text."""
         return self._read()
 
-    def history(self, plain: Optional[str] = None) -> Iterator[Element]:
-        """The elements of the text, or of the one vector or list that it is. Those that `plain`, an expression, matches come as its match."""
-        self._unwraps, self._plain = True, plain
+    def history(self, find: Optional[Find] = None) -> Iterator[Element]:
+        """The elements of the text, or of the one vector or list that it is. Flat maps, one a line and with or without a tag, that `find`
+        finds come as one, a run."""
+        self._unwraps, self._find = True, find
         return self._read()
 
     def _read(self) -> Iterator[Element]:
         stack, profile = self._stack, self._profile
-        tokens = TOKEN if profile is not None else TOKEN_OR_MAP if self._plain is None else token_or(self._plain)
-        is_plain = self._plain is not None
+        tokens, find = TOKEN if profile is not None else TOKEN_OR_MAP, self._find
         members: Optional[List[Value]] = None  # of the innermost collection; None at the top, and where a prefix waits
-        for piece, is_last in self._all_pieces():
+        for piece, begun, is_last in self._all_parts():
             if profile is not None:
                 profile.begin(piece)
-            for token in tokens.finditer(piece):
+            for token in tokens.finditer(piece, begun):
                 text: str = token[1]
                 kind = MAP if len(text) > 1 and text[0] == "{" else MARKS.get(text)
                 if kind is None:
@@ -91,6 +100,13 @@ class Reader:
                 if kind == RUN and members is not None:
                     members.extend(text.replace(",", " ").split())
                     continue
+                if find is not None and (kind == MAP or kind == PREFIX) and not stack:
+                    rows, self._begun = find(piece, token.start(1))
+                    if rows:
+                        self._begin_element("", token.start(1))
+                        yield Element(self._element_line, piece[token.start(1):self._begun], "", rows)
+                        break
+                    self._begun = None
                 if kind == CLOSE:
                     if members is None or CLOSING[stack[-1][0]] != text:
                         self._close_whole(text, token.start(1))
@@ -100,10 +116,6 @@ class Reader:
                     opened, _, outer = stack.pop()
                     value: Value = Many(opened, tuple(members))
                     members = outer
-                elif kind == MAP and is_plain and token[2] is not None and members is None and not stack:
-                    self._begin_element("", token.start(1))
-                    yield Element(self._element_line, text, "", token)
-                    continue
                 elif kind == MAP:
                     value = Many("{", tuple(members_of(text[1:-1])))
                     if len(value.members) % 2 == 1 or len(stack) + DEPTH_OF_MAP > DEEPEST:
@@ -181,6 +193,14 @@ class Reader:
         return members, False
 
     # Pieces, and lines in them.
+
+    def _all_parts(self) -> Iterator[Tuple[str, int, bool]]:
+        """The pieces, each with the place from which on it is read, and whether it is the last one; again behind each run."""
+        for piece, is_last in self._all_pieces():
+            self._begun = 0
+            while self._begun is not None:
+                begun, self._begun = self._begun, None
+                yield piece, begun, is_last
 
     def _all_pieces(self) -> Iterator[Tuple[str, bool]]:
         """The pieces, and of each whether it is the last one. One begins with what was left of the one before it."""

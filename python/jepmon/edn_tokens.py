@@ -6,7 +6,7 @@ is one token too: one that has nothing but atoms, strings, and vectors and sets 
 from __future__ import annotations
 
 import re
-from typing import Iterator, List, Match, Pattern, Tuple
+from typing import Iterator, List, Match, Tuple
 
 from .edn_values import Many, Value
 
@@ -38,11 +38,6 @@ TEXT = (
 )
 TOKEN = re.compile(TEXT, re.X | re.S)
 TOKEN_OR_MAP = re.compile(TEXT.replace("(", f"({FLAT}|", 1), re.X | re.S)  # a flat map is one token
-
-
-def token_or(plain: str) -> Pattern[str]:
-    """The same, where what this expression (a verbose one with groups) matches of flat maps has its groups."""
-    return re.compile(TEXT.replace("(", f"({plain}|{FLAT}|", 1), re.X | re.S)
 
 
 RUN, ATOM, OPEN, CLOSE, PREFIX, COMMENT, UNENDED, STRANGE, END, MAP = range(10)

@@ -9,14 +9,16 @@ import tempfile
 import time
 import unittest
 from typing import Dict, List, Optional, Tuple
+from unittest import mock
 
 from jepmon import program
 from jepmon.history import Event, operations
-from jepmon.judge import tool, wide, words
+from jepmon.judge import causes, tool, wide, words
 from jepmon.program import KeyLine, Options, ProgramError
 from jepmon.shrinking.part import text_of
 from jepmon.wide import Clock, Decided, decide
 from jepmon.wide.confirmed import Said, confirmed
+from jepmon.wide.operation import OutOfTime
 
 from .fuzz import batches, checked, has_program
 from .histories import NAMES, Clients, Way
@@ -122,6 +124,25 @@ class Found(unittest.TestCase):
             self.assertRegex(out, r"^key 0 model register budget 4096 events \d+ status dead(-by)? (\d+)\nillegal key 0 index \2\n$")
             self.assertIn("which could not hold", err)
 
+    def test_what_is_proved_is_said(self) -> None:
+        """Of a key that is illegal by a part no page and no line says that the verdict is proved."""
+        with tempfile.TemporaryDirectory() as folder:
+            page = pathlib.Path(folder, "page.html")
+            err = self.judged(self.wide_history(wrong=True), "--html", str(page))[2]
+            for text in (err, page.read_text("utf-8")):
+                self.assertIn(causes.BY_PART, text)
+                self.assertNotIn("verdict is jepmon's, and proved", text)
+                self.assertNotIn("Proved are the verdict", text)
+
+    def test_a_fault_of_the_search_leaves_the_verdict(self) -> None:
+        for fault, said in ((ValueError("x"), "key 0 is not decided, by a fault of judge itself: ValueError('x')"),
+                            (MemoryError(), "they had 10 s together"), (RecursionError(), "they had 10 s together")):
+            with mock.patch("jepmon.wide.decide.solve", side_effect=fault):
+                status, out, err = self.judged(self.wide_history(), "--no-cause")
+            self.assertEqual(status, 2)
+            self.assertRegex(out, r"status over (\d+)\nunknown key 0 index \1\n$")
+            self.assertIn(said, err)
+
     def test_without_it(self) -> None:
         for more in ([], ["--jobs", "1"]):
             status, out, err = self.judged(self.wide_history(), "--wide-seconds", "0", "--no-cause", *more)
@@ -142,12 +163,12 @@ class Confirmed(unittest.TestCase):
     MADE = operations([Event(40, "invoke", 0, "write", 7, 1, 0, "", {}), Event(41, "invoke", 1, "read", 7, None, 0, "", {}),
                        Event(50, "ok", 1, "read", 7, 1, 0, "", {})], 2)
 
-    def said(self, script: str, order: List[int]) -> Said:
+    def said(self, script: str, order: List[int], seconds: float = 60.0) -> Said:
         with tempfile.TemporaryDirectory() as folder:
             path = pathlib.Path(folder, "jepmon")
             path.write_text(f"#!/bin/sh\n{script}\n")
             path.chmod(0o755)
-            return confirmed(self.MADE, Options(2, "register"), order, str(path))
+            return confirmed(self.MADE, Options(2, "register"), order, str(path), seconds)
 
     def test_a_program_that_confirms(self) -> None:
         events = "{:type :invoke, :process 0, :f :write, :value [7 1], :original-index 40}"
@@ -159,6 +180,15 @@ class Confirmed(unittest.TestCase):
     def test_a_program_that_does_not(self) -> None:
         self.assertEqual(self.said("exit 3", [40, 41]), Said(True, False))
         self.assertEqual(self.said("exit 3", [41, 40]), Said(False, False))
+
+    def test_a_program_that_takes_long(self) -> None:
+        with self.assertRaises(OutOfTime):
+            self.said("exec sleep 60", [40, 41], 0.1)
+
+    def test_no_room_for_the_order(self) -> None:
+        with mock.patch("tempfile.NamedTemporaryFile", side_effect=OSError(28, "No space left on device")), \
+             self.assertRaisesRegex(ProgramError, "No space left on device"):
+            self.said("exit 3", [40, 41])
 
     def test_another_reply(self) -> None:
         with self.assertRaises(ProgramError):

@@ -69,6 +69,21 @@ class Random(unittest.TestCase):
             self.assertGreater(min(found.values()), 2, model)
 
 
+class Long(unittest.TestCase):
+    def test_a_queue_that_holds_much(self) -> None:
+        """An order of many operations is tested in the time of what they change."""
+        count = 5000
+        told: List[Tuple[str, int, str, object]] = [(kind, 0, "enqueue", value) for value in range(count) for kind in ("invoke", "ok")]
+        told += [(kind, 0, "dequeue", None if kind == "invoke" else value) for value in range(count) for kind in ("invoke", "ok")]
+        made = operations(events_of(*told), 1)
+        for model in ("fifo-queue", "unordered-queue"):
+            answer = solve(model, front(made, 4 * count), Clock(60, time.process_time))
+            assert isinstance(answer, Order)
+            began = time.process_time()
+            self.assertTrue(is_order(made, model, answer.ids))
+            self.assertLess(time.process_time() - began, 2.0)
+
+
 class Fronts(unittest.TestCase):
     def test_what_has_failed_is_left_out_and_what_is_open_need_not_have_taken_place(self) -> None:
         made = operations(events_of(("invoke", 0, "write", 1), ("invoke", 1, "write", 2), ("fail", 0, "write", 1), ("ok", 1, "write", 2),

@@ -1,5 +1,5 @@
 -- elements that are taken one after the other
-use Rattle.std.proofs.Common.{◌≡◌, ◌≢◌, ℕ, ◌+◌, ◌⊎◌, inl, inr, ⊎_elim, Bool, Option, Some, None, IfSome, IfOk, IfErr, OnOk, Result, Ok, Err, String, string_bytes, List, [], ◌∷◌, ◌++◌, take, length, refl, sym, ap, ◌∙◌, subst, arith}
+use Rattle.std.proofs.Common.{◌≡◌, ◌≢◌, ℕ, ◌+◌, ◌⊎◌, inl, inr, ⊎_elim, Bool, true, false, Option, Some, None, IfSome, IfOk, IfErr, OnOk, Result, Ok, Err, String, string_bytes, List, [], ◌∷◌, ◌++◌, take, length, refl, sym, ap, ◌∙◌, subst, arith}
 use Rattle.std.specs.Prelude.{codes}
 use Rattle.std.specs.declared.alloc.AllocError.{AllocError}
 use Rattle.std.specs.declared.alloc.Global.{Global}
@@ -12,7 +12,7 @@ use Rattle.edn.specs.Value.{Value, Values, none, more, joined}
 use Rattle.edn.specs.Text.{IsText}
 use Rattle.edn.specs.Elements.{IsLeftBehind, count_of}
 use Rattle.edn.specs.declared.refusal.Refusal.{Refusal}
-use Rattle.edn.specs.declared.refusal.Refusal.TheVariants.{NoMemory}
+use Rattle.edn.specs.declared.refusal.Refusal.TheVariants.{NoMemory, ReadFailed}
 use Rattle.models.specs.declared.model_kind.ModelKind.{ModelKind}
 use Rattle.history.specs.declared.event.Event.{Event}
 use Rattle.history.specs.WellFormed.{Refuses, MayRefuse}
@@ -27,9 +27,9 @@ use Rattle.harness.specs.Setups.{IsSetup}
 use Rattle.line_loop.specs.RefusalLine.{line_of, refusal_line}
 use Rattle.checks.specs.declared.recorded.Findings.{Findings}
 use Rattle.checks.specs.declared.recorded.Findings.TheVariants.{Judged, RefusedEvent, Refused}
-use Rattle.checks.specs.Checks.{IsFound, IsPut, IsTold, Checks, line_or_no_memory}
+use Rattle.checks.specs.Checks.{IsFound, IsPut, IsTold, StandsFor, Checks, line_or_no_memory}
 use Rattle.checks.specs.Reading.{PushesElement, RefusesNext, PushesAll, IsReadUpTo, IsRead}
-use Rattle.checks.specs.Recorded.{findings_text, findings_status, RefusesElement, TakesAll, AdmitsAll, IsRefusedAt, IsTaken, Finds, ComesTo}
+use Rattle.checks.specs.Recorded.{event_line, RefusesElement, TakesAll, AdmitsAll, IsRefusedAt, IsTaken, Finds, ComesTo}
 
 pub at_some : {A : Type 0} (P : A → Type 0) (o : Option A) (x : A) → o ≡ Some x → IfSome o P → P x
 at_some {A} P o x is h = subst (λ (w : Option A). IfSome w P) is h
@@ -42,23 +42,39 @@ pub if_err_so : {X E : Type 0} {P Q : E → Type 0} (r : Result X E) → ((e : E
 if_err_so (Ok x) so p = tt
 if_err_so (Err e) so p = so e p
 
--- the line of want of memory, spelled out
+-- the lines of want of memory and of a reader that failed, spelled out
 thirteen : decimal 13 ≡ 49 ∷ 51 ∷ []
 thirteen = decimal-digits_of 13 (omega arith) (omega arith)
 
 pub no_memory_line : (bytes : List ℕ) → bytes ≡ codes "refused 13 NoMemory\n" → bytes ≡ refusal_line NoMemory
 no_memory_line bytes is = is ∙ ap (λ d. line_of (codes "refused " ∷ d ∷ codes " " ∷ codes "NoMemory" ∷ [] ∷ [])) (sym thirteen)
 
--- the line of what was found was written, or that of want of memory
-pub told_line : (found : Findings) (line : Result (String Global) AllocError) (before after : Option (List ℕ)) (write_failed : Bool) (status : ℕ) → findings_status found ≡ 3
-    → IfOk line (λ text. string_bytes text ≡ findings_text found) → IsPut (line_or_no_memory line) 3 before after write_failed status
-    → (told : Findings) × ((told ≡ found) ⊎ (told ≡ Refused NoMemory)) × IsTold told before after write_failed status
-told_line found (Ok text) before after write_failed status three is put = (
-  found,
-  inl refl,
-  subst (λ l. IsPut l (findings_status found) before after write_failed status) is (subst (λ s. IsPut (string_bytes text) s before after write_failed status) (sym three) put),
-)
-told_line found (Err e) before after write_failed status three is put = (Refused NoMemory, inr refl, put)
+twenty : decimal 20 ≡ 50 ∷ 48 ∷ []
+twenty = decimal-digits_of 20 (omega arith) (omega arith)
+
+pub read_failed_line : (bytes : List ℕ) → bytes ≡ codes "refused 20 ReadFailed\n" → bytes ≡ refusal_line ReadFailed
+read_failed_line bytes is = is ∙ ap (λ d. line_of (codes "refused " ∷ d ∷ codes " " ∷ codes "ReadFailed" ∷ [] ∷ [])) (sym twenty)
+
+module _ (before after : Option (List ℕ)) (write_failed is_flushed : Bool) (status : ℕ) where
+  -- the line of a refusal was written, or that of want of memory
+  pub put_line : (why : Refusal) → why ≢ ReadFailed → (line : Result (String Global) AllocError) → IfOk line (λ text. string_bytes text ≡ refusal_line why) → IsPut (line_or_no_memory line) 3 before after write_failed is_flushed status
+      → (told : Refusal) × ((told ≡ why) ⊎ ((told ≡ NoMemory) × (why ≢ ReadFailed))) × IsPut (refusal_line told) 3 before after write_failed is_flushed status
+  put_line why other (Ok text) is put = (why, inl refl, subst (λ l. IsPut l 3 before after write_failed is_flushed status) is put)
+  put_line why other (Err e) is put = (NoMemory, inr (refl, other), put)
+
+  pub told_refusal : (why told : Refusal) → (told ≡ why) ⊎ ((told ≡ NoMemory) × (why ≢ ReadFailed)) → IsPut (refusal_line told) 3 before after write_failed is_flushed status
+      → (x : Findings) × StandsFor x (Refused why) × IsTold x before after write_failed is_flushed status
+  told_refusal why told which put = (
+    Refused told,
+    ⊎_elim (λ same. inl (ap Refused same)) (λ memory. inr (ap Refused memory.0, λ e. memory.1 (let same : why ≡ ReadFailed = cc in same))) which,
+    put,
+  )
+
+  -- the line of an event that is refused was written, or that of want of memory
+  pub told_event : (i : ℕ) (why : Refusal) (line : Result (String Global) AllocError) → IfOk line (λ text. string_bytes text ≡ event_line i why) → IsPut (line_or_no_memory line) 3 before after write_failed is_flushed status
+      → (x : Findings) × StandsFor x (RefusedEvent i why) × IsTold x before after write_failed is_flushed status
+  told_event i why (Ok text) is put = (RefusedEvent i why, inl refl, subst (λ l. IsPut l 3 before after write_failed is_flushed status) is put)
+  told_event i why (Err e) is put = (Refused NoMemory, inr (refl, λ e. cc), put)
 
 -- what is found where all was taken is what the bytes come to
 pub all_taken : (setup : Setup) → IsSetup setup → (bytes : List ℕ) (end : Machine) → IsTaken setup bytes end → (found : Findings) → Finds end found → ComesTo setup bytes found
@@ -70,17 +86,27 @@ all_taken setup opens bytes end is (Refused why) finds = subst (λ w. ComesTo se
 pub loaded_now : (monitor : MonitorView) (c : ℕ) (kind : ModelKind) (budget : ℕ) (events : List Event) → monitor ≡ at_rest (with_events events (opening_of c kind budget)) → monitor.now ≡ with_all c kind budget events
 loaded_now monitor c kind budget events is = ap (λ m. m.now) is ∙ events_in_turn events (opening_of c kind budget)
 
+-- the reader has not failed, where it is not said that it has
+unfailed : (setup : Setup) (left : Option (List ℕ)) (read_failed : Bool) (input : List ℕ) (findings : Findings) → IsFound setup input left read_failed findings → findings ≢ Refused ReadFailed → read_failed ≡ false
+unfailed setup left read_failed input findings found other = ⊎_elim (λ a. a.1) (λ b. ⊎_elim (λ failed. absurd (other failed.0)) (λ memory. memory.1) b) found
+
 -- what was told is what was found, or want of memory
-pub checks : (setup : Setup) (left left' : Option (List ℕ)) (read_failed : Bool) (before after : Option (List ℕ)) (write_failed : Bool) (status : ℕ) (input : List ℕ) → Consumes left left' input
-    → (findings : Findings) → IsFound setup input left' read_failed findings → (told : Findings) → (told ≡ findings) ⊎ (told ≡ Refused NoMemory) → IsTold told before after write_failed status
-    → Checks setup left left' read_failed before after write_failed status
-checks setup left left' read_failed before after write_failed status input read findings found told which tells = record {
+pub checks : (setup : Setup) (left left' : Option (List ℕ)) (read_failed : Bool) (before after : Option (List ℕ)) (write_failed is_flushed : Bool) (status : ℕ) (input : List ℕ) → Consumes left left' input
+    → (findings : Findings) → IsFound setup input left' read_failed findings → (told : Findings) → StandsFor told findings → IsTold told before after write_failed is_flushed status
+    → Checks setup left left' read_failed before after write_failed is_flushed status
+checks setup left left' read_failed before after write_failed is_flushed status input read findings found told which tells = record {
   input = input;
   read = read;
   findings = told;
-  found = ⊎_elim (λ same. subst (IsFound setup input left' read_failed) (sym same) found) (λ memory. inr (inr memory)) which;
+  found = ⊎_elim (λ same. subst (IsFound setup input left' read_failed) (sym same) found)
+      (λ memory. inr (inr (memory.0, unfailed setup left' read_failed input findings found memory.1))) which;
   told = tells;
 }
+
+-- a reader that could not be begun
+pub checks_none : (setup : Setup) (before after : Option (List ℕ)) (write_failed is_flushed : Bool) (status : ℕ) (told : Findings) → StandsFor told (Refused ReadFailed) → IsTold told before after write_failed is_flushed status
+    → Checks setup None None true before after write_failed is_flushed status
+checks_none setup before after write_failed is_flushed status told which tells = checks setup None None true before after write_failed is_flushed status [] tt (Refused ReadFailed) (inr (inl (refl, refl))) told which tells
 
 -- elements that are pushed, in turn
 pub PushesAll-more : (c : ℕ) (old : List Event) (vs : Values) (mid new : List Event) (v : Value) → PushesAll c old vs mid → PushesElement c mid v new → PushesAll c old (joined vs (more v none)) new

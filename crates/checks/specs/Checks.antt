@@ -1,5 +1,5 @@
 -- Promise: what a check reads of a recorded history, finds and says (this project's own)
-use Rattle.std.specs.Prelude.{◌≡◌, ℕ, Bool, true, false, List, ◌++◌, Option, ◌⊎◌, Result, Ok, Err, String, string_bytes}
+use Rattle.std.specs.Prelude.{◌≡◌, ◌≢◌, ℕ, Bool, true, false, List, ◌++◌, Option, ◌⊎◌, Result, Ok, Err, String, string_bytes}
 use Rattle.std.specs.declared.alloc.AllocError.{AllocError}
 use Rattle.std.specs.declared.alloc.Global.{Global}
 use Rattle.std.specs.Io.KnownBytes.{Appends, Consumes, IsAtEnd}
@@ -11,17 +11,17 @@ use Rattle.checks.specs.declared.recorded.Findings.TheVariants.{Refused}
 use Rattle.checks.specs.Recorded.{ComesTo, findings_text, findings_status}
 
 -- what was found of a reader that gave these bytes: what they come to, where it was read to its end and has not failed; or it
--- has failed, or memory ran out
+-- has failed; or it has not, and memory ran out
 abbrev pub IsFound : Setup → List ℕ → Option (List ℕ) → Bool → Findings → Type 0
 IsFound setup input left has_failed findings =
     (IsAtEnd left × (has_failed ≡ false) × ComesTo setup input findings)
     ⊎ ((findings ≡ Refused ReadFailed) × (has_failed ≡ true))
-    ⊎ (findings ≡ Refused NoMemory)
+    ⊎ ((findings ≡ Refused NoMemory) × (has_failed ≡ false))
 
--- the text was written whole, and the writer has not failed; or it has, and took a beginning of it
-abbrev pub IsPut : List ℕ → ℕ → Option (List ℕ) → Option (List ℕ) → Bool → ℕ → Type 0
-IsPut text text_status before after has_failed status =
-    (Appends before after text × (has_failed ≡ false) × (status ≡ text_status))
+-- the text was written whole and flushed, and the writer has not failed; or it has, and took a beginning of it
+abbrev pub IsPut : List ℕ → ℕ → Option (List ℕ) → Option (List ℕ) → Bool → Bool → ℕ → Type 0
+IsPut text text_status before after has_failed is_flushed status =
+    (Appends before after text × (has_failed ≡ false) × (is_flushed ≡ true) × (status ≡ text_status))
     ⊎ ((part : List ℕ) × (more : List ℕ) × (text ≡ part ++ more) × Appends before after part
     × (has_failed ≡ true) × (status ≡ 3))
 
@@ -31,14 +31,23 @@ line_or_no_memory (Ok line) = string_bytes line
 line_or_no_memory (Err e) = refusal_line NoMemory
 
 -- a writer was told of what was found
-abbrev pub IsTold : Findings → Option (List ℕ) → Option (List ℕ) → Bool → ℕ → Type 0
+abbrev pub IsTold : Findings → Option (List ℕ) → Option (List ℕ) → Bool → Bool → ℕ → Type 0
 IsTold findings = IsPut (findings_text findings) (findings_status findings)
+
+-- the line of a refusal was written; or that of want of memory in its place, but never for a reader that failed
+abbrev pub StandsFor : Findings → Findings → Type 0
+StandsFor told findings = (told ≡ findings) ⊎ ((told ≡ Refused NoMemory) × (findings ≢ Refused ReadFailed))
 
 -- a check of a reader that had left, and has left' after it, which a writer was told of
 pub record Checks (setup : Setup) (left left' : Option (List ℕ)) (read_failed : Bool)
-    (before after : Option (List ℕ)) (write_failed : Bool) (status : ℕ) : Type 0 where
+    (before after : Option (List ℕ)) (write_failed is_flushed : Bool) (status : ℕ) : Type 0 where
   pub input : List ℕ
   pub read : Consumes left left' input
   pub findings : Findings
   pub found : IsFound setup input left' read_failed findings
-  pub told : IsTold findings before after write_failed status
+  pub told : IsTold findings before after write_failed is_flushed status
+
+-- a check of what had left, however much it has after it, and whether it has failed or not
+abbrev pub ChecksInput : Setup → Option (List ℕ) → Option (List ℕ) → Option (List ℕ) → Bool → Bool → ℕ → Type 0
+ChecksInput setup left before after write_failed is_flushed status =
+    (left' : Option (List ℕ)) × (read_failed : Bool) × Checks setup left left' read_failed before after write_failed is_flushed status

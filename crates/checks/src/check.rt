@@ -1,34 +1,38 @@
 //! A recorded history, from its bytes to the text that says what it comes to.
-ghost use Rattle.std.specs.Prelude.{◌≡◌, ◌≤◌, ◌⊎◌, false};
+ghost use Rattle.std.specs.Prelude.{◌≡◌, ◌≤◌, None, false};
 ghost use Rattle.checks.specs.declared.recorded.Findings.{Findings};
 ghost use Rattle.harness.specs.Setups.{setup_of};
-ghost use Rattle.checks.specs.Checks.{Checks, IsTold};
+ghost use Rattle.checks.specs.Checks.{Checks, ChecksInput, IsTold, StandsFor};
 
 use crate::recorded::{Findings, event_text, judge_text};
-use crate::seen_file::SeenFile;
-use crate::telling::{put_refused, put_text, status_of_verdict};
+use crate::telling::{put_refusal, put_refused, put_text, status_of_verdict};
 use edn::Refusal;
 use harness::Config;
-use line_loop::{Failed, Watched, read_whole, refusal_text};
+use line_loop::{Failed, Flushes, Watched, read_whole};
 use onlookers::Onlooker;
 use std::alloc::Global;
-use std::fs;
 use std::fs::Files;
 use std::io::{Read, Write};
 use std::sync::Wait;
 use std::thread::Threads;
+use std::{fs, io};
 
 /// Reads a recorded history to its end, judges it, writes what it comes to, and gives the exit status.
 ///
 /// That is the report, whose last line is that of the verdict; or one line: `refused NUMBER NAME event I`, where I elements
 /// were taken and the next one was refused, or `refused NUMBER NAME` for what is no element's refusal: `ReadFailed` where
-/// the reader has failed, what [`Config::check`] refuses, `Unreadable` with its place, `NoMemory`. The status is that of
-/// the verdict, else 3, and 3 too where the writer has failed.
+/// the reader has failed, and else what [`Config::check`] refuses, `Unreadable` with its place, `NoMemory`. It is flushed. The
+/// status is that of the verdict, else 3, and 3 too where the writer has failed.
 ///
 /// The bytes are held once, and one element at a time. So many workers, 1 to 64, judge the keys, and what is written is the
 /// same by any number of them. It waits for the reader, the workers and the writer. The onlooker is told on the way how
 /// many events are taken, and when they are judged.
-pub fn check_text<X: Wait + Threads + Sync, R: Read + Failed, W: Write + Failed, L: Onlooker>(
+pub fn check_text<
+    X: Wait + Threads + Sync,
+    R: Read + Failed,
+    W: Write + Failed + Flushes,
+    L: Onlooker,
+>(
     rt: &X,
     alloc: Global,
     config: Config,
@@ -42,7 +46,8 @@ pub fn check_text<X: Wait + Threads + Sync, R: Read + Failed, W: Write + Failed,
     requires workers { (1 ≤ workers) × (workers ≤ 64) }
     ensures { Checks (setup_of config)
         (R.remaining reader.old) (R.remaining reader.new) (R.has_failed reader.new)
-        (W.contents writer.old) (W.contents writer.new) (W.has_failed writer.new) result }
+        (W.contents writer.old) (W.contents writer.new)
+        (W.has_failed writer.new) (W.is_flushed writer.new) result }
 {
     let findings = match read_whole(rt, alloc, reader) {
         Ok(bytes) => judge_text(rt, alloc, config, workers, bytes.as_slice(), onlooker),
@@ -56,7 +61,7 @@ pub fn check_text<X: Wait + Threads + Sync, R: Read + Failed, W: Write + Failed,
 
 /// Judges the recorded history in a file: [`check_text`] of what the file has, with the same status, cost and waiting. A
 /// file that can't be opened is told as `ReadFailed`, with status 3.
-pub fn check_file<X: Wait + Threads + Files + Sync, W: Write + Failed, L: Onlooker>(
+pub fn check_file<X: Wait + Threads + Files + Sync, W: Write + Failed + Flushes, L: Onlooker>(
     rt: &X,
     alloc: Global,
     path: &str,
@@ -67,6 +72,9 @@ pub fn check_file<X: Wait + Threads + Files + Sync, W: Write + Failed, L: Onlook
 ) -> u8
     requires writes { W.has_failed writer.old ≡ false }
     requires workers { (1 ≤ workers) × (workers ≤ 64) }
+    // What a file has is not known.
+    ensures { ChecksInput (setup_of config) None (W.contents writer.old) (W.contents writer.new)
+        (W.has_failed writer.new) (W.is_flushed writer.new) result }
 {
     match fs::open(rt, path) {
         Ok(file) => check_input(rt, alloc, file, path, config, workers, writer, onlooker),
@@ -80,7 +88,12 @@ pub fn check_file<X: Wait + Threads + Files + Sync, W: Write + Failed, L: Onlook
 
 /// Judges the recorded history that a reader has: [`check_text`] of that, with the same status, cost and waiting. The onlooker
 /// is told of each read, and of one that fails with this name of the input.
-pub fn check_input<X: Wait + Threads + Sync, R: Read + Drop, W: Write + Failed, L: Onlooker>(
+pub fn check_input<
+    X: Wait + Threads + Sync,
+    R: Read + Drop,
+    W: Write + Failed + Flushes,
+    L: Onlooker,
+>(
     rt: &X,
     alloc: Global,
     file: R,
@@ -92,23 +105,54 @@ pub fn check_input<X: Wait + Threads + Sync, R: Read + Drop, W: Write + Failed, 
 ) -> u8
     requires writes { W.has_failed writer.old ≡ false }
     requires workers { (1 ≤ workers) × (workers ≤ 64) }
+    ensures { ChecksInput (setup_of config) (R.remaining file)
+        (W.contents writer.old) (W.contents writer.new)
+        (W.has_failed writer.new) (W.is_flushed writer.new) result }
 {
-    let mut reader = Watched::new(SeenFile::new(file, path, onlooker));
+    let mut reader = Watched::new(SeenFile {
+        file,
+        path,
+        onlooker,
+    });
     check_text(rt, alloc, config, workers, &mut reader, writer, onlooker)
 }
 
-// Writes what was found, or the line of want of memory where there is none for it, and gives the exit status: 3 where the
-// writer has failed.
-fn tell<X: Wait, W: Write + Failed>(
+/// A file, at whose reads somebody looks on, who is told of one that fails by this path.
+#[derive(Drop)]
+pub struct SeenFile<'a, R, L> {
+    pub file: R,
+    pub path: &'a str,
+    pub onlooker: &'a L,
+}
+
+impl<'a, R: Read, L: Onlooker> Read for SeenFile<'a, R, L> {
+    ghost remaining = { λ seen. R.remaining seen.file };
+
+    fn read(&mut self, buf: &mut [u8]) -> io::Result<usize> {
+        match self.file.read(buf) {
+            Ok(n) => {
+                self.onlooker.read(n);
+                Ok(n)
+            }
+            Err(reason) => {
+                self.onlooker.unread(self.path, &reason);
+                Err(reason)
+            }
+        }
+    }
+}
+
+// Writes what was found, or the line of want of memory where there is none for it, flushes, and gives the exit status: 3 where
+// the writer has failed.
+fn tell<X: Wait, W: Write + Failed + Flushes>(
     rt: &X,
     alloc: Global,
     findings: &Findings,
     writer: &mut W,
 ) -> u8
-    ensures { (told : Findings)
-        × ((told ≡ findings.now) ⊎ (told ≡ Findings.Refused Refusal.NoMemory))
-        × IsTold told
-        (W.contents writer.old) (W.contents writer.new) (W.has_failed writer.new) result }
+    ensures { (told : Findings) × StandsFor told findings.now
+        × IsTold told (W.contents writer.old) (W.contents writer.new)
+        (W.has_failed writer.new) (W.is_flushed writer.new) result }
 {
     match findings {
         Findings::Judged(verdict, text) => {
@@ -117,6 +161,6 @@ fn tell<X: Wait, W: Write + Failed>(
         Findings::RefusedEvent(taken, refusal) => {
             put_refused(rt, event_text(alloc, *taken, refusal), writer)
         }
-        Findings::Refused(refusal) => put_refused(rt, refusal_text(alloc, refusal), writer),
+        Findings::Refused(refusal) => put_refusal(rt, alloc, refusal, writer),
     }
 }

@@ -4,11 +4,9 @@
 mod check;
 mod reading;
 mod recorded;
-mod seen_file;
 mod telling;
 
-pub use check::{check_file, check_input, check_text};
+pub use check::{SeenFile, check_file, check_input, check_text};
 pub use reading::read_events;
 pub use recorded::{Findings, event_text, judge_text};
-pub use seen_file::SeenFile;
 pub use telling::{REFUSED, put_refused, put_text, status_of_verdict};

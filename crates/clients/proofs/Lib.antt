@@ -1,7 +1,9 @@
 pub mod Asking
 pub mod Counted
+pub mod Lowest
 pub mod Making
 pub mod OwnCalls
+pub mod Refusing
 pub mod Results
 pub mod Running
 pub mod TapeRuns

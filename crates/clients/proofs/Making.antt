@@ -1,5 +1,6 @@
 -- The calls of a seat, one after the other, and what clients and the nemesis do by them.
-use Rattle.std.proofs.Common.{◌≡◌, ◌⊎◌, ℕ, ◌+◌, List, [], ◌∷◌, ◌++◌, Option, Some, None, Ok, Err, refl, sym, subst, ◌∙◌, inl, inr, arith}
+use Rattle.std.proofs.Common.{◌≡◌, ◌⊎◌, ℕ, ◌≤◌, [], ◌∷◌, ◌++◌, length, Option, Some, None, Ok, Err, refl, sym, subst, ◌∙◌, inl, inr, arith}
+use Rattle.std.specs.Result.{result_err}
 use Rattle.edn.specs.declared.refusal.Refusal.{Refusal}
 use Rattle.edn.specs.declared.refusal.Refusal.TheVariants.{NotOpen, HistoryFull, TapeFull, NoMemory, Stale}
 use Rattle.machine.specs.declared.command.Command.{Command}
@@ -16,7 +17,7 @@ use Rattle.clients.specs.declared.client.Next.{Next}
 use Rattle.clients.specs.declared.client.Next.TheVariants.{Draw, End}
 use Rattle.clients.specs.Calls.{CoreSeat, Calls, MadeNone, MadeOne, HasMade, MayBeNoCall, IsTold}
 use Rattle.clients.specs.Plays.{Stage, draws, has_ended, gives_up, IsNext, after_reply, after_refusal, after_answer, Plays, IsOfRun, AreStrikes, HasPlayed, HasStruck}
-use Rattle.clients.specs.Playing.{RefusesRun, IsAfterRefusal, StandsAt, CameFrom}
+use Rattle.clients.specs.Playing.{RefusesRun, IsAfterRefusal, StandsAt, CameFrom, AsksOnce, GoesOnStriking}
 
 pub none_self : (s : CoreSeat) → MadeNone s s
 none_self s = record { number = refl; seen = prefix_self s.tape; count = refl }
@@ -35,7 +36,7 @@ none_one a b c command reply p q = record {
   count = omega (arith, p.count, q.count);
 }
 
-none_then : (a b c : CoreSeat) (calls : Calls) → MadeNone a b → HasMade b calls c → HasMade a calls c
+pub none_then : (a b c : CoreSeat) (calls : Calls) → MadeNone a b → HasMade b calls c → HasMade a calls c
 none_then a b c [] p q = none_none a b c p q
 none_then a b c (call ∷ calls) p q = (q.0, none_one a b q.0 call.0 call.1 p q.1, q.2)
 
@@ -132,8 +133,9 @@ spares None none lost = lost
 spares (Some why) none lost = none why refl
 
 -- where the run is not refused for what it met, it came to its end
-pub has_played : (thread : ℕ) (a b : CoreSeat) (why : Option Refusal) → CameFrom thread draws a b (End why) → ¬ RefusesRun why → HasPlayed thread a b
-has_played thread a b why came heard = (came.0, came.1, to_end came.2.2) where
+pub has_played : (thread : ℕ) (old begun new : CoreSeat) (why : Option Refusal) → MadeNone old begun → 2 ≤ length begun.tape
+    → CameFrom thread draws begun new (End why) → ¬ RefusesRun why → HasPlayed thread old new
+has_played thread old begun new why none seen came heard = (begun, none, seen, (came.0, came.1, to_end came.2.2)) where
   to_end : (came.2.0 ≡ has_ended) ⊎ RefusesRun why → Plays thread draws came.0 has_ended
   to_end (inl is) = subst (λ (s : Stage). Plays thread draws came.0 s) is came.2.1
   to_end (inr lost) = absurd (heard lost)
@@ -144,22 +146,38 @@ strikes_then : (xs ys : Calls) → AreStrikes xs → AreStrikes ys → AreStrike
 strikes_then [] ys p q = q
 strikes_then (call ∷ xs) ys p q = (p.0, p.1, strikes_then xs ys p.2 q)
 
-pub struck_self : (s : CoreSeat) → HasStruck s s
+pub struck_self : (s : CoreSeat) → GoesOnStriking s s
 struck_self s = ([], none_self s, tt)
 
-pub struck_then : (a b c : CoreSeat) → HasStruck a b → HasStruck b c → HasStruck a c
+pub struck_then : (a b c : CoreSeat) → GoesOnStriking a b → GoesOnStriking b c → GoesOnStriking a c
 struck_then a b c p q = (p.0 ++ q.0, made_then a b c p.0 q.0 p.1 q.1, strikes_then p.0 q.0 p.2 q.2)
 
-pub struck_none : (a b c : CoreSeat) → HasStruck a b → MadeNone b c → HasStruck a c
+pub struck_none : (a b c : CoreSeat) → GoesOnStriking a b → MadeNone b c → GoesOnStriking a c
 struck_none a b c p q = (p.0, then_none a b c p.0 p.1 q, p.2)
 
-struck_by : (a b : CoreSeat) (reply : CoreReply) → ((why : Refusal) → reply ≡ Err why → ¬ IsOfRun why) → IsTold a Nemesis reply b → HasStruck a b
+struck_by : (a b : CoreSeat) (reply : CoreReply) → ((why : Refusal) → reply ≡ Err why → ¬ IsOfRun why) → IsTold a Nemesis reply b → GoesOnStriking a b
 struck_by a b reply fine (inl one) = ((Nemesis, reply) ∷ [], (b, one, none_self b), (refl, fine, tt))
 struck_by a b reply fine (inr none) = ([], none.0, tt)
 
 -- it was answered; or refused, and not for what the run is refused for
-pub struck_well : (a b : CoreSeat) (result : CoreReply) (reply : Reply) → result ≡ Ok reply → IsTold a Nemesis result b → HasStruck a b
+pub struck_well : (a b : CoreSeat) (result : CoreReply) (reply : Reply) → result ≡ Ok reply → IsTold a Nemesis result b → GoesOnStriking a b
 struck_well a b result reply is told = struck_by a b result (λ why e. absurd (cc (sym is ∙ e))) told
 
-pub struck_in_vain : (a b : CoreSeat) (result : CoreReply) (why : Refusal) → result ≡ Err why → ¬ IsOfRun why → IsTold a Nemesis result b → HasStruck a b
+pub struck_in_vain : (a b : CoreSeat) (result : CoreReply) (why : Refusal) → result ≡ Err why → ¬ IsOfRun why → IsTold a Nemesis result b → GoesOnStriking a b
 struck_in_vain a b result why is fine told = struck_by a b result (λ other e. (let same : why ≡ other = cc (sym is ∙ e) in subst (λ (w : Refusal). ¬ IsOfRun w) same fine)) told
+
+no_call_lost : (why : Refusal) → MayBeNoCall (Err why) → IsOfRun why
+no_call_lost TapeFull may = tt
+no_call_lost NoMemory may = tt
+no_call_lost why may = absurd may
+
+-- its first ask is a call, where the run is not refused for the answer
+pub asked_once : (a b : CoreSeat) (reply : CoreReply) → ¬ RefusesRun (result_err reply) → IsTold a Nemesis reply b → AsksOnce a b
+asked_once a b (Ok reply) fine (inl one) = (Ok reply, one, λ why e. absurd (cc e))
+asked_once a b (Ok reply) fine (inr none) = absurd none.1
+asked_once a b (Err why) fine (inl one) = (Err why, one, λ other e. (let same : why ≡ other = cc e in subst (λ (w : Refusal). ¬ IsOfRun w) same fine))
+asked_once a b (Err why) fine (inr none) = absurd (fine (no_call_lost why none.1))
+
+-- and then it went on
+pub struck_on : (a b c : CoreSeat) → AsksOnce a b → GoesOnStriking b c → HasStruck a c
+struck_on a b c p q = ((Nemesis, p.0) ∷ q.0, (b, p.1, q.1), (refl, p.2, q.2), omega arith)

@@ -1,5 +1,5 @@
 -- The calls of one seat on a tape: where there are no more of them than it made since it was so, they are just those.
-use Rattle.std.proofs.Common.{◌≡◌, ℕ, ◌+◌, ◌≤◌, Bool, true, false, List, [], ◌∷◌, ◌++◌, length, refl, sym, ap, subst, ◌∙◌, arith, length-append, append_assoc}
+use Rattle.std.proofs.Common.{◌≡◌, ℕ, ◌+◌, ◌≤◌, Bool, true, false, [], ◌∷◌, ◌++◌, length, refl, sym, ap, subst, ◌∙◌, arith, length-append, append_assoc}
 use Rattle.std.specs.Prelude.{◌==◌, ◌&&◌, if◌then◌else◌}
 use mathlib.Core.List.{IsPrefix}
 use Rattle.machine.specs.declared.command.Command.{Command}
@@ -7,7 +7,7 @@ use Rattle.board.specs.declared.tape.TapeEntry.TheVariants.{Opening, Call}
 use Rattle.board.specs.CoreTape.{CoreReply, CoreTape}
 use Rattle.clients.specs.Calls.{CoreSeat, Calls, HasMade}
 use Rattle.clients.specs.Runs.{calls_of}
-use Rattle.clients.proofs.Asking.{one_if, asked, HasAskedOnly, AreSuch, asked_by, same_number}
+use Rattle.clients.proofs.Asking.{one_if, asked, AreSuch, asked_by, same_number}
 
 abbrev pub any : Command → Bool
 any command = true
@@ -58,7 +58,7 @@ made_count old new [] made = omega (arith, made.count)
 made_count old new (call ∷ calls) made = omega (arith, made.1.count, made_count made.0 new calls made.2)
 
 -- a seat's tape has at least what it made since
-at_least : (n : ℕ) (old new : CoreSeat) (calls : Calls) → old.number ≡ n → HasMade old calls new
+pub at_least : (n : ℕ) (old new : CoreSeat) (calls : Calls) → old.number ≡ n → HasMade old calls new
     → length (calls_of n old.tape) + length calls ≤ length (calls_of n new.tape)
 at_least n old new calls e made =
     let has = asked_by any old new calls made (all_are calls) in

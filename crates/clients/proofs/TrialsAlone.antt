@@ -1,7 +1,7 @@
 -- Where all seats of a board come back from clients and the nemesis, its tape has calls of trials alone: of each client, and of the
 -- nemesis, just what it did.
 use Rattle.std.proofs.Common.{◌≡◌, ℕ, zero, suc, ◌+◌, ◌-◌, ◌<◌, ◌≤◌, ◌≢◌, ⊎_elim, Bool, true, false, List, [], ◌∷◌, ◌++◌, length, Some, refl, sym, ap, subst, ◌∙◌, arith, length-append}
-use Rattle.std.specs.Prelude.{slice_get, slice_index_or, nat_lt, not, ◌&&◌, ◌==◌, if◌then◌else◌}
+use Rattle.std.specs.Prelude.{slice_get, nat_lt, not, ◌&&◌, ◌==◌, if◌then◌else◌}
 use Rattle.std.proofs.lemmas.Bool.{false≢true, cases_eq, cases_lt}
 use Rattle.std.proofs.lemmas.Bool.Decides.{nat_tests}
 use Rattle.std.proofs.lemmas.Option.{get_or_from_slice_get}
@@ -9,16 +9,19 @@ use mathlib.Core.List.{IsPrefix}
 use Rattle.machine.specs.declared.command.Command.{Command}
 use Rattle.machine.specs.declared.command.Command.TheVariants.{Append, Rewind, SetModel, SetBudget, Verdict as Ask, Draw, Serve, Finish, Nemesis}
 use Rattle.machine.specs.Machine.{Machine, IsOfTrial, AreOfTrial}
+use Rattle.board.specs.declared.tape.TapeEntry.{TapeEntry}
 use Rattle.board.specs.declared.tape.TapeEntry.TheVariants.{Opening, Call}
 use Rattle.board.specs.Tape.{IsTapeOf}
 use Rattle.board.specs.Seat.{IsFresh}
 use Rattle.board.specs.CoreTape.{CoreReply, CoreTape, opening_tape, calls_on}
+use Rattle.board.proofs.Prefixes.{prefix_trans}
 use Rattle.clients.specs.Calls.{CoreSeat, Calls, HasMade}
 use Rattle.clients.specs.Plays.{Stage, draws, serves, finishes, has_ended, gives_up, IsNext, after_answer, Plays, AreStrikes, HaveRun}
-use Rattle.clients.specs.Runs.{calls_of, ArePlayed, IsRun}
+use Rattle.clients.specs.Runs.{calls_of, ArePlayed, IsBegunBy, IsRun}
 use Rattle.clients.proofs.Asking.{one_if, asked, HasAskedOnly, AreSuch, asked_by, same_number}
 use Rattle.clients.proofs.Counted.{one_at_most, few_calls, such_from, few_such, AreCounted, counted, counted_with, among_later, counted_but}
-use Rattle.clients.proofs.OwnCalls.{any, all_are, as_many, calls_front, none_more, made_count, just_made}
+use Rattle.clients.proofs.Making.{none_then}
+use Rattle.clients.proofs.OwnCalls.{any, all_are, as_many, calls_front, none_more, made_count, at_least, just_made}
 
 abbrev is_of_trial : Command → Bool
 is_of_trial (Append event) = false
@@ -92,7 +95,7 @@ ran seats back place old new run within at_old at_new = go (nat_lt (place + 1) (
   go true e =
       let before : place + 1 < length seats = grind (arith, nat_tests) in
       let p = run.clients place old new before at_old at_new in
-      (p.0, p.1, plays_are place draws has_ended p.0 p.2)
+      (p.3.0, none_then old p.0 new p.3.0 p.1 p.3.1, plays_are place draws has_ended p.3.0 p.3.2)
   go false e =
       let last : place ≡ length seats - 1 = grind (arith, nat_tests) in
       let p = run.nemesis old new (subst (λ (k : ℕ). slice_get seats k ≡ Some old) last at_old) (subst (λ (k : ℕ). slice_get back k ≡ Some new) last at_new) in
@@ -129,6 +132,20 @@ get_within : {A : Type 0} (xs : List A) (k : ℕ) (x : A) → slice_get xs k ≡
 get_within [] k x e = absurd (cc e)
 get_within (y ∷ ys) zero x e = omega arith
 get_within (y ∷ ys) (suc k) x e = omega (arith, get_within ys k x e)
+
+first_of_its : (k : ℕ) (c : Command) (r : CoreReply) (rest : CoreTape) → 1 ≤ length (calls_of k (Call k c r ∷ rest))
+first_of_its k c r rest = rw (same_number k) (omega arith)
+
+-- who has seen a call has seen the first
+first_seen : (o : Machine) (k : ℕ) (c : Command) (r : CoreReply) (rest front : CoreTape) → IsPrefix front (Opening o ∷ Call k c r ∷ rest) → 2 ≤ length front
+    → 1 ≤ length (calls_of k front)
+first_seen o k c r rest [] p many = absurd (omega (arith, many))
+first_seen o k c r rest (x ∷ []) p many = absurd (omega (arith, many))
+first_seen o k c r rest (x ∷ y ∷ more) p many =
+    let same_x : x ≡ Opening o = cc p.1 in
+    let same_y : y ≡ Call k c r = cc p.1 in
+    subst (λ (e : TapeEntry Machine Command CoreReply). 1 ≤ length (calls_of k (e ∷ y ∷ more))) (sym same_x)
+    (subst (λ (e : TapeEntry Machine Command CoreReply). 1 ≤ length (calls_of k (Opening o ∷ e ∷ more))) (sym same_y) (first_of_its k c r more))
 
 module _ (m : Machine) (seats back : List CoreSeat) (fresh : IsFresh (opening_tape m) seats) (run : HaveRun (λ (s : CoreSeat). s) seats back) where
   within : (k : ℕ) (s : CoreSeat) → slice_get back k ≡ Some s → k < length seats
@@ -183,7 +200,7 @@ module _ (m : Machine) (seats back : List CoreSeat) (fresh : IsFresh (opening_ta
       let old = get_some seats thread (omega (arith, below, enough)) in
       let new = get_some back thread (omega (arith, below, enough, run.count)) in
       let p = run.clients thread old.0 new.0 (omega (arith, below, enough)) old.1 new.1 in
-      subst (λ (calls : Calls). Plays thread draws calls has_ended) (sym (own_calls tape is thread old.0 new.0 old.1 new.1 p.0 p.1)) p.2
+      subst (λ (calls : Calls). Plays thread draws calls has_ended) (sym (own_calls tape is thread old.0 new.0 old.1 new.1 p.3.0 (none_then old.0 p.0 new.0 p.3.0 p.1 p.3.1))) p.3.2
 
   pub all_struck : (threads : ℕ) → length seats ≡ threads + 1 → (tape : CoreTape) → IsTapeOf (opening_tape m) back (length seats) tape → AreStrikes (calls_of threads tape)
   all_struck threads size tape is =
@@ -205,3 +222,49 @@ module _ (m : Machine) (seats back : List CoreSeat) (fresh : IsFresh (opening_ta
       let counts = counted_with any (Opening o ∷ rest) 0 (length back) back (omega arith) all_counted is.seen in
       let few = among_later any (length back) seat (omega (arith, far, run.count)) (Opening o ∷ rest) in
       nothing_in (calls_of seat (Opening o ∷ rest)) (omega (arith, is.calls run.count, counts, few, few_such any 0 (Opening o ∷ rest), few_calls rest, as_many seat (Opening o ∷ rest)))
+
+  -- the nemesis has asked
+  has_asked : (threads : ℕ) → length seats ≡ threads + 1 → (tape : CoreTape) → IsTapeOf (opening_tape m) back (length seats) tape → 1 ≤ length (calls_of threads tape)
+  has_asked threads size tape is =
+      let old = get_some seats threads (omega (arith, size)) in
+      let new = get_some back threads (omega (arith, size, run.count)) in
+      let last : threads ≡ length seats - 1 = omega (arith, size) in
+      let p = run.nemesis old.0 new.0 (subst (λ (k : ℕ). slice_get seats k ≡ Some old.0) last old.1) (subst (λ (k : ℕ). slice_get back k ≡ Some new.0) last new.1) in
+      subst (λ (calls : Calls). 1 ≤ length calls) (sym (own_calls tape is threads old.0 new.0 old.1 new.1 p.0 p.1)) p.3
+
+  -- a client's calls all come after one that it has seen
+  not_first : (o : Machine) (k : ℕ) (c : Command) (r : CoreReply) (rest : CoreTape) → IsTapeOf (opening_tape m) back (length seats) (Opening o ∷ Call k c r ∷ rest)
+      → ¬ (k + 1 < length seats)
+  not_first o k c r rest is below =
+      let tape : CoreTape = Opening o ∷ Call k c r ∷ rest in
+      let old = get_some seats k (omega (arith, below)) in
+      let new = get_some back k (omega (arith, below, run.count)) in
+      let p = run.clients k old.0 new.0 below old.1 new.1 in
+      let f = fresh k old.0 old.1 in
+      let number : p.0.number ≡ k = p.1.number ∙ f.0 in
+      let seen : IsPrefix new.0.tape tape = subst (λ (s : CoreSeat). IsPrefix s.tape tape) (get_or_from_slice_get back k new.0 new.0 new.1) (is.seen k new.0 (get_within back k new.0 new.1)) in
+      let mine = asked_by any p.0 new.0 p.3.0 p.3.1 (all_are p.3.0) in
+      let some = first_seen o k c r rest p.0.tape (prefix_trans p.0.tape new.0.tape tape mine.seen seen) p.2 in
+      let front = calls_front k new.0.tape tape seen in
+      let longer : length (calls_of k tape) ≡ length (calls_of k new.0.tape) + length front.0 = ap length front.1 ∙ length-append (calls_of k new.0.tape) front.0 in
+      let most : length (calls_of k tape) ≤ new.0.count = no_more tape is k new.0 new.1 in
+      omega (arith, some, longer, most, at_least k p.0 new.0 p.3.0 number p.3.1, made_count p.0 new.0 p.3.0 p.3.1, p.1.count, f.1)
+
+  pub all_begun : (threads : ℕ) → length seats ≡ threads + 1 → (tape : CoreTape) → IsTapeOf (opening_tape m) back (length seats) tape → IsBegunBy threads tape
+  all_begun threads size [] is = absurd (cc is.opens.1)
+  all_begun threads size (Call k c r ∷ rest) is = absurd (cc is.opens.1)
+  all_begun threads size (Opening o ∷ []) is = absurd (omega (arith, has_asked threads size (Opening o ∷ []) is))
+  all_begun threads size (Opening o ∷ Opening x ∷ rest) is =
+      let tape : CoreTape = Opening o ∷ Opening x ∷ rest in
+      absurd (omega (arith, is.calls run.count, counted any tape 0 back all_counted is.seen, few_such any 0 tape, few_calls rest))
+  all_begun threads size (Opening o ∷ Call k c r ∷ rest) is =
+      ⊎_elim
+      (λ (below : k < threads). absurd (not_first o k c r rest is (omega (arith, below, size))))
+      (λ (above : threads ≤ k).
+      ⊎_elim
+      (λ (same : k ≡ threads). same)
+      (λ (other : k ≢ threads).
+      let none = no_others (Opening o ∷ Call k c r ∷ rest) is k (omega (arith, above, other, size)) in
+      absurd (omega (arith, first_of_its k c r rest, ap length none)))
+      (cases_eq k threads))
+      (cases_lt k threads)

@@ -1,5 +1,5 @@
 -- Promise: what clients and the nemesis do (this project's own)
-use Rattle.std.specs.Prelude.{◌≡◌, ℕ, ◌+◌, ◌-◌, ◌<◌, List, [], ◌∷◌, length, Ok, Err, Some, slice_get}
+use Rattle.std.specs.Prelude.{◌≡◌, ℕ, ◌+◌, ◌-◌, ◌<◌, ◌≤◌, List, [], ◌∷◌, length, Ok, Err, Some, slice_get}
 use Rattle.edn.specs.declared.refusal.Refusal.{Refusal}
 use Rattle.edn.specs.declared.refusal.Refusal.TheVariants.{NotOpen, HistoryFull, TapeFull, NoMemory, Stale}
 use Rattle.machine.specs.declared.command.Command.{Command}
@@ -7,7 +7,7 @@ use Rattle.machine.specs.declared.command.Command.TheVariants.{Draw, Serve, Fini
 use Rattle.machine.specs.declared.command.Reply.{Reply}
 use Rattle.machine.specs.declared.command.Reply.TheVariants.{Drawn, Pending}
 use Rattle.board.specs.CoreTape.{CoreReply}
-use Rattle.clients.specs.Calls.{CoreSeat, Calls, HasMade}
+use Rattle.clients.specs.Calls.{CoreSeat, Calls, MadeNone, HasMade}
 
 -- what a client does next: it draws, serves a ticket, finishes a ticket, or nothing more. Then it has ended, or it gave up
 pub data Stage : Type 0 where
@@ -56,10 +56,12 @@ Plays thread stage [] end = stage ≡ end
 Plays thread stage (call ∷ calls) end =
     IsNext thread stage call.0 × Plays thread (after_answer stage call.1) calls end
 
--- since the seat was so, it was that of the client of this thread, from its first draw to its end
+-- since the seat was so, it was that of the client of this thread, from its first draw to its end. It began once it had seen a
+-- tape with a call
 abbrev pub HasPlayed : ℕ → CoreSeat → CoreSeat → Type 0
 HasPlayed thread old new =
-    (calls : Calls) × HasMade old calls new × Plays thread draws calls has_ended
+    (begun : CoreSeat) × MadeNone old begun × (2 ≤ length begun.tape)
+    × ((calls : Calls) × HasMade begun calls new × Plays thread draws calls has_ended)
 
 -- why a run is refused: its history is full, its tape is, or memory ran out
 abbrev pub IsOfRun : Refusal → Type 0
@@ -74,9 +76,10 @@ AreStrikes [] = Unit {0}
 AreStrikes (call ∷ calls) =
     (call.0 ≡ Nemesis) × ((why : Refusal) → call.1 ≡ Err why → ¬ IsOfRun why) × AreStrikes calls
 
--- since the seat was so, it was that of the nemesis
+-- since the seat was so, it was that of the nemesis, which has asked once at least
 abbrev pub HasStruck : CoreSeat → CoreSeat → Type 0
-HasStruck old new = (calls : Calls) × HasMade old calls new × AreStrikes calls
+HasStruck old new =
+    (calls : Calls) × HasMade old calls new × AreStrikes calls × (1 ≤ length calls)
 
 -- the same seats came back, in order: the last was the nemesis's, and each before it that of the client of its place
 pub record HaveRun {A : Type 0} (view : A → CoreSeat) (seats back : List A) : Type 0 where

@@ -1,11 +1,16 @@
 -- Promise: where runs of clients and the nemesis lead (this project's own)
-use Rattle.std.specs.Prelude.{◌≡◌, ◌⊎◌, ℕ, ◌<◌, ◌==◌, if◌then◌else◌, [], ◌∷◌}
+use Rattle.std.specs.Prelude.{◌≡◌, ◌⊎◌, ℕ, ◌<◌, ◌≤◌, ◌==◌, if◌then◌else◌, List, [], ◌∷◌}
 use mathlib.Core.List.{IsPrefix}
 use Rattle.edn.specs.declared.refusal.Refusal.{Refusal}
 use Rattle.edn.specs.declared.refusal.Refusal.TheVariants.{NoSeat}
-use Rattle.machine.specs.Machine.{Machine}
+use Rattle.history.specs.Events.{marks}
+use Rattle.linspec.specs.Orders.{Taken, IsLegalOrder, product}
+use Rattle.linspec.specs.JudgedHistory.{kind_of, entries_in}
+use Rattle.trials.specs.Trials.{AreOfTickets}
+use Rattle.machine.specs.Machine.{Machine, Setup, serves_in}
+use Rattle.harness.specs.Setups.{IsSetup, MayNotOpen}
 use Rattle.board.specs.declared.tape.TapeEntry.TheVariants.{Opening, Call}
-use Rattle.board.specs.CoreTape.{CoreTape, LeadsTo, opening_tape}
+use Rattle.board.specs.CoreTape.{CoreTape, LeadsTo, opening_tape, calls_on}
 use Rattle.clients.specs.Calls.{Calls}
 use Rattle.clients.specs.Plays.{draws, has_ended, Plays, IsOfRun, AreStrikes}
 
@@ -21,16 +26,37 @@ abbrev pub ArePlayed : ℕ → CoreTape → Type 0
 ArePlayed threads tape =
     (thread : ℕ) → thread < threads → Plays thread draws (calls_of thread tape) has_ended
 
+-- the tape has a call, and the first is one of the seat with this number
+abbrev pub IsBegunBy : ℕ → CoreTape → Type 0
+IsBegunBy number (Opening m ∷ Call seat command reply ∷ rest) = seat ≡ number
+IsBegunBy number tape = ⊥
+
 -- a legal tape that opens on the first machine leads to the last. It has the calls of the clients of so many threads, those of
--- the nemesis on the seat after theirs, and no others
+-- the nemesis on the seat after theirs, and no others. The nemesis asks before any client does
 pub record IsRun (threads : ℕ) (first last : Machine) : Type 0 where
   pub tape : CoreTape
   pub opens : IsPrefix (opening_tape first) tape
   pub played : ArePlayed threads tape
   pub struck : AreStrikes (calls_of threads tape)
   pub others : (seat : ℕ) → threads < seat → calls_of seat tape ≡ []
+  pub begun : IsBegunBy threads tape
   pub leads : LeadsTo tape last
 
--- why there is none: a refusal of the run, or a seat got no place
+-- why a board comes to none: a refusal of the run, or a seat got no place
 abbrev pub MayNotRun : Refusal → Type 0
 MayNotRun why = IsOfRun why ⊎ (why ≡ NoSeat)
+
+-- why there is none that is opened so, by the first test that it does not pass: no object is opened so; its clients are too many,
+-- since the nemesis takes one of 64 seats; it does not come to its end
+abbrev pub HasNoRun : Setup → Refusal → Type 0
+HasNoRun setup why =
+    MayNotOpen setup why
+    ⊎ ((IsSetup setup × (64 ≤ setup.concurrency) × (why ≡ NoSeat))
+    ⊎ (IsSetup setup × (setup.concurrency < 64) × MayNotRun why))
+
+-- the operations that were served on the tape, in turn, are a legal order of the history to which it leads
+abbrev pub AreServedInOrder : CoreTape → Machine → Type 0
+AreServedInOrder tape m =
+    (order : List Taken) × (s : (product (kind_of m.judged)).State)
+    × IsLegalOrder (product (kind_of m.judged)) (marks (entries_in m.judged)) order s
+    × AreOfTickets m.tickets (serves_in (calls_on tape)) order

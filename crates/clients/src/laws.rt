@@ -1,5 +1,6 @@
 //! Laws of runs.
 ghost use Rattle.std.specs.Prelude.{◌≡◌, ◌+◌, ◌≤◌, ℕ, List, [], length};
+ghost use mathlib.Core.List.{IsPrefix};
 ghost use Rattle.history.specs.Events.{marks};
 ghost use Rattle.linspec.specs.Orders.{IsLinearizable, product};
 ghost use Rattle.linspec.specs.declared.verdict.Verdict.{Verdict};
@@ -9,17 +10,17 @@ ghost use Rattle.linspec.specs.JudgedHistory.{kind_of, entries_in, IsVerdictOn};
 ghost use Rattle.machine.specs.Machine.{Machine, Setup, opening, AreOfTrial};
 ghost use Rattle.board.specs.Tape.{IsTapeOf};
 ghost use Rattle.board.specs.Seat.{IsFresh};
-ghost use Rattle.board.specs.CoreTape.{CoreTape, opening_tape, calls_on};
+ghost use Rattle.board.specs.CoreTape.{CoreTape, LeadsTo, opening_tape, calls_on};
 ghost use Rattle.clients.specs.Calls.{CoreSeat};
 ghost use Rattle.clients.specs.Plays.{AreStrikes, HaveRun};
-ghost use Rattle.clients.specs.Runs.{ArePlayed, IsRun, calls_of};
+ghost use Rattle.clients.specs.Runs.{ArePlayed, AreServedInOrder, IsBegunBy, IsRun, calls_of};
 
 use machine::no_false_alarm;
 
 /// Where all seats of a board went to clients and the nemesis when they were new, and came back, the board's tape has calls
 /// of trials alone: each call of these seats is on it, once, and nothing else is. So each client has there just the calls
-/// that it made, from its first draw to its end, and the nemesis has its own on the last seat. What comes of a run has
-/// calls of trials alone for that. [`run_on`](crate::run_on) cites it.
+/// that it made, from its first draw to its end, and the nemesis has its own on the last seat, of which the first is before
+/// all calls of clients. What comes of a run has calls of trials alone for that. [`run_on`](crate::run_on) cites it.
 pub fn trials_alone()
     ensures trials { (m : Machine) (seats back : List CoreSeat) (tape : CoreTape)
         → IsFresh (opening_tape m) seats → HaveRun (λ seat. seat) seats back
@@ -36,13 +37,37 @@ pub fn trials_alone()
         → IsFresh (opening_tape m) seats → HaveRun (λ seat. seat) seats back
         → IsTapeOf (opening_tape m) back (length seats) tape
         → (seat : ℕ) → length seats ≤ seat → calls_of seat tape ≡ [] }
+    ensures begun { (m : Machine) (threads : ℕ) (seats back : List CoreSeat) (tape : CoreTape)
+        → length seats ≡ threads + 1 → IsFresh (opening_tape m) seats
+        → HaveRun (λ seat. seat) seats back
+        → IsTapeOf (opening_tape m) back (length seats) tape → IsBegunBy threads tape }
     ensures run { (threads : ℕ) (first last : Machine) (run : IsRun threads first last)
         → AreOfTrial (calls_on run.tape) }
 {}
 
-/// No run of a strict store is a false alarm: the history to which it leads is linearizable, over all keys together. So no
-/// verdict on it is Illegal. [`run_trial`](crate::run_trial) cites it.
+/// Where a tape opens on a strict store and its calls are of trials alone, refused ones among them, the operations in the
+/// order in which they were served on it are a legal order of the history to which it leads, over all keys together. So no
+/// verdict on that is Illegal. It is said of the tapes of which `no_false_alarm_on_a_tape` of `board` says that their
+/// histories are linearizable; no call cites it.
+pub fn serves_are_the_order()
+    ensures order { (setup : Setup) (tape : CoreTape) (m : Machine) → setup.mode ≡ Strict
+        → IsCount setup.replicas → IsPrefix (opening_tape (opening setup)) tape
+        → AreOfTrial (calls_on tape) → LeadsTo tape m → AreServedInOrder tape m }
+    ensures verdict { (setup : Setup) (tape : CoreTape) (m : Machine) (key index : ℕ)
+        → setup.mode ≡ Strict → IsCount setup.replicas
+        → IsPrefix (opening_tape (opening setup)) tape → AreOfTrial (calls_on tape)
+        → LeadsTo tape m → ¬ IsVerdictOn m.judged (Verdict.Illegal key index) }
+{
+    no_false_alarm();
+}
+
+/// No run of a strict store is a false alarm: the history to which it leads is linearizable, over all keys together, and its
+/// operations in the order in which they were served are a legal order of it. So no verdict on it is Illegal.
+/// [`run_trial`](crate::run_trial) cites it.
 pub fn no_false_alarm_in_a_run()
+    ensures order { (setup : Setup) (threads : ℕ) (m : Machine) → setup.mode ≡ Strict
+        → IsCount setup.replicas → (run : IsRun threads (opening setup) m)
+        → AreServedInOrder run.tape m }
     ensures linearizable { (setup : Setup) (threads : ℕ) (m : Machine) → setup.mode ≡ Strict
         → IsCount setup.replicas → IsRun threads (opening setup) m
         → IsLinearizable (product (kind_of m.judged)) (marks (entries_in m.judged)) }

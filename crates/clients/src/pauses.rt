@@ -1,24 +1,26 @@
 //! What those do who have nothing to do now.
+ghost use Rattle.std.specs.Prelude.{◌+◌, ◌≤◌, length};
 ghost use Rattle.clients.specs.Calls.{MadeNone};
 
-use crate::progress::Progress;
 use crate::shared_board::SharedBoard;
+use std::sync::Wait;
 use std::thread;
 
 // The turns after which who waits tries again, whatever others do.
 const TURNS: u32 = 1000;
 
-// The turns after which clients begin though the nemesis has not tried to strike: its thread may be one that can't be started.
-const FIRST_TURNS: u32 = 100_000;
-
-/// Lets the nemesis try to strike, for some turns. It takes no lock.
-pub(crate) fn let_nemesis_try(progress: &Progress) {
-    for _ in 0..FIRST_TURNS {
-        if progress.has_tried() {
+/// Waits until it is seen that a call was made. It takes no lock.
+pub(crate) fn wait_for_a_call<M: SharedBoard, R: Wait>(rt: &R, board: &M, seat: &mut M::Seat)
+    ensures made { MadeNone (M.view seat.old) (M.view seat.new) }
+    ensures seen { 2 ≤ length (M.view seat.new).tape }
+{
+    for _ in rt.forever() {
+        if calls_made(board, seat) > 0 {
             return;
         }
         thread::yield_now();
     }
+    unreachable!()
 }
 
 /// Lets others go on until they have made so many calls, or for some turns where they don't. It takes no lock.
@@ -37,7 +39,8 @@ pub(crate) fn let_others_call<M: SharedBoard>(board: &M, seat: &mut M::Seat, cal
 
 // How many calls had been made, by what was last published.
 fn calls_made<M: SharedBoard>(board: &M, seat: &mut M::Seat) -> u64
-    ensures { MadeNone (M.view seat.old) (M.view seat.new) }
+    ensures made { MadeNone (M.view seat.old) (M.view seat.new) }
+    ensures seen { 1 ≤ result → result + 1 ≤ length (M.view seat.new).tape }
 {
     match board.glance(seat) {
         Some(glance) => glance.commit,

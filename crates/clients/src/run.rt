@@ -1,14 +1,14 @@
 //! Clients and the nemesis, each in a thread of its own.
 ghost use Rattle.std.specs.Prelude.{◌≡◌, ◌<◌, ◌≤◌, ◌^◌, ◌++◌, ◌∷◌, [], None, length, map, IfOk, IfErr, IfSome};
 ghost use Rattle.std.specs.List.{All, enumerate_from};
-ghost use Rattle.clients.specs.Plays.{HasPlayed, HasStruck, HaveRun, IsOfRun};
-ghost use Rattle.clients.specs.Playing.{HavePlayed, RefusesRun};
+ghost use Rattle.clients.specs.Plays.{HasPlayed, HaveRun, IsOfRun};
+ghost use Rattle.clients.specs.Playing.{AsksOnce, GoesOnStriking, HavePlayed, IsLowest, RefusesRun, first_met};
 
 use crate::client::play;
-use crate::pauses::let_nemesis_try;
+use crate::pauses::wait_for_a_call;
 use crate::progress::Progress;
 use crate::shared_board::SharedBoard;
-use crate::striking::strike;
+use crate::striking::{ask_first, strike};
 use crate::watch::Watch;
 use board::{Board, Seat, Tag};
 use edn::{Gate, Refusal};
@@ -29,18 +29,19 @@ struct Ended<S> {
 ///
 /// A client draws, serves and finishes, one operation after the other, until there is none for it; where others completed
 /// or cut its operation, it draws again, and where there may be one later, it lets others go on before that. The nemesis
-/// strikes until all clients have ended; where no fault is due, it lets others make some calls first. The clients begin
-/// once it has tried for the first time, or after some turns. The gate begins by the place of a client before its first
-/// command, and ends after the answer to that; it is called outside the lock. The watch is told how far the run has come,
-/// where it wants to know, by glances from the nemesis's seat: they take no lock.
+/// asks for its first fault before any client begins, and each client begins once it has seen a call. Then the nemesis
+/// strikes until all clients have ended; where no fault is due, it lets others make some calls first. The gate begins by the
+/// place of a client before its first command, and ends after the answer to that; it is called outside the lock. The watch
+/// is told how far the run has come, where it wants to know, by glances from the nemesis's seat: they take no lock.
 ///
 /// A client whose thread can't be started runs in the thread that was to start it, and so does the nemesis, once the
-/// clients have ended, which leaves its seat unused. The call waits until all of them have ended. It takes memory for the
-/// seats and the threads, and else costs what their calls on the board cost.
+/// clients have ended, which then asks no more. The call waits until all of them have ended. It takes memory for the seats
+/// and the threads, and else costs what their calls on the board cost.
 ///
 /// # Errors
-/// [`Refusal::HistoryFull`], [`Refusal::TapeFull`] or [`Refusal::NoMemory`], where a seat met it: that of the lowest place.
-/// And `NoMemory` where a growth was refused. The seats are then dropped. Any other refusal ends the seat's own part alone.
+/// [`Refusal::HistoryFull`], [`Refusal::TapeFull`] or [`Refusal::NoMemory`], where a seat met it: that of the lowest place,
+/// but where the nemesis's first ask met it, no client begins. And `NoMemory` where a growth was refused. The seats are then
+/// dropped. Any other refusal ends the seat's own part alone.
 pub fn run_clients<
     B: Tag + Send + Sync,
     G: Gate + Sync,
@@ -77,12 +78,13 @@ where
     ensures refused { IfErr result IsOfRun }
 {
     let mut clients = seats;
-    let last = clients.pop().unwrap();
+    let nemesis = clients.pop().unwrap();
+    let last = first_asked(rt, board, nemesis)?;
     let clients = numbered(alloc, clients)?;
     let started = Progress::new();
     let progress = &started;
     let strike = move || -> Ended<M::Seat>
-        ensures struck { result.why ≡ None → HasStruck (M.view last) (M.view result.seat) }
+        ensures struck { result.why ≡ None → GoesOnStriking (M.view last) (M.view result.seat) }
         ensures refused { IfSome result.why IsOfRun }
     { strike_with(rt, board, progress, watch, last) };
     let play = move || -> Result<Vec<Ended<M::Seat>>, AllocError>
@@ -108,6 +110,8 @@ fn come_back<S: Drop>(
     ensures well { IfOk result (λ seats. All (λ ended. ended.why ≡ None) played.items
         × (struck.why ≡ None)) }
     ensures refused { IfErr result IsOfRun }
+    ensures lowest { IfErr result
+        (IsLowest (map (λ ended. ended.why) played.items ++ struck.why ∷ [])) }
 {
     if let Some(why) = first_refusal(played.as_slice()) {
         return Err(why);
@@ -127,6 +131,25 @@ fn numbered<S: Drop>(alloc: Global, seats: Vec<S>) -> Result<Vec<(usize, S)>, Al
     seats.into_iter().enumerate().collect(alloc)
 }
 
+// The nemesis's seat, once it has asked for the first fault.
+fn first_asked<M: SharedBoard, R: Wait>(
+    rt: &R,
+    board: &M,
+    seat: M::Seat,
+) -> Result<M::Seat, Refusal>
+where
+    M::Seat: Drop,
+    ensures asked { IfOk result (λ asked. AsksOnce (M.view seat) (M.view asked)) }
+    ensures refused { IfErr result IsOfRun }
+{
+    let mut seat = seat;
+    let why = ask_first(rt, board, &mut seat);
+    match of_run(why) {
+        Some(why) => Err(why),
+        None => Ok(seat),
+    }
+}
+
 // The nemesis, with its seat and a watch.
 fn strike_with<M: SharedBoard, W: Watch, R: Wait>(
     rt: &R,
@@ -135,7 +158,7 @@ fn strike_with<M: SharedBoard, W: Watch, R: Wait>(
     watch: W,
     seat: M::Seat,
 ) -> Ended<M::Seat>
-    ensures struck { result.why ≡ None → HasStruck (M.view seat) (M.view result.seat) }
+    ensures struck { result.why ≡ None → GoesOnStriking (M.view seat) (M.view result.seat) }
     ensures refused { IfSome result.why IsOfRun }
 {
     let mut seat = seat;
@@ -148,7 +171,7 @@ fn strike_with<M: SharedBoard, W: Watch, R: Wait>(
     }
 }
 
-// A client, by its thread and its seat.
+// A client, by its thread and its seat. It begins once it has seen a call.
 fn play_with<M: SharedBoard, G: Gate, R: Wait>(
     rt: &R,
     board: &M,
@@ -161,6 +184,7 @@ fn play_with<M: SharedBoard, G: Gate, R: Wait>(
     ensures refused { IfSome result.why IsOfRun }
 {
     let (thread, mut seat) = client;
+    wait_for_a_call(rt, board, &mut seat);
     let why = play(rt, board, gate, progress, thread as u32, &mut seat);
     Ended {
         seat,
@@ -180,7 +204,7 @@ fn of_run(why: Option<Refusal>) -> Option<Refusal>
     }
 }
 
-// The clients, each in a thread of its own where one can be made, once the nemesis has tried to strike. Then they have all ended.
+// The clients, each in a thread of its own where one can be made. Then they have all ended.
 fn play_all<M: SharedBoard + Sync, G: Gate + Sync, R: Threads + Wait + Sync>(
     rt: &R,
     board: &M,
@@ -201,7 +225,6 @@ where
             → HasPlayed client.0 (M.view client.1) (M.view result.seat) }
         ensures refused { IfSome result.why IsOfRun }
     { play_with(rt, board, gate, progress, client) };
-    let_nemesis_try(progress);
     let played = thread::map_vec(rt, clients, &play);
     progress.end();
     played
@@ -212,6 +235,7 @@ fn first_refusal<S>(played: &[Ended<S>]) -> Option<Refusal>
     requires { All (λ ended. IfSome ended.why IsOfRun) played.now }
     ensures refused { IfSome result IsOfRun }
     ensures none { result ≡ None → All (λ ended. ended.why ≡ None) played.now }
+    ensures lowest { result ≡ first_met (map (λ ended. ended.why) played.now) }
 {
     for ended in played {
         if ended.why.is_some() {

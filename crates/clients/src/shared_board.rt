@@ -1,4 +1,5 @@
 //! A board, as threads see it that share it.
+ghost use Rattle.std.specs.Prelude.{◌≡◌, ◌+◌, length, IfSome};
 ghost use Rattle.clients.specs.Calls.{CoreSeat, MadeNone, IsTold};
 
 use board::{Board, Glance, Seat, Tag};
@@ -23,7 +24,8 @@ pub trait SharedBoard {
 
     /// What was last published, if it can be seen. It takes no lock and waits for nobody.
     fn glance(&self, seat: &mut Self::Seat) -> Option<Glance>
-        ensures { MadeNone (view seat.old) (view seat.new) };
+        ensures made { MadeNone (view seat.old) (view seat.new) }
+        ensures commit { IfSome result (λ g. length (view seat.new).tape ≡ g.commit + 1) };
 }
 
 impl<B: Tag> SharedBoard for Board<B> {

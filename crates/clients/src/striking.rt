@@ -1,7 +1,6 @@
 //! What the nemesis does.
 ghost use Rattle.clients.specs.Calls.{MadeNone};
-ghost use Rattle.clients.specs.Plays.{HasStruck};
-ghost use Rattle.clients.specs.Playing.{RefusesRun};
+ghost use Rattle.clients.specs.Playing.{AsksOnce, GoesOnStriking, RefusesRun};
 
 use crate::pauses::let_others_call;
 use crate::progress::Progress;
@@ -15,6 +14,17 @@ use std::sync::Wait;
 // some events late at most.
 const CALLS: u64 = 8;
 
+/// Asks for the first fault, before any client has begun, and gives the refusal, where it is refused.
+pub(crate) fn ask_first<M: SharedBoard, R: Wait>(
+    rt: &R,
+    board: &M,
+    seat: &mut M::Seat,
+) -> Option<Refusal>
+    ensures { ¬ RefusesRun result → AsksOnce (M.view seat.old) (M.view seat.new) }
+{
+    board.call(rt, seat, Command::Nemesis).err()
+}
+
 /// Has the nemesis strike until the clients have ended, or until it is refused, and then gives the refusal. Where no fault is
 /// due, others go on before the next try. Between two tries it tells the watch, where that wants to know.
 pub(crate) fn strike<M: SharedBoard, W: Watch, R: Wait>(
@@ -24,13 +34,13 @@ pub(crate) fn strike<M: SharedBoard, W: Watch, R: Wait>(
     watch: &mut W,
     seat: &mut M::Seat,
 ) -> Option<Refusal>
-    ensures { ¬ RefusesRun result → HasStruck (M.view seat.old) (M.view seat.new) }
+    ensures { ¬ RefusesRun result → GoesOnStriking (M.view seat.old) (M.view seat.new) }
 {
     for _ in rt.forever() {
         if progress.has_ended() {
             return None;
         }
-        if let Some(why) = try_once(rt, board, progress, seat) {
+        if let Some(why) = try_once(rt, board, seat) {
             return Some(why);
         }
         tell(board, progress, watch, seat);
@@ -38,17 +48,11 @@ pub(crate) fn strike<M: SharedBoard, W: Watch, R: Wait>(
     unreachable!()
 }
 
-// One try, which is noted, and the refusal that ends the nemesis, if that is one.
-fn try_once<M: SharedBoard, R: Wait>(
-    rt: &R,
-    board: &M,
-    progress: &Progress,
-    seat: &mut M::Seat,
-) -> Option<Refusal>
-    ensures { ¬ RefusesRun result → HasStruck (M.view seat.old) (M.view seat.new) }
+// One try, and the refusal that ends the nemesis, if that is one.
+fn try_once<M: SharedBoard, R: Wait>(rt: &R, board: &M, seat: &mut M::Seat) -> Option<Refusal>
+    ensures { ¬ RefusesRun result → GoesOnStriking (M.view seat.old) (M.view seat.new) }
 {
     let tried = board.call(rt, seat, Command::Nemesis);
-    progress.note_try();
     match tried {
         Ok(_) => None,
         Err(Refusal::Idle) => {

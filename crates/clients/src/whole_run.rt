@@ -1,5 +1,5 @@
 //! Whole runs: a board is opened, clients run on its seats, and it is ended.
-ghost use Rattle.std.specs.Prelude.{◌≡◌, ◌⊎◌, ◌+◌, ◌≤◌, ◌-◌, ℕ, IfOk, IfErr, OnOk};
+ghost use Rattle.std.specs.Prelude.{◌≡◌, ◌≤◌, ◌-◌, ℕ, IfOk, IfErr, OnOk};
 ghost use Rattle.history.specs.Events.{marks};
 ghost use Rattle.linspec.specs.Orders.{IsLinearizable, product};
 ghost use Rattle.linspec.specs.declared.verdict.Verdict.{Verdict};
@@ -7,8 +7,7 @@ ghost use Rattle.test_store.specs.declared.outcome.Mode.TheVariants.{Strict};
 ghost use Rattle.linspec.specs.JudgedHistory.{kind_of, entries_in, IsVerdictOn};
 ghost use Rattle.machine.specs.Machine.{opening};
 ghost use Rattle.harness.specs.Setups.{setup_of, IsSetup};
-ghost use Rattle.board.specs.CoreTape.{MayNotBegin};
-ghost use Rattle.clients.specs.Runs.{IsRun, MayNotRun};
+ghost use Rattle.clients.specs.Runs.{AreServedInOrder, HasNoRun, IsRun, MayNotRun};
 
 use crate::laws::{no_false_alarm_in_a_run, trials_alone};
 use crate::run::run_clients;
@@ -26,11 +25,13 @@ use std::thread::Threads;
 /// and costs as [`run_clients`] does.
 ///
 /// Where the store is strict, its history is linearizable (Herlihy and Wing 1990) over all keys together, whatever clients
-/// and faults did, in any interleaving: an illegal verdict would be a false alarm.
+/// and faults did, in any interleaving: an illegal verdict would be a false alarm. The operations in the order in which they
+/// were served are a legal order of it.
 ///
 /// # Errors
 /// Those of [`Blank::new`] for as many seats, and so [`Refusal::NoSeat`] where the concurrency is 64; else those of
-/// [`run_clients`], or [`Refusal::NoSeat`] where the published copy gave a seat no place.
+/// [`run_clients`], or [`Refusal::NoSeat`] where the published copy gave a seat no place. They come in this order: of a run
+/// that is not opened none of the latter.
 pub fn run_trial<W: Watch + Send + Drop, R: Threads + Wait + Sync>(
     rt: &R,
     alloc: Global,
@@ -43,10 +44,12 @@ pub fn run_trial<W: Watch + Send + Drop, R: Threads + Wait + Sync>(
     ensures linearizable { config.mode ≡ Strict → IfOk result (λ core.
         IsLinearizable (product (kind_of core.machine.judged))
         (marks (entries_in core.machine.judged))) }
+    ensures order { config.mode ≡ Strict → IfOk result (λ core.
+        (run : IsRun config.concurrency (opening (setup_of config)) core.machine)
+        × AreServedInOrder run.tape core.machine) }
     ensures never_illegal { config.mode ≡ Strict → IfOk result (λ core.
         (key index : ℕ) → ¬ IsVerdictOn core.machine.judged (Verdict.Illegal key index)) }
-    ensures refused { IfErr result (λ why.
-        MayNotBegin config (config.concurrency + 1) why ⊎ MayNotRun why) }
+    ensures refused { IfErr result (HasNoRun (setup_of config)) }
 {
     no_false_alarm_in_a_run();
     let seats = config.concurrency.saturating_add(1);

@@ -1,12 +1,13 @@
 -- Promise: what a run says, and what it ends with (this project's own)
 use Rattle.std.specs.Prelude.{◌≡◌, ◌⊎◌, ℕ, List}
 use Rattle.edn.specs.declared.refusal.Refusal.{Refusal}
+use Rattle.edn.specs.declared.refusal.Refusal.TheVariants.{NoMemory}
 use Rattle.linspec.specs.declared.verdict.Verdict.{Verdict}
 use Rattle.linspec.specs.JudgedHistory.{IsVerdictOn}
 use Rattle.machine.specs.Machine.{Machine, Setup, opening}
-use Rattle.harness.specs.Setups.{MayNotOpen}
+use Rattle.harness.specs.Setups.{IsSetup}
 use Rattle.line_loop.specs.RefusalLine.{refusal_line}
-use Rattle.clients.specs.Runs.{IsRun, MayNotRun}
+use Rattle.clients.specs.Runs.{HasNoRun, IsRun}
 use Rattle.report.specs.Report.{IsReport}
 use Rattle.checks.specs.ExitStatus.{status_of}
 
@@ -17,8 +18,13 @@ pub record IsRunText (m : Machine) (text : List ℕ) (status : ℕ) : Type 0 whe
   pub judged : IsVerdictOn m.judged verdict
   pub status_is : status ≡ status_of verdict
 
--- what a run says: what it came to, or why there was none: the object is not opened so, or there is no run of it
+-- it is the line of the refusal; or that of want of memory, where there was none for the line
+abbrev pub IsRefusalText : Refusal → List ℕ → Type 0
+IsRefusalText why text = (text ≡ refusal_line why) ⊎ (text ≡ refusal_line NoMemory)
+
+-- what a run says: what it came to, or why there was none, by the first test that it does not pass
 abbrev pub MaySay : Setup → List ℕ → ℕ → Type 0
 MaySay setup text status =
-    ((m : Machine) × IsRun setup.concurrency (opening setup) m × IsRunText m text status)
-    ⊎ ((why : Refusal) × (MayNotOpen setup why ⊎ MayNotRun why) × (text ≡ refusal_line why) × (status ≡ 3))
+    (IsSetup setup
+    × ((m : Machine) × IsRun setup.concurrency (opening setup) m × IsRunText m text status))
+    ⊎ ((why : Refusal) × HasNoRun setup why × IsRefusalText why text × (status ≡ 3))

@@ -9,6 +9,7 @@ ghost use Rattle.jepmon.specs.CommandLine.{IsWithinLimits};
 pub mod command_line;
 pub mod exit_status;
 mod help;
+pub mod options;
 pub mod run;
 mod run_line;
 

@@ -29,6 +29,12 @@ pub Appends-of_none : (a : Option (List ℕ)) → Appends (append_known a []) a 
 Appends-of_none None = tt
 Appends-of_none (Some x) = sym (append-nil _ ∙ append-nil x)
 
+-- nothing is written before what is to be
+pub Appends-under : (a b : Option (List ℕ)) (bytes : List ℕ) → Appends a b [] → Appends (append_known a bytes) (append_known b bytes) []
+Appends-under None b bytes p = tt
+Appends-under (Some x) None bytes p = absurd p
+Appends-under (Some x) (Some y) bytes p = ap (λ l. l ++ bytes) (p ∙ append-nil x) ∙ sym (append-nil (x ++ bytes))
+
 -- what was to be written has been
 pub Appends-written : (a b c : Option (List ℕ)) (bytes text : List ℕ) → Appends a (append_known b bytes) text → Appends b c bytes → Appends a c text
 Appends-written None b c bytes text p q = tt

@@ -1,5 +1,6 @@
 pub mod Appending
 pub mod Cutting
+pub mod LiveReads
 pub mod OneCut
 pub mod Results
 pub mod Running

@@ -9,9 +9,9 @@ use Rattle.edn.specs.declared.refusal.Refusal.{Refusal}
 use Rattle.edn.specs.declared.refusal.Refusal.TheVariants.{ReadFailed}
 use Rattle.line_loop.specs.Lines.{ended, IsLine, last_line}
 use Rattle.line_loop.specs.ReplyText.{line_limit, Replies}
-use Rattle.line_loop.specs.Stopping.{read_lines, IsPartlyAnswered, Stops, KeepsUp}
+use Rattle.line_loop.specs.Stopping.{read_lines, IsPartlyAnswered, IsUpToDate, Stops, KeepsUp}
 use Rattle.line_loop.specs.BetweenReads.{Reading, Between, between, Stands, GoesOn, StopsIn, Ends, StopsAtEnd, IsAnsweredFor, LineIsAnswered}
-use Rattle.line_loop.proofs.Appending.{Appends-then_nil, Appends-more, Appends-to_none, Appends-of_none, Appends-written}
+use Rattle.line_loop.proofs.Appending.{Appends-then_nil, Appends-more, Appends-to_none, Appends-of_none, Appends-under, Appends-written}
 use Rattle.line_loop.proofs.Cutting.{cuts_nothing, cuts_along, cuts_bytes, cuts_feed, cuts_more, clip_over, clip_more, rest_none, last_none, last_some}
 
 pub consumed_nothing : (a b c : Option (List ℕ)) (bs : List ℕ) → Consumes a b bs → Consumes b c [] → Consumes a c bs
@@ -316,12 +316,6 @@ module _ {S : Type 0} (may : S → List ℕ → List ℕ → S → Type 0) where
       let f = p old before seen h in
       record { text = f.text; grown = Appends-written before a b replies f.text f.grown wrote; replies = f.replies }
 
-  -- the flush
-  pub ends_flushed : (here : Between S) (new : S) (a b : Option (List ℕ)) → Appends a b [] → Ends may here new a → Ends may here new b
-  ends_flushed here new a b q p old before seen h =
-      let f = p old before seen h in
-      record { text = f.text; grown = Appends-then_nil before a b f.text f.grown q; replies = f.replies }
-
   -- the start of all
   pub stands_first : {M : Type 0} (state : M → S) (first : Reading M) (written : Option (List ℕ)) → first.held ≡ [] → first.replies ≡ [] → Stands may (state first.machine) written [] (between state first written)
   stands_first state first written none no_replies = record {
@@ -332,6 +326,19 @@ module _ {S : Type 0} (may : S → List ℕ → List ℕ → S → Type 0) where
     run = (refl, refl);
     held_is = none;
     grown = subst (λ l. Appends written (append_known written l) []) (sym no_replies) (Appends-to_none written);
+  }
+
+  -- the flush, before anything was written
+  pub stands_flushed : {M : Type 0} (state : M → S) (old : S) (before : Option (List ℕ)) (seen : List ℕ) (reading : Reading M) (a b : Option (List ℕ)) → Appends a b []
+      → Stands may old before seen (between state reading a) → Stands may old before seen (between state reading b)
+  stands_flushed state old before seen reading a b q h = record {
+    lines = h.lines;
+    rest = h.rest;
+    text = h.text;
+    cut = h.cut;
+    run = h.run;
+    held_is = h.held_is;
+    grown = Appends-then_nil before (append_known a reading.replies) (append_known b reading.replies) h.text h.grown (Appends-under a b reading.replies q);
   }
 
   -- where nothing is to be written
@@ -348,30 +355,22 @@ module _ {S : Type 0} (may : S → List ℕ → List ℕ → S → Type 0) where
   pub halts_ending : (old : S) (left left' : Option (List ℕ)) (before after : Option (List ℕ)) (seen : List ℕ) → Consumes left left' seen → IsAtEnd left' → IsPartlyAnswered may old before seen true after → (e : Refusal) → e ≢ ReadFailed → Stops may old left left' before after e
   halts_ending old left left' before after seen read end stopped e other = record { seen = seen; has_ended = true; read = read; at_end = λ _. end; not_reading = λ _. other; answered = stopped }
 
+  -- all lines that were read have their replies
+  pub up_to_date : {M : Type 0} (state : M → S) (old : S) (before : Option (List ℕ)) (seen : List ℕ) (reading : Reading M) (written : Option (List ℕ)) → reading.replies ≡ []
+      → Stands may old before seen (between state reading written) → IsUpToDate may old before seen (state reading.machine) written
+  up_to_date state old before seen reading written none h = record {
+    lines = h.lines;
+    rest = h.rest;
+    cut = h.cut;
+    written = h.text;
+    grown = began old before written seen (between state reading written) h (ap (append_known written) none);
+    run = h.run;
+  }
+
   pub keeps_up : {M : Type 0} (state : M → S) (old : S) (left left' : Option (List ℕ)) (before : Option (List ℕ)) (seen : List ℕ) (reading : Reading M) (written : Option (List ℕ)) → reading.replies ≡ []
       → Consumes left left' seen → Stands may old before seen (between state reading written) → KeepsUp may old (state reading.machine) left left' before written
-  keeps_up state old left left' before seen reading written none read h = record {
-    seen = seen;
-    read = read;
-    answered = record {
-      lines = h.lines;
-      rest = h.rest;
-      cut = h.cut;
-      written = h.text;
-      grown = began old before written seen (between state reading written) h (ap (append_known written) none);
-      run = h.run;
-    };
-  }
+  keeps_up state old left left' before seen reading written none read h = record { seen = seen; read = read; answered = up_to_date state old before seen reading written none h }
 
   -- the flush, of what is still to be answered
   pub stopped_flushed : (old : S) (before : Option (List ℕ)) (seen : List ℕ) (a b : Option (List ℕ)) → Appends a b [] → IsPartlyAnswered may old before seen false a → IsPartlyAnswered may old before seen false b
   stopped_flushed old before seen a b q h = record { written = h.written; grown = Appends-then_nil before a b h.written h.grown q; beginning = h.beginning }
-
-  pub keeps_up_flushed : (old new : S) (left left' : Option (List ℕ)) (before a b : Option (List ℕ)) → Appends a b [] → KeepsUp may old new left left' before a → KeepsUp may old new left left' before b
-  keeps_up_flushed old new left left' before a b q h =
-      let u = h.answered in
-      record {
-        seen = h.seen;
-        read = h.read;
-        answered = record { lines = u.lines; rest = u.rest; cut = u.cut; written = u.written; grown = Appends-then_nil before a b u.written u.grown q; run = u.run };
-      }

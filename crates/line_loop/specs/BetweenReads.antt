@@ -1,11 +1,11 @@
 -- Invariant: what stands between two reads, and how a piece of the input leads on from there
-use Rattle.std.specs.Prelude.{◌≡◌, ◌≢◌, ℕ, ◌+◌, ◌<◌, ◌≤◌, Bool, true, false, List, [], ◌++◌, take, length, Option}
+use Rattle.std.specs.Prelude.{◌≡◌, ◌⊎◌, ℕ, ◌+◌, ◌<◌, ◌≤◌, Bool, true, false, List, [], ◌++◌, take, length, Option}
 use Rattle.std.specs.Io.KnownBytes.{Appends, append_known}
 use Rattle.edn.specs.declared.refusal.Refusal.{Refusal}
-use Rattle.edn.specs.declared.refusal.Refusal.TheVariants.{ReadFailed, WriteFailed}
+use Rattle.edn.specs.declared.refusal.Refusal.TheVariants.{NoMemory, WriteFailed}
 use Rattle.line_loop.specs.Lines.{Cuts}
 use Rattle.line_loop.specs.ReplyText.{line_limit, Replies}
-use Rattle.line_loop.specs.Stopping.{MayStop, IsAnswered, IsPartlyAnswered}
+use Rattle.line_loop.specs.Stopping.{IsAnswered, IsPartlyAnswered}
 
 -- a machine, what is held of the line that is being read, and the replies that are not written yet
 pub record Reading (M : Type 0) : Type 0 where
@@ -22,9 +22,9 @@ pub record Between (S : Type 0) : Type 0 where
 abbrev pub between : {M S : Type 0} → (M → S) → Reading M → Option (List ℕ) → Between S
 between state reading written = record { held = reading.held; state = state reading.machine; written = append_known written reading.replies }
 
--- why a step may be refused: it reads nothing, and says that the writer failed only where it has
+-- why a step may be refused: it reads nothing, and says that the writer failed exactly where it has
 abbrev pub MayStopWriting : Refusal → Bool → Type 0
-MayStopWriting e has_failed = MayStop e × (e ≢ ReadFailed) × (e ≡ WriteFailed → has_failed ≡ true)
+MayStopWriting e has_failed = ((e ≡ NoMemory) × (has_failed ≡ false)) ⊎ ((e ≡ WriteFailed) × (has_failed ≡ true))
 
 module _ {S : Type 0} (may_reply : S → List ℕ → List ℕ → S → Type 0) where
   -- the bytes seen so far are answered but for the line that is held, clipped to one byte over the limit

@@ -10,6 +10,10 @@ use Rattle.line_loop.specs.ReplyText.{Replies, IsReplyText}
 abbrev pub MayStop : Refusal → Type 0
 MayStop e = (e ≡ NoMemory) ⊎ (e ≡ ReadFailed) ⊎ (e ≡ WriteFailed)
 
+-- what a reading may be refused for: that the reader failed exactly where it has
+abbrev pub MayStopReading : Refusal → Bool → Type 0
+MayStopReading e has_failed = ((e ≡ NoMemory) × (has_failed ≡ false)) ⊎ ((e ≡ ReadFailed) × (has_failed ≡ true))
+
 -- the lines that were read to their end: the rest is one where the input has ended
 abbrev pub read_lines : Bool → List (List ℕ) → List ℕ → List (List ℕ)
 read_lines true lines rest = lines ++ last_line rest

@@ -1,19 +1,20 @@
 //! Bytes to bytes, over any machine of lines.
-ghost use Rattle.std.specs.Prelude.{◌≡◌, ◌⊎◌, IfOk, OnOk, IfErr, true, false, Err};
+ghost use Rattle.std.specs.Prelude.{◌≡◌, ◌≢◌, ◌⊎◌, IfOk, OnOk, IfErr, true, false, Err};
+ghost use Rattle.line_loop.specs.Live.{IsLive};
 ghost use Rattle.line_loop.specs.Stopping.{MayStop, Finishes, Stops, KeepsUp};
 
 use crate::line_machine::LineMachine;
-use crate::reading::{Brought, PIECE, read_some};
+use crate::reading::{Brought, PIECE, read_beside};
 use crate::session::Session;
-use crate::watched::Failed;
+use crate::watched::{Failed, Flushes, ReadsBeside};
 use crate::writing::flush_all;
 use edn::Refusal;
 use std::alloc::Global;
-use std::io::{Read, Write};
+use std::io::Write;
 use std::sync::Wait;
 
-/// Reads lines, has the machine answer each, and writes the replies to the lines of one read before the next. At the reader's
-/// end, or once the machine is closed, it flushes the writer once and gives the machine's verdict.
+/// Reads lines, has the machine answer each, and writes and flushes the replies to the lines of one read before the next. At the
+/// reader's end, or once the machine is closed, it gives the machine's verdict.
 ///
 /// A last line without a line feed counts where it has a byte. Of a line of more than 65,536 bytes, its line feed not counted,
 /// the machine is told that there was one, and does not see it. Once the machine is closed nothing is read; the lines that were
@@ -22,9 +23,9 @@ use std::sync::Wait;
 ///
 /// # Errors
 ///
-/// `ReadFailed` and `WriteFailed` where the reader or the writer has failed, and `NoMemory` where memory is refused. The writer
-/// has then taken a beginning of the replies.
-pub fn answer_lines<X: Wait, M: LineMachine, R: Read + Failed, W: Write + Failed>(
+/// `ReadFailed` and `WriteFailed` where the reader or the writer has failed, and else `NoMemory` where memory is refused. The
+/// writer has then taken a beginning of the replies.
+pub fn answer_lines<X: Wait, M: LineMachine, R: ReadsBeside<W>, W: Write + Failed + Flushes>(
     rt: &X,
     alloc: Global,
     machine: M,
@@ -43,31 +44,35 @@ pub fn answer_lines<X: Wait, M: LineMachine, R: Read + Failed, W: Write + Failed
         ⊎ ((M.is_closed end ≡ true) × KeepsUp M.may_reply (M.state machine) end
         (R.remaining reader.old) (R.remaining reader.new)
         (W.contents writer.old) (W.contents writer.new)))) }
-    ensures unfailed { OnOk result (W.has_failed writer.new ≡ false) }
+    // At each read the writer held the replies to all lines that were read before, they were flushed, and the machine was open.
+    ensures live { IsLive M.may_reply M.is_closed (M.state machine) (W.contents writer.old)
+        (R.remaining reader.old) (R.remaining reader.new)
+        (R.log reader.old) (R.log reader.new) }
+    ensures flushed { OnOk result (W.is_flushed writer.new ≡ true) }
     // The writer grew by a beginning of a reply text of the lines that were read to their end.
     ensures stopped { IfErr result (Stops M.may_reply (M.state machine)
         (R.remaining reader.old) (R.remaining reader.new)
         (W.contents writer.old) (W.contents writer.new)) }
     // Where the reader failed, all lines that were read to their line feed had their replies.
-    ensures live { result ≡ Err Refusal.ReadFailed → (here : M.State)
+    ensures kept_up { result ≡ Err Refusal.ReadFailed → (here : M.State)
         × KeepsUp M.may_reply (M.state machine) here
         (R.remaining reader.old) (R.remaining reader.new)
         (W.contents writer.old) (W.contents writer.new) }
     ensures kinds { IfErr result MayStop }
     ensures read { result ≡ Err Refusal.ReadFailed → R.has_failed reader.new ≡ true }
+    ensures reads_well { result ≢ Err Refusal.ReadFailed → R.has_failed reader.new ≡ false }
     ensures wrote { result ≡ Err Refusal.WriteFailed → W.has_failed writer.new ≡ true }
+    ensures writes_well { result ≢ Err Refusal.WriteFailed → W.has_failed writer.new ≡ false }
 {
     let mut session = Session::new(alloc, machine);
     let mut piece = [0u8; PIECE];
+    flush_all(rt, writer)?;
     for _ in rt.forever() {
-        match read_some(reader, &mut piece[..])? {
-            Brought::Piece(n) => {
-                session.take_piece(rt, writer, &piece[..n])?;
-                if session.closed() {
-                    flush_all(rt, writer)?;
-                    return Ok(session.verdict());
-                }
-            }
+        if session.closed() {
+            return Ok(session.verdict());
+        }
+        match read_beside(reader, writer, &mut piece[..])? {
+            Brought::Piece(n) => session.take_piece(rt, writer, &piece[..n])?,
             Brought::End => {
                 session.finish(rt, writer)?;
                 return Ok(session.verdict());

@@ -18,7 +18,7 @@ pub use line_machine::LineMachine;
 pub use reading::read_whole;
 pub use refusal_line::{append_refusal, refusal_text};
 pub use session::LINE_LIMIT;
-pub use watched::{Failed, Watched};
+pub use watched::{Failed, Flushes, ReadsBeside, Watched};
 pub use writing::{flush_all, write_text};
 
 #[cfg(test)]

@@ -1,11 +1,13 @@
 //! What a reader has.
-ghost use Rattle.std.specs.Prelude.{◌≡◌, ◌<◌, ◌≤◌, ◌⊎◌, ℕ, List, [], take, length, IfOk, OnOk, OnErr, IfErr, true, false, Ok};
+ghost use Rattle.std.specs.Prelude.{◌≡◌, ◌<◌, ◌≤◌, ℕ, List, [], take, length, IfOk, OnOk, OnErr, IfErr, true, false, Ok};
 ghost use Rattle.std.specs.Io.KnownBytes.{Consumes, IsAtEnd};
+ghost use Rattle.line_loop.specs.Logs.{KeepsRead};
+ghost use Rattle.line_loop.specs.Stopping.{MayStopReading};
 
-use crate::watched::Failed;
+use crate::watched::{Failed, Flushes, ReadsBeside};
 use edn::Refusal;
 use std::alloc::Global;
-use std::io::Read;
+use std::io::{Read, Write};
 use std::sync::Wait;
 
 /// Bytes of one read at most.
@@ -17,11 +19,8 @@ pub(crate) enum Brought {
     End,
 }
 
-/// One read. An error after which `failed()` is still false counts as 0 bytes.
-pub(crate) fn read_some<R: Read + Failed>(
-    reader: &mut R,
-    piece: &mut [u8],
-) -> Result<Brought, Refusal>
+// One read. An error after which `failed()` is still false counts as 0 bytes.
+fn read_some<R: Read + Failed>(reader: &mut R, piece: &mut [u8]) -> Result<Brought, Refusal>
     requires { 0 < length piece.old }
     ensures bound { (n : ℕ) → result ≡ Ok (Brought.Piece n) → n ≤ length piece.new }
     ensures piece { (n : ℕ) → result ≡ Ok (Brought.Piece n) →
@@ -50,11 +49,60 @@ pub(crate) fn read_some<R: Read + Failed>(
     }
 }
 
+/// One read, beside a writer that stands so, of a reader that has not failed. An error after which `failed()` is still false
+/// counts as 0 bytes.
+pub(crate) fn read_beside<R: ReadsBeside<W>, W: Write + Flushes>(
+    reader: &mut R,
+    writer: &W,
+    piece: &mut [u8],
+) -> Result<Brought, Refusal>
+    requires room { 0 < length piece.old }
+    requires unfailed { R.has_failed reader.old ≡ false }
+    ensures bound { (n : ℕ) → result ≡ Ok (Brought.Piece n) → n ≤ length piece.new }
+    ensures piece { (n : ℕ) → result ≡ Ok (Brought.Piece n) →
+        Consumes (R.remaining reader.old) (R.remaining reader.new) (take n piece.new) }
+    ensures kept { (n : ℕ) → result ≡ Ok (Brought.Piece n) →
+        KeepsRead (R.log reader.old) (R.log reader.new)
+        (W.contents writer.now) (W.is_flushed writer.now) (take n piece.new) }
+    ensures end { result ≡ Ok Brought.End → IsAtEnd (R.remaining reader.new)
+        × Consumes (R.remaining reader.old) (R.remaining reader.new) []
+        × KeepsRead (R.log reader.old) (R.log reader.new)
+        (W.contents writer.now) (W.is_flushed writer.now) [] }
+    ensures unfailed { OnOk result (R.has_failed reader.new ≡ false) }
+    ensures err { OnErr result (Consumes (R.remaining reader.old) (R.remaining reader.new) []
+        × KeepsRead (R.log reader.old) (R.log reader.new)
+        (W.contents writer.now) (W.is_flushed writer.now) []) }
+    ensures cause { IfErr result (λ e. (e ≡ Refusal.ReadFailed)
+        × (R.has_failed reader.new ≡ true)) }
+{
+    match reader.read_beside(writer, piece) {
+        Ok(0) => Ok(Brought::End),
+        Ok(n) => Ok(Brought::Piece(n)),
+        Err(_) => {
+            if reader.failed() {
+                return Err(Refusal::ReadFailed);
+            }
+            Ok(Brought::Piece(0))
+        }
+    }
+}
+
+// What is said where memory is refused: that the reader has failed, where it has.
+fn want_of_memory<R: Failed>(reader: &R) -> Refusal
+    ensures { MayStopReading result (R.has_failed reader.now) }
+{
+    if reader.failed() {
+        Refusal::ReadFailed
+    } else {
+        Refusal::NoMemory
+    }
+}
+
 /// All that the reader has, read to its end in pieces of 8,192 bytes. It takes the time of the bytes, and memory for them.
 ///
 /// # Errors
 ///
-/// `ReadFailed` where the reader has failed, and `NoMemory` where memory is refused. Some of the bytes were then read.
+/// `ReadFailed` where the reader has failed, and else `NoMemory` where memory is refused. Some of the bytes were then read.
 pub fn read_whole<X: Wait, R: Read + Failed>(
     rt: &X,
     alloc: Global,
@@ -66,14 +114,17 @@ pub fn read_whole<X: Wait, R: Read + Failed>(
     ensures unfailed { OnOk result (R.has_failed reader.new ≡ false) }
     ensures some { OnErr result ((seen : List ℕ)
         × Consumes (R.remaining reader.old) (R.remaining reader.new) seen) }
-    ensures cause { IfErr result (λ e. (e ≡ Refusal.NoMemory)
-        ⊎ ((e ≡ Refusal.ReadFailed) × (R.has_failed reader.new ≡ true))) }
+    ensures cause { IfErr result (λ e. MayStopReading e (R.has_failed reader.new)) }
 {
     let mut bytes = Vec::new(alloc);
     let mut piece = [0u8; PIECE];
     for _ in rt.forever() {
         match read_some(reader, &mut piece[..])? {
-            Brought::Piece(n) => bytes.extend_from_slice(&piece[..n])?,
+            Brought::Piece(n) => {
+                if bytes.extend_from_slice(&piece[..n]).is_err() {
+                    return Err(want_of_memory(reader));
+                }
+            }
             Brought::End => return Ok(bytes),
         }
     }

@@ -6,7 +6,7 @@ ghost use Rattle.line_loop.specs.BetweenReads.{Reading, between, MayStopWriting,
 ghost use Rattle.std.specs.Io.KnownBytes.{Appends, append_known};
 
 use crate::line_machine::LineMachine;
-use crate::watched::Failed;
+use crate::watched::{Failed, Flushes};
 use crate::writing::{flush_all, write_text};
 use edn::Refusal;
 use memchr::memchr;
@@ -67,13 +67,14 @@ impl<M: LineMachine> Session<M> {
         self.machine.closed()
     }
 
-    /// Takes a piece of the input: each line that ends in it is answered, the replies are written together, and what
-    /// follows the last of the lines is held.
+    /// Takes a piece of the input: each line that ends in it is answered, the replies are written together and flushed, and
+    /// what follows the last of the lines is held.
     ///
     /// # Errors
     ///
-    /// `WriteFailed`, where the writer has failed, and `NoMemory`, after the replies that were made have been written.
-    pub fn take_piece<X: Wait, W: Write + Failed>(
+    /// `WriteFailed`, where the writer has failed, and else `NoMemory`, after the replies that were made have been written
+    /// and flushed.
+    pub fn take_piece<X: Wait, W: Write + Failed + Flushes>(
         &mut self,
         rt: &X,
         writer: &mut W,
@@ -84,6 +85,8 @@ impl<M: LineMachine> Session<M> {
             (between M.state self.old (W.contents writer.old))
             (between M.state self.new (W.contents writer.new))) }
         ensures all { OnOk result (self.new.replies ≡ []) }
+        ensures flushed { OnOk result (W.is_flushed writer.new ≡ true) }
+        ensures unfailed { OnOk result (W.has_failed writer.new ≡ false) }
         ensures err { OnErr result (StopsIn M.may_reply piece.now
             (between M.state self.old (W.contents writer.old)) (W.contents writer.new)) }
         ensures cause { IfErr result (λ e. MayStopWriting e (W.has_failed writer.new)) }
@@ -163,8 +166,8 @@ impl<M: LineMachine> Session<M> {
         Ok(())
     }
 
-    // Writes the replies.
-    fn write_replies<X: Wait, W: Write + Failed>(
+    // Writes the replies, and flushes.
+    fn write_replies<X: Wait, W: Write + Failed + Flushes>(
         &mut self,
         rt: &X,
         writer: &mut W,
@@ -172,6 +175,8 @@ impl<M: LineMachine> Session<M> {
         ensures ok { OnOk result (
             Appends (W.contents writer.old) (W.contents writer.new) self.old.replies) }
         ensures new { OnOk result (self.new ≡ record self.old { replies = [] }) }
+        ensures flushed { OnOk result (W.is_flushed writer.new ≡ true) }
+        ensures unfailed { OnOk result (W.has_failed writer.new ≡ false) }
         ensures some { OnErr result ((part : List ℕ) × (more : List ℕ)
             × (self.old.replies ≡ part ++ more)
             × Appends (W.contents writer.old) (W.contents writer.new) part) }
@@ -180,15 +185,15 @@ impl<M: LineMachine> Session<M> {
     {
         write_text(rt, writer, &self.replies)?;
         self.replies.clear();
-        Ok(())
+        flush_all(rt, writer)
     }
 
-    /// Answers a last line without a line feed, and flushes.
+    /// Answers a last line without a line feed, writes its reply, and flushes.
     ///
     /// # Errors
     ///
     /// Those of [`take_piece`](Session::take_piece).
-    pub fn finish<X: Wait, W: Write + Failed>(
+    pub fn finish<X: Wait, W: Write + Failed + Flushes>(
         &mut self,
         rt: &X,
         writer: &mut W,
@@ -197,6 +202,7 @@ impl<M: LineMachine> Session<M> {
         ensures ok { OnOk result (Ends M.may_reply
             (between M.state self.old (W.contents writer.old))
             (M.state self.new.machine) (W.contents writer.new)) }
+        ensures flushed { OnOk result (W.is_flushed writer.new ≡ true) }
         ensures unfailed { OnOk result (W.has_failed writer.new ≡ false) }
         ensures err { OnErr result (StopsAtEnd M.may_reply
             (between M.state self.old (W.contents writer.old)) (W.contents writer.new)) }
@@ -204,8 +210,7 @@ impl<M: LineMachine> Session<M> {
     {
         let answered = self.answer_last();
         self.write_replies(rt, writer)?;
-        answered?;
-        flush_all(rt, writer)
+        answered
     }
 
     // Answers a last line without a line feed, where there is one.

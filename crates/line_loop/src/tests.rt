@@ -1,9 +1,11 @@
 //! Readers and writers that give or take little, stutter and fail. The built program shows the rest.
-ghost use Rattle.std.specs.Prelude.{◌≡◌, nat_le, false};
+ghost use Rattle.std.specs.Prelude.{◌≡◌, nat_le, false, None, OnOk};
+ghost use Rattle.std.specs.Io.{ReadsAtMost};
+ghost use Rattle.std.specs.Io.KnownBytes.{ReadConsumes};
 
 use crate::answering::answer_lines;
 use crate::line_machine::LineMachine;
-use crate::watched::{Failed, Watched};
+use crate::watched::{Failed, ReadsBeside, Watched};
 use std::alloc::{AllocError, Global};
 use std::io;
 use std::io::{ErrorKind, Read, Write};
@@ -55,7 +57,8 @@ impl LineMachine for Echo {
     }
 }
 
-// Gives one byte a read. At a place there is an error, once, after which it has failed or not.
+// Gives one byte a read. At a place there is an error, once, after which it has failed or not. It tells whether the writer had
+// all replies at each read: one for each line before that has a byte, and flushed.
 #[derive(Drop)]
 struct Drip<'a> {
     bytes: &'a [u8],
@@ -63,10 +66,15 @@ struct Drip<'a> {
     error_at: usize,
     is_failure: bool,
     has_failed: bool,
+    was_answered: bool,
 }
 
 impl<'a> Read for Drip<'a> {
-    fn read(&mut self, buf: &mut [u8]) -> io::Result<usize> {
+    fn read(&mut self, buf: &mut [u8]) -> io::Result<usize>
+        ensures bound { ReadsAtMost result buf.new }
+        ensures bytes { ReadConsumes None None result buf.new }
+        ensures well { OnOk result (self.new.has_failed ≡ self.old.has_failed) }
+    {
         if self.at == self.error_at {
             self.error_at = usize::MAX;
             self.has_failed = self.is_failure;
@@ -87,6 +95,31 @@ impl<'a> Failed for Drip<'a> {
     fn failed(&self) -> bool {
         self.has_failed
     }
+}
+
+impl<'a> ReadsBeside<Watched<Narrow>> for Drip<'a> {
+    fn read_beside(&mut self, writer: &Watched<Narrow>, buf: &mut [u8]) -> io::Result<usize> {
+        let narrow = writer.inner();
+        if narrow.flushed != narrow.held.len() || narrow.flushed != answered(self.bytes, self.at) {
+            self.was_answered = false;
+        }
+        self.read(buf)
+    }
+}
+
+// How many bytes the replies to the lines have that end before this place.
+fn answered(bytes: &[u8], at: usize) -> usize {
+    let mut all: usize = 0;
+    let mut line: usize = 0;
+    for byte in bytes.iter().take(at) {
+        if *byte != b'\n' {
+            line = line.saturating_add(1);
+        } else if line > 0 {
+            all = all.saturating_add(line).saturating_add(1);
+            line = 0;
+        }
+    }
+    all
 }
 
 // Takes so many bytes in all, and then none, or fails. It counts the flushes, and the bytes written before the last.
@@ -138,11 +171,13 @@ fn drip_reader(error_at: usize, is_failure: bool) -> Drip<'static>
         error_at,
         is_failure,
         has_failed: false,
+        was_answered: true,
     }
 }
 
 // How many lines close the machine; where the reader has an error, and whether that is a failure; how much the writer takes, and
-// whether it then fails; the lines at the end or the refusal's number, what was written, and how often it was flushed.
+// whether it then fails; the lines at the end or the refusal's number, what was written, and how often it was flushed: once for
+// each read behind which something was written.
 type Row = (
     u32,
     usize,
@@ -157,16 +192,16 @@ type Row = (
 const WHOLE: &[u8] = b"a\nb\nlast\n";
 
 const ROWS: [Row; 9] = [
-    (99, 99, false, 99, false, Ok(4), WHOLE, 1),
-    (99, 3, false, 99, false, Ok(4), WHOLE, 1),
-    (99, 7, true, 99, false, Err(20), b"a\nb\n", 0),
-    (99, 99, false, 3, true, Err(21), b"a\nb", 0),
-    (99, 99, false, 3, false, Err(21), b"a\nb", 0),
+    (99, 99, false, 99, false, Ok(4), WHOLE, 3),
+    (99, 3, false, 99, false, Ok(4), WHOLE, 3),
+    (99, 7, true, 99, false, Err(20), b"a\nb\n", 2),
+    (99, 99, false, 3, true, Err(21), b"a\nb", 1),
+    (99, 99, false, 3, false, Err(21), b"a\nb", 1),
     (99, 99, false, 0, false, Err(21), b"", 0),
     // It is closed by the third line, and what the reader has behind it is not read, nor its failure met.
-    (3, 5, true, 99, false, Ok(3), b"a\nb\n", 1),
+    (3, 5, true, 99, false, Ok(3), b"a\nb\n", 2),
     (1, 2, true, 99, false, Ok(1), b"a\n", 1),
-    (4, 99, false, 99, false, Ok(4), WHOLE, 1),
+    (4, 99, false, 99, false, Ok(4), WHOLE, 3),
 ];
 
 fn goes<X: Wait>(rt: &X, alloc: Global, row: &Row) -> bool {
@@ -177,9 +212,10 @@ fn goes<X: Wait>(rt: &X, alloc: Global, row: &Row) -> bool {
     let outcome = answer_lines(rt, alloc, echo, &mut reader, &mut writer);
     let narrow = writer.inner();
     outcome.map_err(|refusal| refusal.number()) == want
+        && reader.was_answered
         && narrow.held.as_slice() == written
         && narrow.flushes == flushes
-        && (flushes == 0 || narrow.flushed == written.len())
+        && (want == Err(21) || narrow.flushed == written.len())
 }
 
 #[test]

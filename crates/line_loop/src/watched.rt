@@ -1,8 +1,9 @@
-//! Readers and writers that tell whether they have failed.
-ghost use Rattle.std.specs.Prelude.{◌≡◌, ◌<◌, ℕ, Bool, true, false, List, length, IsTrue, IfOk, OnOk, OnErr, Ok};
+//! Readers and writers that tell whether they have failed, and whether what was written is flushed.
+ghost use Rattle.std.specs.Prelude.{◌≡◌, ◌<◌, ℕ, Bool, true, false, List, length, IsTrue, Option, None, IfOk, OnOk, OnErr, Ok};
 ghost use Rattle.std.specs.Io.{ReadsAtMost, WritesAtMost};
 ghost use Rattle.std.specs.Io.KnownBytes.{ReadConsumes, WriteAppends, Keeps};
 ghost use Rattle.line_loop.specs.Watch.{Watch};
+ghost use Rattle.line_loop.specs.Logs.{Logged, bytes_read, KeepsRead};
 
 use std::io;
 use std::io::{Read, Write};
@@ -18,28 +19,67 @@ pub trait Failed {
         ensures { result ≡ has_failed self.now };
 }
 
+/// Tells whether what was written to a writer is flushed: a write makes it false, and a flush without an error true.
+pub trait Flushes {
+    ghost is_flushed: { Self → Bool };
+
+    /// Whether all that was written is flushed.
+    fn flushed(&self) -> bool
+        ensures { result ≡ is_flushed self.now };
+}
+
+/// A reader whose reads are seen beside the writer that answers them.
+///
+/// A clause over its log says what the writer held at each read: that no reply is held back is said by the log of any such
+/// reader, of which the code that reads knows nothing.
+pub trait ReadsBeside<W: Write + Flushes>: Read + Failed {
+    // What came of each read, in turn, where it is known.
+    ghost log: { Self → Option (List Logged) } = { λ _. None };
+
+    /// Reads as [`Read::read`] does, while the writer stands so.
+    ///
+    /// # Errors
+    ///
+    /// Those of the reader.
+    fn read_beside(&mut self, writer: &W, buf: &mut [u8]) -> io::Result<usize>
+        ensures bound { ReadsAtMost result buf.new }
+        ensures bytes { ReadConsumes
+            (Self.remaining self.old) (Self.remaining self.new) result buf.new }
+        // The log gets what the writer holds, and the bytes that were read.
+        ensures kept { KeepsRead (log self.old) (log self.new)
+            (W.contents writer.now) (W.is_flushed writer.now) (bytes_read result buf.new) }
+        ensures well { OnOk result (Self.has_failed self.new ≡ Self.has_failed self.old) };
+}
+
 /// Any reader or writer, watched from when it was wrapped.
 #[derive(Drop)]
 pub struct Watched<T> {
     inner: T,
     has_failed: bool,
+    is_flushed: bool,
 }
 
 impl<T> Model for Watched<T> {
     ghost Value = { Watch T };
 
-    ghost view = { λ w. record { inner = w.inner; has_failed = w.has_failed } };
+    ghost view = { λ w. record {
+      inner = w.inner;
+      has_failed = w.has_failed;
+      is_flushed = w.is_flushed;
+    } };
 }
 
 impl<T> Watched<T> {
-    /// Watches it from now on. Takes no memory.
+    /// Watches it from now on: nothing is written yet that is not flushed. Takes no memory.
     pub fn new(inner: T) -> Watched<T>
         ensures fresh { result.has_failed ≡ false }
+        ensures flushed { result.is_flushed ≡ true }
         ensures inner { result.inner ≡ inner }
     {
         Watched {
             inner,
             has_failed: false,
+            is_flushed: true,
         }
     }
 
@@ -57,6 +97,7 @@ impl<T> Watched<T> {
         let Watched {
             inner,
             has_failed: _,
+            is_flushed: _,
         } = self;
         inner
     }
@@ -67,6 +108,14 @@ impl<T> Failed for Watched<T> {
 
     fn failed(&self) -> bool {
         self.has_failed
+    }
+}
+
+impl<T> Flushes for Watched<T> {
+    ghost is_flushed = { λ w. w.is_flushed };
+
+    fn flushed(&self) -> bool {
+        self.is_flushed
     }
 }
 
@@ -90,6 +139,12 @@ impl<R: Read> Read for Watched<R> {
     }
 }
 
+impl<R: Read, W: Write + Flushes> ReadsBeside<W> for Watched<R> {
+    fn read_beside(&mut self, _writer: &W, buf: &mut [u8]) -> io::Result<usize> {
+        self.read(buf)
+    }
+}
+
 impl<W: Write> Write for Watched<W> {
     ghost contents = { λ w. W.contents w.inner };
 
@@ -100,7 +155,9 @@ impl<W: Write> Write for Watched<W> {
         ensures some { IfOk result (λ n. 0 < n → self.new.has_failed ≡ self.old.has_failed) }
         ensures none { result ≡ Ok 0 → 0 < length buf.now → self.new.has_failed ≡ true }
         ensures err { OnErr result (self.new.has_failed ≡ true) }
+        ensures flushed { self.new.is_flushed ≡ false }
     {
+        self.is_flushed = false;
         match self.inner.write(buf) {
             Ok(n) => {
                 if n == 0 && !buf.is_empty() {
@@ -119,9 +176,14 @@ impl<W: Write> Write for Watched<W> {
         ensures bytes { Keeps (W.contents self.old.inner) (W.contents self.new.inner) }
         ensures ok { OnOk result (self.new.has_failed ≡ self.old.has_failed) }
         ensures err { OnErr result (self.new.has_failed ≡ true) }
+        ensures flushed { OnOk result (self.new.is_flushed ≡ true) }
+        ensures unflushed { OnErr result (self.new.is_flushed ≡ self.old.is_flushed) }
     {
         match self.inner.flush() {
-            Ok(()) => Ok(()),
+            Ok(()) => {
+                self.is_flushed = true;
+                Ok(())
+            }
             Err(e) => {
                 self.has_failed = true;
                 Err(e)

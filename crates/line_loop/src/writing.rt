@@ -2,7 +2,7 @@
 ghost use Rattle.std.specs.Prelude.{◌≡◌, ◌≤◌, ℕ, List, [], take, length, ◌++◌, IfOk, OnOk, OnErr, IfErr, true, false};
 ghost use Rattle.std.specs.Io.KnownBytes.{Appends};
 
-use crate::watched::Failed;
+use crate::watched::{Failed, Flushes};
 use edn::Refusal;
 use std::io::Write;
 use std::sync::Wait;
@@ -53,25 +53,31 @@ pub fn write_text<X: Wait, W: Write + Failed>(
     unreachable!()
 }
 
-/// Flushes. After an error that leaves `failed()` false it flushes again. It takes no memory itself.
+/// Flushes a writer to which something was written since it was last flushed. After an error that leaves `failed()` false it
+/// flushes again. It takes no memory itself.
 ///
 /// # Errors
 ///
 /// `WriteFailed`, where the writer has failed, in this flush or before.
-pub fn flush_all<X: Wait, W: Write + Failed>(rt: &X, writer: &mut W) -> Result<(), Refusal>
+pub fn flush_all<X: Wait, W: Write + Failed + Flushes>(
+    rt: &X,
+    writer: &mut W,
+) -> Result<(), Refusal>
     ensures bytes { Appends (W.contents writer.old) (W.contents writer.new) [] }
+    ensures flushed { OnOk result (W.is_flushed writer.new ≡ true) }
     ensures unfailed { OnOk result (W.has_failed writer.new ≡ false) }
     ensures cause { IfErr result (λ e. (e ≡ Refusal.WriteFailed)
         × (W.has_failed writer.new ≡ true)) }
 {
     for _ in rt.forever() {
-        let flushed = writer.flush().is_ok();
         if writer.failed() {
             return Err(Refusal::WriteFailed);
         }
-        if flushed {
+        if writer.flushed() {
             return Ok(());
         }
+        // `failed()` tells of its error.
+        let _ = writer.flush();
     }
     unreachable!()
 }

@@ -16,16 +16,38 @@ use std::rt::Clock;
 // Events that may take a second to judge: that they are judged is then shown at once.
 const MANY_EVENTS: usize = 1 << 12;
 
-// How many lines of a script came, how many events were read, and how many lines or events were refused.
-#[derive(Clone, Copy)]
+// What is counted of a script or of a recorded history. Each count lies by itself, since one goes up with each line, and another
+// with each event.
+#[derive(Drop)]
 struct Tally {
-    lines: u64,
-    events: u64,
-    refused: u64,
+    // Lines of a script that came.
+    lines: Cell<u64>,
+    // Events that were read.
+    events: Cell<u64>,
+    // Lines or events that were refused.
+    refused: Cell<u64>,
     // The first that was refused, and the number of its line, from 1 on.
-    first: Option<(u64, Refusal)>,
+    first: Cell<Option<(u64, Refusal)>>,
     // Whether that closed the script.
-    is_closed: bool,
+    is_closed: Cell<bool>,
+}
+
+impl Tally {
+    // Of nothing that came.
+    fn new() -> Tally {
+        Tally {
+            lines: Cell::new(0),
+            events: Cell::new(0),
+            refused: Cell::new(0),
+            first: Cell::new(None),
+            is_closed: Cell::new(false),
+        }
+    }
+}
+
+// One more.
+fn count(counter: &Cell<u64>) {
+    counter.set(counter.get().saturating_add(1));
 }
 
 /// Says on standard error what may be said beside standard output: at the end how many lines of a script were refused, what is
@@ -40,7 +62,7 @@ pub struct OnStandardError<'a, X> {
     // How far a check has come.
     line: MovingLine<'a, X>,
     bytes: Cell<usize>,
-    tally: Cell<Tally>,
+    tally: Tally,
     remark: Cell<Option<Remark>>,
 }
 
@@ -53,13 +75,7 @@ impl<'a, X: Clock + Eprint> OnStandardError<'a, X> {
             is_terminal,
             line: MovingLine::new(rt, is_terminal),
             bytes: Cell::new(0),
-            tally: Cell::new(Tally {
-                lines: 0,
-                events: 0,
-                refused: 0,
-                first: None,
-                is_closed: false,
-            }),
+            tally: Tally::new(),
             remark: Cell::new(None),
         }
     }
@@ -72,9 +88,8 @@ impl<'a, X: Clock + Eprint> OnStandardError<'a, X> {
 
     /// Says what is left to say at the end of a run. It may wait for standard error, whose errors are passed over.
     pub fn end(&self) {
-        let tally = self.tally.get();
-        if let Some((line, refusal)) = tally.first {
-            self.say_refused(tally, line);
+        if let Some((line, refusal)) = self.tally.first.get() {
+            self.say_refused(line);
             self.say_hint(&refusal);
         }
         if let Some(remark) = self.remark.get() {
@@ -83,13 +98,14 @@ impl<'a, X: Clock + Eprint> OnStandardError<'a, X> {
     }
 
     // How many lines of a script were refused; or which line of a recorded history is no text.
-    fn say_refused(&self, tally: Tally, line: u64) {
-        let Tally { lines, refused, .. } = tally;
+    fn say_refused(&self, line: u64) {
+        let lines = self.tally.lines.get();
+        let refused = self.tally.refused.get();
         if lines == 0 {
             if line > 0 {
                 self.say(format_args!("what begins in line {line} is no text"));
             }
-        } else if tally.is_closed {
+        } else if self.tally.is_closed.get() {
             self.say(format_args!("line {line} was refused, and a strict script ends there"));
         } else if refused == 1 {
             self.say(format_args!(
@@ -140,10 +156,7 @@ impl<'a, X: Clock + Eprint> Onlooker for OnStandardError<'a, X> {
     }
 
     fn taken(&self, events: usize) {
-        self.tally.set(Tally {
-            events: events as u64,
-            ..self.tally.get()
-        });
+        self.tally.events.set(events as u64);
         if self.line.is_time() {
             self.line
                 .show(format_args!("{events} events were read        "));
@@ -159,51 +172,39 @@ impl<'a, X: Clock + Eprint> Onlooker for OnStandardError<'a, X> {
     }
 
     fn line(&self) {
-        let tally = self.tally.get();
-        self.tally.set(Tally {
-            lines: tally.lines.saturating_add(1),
-            ..tally
-        });
+        count(&self.tally.lines);
     }
 
     fn event(&self) {
-        let tally = self.tally.get();
-        self.tally.set(Tally {
-            events: tally.events.saturating_add(1),
-            ..tally
-        });
+        count(&self.tally.events);
     }
 
     fn refused(&self, refusal: &Refusal) {
         self.line.leave();
-        let tally = self.tally.get();
-        self.tally.set(Tally {
-            refused: tally.refused.saturating_add(1),
-            first: tally.first.or(Some((tally.lines, *refusal))),
-            ..tally
-        });
+        count(&self.tally.refused);
+        if self.tally.first.get().is_none() {
+            self.tally
+                .first
+                .set(Some((self.tally.lines.get(), *refusal)));
+        }
     }
 
     fn refused_text(&self, bytes: &[u8], refusal: &Refusal) {
         self.refused(refusal);
         if let Refusal::Unreadable(place) = refusal {
-            self.tally.set(Tally {
-                first: Some((line_of(bytes, *place), *refusal)),
-                ..self.tally.get()
-            });
+            self.tally
+                .first
+                .set(Some((line_of(bytes, *place), *refusal)));
         }
     }
 
     fn closed(&self) {
-        self.tally.set(Tally {
-            is_closed: true,
-            ..self.tally.get()
-        });
+        self.tally.is_closed.set(true);
     }
 
     fn judged(&self, monitor: &Monitor, verdict: &Verdict) {
         self.line.leave();
-        let remark = if self.tally.get().events == 0 {
+        let remark = if self.tally.events.get() == 0 {
             Some(Remark::NoEvent)
         } else {
             remark_on(monitor, verdict)

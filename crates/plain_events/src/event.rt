@@ -29,6 +29,7 @@ pub fn index_pair(text: &[u8]) -> Option<(Option<u32>, &[u8])>
 }
 
 // What happens to the operation.
+#[inline(always)]
 fn kind_at(text: &[u8]) -> Option<(EventKind, &[u8])>
     ensures { IfSome result (λ x. IsAtomAt text.now (keyword (text_of_kind x.0)) x.1.now) }
 {

@@ -1,6 +1,7 @@
 //! The plan of a run, and how the one-thread object is opened for it.
 ghost use Rattle.std.specs.Prelude.{◌≡◌, IfOk};
-ghost use Rattle.harness.specs.Setups.{setup_of};
+ghost use Rattle.test_store.specs.Store.{IsCount};
+ghost use Rattle.harness.specs.Setups.{setup_of, IsSetup};
 ghost use Rattle.run_plans.specs.Plans.{run_setup};
 
 use crate::children::children_of;
@@ -32,7 +33,8 @@ impl RunPlan {
     /// generator gives so many operations, each by the next random word from one of its children; for each key in turn
     /// these are one for each name of the kind, which goes round through the name's parts. Where faults strike, replica 0
     /// is parted from the others from the 20th event on and the network heals from the 40th on; a reply is lost from the
-    /// 60th on; replica 0 crashes from the 80th on, and starts again from the 100th on. No limit is tested here.
+    /// 60th on; replica 0 crashes from the 80th on, and starts again from the 100th on. No limit is tested here: it can be
+    /// opened where the replicas are 1 to 7, and this one can be.
     ///
     /// It takes the time and the memory of the keys.
     ///
@@ -40,7 +42,10 @@ impl RunPlan {
     ///
     /// `AllocError` where memory is refused.
     pub fn config(self, alloc: Global, judging: Config) -> Result<Config, AllocError>
-        ensures { IfOk result (λ config. setup_of config ≡ run_setup self (setup_of judging)) }
+        ensures planned { IfOk result (λ config.
+            setup_of config ≡ run_setup self (setup_of judging)) }
+        ensures limits { IsCount self.replicas → IsSetup (setup_of judging)
+            → IfOk result (λ config. IsSetup (setup_of config)) }
     {
         let children = children_of(alloc, judging.kind, self.keys)?;
         let mix = Box::new(alloc, Gen::Mix(children))?;

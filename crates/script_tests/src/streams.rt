@@ -2,7 +2,7 @@
 ghost use Rattle.std.specs.Prelude.{◌≡◌, false};
 
 use harness::Config;
-use line_loop::Watched;
+use line_loop::{Failed, ReadsBeside, Watched};
 use models::ModelKind;
 use std::alloc::Global;
 use std::io;
@@ -52,23 +52,79 @@ pub fn drip_reader<'a>(rest: &'a [u8], size: usize) -> Watched<Drip<'a>>
     })
 }
 
-/// A reader of these bytes that fails behind them.
-pub fn broken_reader<'a>(rest: &'a [u8]) -> Watched<Drip<'a>>
+/// A reader of these bytes, of which so many come a read at most, that fails behind them.
+pub fn broken_reader<'a>(rest: &'a [u8], size: usize) -> Watched<Drip<'a>>
     ensures { result.has_failed ≡ false }
 {
     Watched::new(Drip {
         rest,
-        size: 7,
+        size,
         fails: true,
     })
 }
 
-/// Takes so many bytes in all, and then none, or fails.
+/// A reader that looks at the writer before each read: whether it has as many lines as were read, all of them flushed.
+#[derive(Drop)]
+pub struct Witness<'a> {
+    drip: Drip<'a>,
+    lines: usize,
+    /// Whether it was so before each read.
+    pub was_answered: bool,
+}
+
+/// One that gives so many of these bytes a read at most.
+pub fn witness_reader<'a>(rest: &'a [u8], size: usize) -> Witness<'a> {
+    Witness {
+        drip: Drip {
+            rest,
+            size,
+            fails: false,
+        },
+        lines: 0,
+        was_answered: true,
+    }
+}
+
+impl<'a> Read for Witness<'a> {
+    fn read(&mut self, buf: &mut [u8]) -> io::Result<usize> {
+        let n = self.drip.read(buf)?;
+        self.lines = self.lines.saturating_add(lines_of(&buf[..n]));
+        Ok(n)
+    }
+}
+
+impl<'a> Failed for Witness<'a> {
+    ghost has_failed = { λ _. false };
+
+    fn failed(&self) -> bool {
+        false
+    }
+}
+
+impl<'a> ReadsBeside<Watched<Narrow>> for Witness<'a> {
+    fn read_beside(&mut self, writer: &Watched<Narrow>, buf: &mut [u8]) -> io::Result<usize> {
+        let narrow = writer.inner();
+        if lines_of(narrow.held.as_slice()) != self.lines || narrow.flushed != narrow.held.len() {
+            self.was_answered = false;
+        }
+        self.read(buf)
+    }
+}
+
+// Line feeds.
+fn lines_of(bytes: &[u8]) -> usize {
+    bytes.iter().filter(|byte| **byte == b'\n').count()
+}
+
+/// Takes so many bytes in all, and then none, or fails; and flushes, or fails to.
 #[derive(Drop)]
 pub struct Narrow {
     pub held: Vec<u8>,
     room: usize,
     fails: bool,
+    flush_fails: bool,
+    /// How many bytes are flushed.
+    pub flushed: usize,
 }
 
 impl Write for Narrow {
@@ -83,6 +139,10 @@ impl Write for Narrow {
     }
 
     fn flush(&mut self) -> io::Result<()> {
+        if self.flush_fails {
+            return Err(ErrorKind::Other.into());
+        }
+        self.flushed = self.held.len();
         Ok(())
     }
 }
@@ -95,5 +155,20 @@ pub fn narrow_writer(alloc: Global, room: usize, fails: bool) -> Watched<Narrow>
         held: Vec::new(alloc),
         room,
         fails,
+        flush_fails: false,
+        flushed: 0,
+    })
+}
+
+/// A writer that takes all bytes, and fails at each flush.
+pub fn unflushed_writer(alloc: Global) -> Watched<Narrow>
+    ensures { result.has_failed ≡ false }
+{
+    Watched::new(Narrow {
+        held: Vec::new(alloc),
+        room: usize::MAX,
+        fails: false,
+        flush_fails: true,
+        flushed: 0,
     })
 }

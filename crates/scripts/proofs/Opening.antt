@@ -5,6 +5,8 @@ use Rattle.edn.specs.declared.refusal.Refusal.{Refusal}
 use Rattle.linspec.specs.declared.verdict.Verdict.{Verdict}
 use Rattle.machine.specs.Machine.{Machine}
 use Rattle.harness.specs.CoreView.{CoreView, at_rest}
+use Rattle.line_loop.specs.Live.{IsLive}
+use Rattle.line_loop.specs.Logs.{Logged}
 use Rattle.line_loop.specs.Stopping.{Finishes, KeepsUp}
 use Rattle.scripts.specs.Reply.{Script, MayReply, Shows}
 
@@ -23,3 +25,6 @@ CameTo result is_strict left left' before after has_failed machine =
 
 abbrev pub KeptUp : Bool → (left left' before after : Option (List ℕ)) → Machine → Type 0
 KeptUp is_strict left left' before after machine = (here : Script) × KeepsUp MayReply (of_machine machine is_strict) here left left' before after
+
+abbrev pub Lives : Bool → (before left left' : Option (List ℕ)) (log log' : Option (List Logged)) → Machine → Type 0
+Lives is_strict before left left' log log' machine = IsLive MayReply (λ now. now.is_closed) (of_machine machine is_strict) before left left' log log'

@@ -4,6 +4,7 @@ ghost use Rattle.machine.specs.Machine.{Machine, opening};
 ghost use Rattle.harness.specs.Setups.{setup_of, IsSetup, MayNotOpen};
 ghost use Rattle.line_loop.specs.RefusalLine.{refusal_line};
 ghost use Rattle.line_loop.specs.ReplyText.{line_limit};
+ghost use Rattle.line_loop.specs.Live.{IsLive};
 ghost use Rattle.line_loop.specs.Stopping.{MayStop, Finishes, Stops, KeepsUp};
 ghost use Rattle.edn.specs.declared.refusal.Refusal.{Refusal as RefusalValue};
 ghost use Rattle.machine.specs.declared.command.Command.{Command as CommandValue};
@@ -14,12 +15,12 @@ ghost use Rattle.scripts.specs.Unopened.{IsUnopened};
 use crate::command::read_command;
 use edn::Refusal;
 use harness::{Command, Config, Core, Reply};
-use line_loop::{Failed, LineMachine, answer_lines, append_refusal};
+use line_loop::{Failed, Flushes, LineMachine, ReadsBeside, answer_lines, append_refusal};
 use linspec::Verdict;
 use onlookers::Onlooker;
 use report::append_verdict;
 use std::alloc::{AllocError, Global};
-use std::io::{Read, Write};
+use std::io::Write;
 use std::marker::Model;
 use std::sync::Wait;
 
@@ -191,9 +192,9 @@ fn reply_refusal<L: Onlooker>(
     }
 }
 
-/// Reads commands from a reader, a line each, and writes the reply to each before it reads further. At the reader's end it
-/// flushes once and gives the verdict on the history as it then stands. A strict script is closed at the first line that is
-/// refused: it writes that line's reply, flushes, reads no further, and gives none.
+/// Reads commands from a reader, a line each, and writes and flushes the reply to each before it reads further. At the reader's
+/// end it gives the verdict on the history as it then stands. A strict script is closed at the first line that is refused: it
+/// writes and flushes that line's reply, reads no further, and gives none.
 ///
 /// A line is at most 65,536 bytes, its line feed not counted; a longer one is answered by `refused 22 TooLong`. A line
 /// without an element gets no reply. The time is that of the commands, and the memory that of the monitor and of two lines.
@@ -202,8 +203,9 @@ fn reply_refusal<L: Onlooker>(
 /// # Errors
 ///
 /// What [`Core::new`] refuses, before anything is read. Else `ReadFailed` where the reader failed, `WriteFailed` where the
-/// writer failed or took none of some bytes, and `NoMemory`: the writer has then taken a beginning of the replies.
-pub fn run_script<X: Wait, R: Read + Failed, W: Write + Failed, L: Onlooker>(
+/// writer failed or took none of some bytes, and `NoMemory` where neither did: the writer has then taken a beginning of the
+/// replies.
+pub fn run_script<X: Wait, R: ReadsBeside<W>, W: Write + Failed + Flushes, L: Onlooker>(
     rt: &X,
     alloc: Global,
     config: Config,
@@ -228,7 +230,11 @@ pub fn run_script<X: Wait, R: Read + Failed, W: Write + Failed, L: Onlooker>(
         ⊎ ((end.is_closed ≡ true) × KeepsUp MayReply (script (setup_of config) is_strict) end
         (R.remaining reader.old) (R.remaining reader.new)
         (W.contents writer.old) (W.contents writer.new)))) }
-    ensures unfailed { OnOk result (W.has_failed writer.new ≡ false) }
+    // At each read the writer held the replies to all lines that were read before, they were flushed, and the script was open.
+    ensures live { IsLive MayReply (λ now. now.is_closed) (script (setup_of config) is_strict)
+        (W.contents writer.old) (R.remaining reader.old) (R.remaining reader.new)
+        (R.log reader.old) (R.log reader.new) }
+    ensures flushed { OnOk result (W.is_flushed writer.new ≡ true) }
     // Nothing was read or written; or the writer grew by a beginning of a reply text of the lines read to their end.
     ensures stopped { IfErr result (λ e.
         IsUnopened (setup_of config) reader.old reader.new writer.old writer.new e
@@ -236,13 +242,15 @@ pub fn run_script<X: Wait, R: Read + Failed, W: Write + Failed, L: Onlooker>(
         (R.remaining reader.old) (R.remaining reader.new)
         (W.contents writer.old) (W.contents writer.new) e) }
     // Where the reader failed, all lines that were read to their line feed had their replies.
-    ensures live { result ≡ Err Refusal.ReadFailed → (here : Script)
+    ensures kept_up { result ≡ Err Refusal.ReadFailed → (here : Script)
         × KeepsUp MayReply (script (setup_of config) is_strict) here
         (R.remaining reader.old) (R.remaining reader.new)
         (W.contents writer.old) (W.contents writer.new) }
     ensures kinds { IfErr result (λ e. MayNotOpen (setup_of config) e ⊎ MayStop e) }
     ensures read { result ≡ Err Refusal.ReadFailed → R.has_failed reader.new ≡ true }
+    ensures reads_well { result ≢ Err Refusal.ReadFailed → R.has_failed reader.new ≡ false }
     ensures wrote { result ≡ Err Refusal.WriteFailed → W.has_failed writer.new ≡ true }
+    ensures writes_well { result ≢ Err Refusal.WriteFailed → W.has_failed writer.new ≡ false }
 {
     let core = Core::new(alloc, config)?;
     let machine = ScriptMachine {

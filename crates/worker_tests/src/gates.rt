@@ -1,7 +1,7 @@
 //! Gates that hold a piece back until another begins, for so many turns.
 
 use edn::Gate;
-use std::sync::atomic::{AtomicBool, Ordering};
+use std::sync::atomic::{AtomicBool, AtomicU64, Ordering};
 use std::thread;
 
 /// The turns that a piece waits for another.
@@ -97,5 +97,67 @@ impl Gate for Meeting {
             1 => self.second.end(),
             _ => {}
         }
+    }
+}
+
+/// Each piece of so many waits until all of them have begun. It counts how many begin and end, and adds up their places.
+#[derive(Drop)]
+pub struct Gathering {
+    pieces: u64,
+    begun: AtomicU64,
+    begun_places: AtomicU64,
+    ended: AtomicU64,
+    ended_places: AtomicU64,
+    // A piece waited for too long.
+    missed: AtomicBool,
+}
+
+impl Gathering {
+    pub fn of(pieces: u64) -> Gathering {
+        Gathering {
+            pieces,
+            begun: AtomicU64::new(0),
+            begun_places: AtomicU64::new(0),
+            ended: AtomicU64::new(0),
+            ended_places: AtomicU64::new(0),
+            missed: AtomicBool::new(false),
+        }
+    }
+
+    // Whether it is so within so many turns, or was missed before.
+    fn all_begin(&self) -> bool {
+        for _ in 0..TURNS {
+            if self.begun.load(Ordering::SeqCst) >= self.pieces || self.missed.load(Ordering::SeqCst) {
+                return true;
+            }
+            thread::yield_now();
+        }
+        false
+    }
+
+    /// Whether each saw all the others begin, and so many have begun and ended, whose places add up to this.
+    pub fn was_held(&self, places: u64) -> bool {
+        !self.missed.load(Ordering::SeqCst)
+            && self.begun.load(Ordering::SeqCst) == self.pieces
+            && self.ended.load(Ordering::SeqCst) == self.pieces
+            && self.begun_places.load(Ordering::SeqCst) == places
+            && self.ended_places.load(Ordering::SeqCst) == places
+    }
+}
+
+impl Gate for Gathering {
+    fn begin(&self, place: u32) {
+        self.begun_places
+            .fetch_add(u64::from(place), Ordering::SeqCst);
+        self.begun.fetch_add(1, Ordering::SeqCst);
+        if !self.all_begin() {
+            self.missed.store(true, Ordering::SeqCst);
+        }
+    }
+
+    fn end(&self, place: u32) {
+        self.ended_places
+            .fetch_add(u64::from(place), Ordering::SeqCst);
+        self.ended.fetch_add(1, Ordering::SeqCst);
     }
 }

@@ -3,7 +3,7 @@ ghost use Rattle.std.specs.Prelude.{◌+◌, ◌<◌, ◌≤◌, ◌∷◌, []};
 ghost use Rattle.history.specs.ProcessRule.{IsHistory};
 
 use crate::events::event;
-use crate::gates::Meeting;
+use crate::gates::{Gathering, Meeting};
 use checkpoints::KeyLine;
 use edn::{Gate, OpenGate};
 use history::{Event, EventKind};
@@ -94,4 +94,30 @@ fn any_number_of_workers(rt: HostRuntime) {
     for workers in [1, 2, 3, 64] {
         assert!(rt; are_judged(&rt, rt.alloc(), workers, &OpenGate));
     }
+}
+
+// How many lines 64 pieces have by 64 workers, each of one write.
+fn lines_of_many<R: Threads + Sync, G: Gate + Sync>(
+    rt: &R,
+    alloc: Global,
+    gate: &G,
+) -> Result<usize, AllocError> {
+    let invoke = event(0, EventKind::Invoke, Name::Write, 7, Part::Int(3));
+    let ok = event(0, EventKind::Ok, Name::Write, 7, Part::Int(3));
+    let mut pieces = Vec::new(alloc);
+    for _ in 0..64 {
+        pieces.push(piece(alloc, 7, 0, &invoke, &ok)?)?;
+    }
+    let lines = recheck(rt, alloc, pieces.as_slice(), 64, gate)?;
+    Ok(lines.len())
+}
+
+/// Each of 64 pieces has a worker of its own, which judges it once: all of them have begun before the first is judged. No
+/// clause says so: a worker that judges a piece twice, the pieces of another, or tells the gate of another place, meets each
+/// clause, and fails here. Tried by hand: each of the three does.
+#[test]
+fn each_piece_once(rt: HostRuntime) {
+    let gathering = Gathering::of(64);
+    assert_eq!(rt; lines_of_many(&rt, rt.alloc(), &gathering).unwrap_or(0), 64);
+    assert!(rt; gathering.was_held(2016));
 }

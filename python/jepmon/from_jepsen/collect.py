@@ -23,14 +23,14 @@ may have taken nothing, and whatever was linearizable with something taken is so
 from __future__ import annotations
 
 import itertools
-from typing import Dict, Iterable, Iterator, Match, NoReturn, Optional, Tuple
+from typing import Dict, Iterable, Iterator, NoReturn, Optional, Tuple
 
 from .. import edn, faults, kinds
 from ..edn import Many, Value, canonical, integer, shown, spelling
-from .events import Event, Fault, History, Left, is_pair, tuple_of
+from .events import Event, Fault, History, Left, Row, is_pair, tuple_of
 from .plain import Plain, plain_of
 from .refusal import NoKey, Refusal, refuse
-from .spool import Spool
+from .spool import Spool, event_of, row_of, value_of
 
 DRAIN = ":drain"
 TYPES = frozenset(f":{kind}" for kind in kinds.EVENT_TYPES)
@@ -48,7 +48,7 @@ class Collector:
     def __init__(self, lone_key: Optional[str], nil_is_absent: bool) -> None:
         self.lone_key = None if lone_key is None else canonical(lone_key)
         self.nil_is_absent = nil_is_absent
-        self.open: Dict[int, Event] = {}
+        self.open: Dict[int, Row] = {}
         self.history = History(Spool())
         self.known: Dict[Tuple[str, str, Value], Tuple[Value, Value]] = {}  # the key and part of values that came, by :type and :f
 
@@ -57,13 +57,15 @@ class Collector:
         pieces = iter(pieces)
         front = next(pieces, "")
         plain = plain_of(front, self.lone_key is None)
-        elements = edn.Reader(itertools.chain((front,), pieces)).history(plain.expression if plain is not None else None)
+        elements = edn.Reader(itertools.chain((front,), pieces)).history(plain.find if plain is not None else None)
         count = 0
         try:
             for element in elements:
-                if plain is None or element.plain is None or not self.take_plain(element.line, element.plain, plain, count):
-                    self.take(element.whole(), count)
-                count += 1
+                if plain is not None and element.rows:
+                    count = self.take_run(element, plain, count)
+                else:
+                    self.take(element, count)
+                    count += 1
         except NoKey:
             refuse_others(elements)
             raise
@@ -77,31 +79,48 @@ class Collector:
             raise Refusal(f"none of its {count} events is of a client: there is nothing to judge")
         return self.history
 
-    def take_plain(self, line: int, found: Match[str], plain: Plain, count: int) -> bool:
-        """Takes an event by what plain.py finds in it, where there is nothing else to be said of it; gives whether it did."""
-        kind, name, digits, part = found.group(*plain.fields)
-        process = int(digits)
-        key = self.lone_key or "" if plain.key is None else found[plain.key]
-        index = count if plain.own_index is None else int(found[plain.own_index])
+    def take_run(self, run: edn.Element, plain: Plain, count: int) -> int:
+        """Takes events by what plain.py finds in them, where there is nothing else to be said of them; gives how many there were by then."""
+        opened, tell, rows = self.open, self.history.count, []
+        for row in plain.events(run, self.lone_key, count):
+            kind, process, name, key, part, _, line = row
+            invoked = opened.get(process)
+            if kind == ":invoke":
+                fits = invoked is None and (part == "nil") == (name in WITHOUT_PART) and (type(part) is tuple) == (name == ":cas")
+            elif invoked is None or invoked[2] != name or invoked[3] != key:
+                fits = False
+            elif kind == ":ok" and name in ANSWERED:
+                fits = type(part) is str and (part != "nil" or name == ":read")
+            else:
+                fits = part == invoked[4]
+            if fits:
+                if kind == ":invoke":
+                    opened[process] = row
+                else:
+                    del opened[process]
+                tell(row)
+                rows.append(row)
+                continue
+            self.history.events.extend(rows)
+            rows = []
+            try:
+                self.take_odd(row)
+            except NoKey:
+                refuse_others(itertools.islice(run.each(), line - run.line + 1, None))
+                raise
+        self.history.events.extend(rows)
+        return count + line - run.line + 1
+
+    def take_odd(self, row: Row) -> None:
+        """Takes an event of a run of which there is more to be said."""
+        kind, process, name, key, part, index, line = row
+        value = value_of(part)
+        if self.lone_key is None:
+            value = Many("[", (key, value))
         if kind == ":invoke":
-            if process in self.open or (part == "nil") != (name in WITHOUT_PART):
-                return False
-            self.open[process] = event = Event(kind, process, name, key, part, index, line)
-            self.history.add(event)
-            return True
-        invoked = self.open.get(process)
-        if invoked is None or invoked.name != name or invoked.key != key:
-            return False
-        if kind == ":ok" and name in ANSWERED:
-            if name == ":dequeue" and part == "nil":
-                return False
-        elif part != invoked.part and name not in WITHOUT_PART:
-            return False
+            self.invoke(line, process, name, value, index)
         else:
-            part = invoked.part
-        del self.open[process]
-        self.history.add(Event(kind, process, name, key, part, index, line))
-        return True
+            self.complete(line, kind, process, name, value, index)
 
     def take(self, element: edn.Element, count: int) -> None:
         fields = edn.fields_of(element.value)
@@ -141,13 +160,13 @@ class Collector:
 
     def invoke(self, line: int, process: int, name: str, value: Value, index: int) -> None:
         if process in self.open:
-            began = self.open[process].line
+            began = event_of(self.open[process]).line
             refuse(line, f"process {process} invokes {name}, and its operation of line {began} is not completed")
         key, part = self.key_and_part(line, ":invoke", name, value)
         if name in WITHOUT_PART and part != "nil":
             self.history.notes[f":invoke of {name} with a value, which is left out"] += 1
         event = Event(":invoke", process, name, key, "nil" if name in WITHOUT_PART else part, index, line)
-        self.open[process] = event
+        self.open[process] = row_of(event)
         if name == DRAIN:
             self.history.drained.add(key)
         else:
@@ -169,9 +188,10 @@ class Collector:
 
     def complete(self, line: int, kind: str, process: int, name: str, value: Value, index: int) -> None:
         """A completion repeats its invocation, but for the answer of a read or a dequeue that took place."""
-        invoked = self.open.pop(process, None)
-        if invoked is None:
+        opened = self.open.pop(process, None)
+        if opened is None:
             refuse(line, f"process {process} completes {name} and has invoked nothing: is the beginning missing?")
+        invoked = event_of(opened)
         if invoked.name != name:
             refuse(line, f"process {process} completes {name}, and has invoked {invoked.name} at line {invoked.line}")
         if name == DRAIN:
@@ -265,8 +285,8 @@ def refuse_value_of_read(line: int, name: Value, value: Value) -> None:
 def refuse_others(elements: Iterator[edn.Element]) -> None:
     """Refuses what follows where it has operations that no key makes into ones of jepmon."""
     try:
-        for element in elements:
-            fields = edn.fields_of(element.whole().value) or {}
+        for element in itertools.chain.from_iterable(element.each() for element in elements):
+            fields = edn.fields_of(element.value) or {}
             name = fields.get(":f")
             if integer(fields.get(":process")) is None:
                 continue

@@ -2,10 +2,12 @@
 from __future__ import annotations
 
 import collections
-from typing import Counter, Dict, Iterator, List, NamedTuple, Optional, Protocol, Set, Tuple, Union
+from typing import Any, Counter, Dict, Iterator, List, NamedTuple, Optional, Protocol, Sequence, Set, Tuple, Union
 
 from ..edn import Many, Value, fields_of, integer
 from ..lives import Lives
+
+PLAIN = range(-10**18 + 1, 10**18)  # integers that are values of jepmon, and none of the least
 
 
 class Event(NamedTuple):
@@ -18,6 +20,9 @@ class Event(NamedTuple):
     part: Value
     own_index: int
     line: int
+
+
+Row = Tuple[str, int, str, Any, Any, int, int]  # an event, with its key and part as spool.py has them
 
 
 class Fault(NamedTuple):
@@ -62,9 +67,13 @@ class Kept(Protocol):
 
     def append(self, event: Union[Event, Fault]) -> None: ...
 
+    def extend(self, rows: Sequence[Row]) -> None: ...
+
     def __len__(self) -> int: ...
 
     def __iter__(self) -> Iterator[Union[Event, Fault]]: ...
+
+    def batches(self) -> Iterator[List[Tuple[Any, ...]]]: ...
 
 
 class History:
@@ -73,37 +82,48 @@ class History:
     def __init__(self, events: Kept) -> None:
         self.events = events
         self.keys: Dict[Value, KeySeen] = {}
-        self.outcomes: Counter[Tuple[str, str]] = collections.Counter()  # events by their operation and type
+        self.outcomes: Counter[Tuple[str, str]] = collections.Counter()  # completions by their operation and type
         self.lives = Lives()
         self.most_open = 0  # operations at once
         self.left_out: Counter[str] = collections.Counter()
         self.nemesis: List[Left] = []
         self.notes: Counter[str] = collections.Counter()
         self.drained: Set[Value] = set()  # the keys that have drains
+        self.is_plain = True  # whether the part of each event is nil, or one or more plain integers
+        self._begun: Set[int] = set()  # the processes that have begun, and have not crashed
         self._open = 0
 
     def add(self, event: Event) -> None:
         """The next event of a client."""
+        number = integer(event.part)
+        if event.part != "nil" and (number is None or number not in PLAIN):
+            self.is_plain = False
+        self.count(event)
+        self.events.append(event)
+
+    def count(self, event: Union[Event, Row]) -> None:
+        """Counts the next event of a client, which is kept apart: one whose part is nil, or one or more plain integers."""
         kind, process, name, key, part, _, line = event
-        seen = self.keys.get(key)
-        if seen is None:
-            seen = self.keys[key] = KeySeen(line)
-        if name not in seen.names:
-            seen.names.add(name)
-        self.outcomes[name, kind] += 1
         if kind == ":invoke":
+            seen = self.keys.get(key)
+            if seen is None:
+                seen = self.keys[key] = KeySeen(line)
+            seen.names.add(name)
             self._open += 1
             if self._open > self.most_open:
                 self.most_open = self._open
-        else:
-            self._open -= 1
-            if kind == ":ok" and name == ":read":
-                seen.answer(line, part)
-        self.lives.tell(process, kind == ":info")
-        self.events.append(event)
-
-    def clients(self) -> Iterator[Event]:
-        return (event for event in self.events if isinstance(event, Event))
+            if process not in self._begun:
+                self._begun.add(process)
+                self.lives.tell(process, False)
+            return
+        self._open -= 1
+        self.outcomes[name, kind] += 1
+        if kind == ":ok":
+            if name == ":read":
+                self.keys[key].answer(line, part)
+        elif kind == ":info":
+            self._begun.discard(process)
+            self.lives.tell(process, True)
 
 
 def tuple_of(value: Value) -> Optional[Tuple[Value, Value]]:

@@ -39,7 +39,7 @@ def advice(history: History, models: Models, writer: Writer) -> Iterator[str]:
 def notes_of_outcomes(history: History) -> Iterator[str]:
     """How the operations ended, by their names. Only what is :ok is judged."""
     counts = history.outcomes
-    for name in sorted({name for name, _ in counts}):
+    for name in sorted({name for seen in history.keys.values() for name in seen.names}):
         yield f"{name[1:]}: " + ", ".join(f"{counts[name, kind]} {kind[1:]}" for kind in (":ok", ":fail", ":info"))
     if not any(kind == ":ok" for _, kind in counts):
         yield "no operation is :ok: nothing was judged"

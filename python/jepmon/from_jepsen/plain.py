@@ -1,40 +1,65 @@
 """What most lines of a history are, by one expression: an event of a client with the fields that Jepsen writes, in the order of the first
-one. It is there for speed: whatever it does not match, or is not followed up here, is read field by field, with the same result."""
+one. It is there for speed: whatever it does not match, or is not followed up in collect.py, is read field by field, with the same result."""
 from __future__ import annotations
 
+import itertools
 import re
-from typing import Dict, NamedTuple, Optional, Tuple
+from sys import intern
+from typing import Any, Dict, Iterable, Iterator, NamedTuple, Optional, Pattern, Tuple
+
+from ..edn import Element, Rows, Value
+from .events import Row
 
 NUMBER = "(?:0|[1-9][0-9]{0,17})"  # as it is spelled where it is written in one way only
 INTEGER = "(?:0|-?[1-9][0-9]{0,17})"
-FIELDS: Dict[str, str] = {  # verbose, as edn_tokens has them
-    ":type": "(?P<type>:invoke|:ok|:fail|:info)", ":f": "(?P<f>:read|:write|:enqueue|:dequeue|:add|:acquire|:release)",
+FIELDS: Dict[str, str] = {
+    ":type": "(?P<type>:invoke|:ok|:fail|:info)", ":f": "(?P<f>:read|:write|:cas|:enqueue|:dequeue|:add|:acquire|:release)",
     ":process": f"(?P<process>{NUMBER})", ":time": NUMBER, ":index": f"(?P<index>{NUMBER})",
 }
-WITH_KEY = rf"\[(?P<key>{NUMBER}|:[a-z][a-z0-9]*)\ (?P<part>nil|{INTEGER})\]"
-WITHOUT_KEY = rf"(?P<part>nil|{INTEGER})"
+PART = rf"(?:(?P<part>nil|{INTEGER})|\[(?P<pair>{INTEGER} {INTEGER})\])"
+WITH_KEY = rf"\[(?P<key>{NUMBER}|:[a-z][a-z0-9]*) {PART}\]"
 NEEDED = {":type", ":f", ":process", ":value"}
-FRONT = re.compile(r"[\s\[(]*(\{[^\n]*?\})[\s\])]*(?:\n|\Z)")  # of a text: the map that is its first line
-KEY = re.compile(r"(?:\{|,\ )(:[a-z]+)\ ")
+ATOM = rf'(?:{INTEGER}|nil|true|false|:[A-Za-z][A-Za-z0-9/._-]*|"[^"\\\n]*")'
+ERROR = rf"(?:, :error (?:{ATOM}|\[{ATOM}(?: {ATOM})*\]))?"
+LINE = re.compile(r"[ \[(]*(\#[a-z.]+\.Op)?(\{[^\n]*\})[ \])\r]*$", re.M)  # with a map, or a record
+KEY = re.compile(r"(?:\{|, )(:[a-z]+) ")
+PROCESS = re.compile(r":process [0-9]")
+FRONT = 1 << 16  # characters in which the first event of a client is looked for
+LONGEST = 1 << 14  # characters of a run
 
 
 class Plain(NamedTuple):
-    """The expression, and the numbers of its groups, in what the reader gives: of the fields, and where there are some of key and index."""
+    """What a plain line of a history is."""
 
-    expression: str
-    fields: Tuple[int, int, int, int]  # :type, :f, :process, and the part of :value
-    key: Optional[int]
-    own_index: Optional[int]
+    line: Pattern[str]  # with groups, the last one of what is none
+
+    def find(self, text: str, place: int) -> Tuple[Rows, int]:
+        """What the groups have of the plain lines that begin at this place, one after the other, and the place behind these."""
+        end = min(place + LONGEST, len(text))
+        found = self.line.findall(text, place, end)
+        rest = found[-1][-1]
+        return found[:-1] if rest else found, end - len(rest)
+
+    def events(self, run: Element, lone_key: Optional[Value], count: int) -> Iterator[Row]:
+        """The events of a run, before which so many came."""
+        columns = dict(zip(self.line.groupindex, zip(*run.rows)))
+        parts: Iterable[Any] = columns["part"]
+        if any(columns["pair"]):
+            parts = [part or ("[", tuple(pair.split(" "))) for part, pair in zip(parts, columns["pair"])]
+        keys = columns["key"] if lone_key is None else itertools.repeat(lone_key)
+        indices = map(int, columns["index"]) if "index" in columns else itertools.count(count)
+        found: Iterator[Any] = zip(map(intern, columns["type"]), map(int, columns["process"]), map(intern, columns["f"]), keys, parts, indices,
+                                   itertools.count(run.line))
+        return found
 
 
 def plain_of(text: str, has_keys: bool) -> Optional[Plain]:
-    """For a history that begins with this text; None where its first line is no such event."""
-    first = FRONT.match(text)
-    keys = KEY.findall(first[1]) if first is not None else []
-    fields = {**FIELDS, ":value": WITH_KEY if has_keys else WITHOUT_KEY}
-    known = [key for key in keys if key in fields]
-    if not NEEDED <= set(known) or len(set(known)) < len(known):
-        return None
-    found = r"\{" + r",\ ".join(rf"{key}\ {fields[key]}" for key in known) + r"\}"
-    at = {name: number + 1 for name, number in re.compile(found, re.X).groupindex.items()}  # behind the group of a token
-    return Plain(found, (at["type"], at["f"], at["process"], at["part"]), at.get("key"), at.get("index"))
+    """For a history that begins with this text; None where none of its first lines is an event of a client."""
+    fields = {**FIELDS, ":value": WITH_KEY if has_keys else PART}
+    for line in LINE.finditer(text, 0, FRONT):
+        known = [key for key in KEY.findall(line[2]) if key in fields]
+        if NEEDED <= set(known) and len(set(known)) == len(known) and PROCESS.search(line[2]):
+            *others, last = (f"{key} {fields[key]}" for key in known)
+            event = re.escape(line[1] or "") + r"\{" + ", ".join(others) + f"{ERROR}, {last}{ERROR}" + r"\}"
+            return Plain(re.compile(rf"{event}(?:\r?\n *|\Z)|(?P<rest>[\s\S]+)"))
+    return None

@@ -7,7 +7,7 @@ from __future__ import annotations
 import heapq
 from typing import Dict, NamedTuple
 
-from .events import Event, History
+from .events import History
 from .refusal import TooMany
 
 
@@ -31,8 +31,8 @@ def processes_of(history: History, most: int) -> Processes:
 class OwnProcesses:
     """For each event the process that it has."""
 
-    def process_of(self, event: Event) -> int:
-        return event.process
+    def process_of(self, kind: str, process: int) -> int:
+        return process
 
 
 class OnThreads(OwnProcesses):
@@ -47,13 +47,13 @@ class OnThreads(OwnProcesses):
         self._free = list(range(threads))
         self._thread_of: Dict[int, int] = {}
 
-    def process_of(self, event: Event) -> int:
-        if event.kind == ":invoke":
-            self._thread_of[event.process] = heapq.heappop(self._free)
-            return self._current[self._thread_of[event.process]]
-        thread = self._thread_of.pop(event.process)
+    def process_of(self, kind: str, process: int) -> int:
+        if kind == ":invoke":
+            self._thread_of[process] = heapq.heappop(self._free)
+            return self._current[self._thread_of[process]]
+        thread = self._thread_of.pop(process)
         heapq.heappush(self._free, thread)
-        process = self._current[thread]
-        if event.kind == ":info":
+        current = self._current[thread]
+        if kind == ":info":
             self._current[thread] += self._threads
-        return process
+        return current

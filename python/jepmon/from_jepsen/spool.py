@@ -2,13 +2,13 @@
 from __future__ import annotations
 
 import marshal
-from typing import IO, Any, Iterator, List, Optional, Tuple, Union
+from typing import IO, Any, Iterator, List, Optional, Sequence, Tuple, Union
 
 from ..edn import Many, Value
-from .events import Event, Fault
+from .events import Event, Fault, Row
 
-BATCH = 20_000  # events
-HELD = 10  # batches
+BATCH = 5_000  # events
+HELD = 40  # batches
 
 Kept = Union[Event, Fault]
 
@@ -23,8 +23,12 @@ class Spool:
         self._count = 0
 
     def append(self, event: Kept) -> None:
-        self._batch.append(flat(event))
-        self._count += 1
+        self.extend((flat(event),))
+
+    def extend(self, rows: Sequence[Tuple[Any, ...]]) -> None:
+        """Takes events that are flat."""
+        self._batch += rows
+        self._count += len(rows)
         if len(self._batch) >= BATCH:
             self._put(marshal.dumps(self._batch))
             self._batch = []
@@ -33,9 +37,13 @@ class Spool:
         return self._count
 
     def __iter__(self) -> Iterator[Kept]:
-        for batch in self._stored():
-            yield from map(event_of, marshal.loads(batch))
-        yield from map(event_of, self._batch)
+        for batch in self.batches():
+            yield from map(kept_of, batch)
+
+    def batches(self) -> Iterator[List[Tuple[Any, ...]]]:
+        """The events as they are kept, many at once: each Event and each Fault as a tuple."""
+        yield from map(marshal.loads, self._stored())
+        yield self._batch
 
     def __del__(self) -> None:
         if self._file is not None:
@@ -67,11 +75,11 @@ class Spool:
 
 def flat(event: Kept) -> Tuple[Any, ...]:
     """The event in what marshal takes."""
-    if isinstance(event, Fault):
-        return event.text, event.own_index
+    return tuple(event) if isinstance(event, Fault) else row_of(event)
+
+
+def row_of(event: Event) -> Row:
     kind, process, name, key, part, own_index, line = event
-    if type(key) is str and type(part) is str:  # as most are
-        return tuple(event)
     return kind, process, name, flat_value(key), flat_value(part), own_index, line
 
 
@@ -79,17 +87,13 @@ def flat_value(value: Value) -> Any:
     return value if isinstance(value, str) else (value.opened, tuple(map(flat_value, value.members)))
 
 
-def event_of(flat: Tuple[Any, ...]) -> Kept:
-    if len(flat) == 2:
-        return Fault(*flat)
-    kind, process, name, key, part, own_index, line = flat
-    if type(key) is str and type(part) is str:
-        return Event._make(flat)
-    if type(key) is tuple:
-        key = value_of(key)
-    if type(part) is tuple:
-        part = value_of(part)
-    return Event(kind, process, name, key, part, own_index, line)
+def kept_of(flat: Tuple[Any, ...]) -> Kept:
+    return Fault(*flat) if len(flat) == 2 else event_of(flat)
+
+
+def event_of(row: Tuple[Any, ...]) -> Event:
+    kind, process, name, key, part, own_index, line = row
+    return Event(kind, process, name, value_of(key), value_of(part), own_index, line)
 
 
 def value_of(flat: Any) -> Value:

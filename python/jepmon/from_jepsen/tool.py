@@ -79,7 +79,7 @@ def work() -> int:
         result = turned(given)
         for line in result.notes + result.advice:
             command.say(NAME, line)
-        output, status = result.lines(), 0
+        output, status = result.texts(), 0
     except Refusal as refusal:
         command.say(NAME, f"refused: {path}{refusal}")
     except KeyboardInterrupt:

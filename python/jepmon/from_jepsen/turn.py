@@ -30,12 +30,12 @@ class Turned:
         """How many events come before the history's own: those by which each register begins where nil is what a missing key answers."""
         return 2 * len(self._writer.registers)
 
-    def lines(self) -> Iterator[str]:
-        """The lines, with their line feeds: an event each, and then comments that say what numbers stand for."""
-        return self._writer.lines()
+    def texts(self) -> Iterator[str]:
+        """The lines, with their line feeds, many in a text: an event each, and then comments that say what numbers stand for."""
+        return self._writer.texts()
 
     def text(self) -> str:
-        return "".join(self.lines())
+        return "".join(self.texts())
 
 
 def turn(source: Source, key: Optional[str] = None, nil_is_absent: bool = False, limits: Limits = Limits()) -> Turned:

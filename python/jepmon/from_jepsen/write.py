@@ -1,16 +1,18 @@
 """Writes the events of a Jepsen history in jepmon's form."""
 from __future__ import annotations
 
-from typing import Dict, Iterator, NamedTuple, Sequence, Tuple
+import itertools
+from typing import Any, Dict, Iterator, NamedTuple, Sequence, Tuple
 
 from ..edn import Many, Value
 from ..kinds import KEYS, REGISTERS, THREADS, VALUES
 from ..names import ABSENT, Names
-from .events import Event, Fault, History
+from .events import Event, History
 from .models import Models
 from .numbering import Numbering
 from .processes import OnThreads, OwnProcesses, processes_of
 from .refusal import TooMany
+from .spool import event_of
 
 
 class Limits(NamedTuple):
@@ -41,11 +43,17 @@ class Writer:
             raise TooMany(f"it has {len(history.keys)} keys, and jepmon takes {limits.keys.stop}")
 
     def _values(self) -> Iterator[Value]:
-        """The values of all events."""
-        for event in self.history.clients():
-            for value in values_of(event, event.key in self.sets):
-                if value != "nil":
-                    yield value
+        """The values of all events; none where they are plain, since they stay as they are."""
+        if self.history.is_plain:
+            return
+        for row in itertools.chain.from_iterable(self.history.events.batches()):
+            part = row[4] if len(row) > 2 else "nil"
+            if isinstance(part, str):
+                values: Sequence[Value] = (part,)
+            else:
+                event = event_of(row)
+                values = values_of(event, event.key in self.sets)
+            yield from (value for value in values if value != "nil")
 
     def names(self) -> Names:
         """What the numbers stand for."""
@@ -54,27 +62,40 @@ class Writer:
             values[int(self.absent)] = ABSENT
         return Names(self.keys.names(), values)
 
-    def lines(self) -> Iterator[str]:
+    def texts(self) -> Iterator[str]:
+        """The lines with their line feeds, many in a text."""
         for key in (key for key in self.history.keys if key in self.registers):
             for kind in (":invoke", ":ok"):
                 yield f"{{:type {kind}, :process 0, :f :write, :value [{self.keys(key)} {self.absent}]}}\n"
+        stays = self.keys.stays and self.values.stays and self.absent == "nil" and not self.processes.renumbered
         processes = OnThreads(self.processes.threads) if self.processes.renumbered else OwnProcesses()
-        for event in self.history.events:
-            if isinstance(event, Fault):
-                yield f"{{:type :info, :process :nemesis, {event.text}, :jepsen-index {event.own_index}}}\n"
-            else:
-                yield self.line(event, processes.process_of(event))
+        for batch in self.history.events.batches():
+            yield "".join(self.lines_that_stay(batch) if stays else [self.line(row, processes) for row in batch])
         yield from self.names().comments()
 
-    def line(self, event: Event, process: int) -> str:
-        own = f", :jepsen-process {event.process}" if self.processes.renumbered else ""
-        kind, _, name, key, part, own_index, _ = event
+    def lines_that_stay(self, batch: Sequence[Tuple[Any, ...]]) -> Iterator[str]:
+        """The lines of events where keys, values and processes are as they were."""
+        for row in batch:
+            if len(row) == 2:
+                yield fault_line(row)
+                continue
+            kind, process, name, key, part, own_index, _ = row
+            if type(part) is not str:
+                part = f"[{' '.join(part[1])}]" if name == ":cas" else self.part(event_of(row))
+            yield f"{{:type {kind}, :process {process}, :f {name}, :value [{key} {part}], :jepsen-index {own_index}}}\n"
+
+    def line(self, row: Tuple[Any, ...], processes: OwnProcesses) -> str:
+        if len(row) == 2:
+            return fault_line(row)
+        kind, process, name, key, part, own_index, _ = row
         text = self.known.get((kind, name, key, part))
         if text is None:
-            text = f":f {name}, :value [{self.keys(key)} {self.part(event)}]"
+            event = event_of(row)
+            text = f":f {name}, :value [{self.keys(event.key)} {self.part(event)}]"
             if len(self.known) < MOST_KNOWN and isinstance(part, str):
                 self.known[kind, name, key, part] = text
-        return f"{{:type {kind}, :process {process}, {text}, :jepsen-index {own_index}{own}}}\n"
+        own = f", :jepsen-process {process}" if self.processes.renumbered else ""
+        return f"{{:type {kind}, :process {processes.process_of(kind, process)}, {text}, :jepsen-index {own_index}{own}}}\n"
 
     def part(self, event: Event) -> str:
         of_set = event.key in self.sets
@@ -85,6 +106,11 @@ class Writer:
         if of_set and event.name == ":read" and isinstance(event.part, Many):
             return f"#{{{' '.join(dict.fromkeys(values))}}}"
         return values[0] if values else "nil"
+
+
+def fault_line(fault: Tuple[Any, ...]) -> str:
+    text, own_index = fault
+    return f"{{:type :info, :process :nemesis, {text}, :jepsen-index {own_index}}}\n"
 
 
 def values_of(event: Event, of_set: bool) -> Sequence[Value]:

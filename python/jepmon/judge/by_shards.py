@@ -56,7 +56,7 @@ def asked(given: Given, found: Large) -> Asked:
     made, notes = turned.turned(given, found)
     for note in notes:
         say(note)
-    return Asked(made.lines(), given.concurrency or made.concurrency, made)
+    return Asked(made.texts(), given.concurrency or made.concurrency, made)
 
 
 @contextlib.contextmanager

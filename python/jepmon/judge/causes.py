@@ -16,6 +16,9 @@ from .events import of_key
 from .judging import Task
 from .words import NAME
 
+BY_PART = "Proved is what jepmon was asked, and nothing else: that the key is illegal because this part is so is argued."
+BY_ORDER = ("The verdict is jepmon's, and proved, and so is the order: jepmon confirm says that it is one of the operations of this key. The "
+            "other sentences are not proved.")
 SECONDS = 10.0  # for the smallest part
 WIDTH = 130  # columns, where standard error is no terminal
 
@@ -47,6 +50,8 @@ def shown(found: Recorded, task: Task, report: Report, with_cause: bool, events:
     try:
         key = key._replace(cause=causes.explain(events, report, options, Names(found.value_names, found.key_names), seconds=SECONDS,
                                                 known=key.decided.part if key.decided is not None else None))
+        if key.cause is not None and proviso(key):
+            key = key._replace(cause=key.cause._replace(proviso=proviso(key)))
         return key._replace(lines=list(lines(found, report, key)))
     except ProgramError as fault:
         command.say(NAME, f"no more can be said of it: {fault}")
@@ -72,7 +77,7 @@ def given(found: Recorded, report: Report, key: Shown) -> page.PageInput:
         verdict=report.verdict, key=number, events=key.events, model=key.options.model, concurrency=key.options.concurrency,
         budget=key.options.budget, headline=key.cause.headline if key.cause is not None else "",
         sentences=sentences(key), smallest=part.events if part is not None else (), faults=found.faults, names=found.value_names,
-        key_name=found.key_names.get(number, ""))
+        key_name=found.key_names.get(number, ""), proviso=proviso(key))
 
 
 def sentences(key: Shown) -> List[str]:
@@ -85,6 +90,13 @@ def sentences(key: Shown) -> List[str]:
         return [*said, f"The key was over its budget, and an order of all its operations was found afterwards; {who}."]
     return [*said, "The key was over its budget, and was decided afterwards: the smallest part is illegal by jepmon check (that the whole "
             f"is so too is argued, and not proved), and there is an order of what stands before event {key.decided.index}; {who}."]
+
+
+def proviso(key: Shown) -> str:
+    """What is proved of a key that was decided afterwards; nothing where that is as of any other key."""
+    if key.decided is None or key.decided.index is None and not key.decided.is_proved:
+        return ""
+    return BY_ORDER if key.decided.index is None else BY_PART
 
 
 def page_of(name: str, found: Recorded, task: Task, report: Report, key: Shown) -> str:

@@ -68,12 +68,21 @@ def decisions(keys: List[Over], events: Iterable[Tuple[int, List[Event]]], secon
         if clock.left() <= 0:
             break
         share = max(1.0, clock.left() * SHARES / (len(keys) - number))
-        decided = decide(operations(of_key, options[key].concurrency), options[key], Clock(min(share, clock.left())))
+        decided = decided_or_said(key, of_key, options[key], Clock(min(share, clock.left())))
         if decided is not None:
             found[key] = decided
     for line in said(found, len(keys), seconds):
         command.say(NAME, line)
     return found
+
+
+def decided_or_said(key: int, events: List[Event], options: Options, clock: Clock) -> Optional[Decided]:
+    """What is found of a key. The verdict stands as it was, whatever comes of this."""
+    try:
+        return decide(operations(events, options.concurrency), options, clock)
+    except Exception as fault:
+        command.say(NAME, f"key {key} is not decided, by a fault of judge itself: {fault!r}")
+        return None
 
 
 def in_groups(keys: Iterable[Over], events_of: EventsOf) -> Iterator[Tuple[int, List[Event]]]:
@@ -104,8 +113,11 @@ def said(found: Decisions, total: int, seconds: int) -> Iterator[str]:
            f"part that is illegal; not decided: {total - len(found)}")
     if len(found) < total:
         yield f"they had {seconds} s together: --wide-seconds N gives more"
-    if any(not decided.is_proved for decided in found.values()):
+    by_test = [decided for decided in found.values() if not decided.is_proved]
+    if any(decided.index is None for decided in by_test):
         yield "the orders were tested by a program that is not proved: a key with the status `ordered` makes no history legal"
+    if any(decided.index is not None for decided in by_test):
+        yield "that no earlier event is fatal was tested by a program that is not proved: the status is `dead-by`, and the key is illegal"
 
 
 # --- The report ---

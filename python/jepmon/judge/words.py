@@ -86,7 +86,7 @@ def given(words: Optional[List[str]]) -> Given:
     parser.add_argument("--wide", action="store_true", help=f"take up to {LONG} seconds, in place of {SHORT}, to decide keys that are over "
                         "their budget by what is known afterwards")
     parser.add_argument("--wide-seconds", metavar="N", type=number("a number of seconds", range(0, MOST_SECONDS + 1)),
-                        help="so many seconds for that; 0 leaves it out")
+                        help="take up to so many seconds to decide these; 0 leaves it out")
     parser.add_argument("--html", metavar="PAGE", help="write a page that shows the cause")
     parser.add_argument("--out", metavar="DIR", help="write the history as judged, the report, the cause, the page, and the command "
                         "that judges it again, into this folder")

@@ -46,7 +46,7 @@ def render(given: PageInput) -> str:
         "sentences": "".join(f"<li>{linked(sentence, page)}</li>" for sentence in given.sentences),
         "facts": "".join(f"<div><dt>{name}</dt><dd>{html.escape(value)}</dd></div>" for name, value in facts(page)),
         "report": html.escape(printable(given.report)),
-        "proved": html.escape(PROVED),
+        "proved": html.escape(given.proviso or PROVED),
         "notes": "".join(f'<p class="note">{html.escape(note)}</p>' for note in (agreement(given)[1], left_out(page)) if note),
         "jump": "last event &#8677;" if page.fatal is None else f"event {page.fatal}",
         "switch": switch(page),

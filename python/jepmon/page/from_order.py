@@ -4,7 +4,9 @@ from __future__ import annotations
 from typing import Dict, Mapping, Optional, Sequence
 
 from ..history import Event, operations
-from ..objects import START, Found, rule
+from ..kinds import ANSWERED
+from ..objects import Found
+from ..replay import OBJECTS
 from .from_walk import state_words
 from .given import End, Walked
 from .labels import Labels
@@ -16,18 +18,19 @@ def ordered(events: Sequence[Event], model: str, concurrency: int, order: Sequen
     labels = Labels(names)
     before = [event for event in events if dead is None or event.index < dead]
     by_id = {each.invocation.index: each for each in operations(before, concurrency)}
-    state = START[model]
+    replayed = OBJECTS[model]()
     taken: Dict[int, str] = {}
     for index in order:
         asked, completion, _ = by_id[index]
-        outcomes = rule(model, asked.name)(state, asked.value)
-        answer = completion.value if completion is not None and completion.kind == "ok" else None
-        state, found = next((outcome for outcome in outcomes if outcome[1] == answer), outcomes[0])
-        if completion is None or completion.kind == "info":
-            taken[index] = words_of(asked.name, found, labels)
-    end = End(state_words(model, state, labels), taken, list(order))
+        is_open = completion is None or completion.kind == "info"
+        answer = completion.value if completion is not None and not is_open and asked.name in ANSWERED else None
+        found = replayed.take(asked.name, asked.value, None if answer is None else (answer,))
+        assert found is not None  # since it is an order
+        if is_open:
+            taken[index] = words_of(asked.name, found[0], labels)
+    end = End(state_words(model, replayed.state(), labels), taken, list(order))
     return Walked("alive" if dead is None else "dead", dead, ends=[end], fatal_count=1, is_order=True)
 
 
 def words_of(name: str, found: Found, labels: Labels) -> str:
-    return labels.value(found) if name in ("read", "dequeue") else ""
+    return labels.value(found) if name in ANSWERED else ""

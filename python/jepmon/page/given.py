@@ -47,7 +47,8 @@ class Walked(NamedTuple):
 class PageInput(NamedTuple):
     """All that a page shows. `verdict` is jepmon's last line and `report` its line of this key; `headline` and `sentences` say
     the cause; `smallest` has the events of the smallest illegal part, or their indices; `names` says what numbered values stand
-    for, and `key_name` what the key's number stands for; `again` is the command that judges the history again."""
+    for, and `key_name` what the key's number stands for; `again` is the command that judges the history again; `proviso` says what is
+    proved, where that is not what it is of most pages."""
 
     verdict: str
     key: int
@@ -65,6 +66,7 @@ class PageInput(NamedTuple):
     names: Mapping[int, str] = {}
     key_name: str = ""
     again: str = ""
+    proviso: str = ""
 
 
 def smallest_of(given: PageInput) -> List[Event]:

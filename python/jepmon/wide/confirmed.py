@@ -10,8 +10,10 @@ from ..history import Operation
 from ..program import CURE, Options, ProgramError, find_program
 from ..shrinking.part import as_asked, events_of, text_of
 from . import ordered
+from .operation import OutOfTime
 
 IS_ONE, IS_NONE = "linearizable", "no order "
+PATIENCE = 10.0  # seconds that the program has, where no other number is given
 
 
 class Said(NamedTuple):
@@ -21,27 +23,30 @@ class Said(NamedTuple):
     is_proved: bool
 
 
-def confirmed(operations: Sequence[Operation], options: Options, order: Sequence[int], program: Optional[str] = None) -> Said:
+def confirmed(operations: Sequence[Operation], options: Options, order: Sequence[int], program: Optional[str] = None,
+              seconds: float = PATIENCE) -> Said:
     """Whether the history of one key, of these operations, has this order: operations one after another, by the index of their
-    invocations. Those that are left out did not take place."""
-    said = by_program(operations, options, order, find_program(program))
+    invocations. Those that are left out did not take place. OutOfTime comes where the program takes longer than so many seconds."""
+    said = by_program(operations, options, order, find_program(program), seconds)
     return Said(ordered.is_order(operations, options.model, order), False) if said is None else Said(said, True)
 
 
-def by_program(operations: Sequence[Operation], options: Options, order: Sequence[int], program: str) -> Optional[bool]:
+def by_program(operations: Sequence[Operation], options: Options, order: Sequence[int], program: str, seconds: float) -> Optional[bool]:
     """What the program says of the order; None where it has no such command."""
     events = events_of(operations)
     place = {event.index: number for number, event in enumerate(events)}
     asked = as_asked(options)
     words = ["--concurrency", str(asked.concurrency), "--model", asked.model]
-    with tempfile.NamedTemporaryFile("w", prefix="jepmon-order-", suffix=".edn") as file:
-        file.writelines(f"{place[id]}\n" for id in order)
-        file.flush()
-        try:
+    try:
+        with tempfile.NamedTemporaryFile("w", prefix="jepmon-order-", suffix=".edn") as file:
+            file.writelines(f"{place[id]}\n" for id in order)
+            file.flush()
             ran = subprocess.run([program, "confirm", "-", file.name, *words], input=text_of(events, options.concurrency).encode(),
-                                 stdout=subprocess.PIPE, stderr=subprocess.DEVNULL)
-        except OSError as fault:
-            raise ProgramError(f"{program} can't be run: {fault.strerror}; {CURE}") from fault
+                                 stdout=subprocess.PIPE, stderr=subprocess.DEVNULL, timeout=seconds)
+    except subprocess.TimeoutExpired as fault:
+        raise OutOfTime from fault
+    except OSError as fault:
+        raise ProgramError(f"{program} can't be asked about an order: {fault.strerror}; {CURE}") from fault
     line = ran.stdout.decode("utf-8", "replace").rstrip("\n")
     if (line, ran.returncode) == (IS_ONE, 0):
         return True

@@ -15,6 +15,9 @@ from .operation import Answer, Clock, Conflict, Order, OutOfTime, cut_before, fr
 from .solve import solve
 
 
+LEAST = 5.0  # seconds that the program has for an order which was found in time
+
+
 class Decided(NamedTuple):
     """What was found of a key."""
 
@@ -33,9 +36,9 @@ def decide(operations: Sequence[Operation], options: Options, clock: Clock, prog
     try:
         found = searched(operations, options.model, clock)
         if isinstance(found, Order):
-            return alive(operations, options, found.ids, program)
+            return alive(operations, options, found.ids, clock, program)
         return dead(operations, options, found, clock, program)
-    except (OutOfTime, RecursionError, ProgramError):
+    except (OutOfTime, RecursionError, MemoryError, ProgramError):
         return None
 
 
@@ -82,13 +85,13 @@ def guessed(operations: Sequence[Operation], ends: Sequence[int], found: Conflic
         yield place - 1
 
 
-def alive(operations: Sequence[Operation], options: Options, order: List[int], program: Optional[str]) -> Optional[Decided]:
-    said = confirmed(operations, options, order, program)
+def alive(operations: Sequence[Operation], options: Options, order: List[int], clock: Clock, program: Optional[str]) -> Optional[Decided]:
+    said = confirmed(operations, options, order, program, max(LEAST, clock.left()))
     return Decided(None, order, None, said.is_proved, options) if said.is_order else None
 
 
 def dead(operations: Sequence[Operation], options: Options, found: Dead, clock: Clock, program: Optional[str]) -> Optional[Decided]:
-    said = confirmed(cut_before(operations, found.event), options, found.before.ids, program)
+    said = confirmed(cut_before(operations, found.event), options, found.before.ids, program, max(LEAST, clock.left()))
     if not said.is_order:
         return None
     part = part_of(operations, options, found.event, found.conflict.ids, clock, program)

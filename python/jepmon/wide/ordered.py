@@ -1,11 +1,11 @@
 """A stand-in for the proved program that checks an order: the same test in Python. It is not proved."""
 from __future__ import annotations
 
-from typing import Dict, List, Optional, Sequence
+from typing import Dict, Sequence
 
 from ..history import Operation
 from ..kinds import ANSWERED, REGISTERS
-from ..objects import START, State, rule
+from ..replay import OBJECTS, Wanted
 
 
 def is_order(operations: Sequence[Operation], model: str, order: Sequence[int]) -> bool:
@@ -17,24 +17,22 @@ def is_order(operations: Sequence[Operation], model: str, order: Sequence[int]) 
         return False
     if any(operation.outcome == "ok" and id not in listed for id, operation in by_id.items()):
         return False
-    state, moment = START[model], -1
+    replayed, moment = OBJECTS[model](), -1
     for id in order:
         operation = by_id[id]
         moment = max(moment, id)
-        after = taken(operation, model, state)
-        if after is None or operation.outcome == "fail":
+        if operation.outcome == "fail":
             return False
         if operation.outcome == "ok" and operation.completion is not None and operation.completion.index < moment:
             return False
-        state = after[0]
+        if replayed.take(operation.invocation.name, operation.invocation.value, wanted(operation, model)) is None:
+            return False
     return True
 
 
-def taken(operation: Operation, model: str, state: State) -> Optional[List[State]]:
-    """The state after the operation, alone in a list; None where it can't take place in this one, or answers otherwise."""
-    outcomes = rule(model, operation.invocation.name)(state, operation.invocation.value)
+def wanted(operation: Operation, model: str) -> Wanted:
+    """The answer that the operation has to find; None where any one will do."""
     completion = operation.completion
-    if operation.outcome == "ok" and completion is not None and operation.invocation.name in ANSWERED:
-        fits_all = completion.value is None and model in REGISTERS
-        outcomes = [outcome for outcome in outcomes if fits_all or outcome[1] == completion.value]
-    return [outcomes[0][0]] if outcomes else None
+    if operation.outcome != "ok" or completion is None or operation.invocation.name not in ANSWERED:
+        return None
+    return None if completion.value is None and model in REGISTERS else (completion.value,)

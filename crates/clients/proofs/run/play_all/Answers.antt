@@ -1,4 +1,4 @@
-use Rattle.std.proofs.Common.{◌≡◌, ℕ, sym, subst, arith}
+use Rattle.std.proofs.Common.{ℕ, sym, subst, arith}
 use Rattle.std.specs.Prelude.{slice_index_or}
 use Rattle.clients.specs.Plays.{HasPlayed}
 use Rattle.clients.proofs.Results.{ok_both}

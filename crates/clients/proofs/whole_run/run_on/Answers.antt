@@ -19,5 +19,6 @@ returns-in-Ok-clause-run g c =
       played = c.trials_alone.ensures.played m (c.args.blank.seats - 1) seats back ended.0 (omega (arith, opened.seats.0, c.requires.seats)) opened.fresh c.in-Ok.ensures.back ours;
       struck = c.trials_alone.ensures.struck m (c.args.blank.seats - 1) seats back ended.0 (omega (arith, opened.seats.0, c.requires.seats)) opened.fresh c.in-Ok.ensures.back ours;
       others = λ seat far. c.trials_alone.ensures.others m seats back ended.0 opened.fresh c.in-Ok.ensures.back ours seat (omega (arith, opened.seats.0, c.requires.seats, far));
+      begun = c.trials_alone.ensures.begun m (c.args.blank.seats - 1) seats back ended.0 (omega (arith, opened.seats.0, c.requires.seats)) opened.fresh c.in-Ok.ensures.back ours;
       leads = ended.1;
     }

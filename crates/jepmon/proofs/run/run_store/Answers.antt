@@ -3,7 +3,7 @@ use Rattle.edn.specs.declared.refusal.Refusal.TheVariants.{NoMemory}
 use Rattle.harness.specs.Setups.{setup_of}
 use Rattle.line_loop.specs.RefusalLine.{refusal_line}
 use Rattle.jepmon.specs.RunText.{IsRunText}
-use Rattle.jepmon.proofs.Running.{not_one, never_one, none_came, says_why}
+use Rattle.jepmon.proofs.Running.{not_one, never_one, says_why}
 use Rattle.jepmon.proofs.run.run_store.Goals as goal
 
 pub returns-in-Ok-report_text-clause-never_illegal :
@@ -19,18 +19,19 @@ returns-in-Ok-report_text-clause-told g c = (
   c.as_slice.result.now,
   c.in-Ok-report_text.status,
   inl (
-    c.in-Ok.core.machine,
+    c.in-Ok.ensures.limits,
+    (c.in-Ok.core.machine,
     c.in-Ok.ensures.run,
-    subst (λ text. IsRunText c.in-Ok.core.machine text c.in-Ok-report_text.status) (sym c.as_slice.ensures.value) c.in-Ok-report_text.ensures,
+    subst (λ text. IsRunText c.in-Ok.core.machine text c.in-Ok-report_text.status) (sym c.as_slice.ensures.value) c.in-Ok-report_text.ensures),
   ),
   c.put_text.ensures,
 )
 
 pub returns-in-Ok-clause-told : goal.returns-in-Ok-clause-told
-returns-in-Ok-clause-told g c = (refusal_line NoMemory, 3, inr (NoMemory, inr (inl tt), refl, refl), c.put_refused.ensures)
+returns-in-Ok-clause-told g c = (refusal_line NoMemory, 3, inr (NoMemory, inl c.in-Ok.ensures.limits, inl refl, refl), c.put_refused.ensures)
 
 pub returns-clause-told : goal.returns-clause-told
 returns-clause-told g c =
     says_why (g.W.Write.contents c.args.writer.now) (g.W.Write.contents c.put_refused-in-Err.new.writer) (g.W.Failed.has_failed c.put_refused-in-Err.new.writer) c.put_refused-in-Err.result (setup_of c.args.config)
-    c.in-Err.refusal (none_came c.args.config (c.args.config.concurrency + 1) c.in-Err.refusal c.in-Err.ensures.refused)
+    c.in-Err.refusal c.in-Err.ensures.refused
     c.refusal_text.result c.refusal_text.ensures c.put_refused-in-Err.ensures

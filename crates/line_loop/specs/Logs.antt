@@ -1,0 +1,23 @@
+-- Promise: what the log of a reader keeps of each read
+use Rattle.std.specs.Prelude.{◌≡◌, ℕ, Bool, List, [], ◌∷◌, ◌++◌, take, Option, None, Some, Result, Ok, Err}
+
+-- one read: what the writer held when it began, where that is known, whether it was flushed, and the bytes that were read
+pub record Logged : Type 0 where
+  pub held : Option (List ℕ)
+  pub is_flushed : Bool
+  pub bytes : List ℕ
+
+-- the bytes that a read into the buffer gave: none where there was an error
+abbrev pub bytes_read : {E : Type 0} → Result ℕ E → List ℕ → List ℕ
+bytes_read (Ok n) buffer = take n buffer
+bytes_read (Err e) buffer = []
+
+-- a log that is known grows by these reads
+abbrev pub Kept : Option (List Logged) → Option (List Logged) → List Logged → Type 0
+Kept None new reads = Unit {0}
+Kept (Some xs) None reads = ⊥
+Kept (Some xs) (Some ys) reads = ys ≡ xs ++ reads
+
+-- a log grows by one read: while the writer held this, flushed or not, these bytes were read
+abbrev pub KeepsRead : Option (List Logged) → Option (List Logged) → Option (List ℕ) → Bool → List ℕ → Type 0
+KeepsRead old new held is_flushed bytes = Kept old new (record { held = held; is_flushed = is_flushed; bytes = bytes } ∷ [])

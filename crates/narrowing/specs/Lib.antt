@@ -1,0 +1,11 @@
+pub mod Intervals
+pub mod LeftOut
+pub mod Changed
+pub mod Registers
+pub mod ReadsAsCas
+pub mod Bags
+pub mod Sets
+pub mod Queues
+pub mod Renamed
+pub mod Counts
+pub mod Locks

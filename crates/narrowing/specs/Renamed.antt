@@ -1,0 +1,18 @@
+-- Promise: a history whose operations have other names
+use Rattle.std.specs.Prelude.{◌≡◌, ℕ, List, map}
+use Rattle.history.specs.Events.{Mark}
+use Rattle.history.specs.Events.Mark.{Invoked, Returned, Failed, Crashed}
+
+-- no two numbers get the same name
+abbrev pub IsOneToOne : (ℕ → ℕ) → Type 0
+IsOneToOne name = (a b : ℕ) → name a ≡ name b → a ≡ b
+
+-- each operation by the name that its number gets
+abbrev pub renamed_mark : (ℕ → ℕ) → Mark → Mark
+renamed_mark name (Invoked id op) = Invoked (name id) op
+renamed_mark name (Returned id answer) = Returned (name id) answer
+renamed_mark name (Failed id) = Failed (name id)
+renamed_mark name (Crashed id) = Crashed (name id)
+
+abbrev pub renamed : (ℕ → ℕ) → List Mark → List Mark
+renamed name marks = map (renamed_mark name) marks
