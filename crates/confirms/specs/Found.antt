@@ -2,6 +2,7 @@
 use Rattle.std.specs.Prelude.{◌≡◌, ℕ, ◌⊎◌, Option, Some, None, List, [], ◌∷◌, codes, decimal}
 use Rattle.edn.specs.Refusals.{number_of, name_of, IsWhy}
 use Rattle.edn.specs.declared.refusal.Refusal.{Refusal}
+use Rattle.edn.specs.declared.refusal.Refusal.TheVariants.{NoMemory}
 use Rattle.models.specs.declared.model_kind.ModelKind.{ModelKind}
 use Rattle.processes.specs.Threads.{MayNotStart}
 use Rattle.history.specs.declared.event.Event.{Event}
@@ -34,7 +35,13 @@ IsHistoryRefused c bytes _ = ⊥
 abbrev pub IsOrderRefused : List ℕ → Found → Type 0
 IsOrderRefused bytes (RefusedElement i) = ListsUpTo bytes i
 IsOrderRefused bytes (RefusedOrder why) = IsWhy bytes why
+IsOrderRefused bytes (Refused why) = why ≡ NoMemory
 IsOrderRefused bytes _ = ⊥
+
+-- what is refused of the order for this; want of memory is not the order's
+abbrev pub refused_of_order : Refusal → Found
+refused_of_order NoMemory = Refused NoMemory
+refused_of_order why = RefusedOrder why
 
 -- all elements of the bytes are events, in turn those of a history of c threads
 abbrev pub IsWhole : ℕ → List ℕ → List Event → Type 0

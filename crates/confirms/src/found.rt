@@ -4,7 +4,7 @@ ghost use Rattle.edn.specs.Refusals.{IsWhy};
 ghost use Rattle.processes.specs.Threads.{MayNotStart};
 ghost use Rattle.checks.specs.Reading.{IsRead};
 ghost use Rattle.confirms.specs.Listing.{IsOrderText};
-ghost use Rattle.confirms.specs.Found.{ComesTo, Shows, IsHistoryRefused, IsOrderRefused};
+ghost use Rattle.confirms.specs.Found.{ComesTo, Shows, IsHistoryRefused, IsOrderRefused, refused_of_order};
 
 use crate::listing::indices_of_text;
 use checks::read_events;
@@ -115,7 +115,17 @@ fn order_of<L: Onlooker>(alloc: Global, bytes: &[u8], onlooker: &L) -> Result<Ve
         Ok(Err(taken)) => Err(Found::RefusedElement(taken)),
         Err(refusal) => {
             onlooker.refused_text(bytes, &refusal);
-            Err(Found::RefusedOrder(refusal))
+            Err(refused_order(refusal))
         }
+    }
+}
+
+/// What is refused of the order for this. Want of memory is not the order's.
+pub(crate) fn refused_order(refusal: Refusal) -> Found
+    ensures { result ≡ refused_of_order refusal }
+{
+    match refusal {
+        Refusal::NoMemory => Found::Refused(Refusal::NoMemory),
+        refusal => Found::RefusedOrder(refusal),
     }
 }

@@ -4,7 +4,7 @@ ghost use Rattle.edn.specs.Refusals.{IsWhy};
 ghost use Rattle.edn.specs.View.{value_of, values_of};
 ghost use Rattle.models.specs.Names.{Finds};
 ghost use Rattle.history.specs.Spelling.{IsNumber};
-ghost use Rattle.confirms.specs.Listing.{IsOrderText, ListsUpTo, ListsAll, HaltsAt, Brings};
+ghost use Rattle.confirms.specs.Listing.{IsOrderText, ListsUpTo, ListsAll, HaltsAt, Brings, listed_in};
 
 use edn::{Edn, Refusal, read_all};
 use std::alloc::{AllocError, Global};
@@ -51,9 +51,9 @@ fn indices_of(alloc: Global, elements: &[Edn]) -> Result<Result<Vec<u32>, usize>
 fn push_listed(order: &mut Vec<u32>, element: &Edn) -> Result<bool, AllocError>
     ensures { IfOk result (Brings (listed_in (value_of element.now)) order.old.items order.new.items) }
 {
-    match element {
-        Edn::Vector(elements) => push_indices(order, elements.as_slice()),
-        one => push_indices(order, slice::from_ref(one)),
+    match element.as_slice() {
+        Some(elements) => push_indices(order, elements),
+        None => push_indices(order, slice::from_ref(element)),
     }
 }
 

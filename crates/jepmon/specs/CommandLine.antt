@@ -2,7 +2,7 @@
 use Rattle.std.specs.Prelude.{◌≡◌, ◌≤◌, Ok}
 use Rattle.harness.specs.Setups.{IsSetup, setup_of}
 use Rattle.jepmon.specs.declared.command_line.Order.{Order}
-use Rattle.jepmon.specs.declared.command_line.Order.TheVariants.{Script, Check, Run}
+use Rattle.jepmon.specs.declared.command_line.Order.TheVariants.{Script, Check, Confirm, Run}
 use Rattle.jepmon.specs.declared.options.RunTexts.{RunTexts}
 use Rattle.jepmon.specs.Options.{run_spelled}
 
@@ -10,6 +10,7 @@ use Rattle.jepmon.specs.Options.{run_spelled}
 abbrev pub IsWithinLimits : Order → Type 0
 IsWithinLimits (Script config is_strict) = IsSetup (setup_of config)
 IsWithinLimits (Check path workers config) = IsSetup (setup_of config) × (1 ≤ workers) × (workers ≤ 64)
+IsWithinLimits (Confirm path order_path config) = IsSetup (setup_of config)
 IsWithinLimits (Run config) =
     IsSetup (setup_of config) × (config.concurrency ≤ 63)
     × ((texts : RunTexts) × (run_spelled texts ≡ Ok (setup_of config)))

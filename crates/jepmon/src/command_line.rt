@@ -36,6 +36,15 @@ pub enum Order {
         /// How the one-thread object is opened.
         config: Config,
     },
+    /// Says what an order shows of a recorded history.
+    Confirm {
+        /// The file that the history stands in; `-` for standard input.
+        path: String,
+        /// The file that the order stands in.
+        order_path: String,
+        /// How the one-thread object is opened.
+        config: Config,
+    },
     /// Runs clients against a store in the process.
     Run(Config),
 }
@@ -85,6 +94,8 @@ pub fn order_of(alloc: Global, words: &[String]) -> Result<Order, Stop>
     let config = config_of(alloc, name, options)?;
     if name == "check" {
         check_of(alloc, options, config)
+    } else if name == "confirm" {
+        confirm_of(alloc, options, config)
     } else {
         Ok(Order::Script {
             config,
@@ -108,6 +119,21 @@ fn check_of(alloc: Global, options: &ArgMatches, config: Config) -> Result<Order
             config,
         }),
         _ => Err(usage_of(alloc, "check", "--workers takes a number, 1 to 64")),
+    }
+}
+
+// The order to say what an order shows of a recorded history.
+fn confirm_of(alloc: Global, options: &ArgMatches, config: Config) -> Result<Order, Stop>
+    requires { IsSetup (setup_of config) }
+    ensures { IfOk result IsWithinLimits }
+{
+    match (options.get_str("FILE"), options.get_str("ORDER")) {
+        (Some(path), Some(order_path)) => Ok(Order::Confirm {
+            path: String::from_str(alloc, path)?,
+            order_path: String::from_str(alloc, order_path)?,
+            config,
+        }),
+        _ => Err(usage_of(alloc, "confirm", "confirm takes two files")),
     }
 }
 
@@ -223,10 +249,21 @@ fn with_settings<'a>(
     concurrency: &'static str,
 ) -> Result<Command<'a>, AllocError> {
     let defaults = JudgingTexts::defaults();
+    with_object(alloc, command, concurrency)?.arg(
+        a_number(alloc, "budget", defaults.budget, help::BUDGET),
+    )
+}
+
+// A command with the options by which a history is read, and of which object.
+fn with_object<'a>(
+    alloc: Global,
+    command: Command<'a>,
+    concurrency: &'static str,
+) -> Result<Command<'a>, AllocError> {
+    let defaults = JudgingTexts::defaults();
     command
         .arg(a_number(alloc, "concurrency", defaults.concurrency, concurrency))?
-        .arg(a_name(alloc, "model", defaults.model, help::MODEL))?
-        .arg(a_number(alloc, "budget", defaults.budget, help::BUDGET))
+        .arg(a_name(alloc, "model", defaults.model, help::MODEL))
 }
 
 // The command `script`, with its options and their help.
@@ -257,6 +294,20 @@ fn check<'a>(alloc: Global) -> Result<Command<'a>, AllocError> {
     with_settings(alloc, command, help::CONCURRENCY)
 }
 
+// The command `confirm`, with its options and their help.
+fn confirm<'a>(alloc: Global) -> Result<Command<'a>, AllocError> {
+    let file = Arg::new(alloc, "FILE").required(true).help(help::FILE);
+    let order = Arg::new(alloc, "ORDER").required(true).help(help::ORDER);
+    let command = Command::new(alloc, "confirm")
+        .about(help::CONFIRM)
+        .long_about(help::CONFIRM_LONG)
+        .after_help(help::CONFIRM_STATUS)
+        .after_long_help(help::CONFIRM_FORMS)
+        .arg(file)?
+        .arg(order)?;
+    with_object(alloc, command, help::CONCURRENCY)
+}
+
 // The command `run`, with its options and their help.
 fn run<'a>(alloc: Global) -> Result<Command<'a>, AllocError> {
     let defaults = RunTexts::defaults();
@@ -284,6 +335,7 @@ fn program<'a>(alloc: Global) -> Result<Command<'a>, AllocError> {
         .after_help(help::MORE)
         .subcommand(script(alloc)?)?
         .subcommand(check(alloc)?)?
+        .subcommand(confirm(alloc)?)?
         .subcommand(run(alloc)?)
 }
 
@@ -291,6 +343,7 @@ fn program<'a>(alloc: Global) -> Result<Command<'a>, AllocError> {
 fn usage_of(alloc: Global, name: &str, message: &str) -> Stop {
     let command = match name {
         "check" => check(alloc),
+        "confirm" => confirm(alloc),
         "run" => run(alloc),
         _ => script(alloc),
     };
