@@ -70,14 +70,16 @@ pub fn flush_all<X: Wait, W: Write + Failed + Flushes>(
         × (W.has_failed writer.new ≡ true)) }
 {
     for _ in rt.forever() {
+        if !writer.flushed() {
+            // `failed()` tells of its error.
+            let _ = writer.flush();
+        }
         if writer.failed() {
             return Err(Refusal::WriteFailed);
         }
         if writer.flushed() {
             return Ok(());
         }
-        // `failed()` tells of its error.
-        let _ = writer.flush();
     }
     unreachable!()
 }
