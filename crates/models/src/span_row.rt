@@ -97,6 +97,7 @@ impl SpanRow {
         requires { at < length self.now }
         ensures { (d : Span) → result ≡ (get_or self.now at d).from }
     {
+        prove!(at < self.ends.len() / 2);
         self.ends.get(2 * at)
     }
 
@@ -105,6 +106,7 @@ impl SpanRow {
         requires { at < length self.now }
         ensures { (d : Span) → result ≡ (get_or self.now at d).to }
     {
+        prove!(at < self.ends.len() / 2);
         self.ends.get(2 * at + 1)
     }
 
@@ -151,6 +153,7 @@ impl SpanRow {
         requires within { to ≤ length self.now }
         ensures { IfOk result (λ row. row ≡ take from self.now ++ span ∷ drop to self.now) }
     {
+        prove!(to <= self.ends.len() / 2);
         if from == to {
             let ends = self
                 .ends
