@@ -2,6 +2,7 @@
 from __future__ import annotations
 
 import random
+import time
 import unittest
 from typing import List, Optional, Tuple
 from unittest import mock
@@ -55,7 +56,7 @@ def made(draws: random.Random, has_keys: bool) -> str:
         text = ", ".join(f"{field} {fields[field]}" for field in (draws.sample(order, len(order)) if draws.random() < odd else order))
         if kind in (":fail", ":info") and draws.random() < errors:
             text = draws.choice((text + ", :error {}", text.replace(", :index", ", :error {}, :index"))).replace("{}", draws.choice(ERRORS))
-        more = draws.choice((", :f :read", ", :node [1 2]", ",", ", :a")) if draws.random() < odd else ""
+        more = draws.choice((", :f :read", ", :node [1 2]", ", :value [1 1]", ", :a-b/c nil, :d 1", ",", ", :a")) if draws.random() < odd else ""
         lines.append(draws.choice(("#_", "; ", " ", "[", "^:a ", "#t ")) * (draws.random() < odd / 4) + tag + "{" + text + more + "}" + end)
     text = draws.choice(BEFORE) * (draws.random() < 0.2) + "".join(lines)
     return text if draws.random() < 0.8 else "[" + text + "]"
@@ -86,10 +87,23 @@ class PlainEvents(unittest.TestCase):
 
     def test_most_lines_of_a_history_are_plain(self) -> None:
         cas = LINE.replace("read", "cas").replace("nil", "[1 2]")
-        history = LINE + LINE.replace("invoke", "ok").replace("nil", "3") + cas + cas.replace("invoke", "fail").replace("0}", "1, :error [:no 3]}")
+        history = LINE + LINE.replace("invoke", "ok").replace("nil", "3") + cas + cas.replace("invoke", "fail").replace("0}", "1, :node 7, :error [:no 3]}")
         for text in (history, history.replace("{", "#jepsen.history.Op{"), history.replace("\n", "\r\n"), "[" + history.replace("\n", "\n ") + "]"):
             with mock.patch.object(collect.Collector, "take", side_effect=AssertionError("it was read field by field")):
                 self.assertEqual([event.line for event in turn(text).history.events if isinstance(event, Event)], [1, 2, 3, 4])
+
+    def test_lines_that_are_not_plain_take_little_longer_than_without_the_expression(self) -> None:
+        odd = LINE.replace(":index", ":odd [:a [1]], :index")
+        text = LINE + (LINE.replace("invoke", "ok") + odd + odd.replace("invoke", "ok") + LINE) * 1000
+
+        def seconds() -> float:
+            began = time.process_time()
+            turn(text)
+            return time.process_time() - began
+
+        with mock.patch.object(collect, "plain_of", lambda *_: None):
+            without = min(seconds() for _ in range(3))
+        self.assertLess(min(seconds() for _ in range(3)), 2 * without)
 
     def test_the_first_event_of_a_client_says_what_is_plain(self) -> None:
         for text in ("", "{}", "; comment\n", "{:a 1}\n", "{:type :ok, :f :read, :process 1}\n", "[1 2]", LINE[:-2]):

@@ -2,6 +2,7 @@
 from __future__ import annotations
 
 import contextlib
+import importlib
 import io
 import pathlib
 import random
@@ -137,7 +138,7 @@ class Found(unittest.TestCase):
     def test_a_fault_of_the_search_leaves_the_verdict(self) -> None:
         for fault, said in ((ValueError("x"), "key 0 is not decided, by a fault of judge itself: ValueError('x')"),
                             (MemoryError(), "they had 10 s together"), (RecursionError(), "they had 10 s together")):
-            with mock.patch("jepmon.wide.decide.solve", side_effect=fault):
+            with mock.patch.object(importlib.import_module("jepmon.wide.decide"), "solve", side_effect=fault):
                 status, out, err = self.judged(self.wide_history(), "--no-cause")
             self.assertEqual(status, 2)
             self.assertRegex(out, r"status over (\d+)\nunknown key 0 index \1\n$")

@@ -20,18 +20,18 @@ PART = rf"(?:(?P<part>nil|{INTEGER})|\[(?P<pair>{INTEGER} {INTEGER})\])"
 WITH_KEY = rf"\[(?P<key>{NUMBER}|:[a-z][a-z0-9]*) {PART}\]"
 NEEDED = {":type", ":f", ":process", ":value"}
 ATOM = rf'(?:{INTEGER}|nil|true|false|:[A-Za-z][A-Za-z0-9/._-]*|"[^"\\\n]*")'
-ERROR = rf"(?:, :error (?:{ATOM}|\[{ATOM}(?: {ATOM})*\]))?"
+OTHERS = rf"(?:, (?!(?:{'|'.join(FIELDS)}|:value) ):[a-z][a-z0-9./-]* (?:{ATOM}|\[{ATOM}(?: {ATOM})*\]))*"  # fields, as :error :timeout
 LINE = re.compile(r"[ \[(]*(\#[a-z.]+\.Op)?(\{[^\n]*\})[ \])\r]*$", re.M)  # with a map, or a record
 KEY = re.compile(r"(?:\{|, )(:[a-z]+) ")
 PROCESS = re.compile(r":process [0-9]")
 FRONT = 1 << 16  # characters in which the first event of a client is looked for
-LONGEST = 1 << 14  # characters of a run
+LONGEST = 1 << 13  # characters of a run
 
 
 class Plain(NamedTuple):
     """What a plain line of a history is."""
 
-    line: Pattern[str]  # with groups, the last one of what is none
+    line: Pattern[str]  # with groups; the last one has all that follows where there is none
 
     def find(self, text: str, place: int) -> Tuple[Rows, int]:
         """What the groups have of the plain lines that begin at this place, one after the other, and the place behind these."""
@@ -60,6 +60,6 @@ def plain_of(text: str, has_keys: bool) -> Optional[Plain]:
         known = [key for key in KEY.findall(line[2]) if key in fields]
         if NEEDED <= set(known) and len(set(known)) == len(known) and PROCESS.search(line[2]):
             *others, last = (f"{key} {fields[key]}" for key in known)
-            event = re.escape(line[1] or "") + r"\{" + ", ".join(others) + f"{ERROR}, {last}{ERROR}" + r"\}"
-            return Plain(re.compile(rf"{event}(?:\r?\n *|\Z)|(?P<rest>[\s\S]+)"))
+            event = re.escape(line[1] or "") + r"\{" + ", ".join(others) + f"{OTHERS}, {last}{OTHERS}" + r"\}"
+            return Plain(re.compile(rf"{event}(?:\r?\n *|\Z)|(?P<rest>(?s:.+))"))
     return None
