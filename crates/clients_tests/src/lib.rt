@@ -12,5 +12,3 @@ mod news;
 mod overlap;
 #[cfg(test)]
 mod shared;
-#[cfg(test)]
-mod striking;
