@@ -19,6 +19,9 @@ use test_store::Mode;
 // Workers at most.
 const MOST_WORKERS: u32 = 64;
 
+// Threads of a history at most.
+const MOST_THREADS: u32 = 64;
+
 // Clients of a run at most: of the 64 seats of a board the nemesis takes one.
 const MOST_CLIENTS: u32 = 63;
 
@@ -46,6 +49,17 @@ pub enum Order {
         workers: u32,
         /// How the one-thread object is opened.
         config: Config,
+    },
+    /// Says what an order of its operations shows of a recorded history.
+    Confirm {
+        /// The file that the history stands in; `-` for standard input.
+        path: String,
+        /// The file that the order stands in.
+        order_path: String,
+        /// Threads of the clients.
+        concurrency: u32,
+        /// The object that every key is.
+        kind: ModelKind,
     },
     /// Runs clients against a store in the process.
     Run(Config),
@@ -90,6 +104,9 @@ pub fn order_of(alloc: Global, words: &[String]) -> Result<Order, Stop>
     let Some((name, options)) = matches.subcommand() else {
         return Err(usage(&mut command, "no command was given"));
     };
+    if name == "confirm" {
+        return confirm_of(alloc, options);
+    }
     let config = config_of(alloc, name, options)?;
     config.check()?;
     if name == "check" {
@@ -119,6 +136,25 @@ fn check_of(alloc: Global, options: &ArgMatches, config: Config) -> Result<Order
             config,
         }),
         _ => Err(usage_of(alloc, "check", "--workers takes a number, 1 to 64")),
+    }
+}
+
+// The order to say what an order of its operations shows of a recorded history.
+fn confirm_of(alloc: Global, options: &ArgMatches) -> Result<Order, Stop>
+    ensures { IfOk result IsWithinLimits }
+{
+    let (concurrency, kind) = object_of(alloc, "confirm", options)?;
+    if concurrency < 1 || concurrency > MOST_THREADS {
+        return Err(Stop::Refused(Refusal::BadConcurrency));
+    }
+    match (options.get_str("FILE"), options.get_str("ORDER")) {
+        (Some(path), Some(order_path)) => Ok(Order::Confirm {
+            path: String::from_str(alloc, path)?,
+            order_path: String::from_str(alloc, order_path)?,
+            concurrency,
+            kind,
+        }),
+        _ => Err(usage_of(alloc, "confirm", "confirm takes two files")),
     }
 }
 
@@ -192,13 +228,19 @@ fn config_of(alloc: Global, name: &str, options: &ArgMatches) -> Result<Config, 
     let Some(budget) = number(options, "budget") else {
         return Err(usage_of(alloc, name, "--budget takes a number, 1 to 65536"));
     };
+    let (concurrency, kind) = object_of(alloc, name, options)?;
+    Ok(Config::to_judge(alloc, concurrency, kind, budget))
+}
+
+// How many threads the options of the command of this name give a history, not within limits yet, and which object its keys are.
+fn object_of(alloc: Global, name: &str, options: &ArgMatches) -> Result<(u32, ModelKind), Stop> {
     let Some(concurrency) = number(options, "concurrency") else {
         return Err(usage_of(alloc, name, "--concurrency takes a number, 1 to 64"));
     };
     let Some(kind) = options.get_str("model").and_then(ModelKind::of_name) else {
         return Err(usage_of(alloc, name, help::NO_MODEL));
     };
-    Ok(Config::to_judge(alloc, concurrency, kind, budget))
+    Ok((concurrency, kind))
 }
 
 /// Why there is no order of words that are no text: `Usage`, or `Refused` with `NoMemory` where there is no memory to say
@@ -247,10 +289,19 @@ fn with_settings<'a>(
     command: Command<'a>,
     concurrency: &'static str,
 ) -> Result<Command<'a>, AllocError> {
+    with_object(alloc, command, concurrency)?
+        .arg(a_number(alloc, "budget", "4096", help::BUDGET))
+}
+
+// A command with the options by which a history is read, and of which object.
+fn with_object<'a>(
+    alloc: Global,
+    command: Command<'a>,
+    concurrency: &'static str,
+) -> Result<Command<'a>, AllocError> {
     command
         .arg(a_number(alloc, "concurrency", "2", concurrency))?
-        .arg(a_name(alloc, "model", "register", help::MODEL))?
-        .arg(a_number(alloc, "budget", "4096", help::BUDGET))
+        .arg(a_name(alloc, "model", "register", help::MODEL))
 }
 
 // The command `script`, with its options and their help.
@@ -281,6 +332,20 @@ fn check<'a>(alloc: Global) -> Result<Command<'a>, AllocError> {
     with_settings(alloc, command, help::CONCURRENCY)
 }
 
+// The command `confirm`, with its options and their help.
+fn confirm<'a>(alloc: Global) -> Result<Command<'a>, AllocError> {
+    let file = Arg::new(alloc, "FILE").required(true).help(help::FILE);
+    let order = Arg::new(alloc, "ORDER").required(true).help(help::ORDER);
+    let command = Command::new(alloc, "confirm")
+        .about(help::CONFIRM)
+        .long_about(help::CONFIRM_LONG)
+        .after_help(help::CONFIRM_STATUS)
+        .after_long_help(help::CONFIRM_FORMS)
+        .arg(file)?
+        .arg(order)?;
+    with_object(alloc, command, help::CONCURRENCY)
+}
+
 // The command `run`, with its options and their help.
 fn run<'a>(alloc: Global) -> Result<Command<'a>, AllocError> {
     let command = Command::new(alloc, "run")
@@ -307,6 +372,7 @@ fn program<'a>(alloc: Global) -> Result<Command<'a>, AllocError> {
         .after_help(help::MORE)
         .subcommand(script(alloc)?)?
         .subcommand(check(alloc)?)?
+        .subcommand(confirm(alloc)?)?
         .subcommand(run(alloc)?)
 }
 
@@ -343,6 +409,7 @@ fn number(options: &ArgMatches, id: &str) -> Option<u32> {
 fn usage_of(alloc: Global, name: &str, message: &str) -> Stop {
     let command = match name {
         "check" => check(alloc),
+        "confirm" => confirm(alloc),
         "run" => run(alloc),
         _ => script(alloc),
     };
