@@ -29,7 +29,7 @@ module _ (c : ℕ) (kind : ModelKind) (history order : Input) where
 module _ (c : ℕ) (kind : ModelKind) (left left' : Option (List ℕ)) (read_failed : Bool) (order_left order_left' : Option (List ℕ)) (order_failed : Bool)
     (before after : Option (List ℕ)) (write_failed is_flushed : Bool) (status : ℕ) where
   pub confirms : (input : List ℕ) → Consumes left left' input → (order : List ℕ) → Consumes order_left order_left' order
-      → (found : Found) → IsFound c kind (record { bytes = input; left = left'; has_failed = read_failed; }) (record { bytes = order; left = order_left'; has_failed = order_failed; }) found
+      → (found : Found) → IsFound c kind (record { bytes = input; left = left'; has_failed = read_failed }) (record { bytes = order; left = order_left'; has_failed = order_failed }) found
       → (told : Found) → StandsFor told found → IsTold told before after write_failed is_flushed status
       → Confirms c kind left left' read_failed order_left order_left' order_failed before after write_failed is_flushed status
   confirms input read order order_read found is told which tells = record {
@@ -38,6 +38,6 @@ module _ (c : ℕ) (kind : ModelKind) (left left' : Option (List ℕ)) (read_fai
     order = order;
     order_read = order_read;
     found = told;
-    is_found = found_told c kind (record { bytes = input; left = left'; has_failed = read_failed; }) (record { bytes = order; left = order_left'; has_failed = order_failed; }) found told is which;
+    is_found = found_told c kind (record { bytes = input; left = left'; has_failed = read_failed }) (record { bytes = order; left = order_left'; has_failed = order_failed }) found told is which;
     told = tells;
   }

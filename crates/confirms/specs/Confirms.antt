@@ -44,7 +44,7 @@ pub record Confirms (c : ℕ) (kind : ModelKind) (left left' : Option (List ℕ)
   pub order : List ℕ
   pub order_read : Consumes order_left order_left' order
   pub found : Found
-  pub is_found : IsFound c kind (record { bytes = input; left = left'; has_failed = read_failed; }) (record { bytes = order; left = order_left'; has_failed = order_failed; }) found
+  pub is_found : IsFound c kind (record { bytes = input; left = left'; has_failed = read_failed }) (record { bytes = order; left = order_left'; has_failed = order_failed }) found
   pub told : IsTold found before after write_failed is_flushed status
 
 -- the same of a history that had left, and of an order of which nothing is known, however much they have after it, and whether they

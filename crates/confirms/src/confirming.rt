@@ -114,12 +114,7 @@ pub fn confirm_file<X: Wait + Files, W: Write + Failed + Flushes, L: Onlooker>(
 
 /// Reads a recorded history from a reader and an order of its operations from a file: [`confirm_text`] of what they have, with
 /// the same status, cost and waiting. The onlooker is told of each read, and of one that fails with the name of what is read.
-pub fn confirm_input<
-    X: Wait + Files,
-    R: Read + Drop,
-    W: Write + Failed + Flushes,
-    L: Onlooker,
->(
+pub fn confirm_input<X: Wait + Files, R: Read + Drop, W: Write + Failed + Flushes, L: Onlooker>(
     rt: &X,
     alloc: Global,
     file: R,

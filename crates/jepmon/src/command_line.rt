@@ -289,8 +289,7 @@ fn with_settings<'a>(
     command: Command<'a>,
     concurrency: &'static str,
 ) -> Result<Command<'a>, AllocError> {
-    with_object(alloc, command, concurrency)?
-        .arg(a_number(alloc, "budget", "4096", help::BUDGET))
+    with_object(alloc, command, concurrency)?.arg(a_number(alloc, "budget", "4096", help::BUDGET))
 }
 
 // A command with the options by which a history is read, and of which object.

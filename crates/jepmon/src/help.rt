@@ -49,7 +49,8 @@ or, in place of all that,
   refused NUMBER NAME event I  event I is none that may come there
   refused NUMBER NAME          the file can't be read, or is no text";
 
-pub const CONFIRM: &str = "Says whether an order of a recorded history shows that it is linearizable";
+pub const CONFIRM: &str =
+    "Says whether an order of a recorded history shows that it is linearizable";
 
 pub const CONFIRM_LONG: &str =
     "Reads a file of events, as check does, and a file with an order of their operations, and says whether
