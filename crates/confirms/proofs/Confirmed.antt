@@ -1,8 +1,7 @@
 -- what two readers came to, and what was told of it
-use Rattle.std.proofs.Common.{◌≡◌, ◌≢◌, ℕ, ◌⊎◌, inl, inr, ⊎_elim, Bool, true, false, Option, Some, None, List, [], ◌++◌, refl, sym, ap, ◌∙◌, subst}
+use Rattle.std.proofs.Common.{◌≡◌, ◌≢◌, ℕ, inr, ⊎_elim, Bool, false, Option, Some, None, List, [], refl, sym, subst}
 use Rattle.std.specs.Io.KnownBytes.{Consumes}
-use Rattle.edn.specs.declared.refusal.Refusal.{Refusal}
-use Rattle.edn.specs.declared.refusal.Refusal.TheVariants.{NoMemory, ReadFailed}
+use Rattle.edn.specs.declared.refusal.Refusal.TheVariants.{ReadFailed}
 use Rattle.models.specs.declared.model_kind.ModelKind.{ModelKind}
 use Rattle.confirms.specs.declared.found.Found.{Found}
 use Rattle.confirms.specs.declared.found.Found.TheVariants.{Refused, RefusedOrder}

@@ -1,6 +1,4 @@
 use Rattle.std.proofs.Common.{inl, sym, subst, ⊎_elim}
-use Rattle.edn.specs.declared.refusal.Refusal.TheVariants.{NoMemory}
-use Rattle.confirms.specs.declared.found.Found.TheVariants.{Refused}
 use Rattle.confirms.specs.Found.{ComesTo, Shows}
 use Rattle.confirms.proofs.found.confirm_bytes.Goals as goal
 

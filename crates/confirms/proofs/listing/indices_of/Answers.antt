@@ -1,4 +1,4 @@
-use Rattle.std.proofs.Common.{length, take, sym, ◌∙◌, subst, arith}
+use Rattle.std.proofs.Common.{take, sym, ◌∙◌, subst, arith}
 use Rattle.std.proofs.lemmas.List.{length-take-le}
 use Rattle.edn.specs.Value.{none, more, joined}
 use Rattle.edn.specs.View.{value_of, values_of}

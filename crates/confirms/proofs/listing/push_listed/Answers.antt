@@ -1,4 +1,4 @@
-use Rattle.std.proofs.Common.{IfOk, option_map, ◌∷◌, [], sym, ap, ◌∙◌, subst}
+use Rattle.std.proofs.Common.{IfOk, option_map, sym, ap, ◌∙◌, subst}
 use Rattle.std.specs.Option.{option_copied}
 use Rattle.edn.specs.View.{value_of, values_of}
 use Rattle.confirms.specs.Listing.{Brings}
