@@ -1,32 +1,40 @@
 -- the integers of a leaf
-use Rattle.std.proofs.Common.{◌≡◌, ℕ, ◌+◌, ◌-◌, ◌<◌, ℤ, List, [], ◌∷◌, ◌++◌, length, take, drop, set, sym, ap, ◌∙◌, arith}
+use Rattle.std.proofs.Common.{◌≡◌, ℕ, ◌-◌, ◌≤◌, ℤ, List, [], ◌∷◌, ◌++◌, length, take, drop, sym, ap, ◌∙◌, append_assoc, append-nil, arith}
 use Rattle.std.specs.List.{insert}
-use Rattle.std.proofs.Math.Seq.{drop-length, take-append_seam, take-length, take-set-lt}
-use Rattle.std.proofs.lemmas.List.{drop-drop, drop-set, drop-take, take-append-drop, take-set}
+use Rattle.std.proofs.Math.Seq.{take-add}
+use Rattle.std.proofs.lemmas.List.{drop-drop, take-append-drop, take_rest}
 
--- one integer in the place of another
-set_is : (xs : List ℤ) (at : ℕ) (v : ℤ) → at < length xs → set xs at v ≡ take at xs ++ v ∷ drop (at + 1) xs
-set_is xs at v within =
-    sym (take-append-drop at (set xs at v)) ∙ ap (λ l. l ++ drop at (set xs at v)) (take-set xs at v) ∙ ap (λ l. take at xs ++ l) (drop-set xs at v within)
+-- one more before the middle, and behind it
+in_front_half : (xs : List ℤ) (at half : ℕ) (v : ℤ) → at ≤ half
+    → ((take at xs ++ v ∷ []) ++ take (half - at) (drop at xs)) ++ ((drop half xs ++ []) ++ []) ≡ insert xs at v
+in_front_half xs at half v before =
+    let front = take at xs ++ v ∷ [] in
+    let part = take (half - at) (drop at xs) in
+    let rest = drop (half - at) (drop at xs) in
+    let far : drop half xs ≡ rest = ap (λ n. drop n xs) (omega arith) ∙ sym (drop-drop (half - at) at xs) in
+    ap (λ l. (front ++ part) ++ l) (append-nil (drop half xs ++ []) ∙ append-nil (drop half xs) ∙ far)
+    ∙ append_assoc front part rest ∙ ap (λ l. front ++ l) (take-append-drop (half - at) (drop at xs)) ∙ append_assoc (take at xs) (v ∷ []) (drop at xs)
 
-pub set_in_front : (few values : List ℤ) (at : ℕ) (passed v : ℤ) → take (length values) few ≡ values → at < length values → passed ≡ v
-    → take (length values) (set few at passed) ≡ take at values ++ v ∷ drop (at + 1) values
-set_in_front few values at passed v front within same =
-    take-set-lt (length values) few at passed within ∙ ap (λ l. set l at passed) front ∙ ap (set values at) same ∙ set_is values at v within
+in_back_half : (xs : List ℤ) (at half : ℕ) (v : ℤ) → half ≤ at
+    → ((take half xs ++ []) ++ []) ++ ((take (at - half) (drop half xs) ++ v ∷ []) ++ drop at xs) ≡ insert xs at v
+in_back_half xs at half v behind =
+    let front = take half xs in
+    let part = take (at - half) (drop half xs) in
+    let rest = drop at xs in
+    let near : take at xs ≡ front ++ part = ap (λ n. take n xs) (omega arith) ∙ take-add half (at - half) xs in
+    ap (λ l. l ++ ((part ++ v ∷ []) ++ rest)) (append-nil (front ++ []) ∙ append-nil front) ∙ ap (λ l. front ++ l) (append_assoc part (v ∷ []) rest)
+    ∙ sym (append_assoc front part (v ∷ rest)) ∙ ap (λ l. l ++ v ∷ rest) (sym near)
 
--- the first one taken out of those from a place on
-pub without_first : (few : List ℤ) (from to : ℕ) → from < to → take (to - (from + 1)) (drop (from + 1) few) ≡ drop 1 (take (to - from) (drop from few))
-without_first few from to some =
-    let long : to - from ≡ 1 + (to - (from + 1)) = omega arith in
-    sym (ap (λ n. drop 1 (take n (drop from few))) long ∙ drop-take 1 (to - (from + 1)) (drop from few) ∙ ap (take (to - (from + 1))) (drop-drop 1 from few))
+-- the same, of what is equal to both halves
+pub made_in_front : (xs left right : List ℤ) (at half : ℕ) (v : ℤ) → at ≤ half → left ≡ (take at xs ++ v ∷ []) ++ take (half - at) (drop at xs)
+    → right ≡ (take (length xs - half) (drop half xs) ++ []) ++ [] → left ++ right ≡ insert xs at v
+made_in_front xs left right at half v before l r =
+    ap (λ x. x ++ right) l ∙ ap (λ x. ((take at xs ++ v ∷ []) ++ take (half - at) (drop at xs)) ++ x) (r ∙ ap (λ x. (x ++ []) ++ []) (take_rest xs half))
+    ∙ in_front_half xs at half v before
 
--- one more behind those from the first place on
-pub one_longer : (few now : List ℤ) (from to at : ℕ) (passed v : ℤ) → now ≡ take (to - from) (drop from few) → from ≡ 0 → at ≡ length now → passed ≡ v
-    → take at few ++ passed ∷ [] ≡ insert now at v
-one_longer few now from to at passed v is zero here same =
-    let n = to - from in
-    let front : now ≡ take n few = is ∙ ap (λ k. take n (drop k few)) zero in
-    let whole : few ≡ now ++ drop n few = sym (ap (λ l. l ++ drop n few) front ∙ take-append-drop n few) in
-    let begin : take at few ≡ now = ap (λ k. take k few) here ∙ ap (take (length now)) whole ∙ take-append_seam now (drop n few) in
-    ap (λ l. l ++ passed ∷ []) begin ∙ ap (λ x. now ++ x ∷ []) same
-    ∙ sym (ap (λ k. insert now k v) here ∙ ap (λ l. l ++ v ∷ drop (length now) now) (take-length now) ∙ ap (λ l. now ++ v ∷ l) (drop-length now))
+pub made_behind : (xs left right : List ℤ) (at half : ℕ) (v : ℤ) → half ≤ at → left ≡ (take half xs ++ []) ++ []
+    → right ≡ (take (at - half) (drop half xs) ++ v ∷ []) ++ take (length xs - at) (drop at xs) → left ++ right ≡ insert xs at v
+made_behind xs left right at half v behind l r =
+    ap (λ x. x ++ right) l
+    ∙ ap (λ x. ((take half xs ++ []) ++ []) ++ x) (r ∙ ap (λ x. (take (at - half) (drop half xs) ++ v ∷ []) ++ x) (take_rest xs at))
+    ∙ in_back_half xs at half v behind

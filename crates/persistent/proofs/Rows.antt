@@ -1,7 +1,7 @@
 -- rows, one behind the other
 use Rattle.std.proofs.Common.{◌≡◌, ℕ, zero, suc, ◌+◌, ◌-◌, ◌<◌, ◌≤◌, ℤ, pos, ◌<ℤ◌, ◌≤ℤ◌, List, ◌∷◌, ◌++◌, get_or, length, take, drop, sym, ap, subst, ◌∙◌, append_assoc, add-one, arith}
 use Rattle.std.specs.List.{insert, remove}
-use Rattle.std.proofs.Math.Seq.{take-append-add, drop-append-add, drop-append_seam}
+use Rattle.std.proofs.Math.Seq.{take-append-add, drop-append-add, drop-append_seam, take-append_seam}
 use Rattle.std.proofs.lemmas.Int.{ints}
 use Rattle.std.proofs.lemmas.List.{get_or-append-add, take-append-drop, take-append-le, length-take-le}
 use Rattle.std.proofs.lemmas.List.Edits.{insert-append_right, remove-append_right}
@@ -78,3 +78,12 @@ pub same_pieces : (s t p q : List ℤ) (at many : ℕ) → at + length p ≤ len
     → at + length q ≤ length t → take (at + length q) t ≡ take at t ++ q → many ≤ length q → s ≡ t → take many p ≡ take many q
 same_pieces s t p q at many s_within s_part s_few t_within t_part t_few e =
     piece_is s p at many s_within s_part s_few ∙ ap (λ l. drop at (take (at + many) l)) e ∙ sym (piece_is t q at many t_within t_part t_few)
+
+-- of two rows, one behind the other, that are the same as two others, of which the first one is as long
+pub left_same : (l r m s : List ℤ) → length l ≡ length m → l ++ r ≡ m ++ s → l ≡ m
+left_same l r m s long e =
+    sym (take-append_seam l r) ∙ ap (take (length l)) e ∙ ap (λ n. take n (m ++ s)) long ∙ take-append_seam m s
+
+pub right_same : (l r m s : List ℤ) → length l ≡ length m → l ++ r ≡ m ++ s → r ≡ s
+right_same l r m s long e =
+    sym (drop-append_seam l r) ∙ ap (drop (length l)) e ∙ ap (λ n. drop n (m ++ s)) long ∙ drop-append_seam m s

@@ -9,5 +9,5 @@ use Rattle.persistent.specs.Trees.{integers_of, IsWhole}
 
 pub depth_le-length : (n : Node) → IsWhole n → max (deep-Node n) 0 ≤ length (integers_of n)
 depth_le-length Empty h = omega arith
-depth_le-length (Leaf from to few) h = omega arith
+depth_le-length (Leaf from few) h = omega arith
 depth_le-length (Fork pair) h = omega (arith, length-append (arc_value pair).left (arc_value pair).right)

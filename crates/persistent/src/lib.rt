@@ -1,6 +1,8 @@
 //! Rows of integers that share what they have in common.
 #![tactic(auto)]
 
+pub mod alike;
 pub mod tree;
 
+pub use alike::are_same;
 pub use tree::Tree;

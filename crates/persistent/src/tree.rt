@@ -3,12 +3,16 @@ ghost use Rattle.std.specs.Prelude.{◌≡◌, ◌↔◌, ◌+◌, ◌<◌, ◌�
 ghost use Rattle.std.specs.Prelude.{[], ◌∷◌, ◌++◌, ◌-◌, get_or, length, take, drop, ◌<ℤ◌, ◌≤ℤ◌};
 ghost use Rattle.std.specs.List.{insert, remove};
 
+use crate::alike::are_same;
 use std::alloc::{AllocError, Global};
 use std::marker::Model;
 use std::sync::Arc;
 
-// So many integers lie in one piece of memory at most.
-const FEW: usize = 14;
+// As long as a row has no more integers than this, they lie in one piece of memory.
+const FLAT: usize = 128;
+
+// Of a longer row so many lie in one piece at most, once a change has come there.
+const FEW: usize = 64;
 
 /// Integers in a row, each by its place. A change gives another tree, which shares with this one all but what is on the way to the
 /// place: that grows with the logarithm of how many integers there are. A copy shares all.
@@ -18,12 +22,12 @@ pub struct Tree {
     node: Node,
 }
 
-// A leaf has the integers from one place up to another of those that lie there.
+// A leaf has the integers from one place on of those that lie there.
 #[cycle(tree)]
 #[derive(Drop)]
 enum Node {
     Empty,
-    Leaf(u8, u8, Arc<[i64; 14]>),
+    Leaf(u32, Arc<Vec<i64>>),
     Fork(Arc<Pair>),
 }
 
@@ -56,109 +60,70 @@ impl Model for Tree {
     ghost size_decreases = { λ a h. depth_le-length a.node h };
 }
 
-// Where the first stands that is not below the value, or how many there are where each is below it.
+// A place in front of which stands an integer below the value, if any does, and at which stands none below it.
 fn place_in(values: &[i64], value: i64) -> usize
     ensures within { result ≤ length values.now }
-    ensures before { (k : ℕ) → k < result → get_or values.now k (pos 0) <ℤ value }
+    ensures before { (k : ℕ) → result ≡ k + 1 → get_or values.now k (pos 0) <ℤ value }
     ensures there { result < length values.now → value ≤ℤ get_or values.now result (pos 0) }
 {
-    for at in 0..values.len() {
-        if values[at] >= value {
-            return at;
+    let mut from = 0;
+    let mut to = values.len();
+    'halves: while from < to {
+        let middle = from + (to - from) / 2;
+        if values[middle] < value {
+            from = middle + 1;
+        } else {
+            to = middle;
         }
     }
-    values.len()
+    from
 }
 
-// Whether so many integers at the front of both are the same.
-fn begin_alike(xs: &[i64], ys: &[i64], many: usize) -> bool
-    requires xs { many ≤ length xs.now }
-    requires ys { many ≤ length ys.now }
-    ensures { IsTrue result ↔ (take many xs.now ≡ take many ys.now) }
+// The row of these integers, one part behind the other, with memory of its own.
+fn leaf(alloc: Global, first: &[i64], second: &[i64], third: &[i64]) -> Result<Tree, AllocError>
+    ensures { IfOk result (λ tree. tree ≡ first.now ++ second.now ++ third.now) }
 {
-    &xs[..many] == &ys[..many]
-}
-
-// The integers with these in the places from this one on.
-fn laid(few: [i64; 14], at: usize, values: &[i64]) -> [i64; 14]
-    requires { at + length values.now ≤ 14 }
-    ensures { take (at + length values.now) result ≡ take at few ++ values.now }
-{
-    let mut laid = few;
-    for place in 0..values.len() {
-        laid[at + place] = values[place];
-    }
-    laid
-}
-
-// The row of so many of these integers.
-fn leaf(alloc: Global, few: [i64; 14], many: usize) -> Result<Tree, AllocError>
-    requires { many ≤ 14 }
-    ensures { IfOk result (λ tree. tree ≡ take many few) }
-{
+    let many = first.len().saturating_add(second.len());
+    let mut few = Vec::with_capacity(alloc, many.saturating_add(third.len()))?;
+    few.extend_from_slice(first)?;
+    few.extend_from_slice(second)?;
+    few.extend_from_slice(third)?;
     let few = Arc::new(alloc, few)?;
     Ok(Tree {
-        node: Node::Leaf(0, many as u8, few),
+        node: Node::Leaf(0, few),
     })
-}
-
-// The row of these integers, with memory of its own.
-fn leaf_of(alloc: Global, values: &[i64]) -> Result<Tree, AllocError>
-    requires { length values.now ≤ 14 }
-    ensures { IfOk result (λ tree. tree ≡ values.now) }
-{
-    leaf(alloc, laid([0; 14], 0, values), values.len())
 }
 
 // The row of these integers with one more at this place.
 fn leaf_with(alloc: Global, values: &[i64], at: usize, value: i64) -> Result<Tree, AllocError>
-    requires place { at ≤ length values.now }
-    requires room { length values.now < 14 }
+    requires { at ≤ length values.now }
     ensures { IfOk result (λ tree. tree ≡ insert values.now at value) }
 {
-    let mut few = laid([0; 14], 0, &values[..at]);
-    few[at] = value;
-    leaf(alloc, laid(few, at + 1, &values[at..]), values.len() + 1)
-}
-
-// The row of the first so many of these integers and one more behind them.
-fn leaf_longer(alloc: Global, few: &[i64; 14], many: usize, value: i64) -> Result<Tree, AllocError>
-    requires { many < 14 }
-    ensures { IfOk result (λ tree. tree ≡ take many few.now ++ value ∷ []) }
-{
-    let mut more = *few;
-    more[many] = value;
-    leaf(alloc, more, many + 1)
+    leaf(alloc, &values[..at], &[value], &values[at..])
 }
 
 // The row of these integers without the one at this place.
 fn leaf_without(alloc: Global, values: &[i64], at: usize) -> Result<Tree, AllocError>
-    requires place { at < length values.now }
-    requires few { length values.now ≤ 14 }
+    requires { at < length values.now }
     ensures { IfOk result (λ tree. tree ≡ remove values.now at) }
 {
-    let few = laid([0; 14], 0, &values[..at]);
-    leaf(alloc, laid(few, at, &values[at + 1..]), values.len() - 1)
+    leaf(alloc, &values[..at], &values[at + 1..], &[])
 }
 
 // The row of these integers with one in place of the one at this place.
 fn leaf_replaced(alloc: Global, values: &[i64], at: usize, value: i64) -> Result<Tree, AllocError>
-    requires place { at < length values.now }
-    requires few { length values.now ≤ 14 }
+    requires { at < length values.now }
     ensures { IfOk result (λ tree. tree ≡ take at values.now ++ value ∷ drop (at + 1) values.now) }
 {
-    let mut few = laid([0; 14], 0, values);
-    few[at] = value;
-    leaf(alloc, few, values.len())
+    leaf(alloc, &values[..at], &[value], &values[at + 1..])
 }
 
-// The integers from one place up to another.
-fn between(few: &[i64; 14], from: u8, to: u8) -> &[i64]
-    requires order { from ≤ to }
-    requires within { to ≤ 14 }
-    ensures { result.now ≡ take (to - from) (drop from few.now) }
+// The integers from this place on.
+fn behind(few: &Vec<i64>, from: u32) -> &[i64]
+    requires { from ≤ length few.now.items }
+    ensures { result.now ≡ drop from few.now.items }
 {
-    &few[from as usize..to as usize]
+    &few.as_slice()[from as usize..]
 }
 
 // The two rows, one behind the other. None of them is empty.
@@ -187,15 +152,18 @@ fn fork(alloc: Global, left: Tree, right: Tree) -> Result<Tree, AllocError>
     })
 }
 
-// The row of these integers with one more at this place, which is not the end, as two leaves.
+// The row of these integers with one more at this place, which is not the end, as two leaves, each with half of them.
 fn parted(alloc: Global, values: &[i64], at: usize, value: i64) -> Result<Tree, AllocError>
-    requires place { at < length values.now }
-    requires few { length values.now ≤ 14 }
+    requires { at < length values.now }
     ensures { IfOk result (λ tree. tree ≡ insert values.now at value) }
 {
-    let left = leaf_with(alloc, &values[..at], at, value)?;
-    let right = leaf_of(alloc, &values[at..])?;
-    fork(alloc, left, right)
+    let half = values.len() / 2;
+    if at <= half {
+        let left = leaf(alloc, &values[..at], &[value], &values[at..half])?;
+        return fork(alloc, left, leaf(alloc, &values[half..], &[], &[])?);
+    }
+    let right = leaf(alloc, &values[half..at], &[value], &values[at..])?;
+    fork(alloc, leaf(alloc, &values[..half], &[], &[])?, right)
 }
 
 // The three rows, one behind the other. The one in the middle is divided, where it has two halves.
@@ -290,7 +258,7 @@ impl Tree {
     {
         match &self.node {
             Node::Empty => 0,
-            Node::Leaf(from, to, _) => (*to - *from) as usize,
+            Node::Leaf(from, few) => behind(few, *from).len(),
             Node::Fork(pair) => pair.len,
         }
     }
@@ -310,7 +278,7 @@ impl Tree {
     {
         match &self.node {
             Node::Empty => 0,
-            Node::Leaf(from, _, few) => few[*from as usize],
+            Node::Leaf(from, few) => few[*from as usize],
             Node::Fork(pair) => pair.first,
         }
     }
@@ -322,8 +290,8 @@ impl Tree {
     {
         match &self.node {
             Node::Empty => Ok(Tree::new()),
-            Node::Leaf(from, to, few) => Ok(Tree {
-                node: Node::Leaf(*from, *to, Arc::try_clone(few)?),
+            Node::Leaf(from, few) => Ok(Tree {
+                node: Node::Leaf(*from, Arc::try_clone(few)?),
             }),
             Node::Fork(pair) => Ok(Tree {
                 node: Node::Fork(Arc::try_clone(pair)?),
@@ -337,28 +305,34 @@ impl Tree {
         requires { at ≤ length self.now }
         ensures { IfOk result (λ tree. tree ≡ insert self.now at value) }
     {
+        let most = if self.len() < FLAT { FLAT } else { FEW };
+        self.with_in(alloc, at, value, most)
+    }
+
+    // The same, where a leaf with so many integers or more is parted.
+    fn with_in(&self, alloc: Global, at: usize, value: i64, most: usize) -> Result<Tree, AllocError>
+        requires { at ≤ length self.now }
+        ensures { IfOk result (λ tree. tree ≡ insert self.now at value) }
+    {
         match &self.node {
             Node::Empty => leaf_with(alloc, &[], at, value),
-            Node::Leaf(from, to, few) => {
-                let values = between(few, *from, *to);
-                if *from == 0 && at < FEW && at == values.len() {
-                    return leaf_longer(alloc, few, at, value);
-                }
-                if values.len() < FEW {
+            Node::Leaf(from, few) => {
+                let values = behind(few, *from);
+                if values.len() < most {
                     return leaf_with(alloc, values, at, value);
                 }
                 if at < values.len() {
                     return parted(alloc, values, at, value);
                 }
-                fork(alloc, self.copy()?, leaf_with(alloc, &[], 0, value)?)
+                joined(alloc, self.copy()?, leaf_with(alloc, &[], 0, value)?)
             }
             Node::Fork(pair) => {
                 let many = pair.left.len();
                 if at < many {
-                    let left = pair.left.with(alloc, at, value)?;
+                    let left = pair.left.with_in(alloc, at, value, most)?;
                     return balanced(alloc, left, pair.right.copy()?);
                 }
-                let right = pair.right.with(alloc, at - many, value)?;
+                let right = pair.right.with_in(alloc, at - many, value, most)?;
                 balanced(alloc, pair.left.copy()?, right)
             }
         }
@@ -372,13 +346,13 @@ impl Tree {
     {
         match &self.node {
             Node::Empty => Ok(Tree::new()),
-            Node::Leaf(from, to, few) => {
-                if at == 0 {
+            Node::Leaf(from, few) => {
+                if at == 0 && *from < u32::MAX {
                     return Ok(Tree {
-                        node: Node::Leaf(*from + 1, *to, Arc::try_clone(few)?),
+                        node: Node::Leaf(*from + 1, Arc::try_clone(few)?),
                     });
                 }
-                leaf_without(alloc, between(few, *from, *to), at)
+                leaf_without(alloc, behind(few, *from), at)
             }
             Node::Fork(pair) => {
                 let many = pair.left.len();
@@ -400,9 +374,7 @@ impl Tree {
     {
         match &self.node {
             Node::Empty => Ok(Tree::new()),
-            Node::Leaf(from, to, few) => {
-                leaf_replaced(alloc, between(few, *from, *to), at, value)
-            }
+            Node::Leaf(from, few) => leaf_replaced(alloc, behind(few, *from), at, value),
             Node::Fork(pair) => {
                 let many = pair.left.len();
                 if at < many {
@@ -424,7 +396,7 @@ impl Tree {
     {
         match &self.node {
             Node::Empty => &[],
-            Node::Leaf(from, to, few) => &between(few, *from, *to)[at..],
+            Node::Leaf(from, few) => &behind(few, *from)[at..],
             Node::Fork(pair) => {
                 let many = pair.left.len();
                 if at < many {
@@ -452,7 +424,7 @@ impl Tree {
     {
         match &self.node {
             Node::Empty => 0,
-            Node::Leaf(from, to, few) => place_in(between(few, *from, *to), value),
+            Node::Leaf(from, few) => place_in(behind(few, *from), value),
             Node::Fork(pair) => {
                 if pair.right.first() < value {
                     let behind = pair.right.len() - pair.right.place_of(value);
@@ -467,6 +439,20 @@ impl Tree {
     pub fn same(&self, other: &Tree) -> bool
         ensures { IsTrue result ↔ (self.now ≡ other.now) }
     {
+        if let Node::Fork(ours) = &self.node {
+            if let Node::Fork(theirs) = &other.node {
+                if ours.left.len() == theirs.left.len() {
+                    return ours.left.same(&theirs.left) && ours.right.same(&theirs.right);
+                }
+            }
+        }
+        self.same_by_parts(other)
+    }
+
+    // The same, by what lies in one piece of memory, part by part.
+    fn same_by_parts(&self, other: &Tree) -> bool
+        ensures { IsTrue result ↔ (self.now ≡ other.now) }
+    {
         let len = self.len();
         if len != other.len() {
             return false;
@@ -476,7 +462,7 @@ impl Tree {
             let ours = self.part_at(at);
             let theirs = other.part_at(at);
             let many = ours.len().min(theirs.len());
-            if !begin_alike(ours, theirs, many) {
+            if !are_same(&ours[..many], &theirs[..many]) {
                 return false;
             }
             at += many;

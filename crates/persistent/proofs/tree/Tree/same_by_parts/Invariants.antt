@@ -1,5 +1,5 @@
 use Rattle.std.proofs.Common.{◌≡◌, ◌≤◌, ◌-◌, length, take}
-use Rattle.persistent.proofs.tree.Tree.same.Given as goal
+use Rattle.persistent.proofs.tree.Tree.same_by_parts.Given as goal
 
 abbrev pub invariant-parts : goal.invariant-parts
 invariant-parts l = record {
