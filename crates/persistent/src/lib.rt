@@ -2,7 +2,9 @@
 #![tactic(auto)]
 
 pub mod alike;
+pub mod placed;
 pub mod tree;
 
 pub use alike::are_same;
+pub use placed::Placed;
 pub use tree::Tree;

@@ -1,9 +1,9 @@
-//! Integers in a row, as a tree whose parts are shared.
+//! Values in a row, as a tree whose parts are shared.
 ghost use Rattle.std.specs.Prelude.{◌≡◌, ◌↔◌, ◌+◌, ◌<◌, ◌≤◌, ℕ, ℤ, pos, IfOk, OnOk, IsTrue};
 ghost use Rattle.std.specs.Prelude.{[], ◌∷◌, ◌++◌, ◌-◌, get_or, length, take, drop, ◌<ℤ◌, ◌≤ℤ◌};
 ghost use Rattle.std.specs.List.{insert, remove};
 
-use crate::alike::are_same;
+use crate::placed::Placed;
 use std::alloc::{AllocError, Global};
 use std::marker::Model;
 use std::sync::Arc;
@@ -14,42 +14,42 @@ const FLAT: usize = 128;
 // Of a longer row so many lie in one piece at most, once a change has come there.
 const FEW: usize = 64;
 
-/// Integers in a row, each by its place. A change gives another tree, which shares with this one all but what is on the way to the
+/// Values in a row, each by its place. A change gives another tree, which shares with this one all but what is on the way to the
 /// place: that grows with the logarithm of how many integers there are. A copy shares all.
 #[cycle(tree)]
 #[derive(Drop)]
-pub struct Tree {
-    node: Node,
+pub struct Tree<T: Copy> {
+    node: Node<T>,
 }
 
 // A leaf has the integers from one place on of those that lie there.
 #[cycle(tree)]
 #[derive(Drop)]
-enum Node {
+enum Node<T: Copy> {
     Empty,
-    Leaf(u32, Arc<Vec<i64>>),
-    Fork(Arc<Pair>),
+    Leaf(u32, Arc<Vec<T>>),
+    Fork(Arc<Pair<T>>),
 }
 
 // Two rows, one behind the other; how many integers both have, which is the first, and how many forks are above the deepest leaf.
 #[cycle(tree)]
 #[derive(Drop)]
-struct Pair {
-    left: Tree,
-    right: Tree,
+struct Pair<T: Copy> {
+    left: Tree<T>,
+    right: Tree<T>,
     len: usize,
-    first: i64,
+    first: T,
     height: u8,
 }
 
-impl Model for Tree {
-    ghost use Rattle.std.specs.Prelude.{List, ℤ, length};
+impl<T: Copy> Model for Tree<T> {
+    ghost use Rattle.std.specs.Prelude.{List, length};
 
-    ghost Value = { List ℤ };
+    ghost Value = { List T };
 
-    ghost use Rattle.persistent.specs.Trees.{integers_of, IsWhole};
+    ghost use Rattle.persistent.specs.Trees.{values_of, IsWhole};
 
-    ghost view = { λ a. integers_of a.node };
+    ghost view = { λ a. values_of a.node };
 
     ghost invariant = { λ a. IsWhole a.node };
 
@@ -57,20 +57,20 @@ impl Model for Tree {
 
     ghost use Rattle.persistent.specs.TreeFalls.{depth_le-length};
 
-    ghost size_decreases = { λ a h. depth_le-length a.node h };
+    ghost size_decreases = { λ a h. depth_le-length _ a.node h };
 }
 
 // A place in front of which stands an integer below the value, if any does, and at which stands none below it.
-fn place_in(values: &[i64], value: i64) -> usize
+fn place_in<T: Placed>(values: &[T], value: i64) -> usize
     ensures within { result ≤ length values.now }
-    ensures before { (k : ℕ) → result ≡ k + 1 → get_or values.now k (pos 0) <ℤ value }
-    ensures there { result < length values.now → value ≤ℤ get_or values.now result (pos 0) }
+    ensures before { (k : ℕ) (d : T) → result ≡ k + 1 → T.place (get_or values.now k d) <ℤ value }
+    ensures there { (d : T) → result < length values.now → value ≤ℤ T.place (get_or values.now result d) }
 {
     let mut from = 0;
     let mut to = values.len();
     'halves: while from < to {
         let middle = from + (to - from) / 2;
-        if values[middle] < value {
+        if values[middle].place() < value {
             from = middle + 1;
         } else {
             to = middle;
@@ -79,47 +79,79 @@ fn place_in(values: &[i64], value: i64) -> usize
     from
 }
 
-// The row of these integers, one part behind the other, with memory of its own.
-fn leaf(alloc: Global, first: &[i64], second: &[i64], third: &[i64]) -> Result<Tree, AllocError>
-    ensures { IfOk result (λ tree. tree ≡ first.now ++ second.now ++ third.now) }
+// The row of these values.
+fn leaf_of<T: Copy>(alloc: Global, few: Vec<T>) -> Result<Tree<T>, AllocError>
+    ensures { IfOk result (λ tree. tree ≡ few.items) }
 {
-    let many = first.len().saturating_add(second.len());
-    let mut few = Vec::with_capacity(alloc, many.saturating_add(third.len()))?;
-    few.extend_from_slice(first)?;
-    few.extend_from_slice(second)?;
-    few.extend_from_slice(third)?;
     let few = Arc::new(alloc, few)?;
     Ok(Tree {
         node: Node::Leaf(0, few),
     })
 }
 
+// The row of these values, one part behind the other, with memory of its own.
+fn leaf<T: Copy>(alloc: Global, first: &[T], second: &[T]) -> Result<Tree<T>, AllocError>
+    ensures { IfOk result (λ tree. tree ≡ first.now ++ second.now) }
+{
+    let mut few = Vec::with_capacity(alloc, first.len().saturating_add(second.len()))?;
+    few.extend_from_slice(first)?;
+    few.extend_from_slice(second)?;
+    leaf_of(alloc, few)
+}
+
+// The same, with one value between both parts.
+fn leaf_around<T: Copy>(
+    alloc: Global,
+    first: &[T],
+    value: T,
+    second: &[T],
+) -> Result<Tree<T>, AllocError>
+    ensures { IfOk result (λ tree. tree ≡ first.now ++ value ∷ second.now) }
+{
+    let many = first.len().saturating_add(second.len());
+    let mut few = Vec::with_capacity(alloc, many.saturating_add(1))?;
+    few.extend_from_slice(first)?;
+    few.push(value)?;
+    few.extend_from_slice(second)?;
+    leaf_of(alloc, few)
+}
+
 // The row of these integers with one more at this place.
-fn leaf_with(alloc: Global, values: &[i64], at: usize, value: i64) -> Result<Tree, AllocError>
+fn leaf_with<T: Copy>(
+    alloc: Global,
+    values: &[T],
+    at: usize,
+    value: T,
+) -> Result<Tree<T>, AllocError>
     requires { at ≤ length values.now }
     ensures { IfOk result (λ tree. tree ≡ insert values.now at value) }
 {
-    leaf(alloc, &values[..at], &[value], &values[at..])
+    leaf_around(alloc, &values[..at], value, &values[at..])
 }
 
 // The row of these integers without the one at this place.
-fn leaf_without(alloc: Global, values: &[i64], at: usize) -> Result<Tree, AllocError>
+fn leaf_without<T: Copy>(alloc: Global, values: &[T], at: usize) -> Result<Tree<T>, AllocError>
     requires { at < length values.now }
     ensures { IfOk result (λ tree. tree ≡ remove values.now at) }
 {
-    leaf(alloc, &values[..at], &values[at + 1..], &[])
+    leaf(alloc, &values[..at], &values[at + 1..])
 }
 
 // The row of these integers with one in place of the one at this place.
-fn leaf_replaced(alloc: Global, values: &[i64], at: usize, value: i64) -> Result<Tree, AllocError>
+fn leaf_replaced<T: Copy>(
+    alloc: Global,
+    values: &[T],
+    at: usize,
+    value: T,
+) -> Result<Tree<T>, AllocError>
     requires { at < length values.now }
     ensures { IfOk result (λ tree. tree ≡ take at values.now ++ value ∷ drop (at + 1) values.now) }
 {
-    leaf(alloc, &values[..at], &[value], &values[at + 1..])
+    leaf_around(alloc, &values[..at], value, &values[at + 1..])
 }
 
 // The integers from this place on.
-fn behind(few: &Vec<i64>, from: u32) -> &[i64]
+fn behind<T: Copy>(few: &Vec<T>, from: u32) -> &[T]
     requires { from ≤ length few.now.items }
     ensures { result.now ≡ drop from few.now.items }
 {
@@ -127,7 +159,7 @@ fn behind(few: &Vec<i64>, from: u32) -> &[i64]
 }
 
 // The two rows, one behind the other. None of them is empty.
-fn fork(alloc: Global, left: Tree, right: Tree) -> Result<Tree, AllocError>
+fn fork<T: Copy>(alloc: Global, left: Tree<T>, right: Tree<T>) -> Result<Tree<T>, AllocError>
     requires left { 0 < length left }
     requires right { 0 < length right }
     ensures { IfOk result (λ tree. tree ≡ left ++ right) }
@@ -153,21 +185,26 @@ fn fork(alloc: Global, left: Tree, right: Tree) -> Result<Tree, AllocError>
 }
 
 // The row of these integers with one more at this place, which is not the end, as two leaves, each with half of them.
-fn parted(alloc: Global, values: &[i64], at: usize, value: i64) -> Result<Tree, AllocError>
+fn parted<T: Copy>(alloc: Global, values: &[T], at: usize, value: T) -> Result<Tree<T>, AllocError>
     requires { at < length values.now }
     ensures { IfOk result (λ tree. tree ≡ insert values.now at value) }
 {
     let half = values.len() / 2;
     if at <= half {
-        let left = leaf(alloc, &values[..at], &[value], &values[at..half])?;
-        return fork(alloc, left, leaf(alloc, &values[half..], &[], &[])?);
+        let left = leaf_around(alloc, &values[..at], value, &values[at..half])?;
+        return fork(alloc, left, leaf(alloc, &values[half..], &[])?);
     }
-    let right = leaf(alloc, &values[half..at], &[value], &values[at..])?;
-    fork(alloc, leaf(alloc, &values[..half], &[], &[])?, right)
+    let right = leaf_around(alloc, &values[half..at], value, &values[at..])?;
+    fork(alloc, leaf(alloc, &values[..half], &[])?, right)
 }
 
 // The three rows, one behind the other. The one in the middle is divided, where it has two halves.
-fn fork_around(alloc: Global, left: Tree, middle: &Tree, right: Tree) -> Result<Tree, AllocError>
+fn fork_around<T: Copy>(
+    alloc: Global,
+    left: Tree<T>,
+    middle: &Tree<T>,
+    right: Tree<T>,
+) -> Result<Tree<T>, AllocError>
     requires left { 0 < length left }
     requires middle { 0 < length middle.now }
     requires right { 0 < length right }
@@ -183,7 +220,7 @@ fn fork_around(alloc: Global, left: Tree, middle: &Tree, right: Tree) -> Result<
 }
 
 // The two rows, of which the left one is too high for a fork of both.
-fn lean_left(alloc: Global, left: &Tree, right: Tree) -> Result<Tree, AllocError>
+fn lean_left<T: Copy>(alloc: Global, left: &Tree<T>, right: Tree<T>) -> Result<Tree<T>, AllocError>
     requires left { 0 < length left.now }
     requires right { 0 < length right }
     ensures { IfOk result (λ tree. tree ≡ left.now ++ right) }
@@ -200,7 +237,7 @@ fn lean_left(alloc: Global, left: &Tree, right: Tree) -> Result<Tree, AllocError
 }
 
 // The two rows, of which the right one is too high for a fork of both.
-fn lean_right(alloc: Global, left: Tree, right: &Tree) -> Result<Tree, AllocError>
+fn lean_right<T: Copy>(alloc: Global, left: Tree<T>, right: &Tree<T>) -> Result<Tree<T>, AllocError>
     requires left { 0 < length left }
     requires right { 0 < length right.now }
     ensures { IfOk result (λ tree. tree ≡ left ++ right.now) }
@@ -217,7 +254,7 @@ fn lean_right(alloc: Global, left: Tree, right: &Tree) -> Result<Tree, AllocErro
 }
 
 // The two rows, one behind the other, of which one may be too high for a fork of both.
-fn balanced(alloc: Global, left: Tree, right: Tree) -> Result<Tree, AllocError>
+fn balanced<T: Copy>(alloc: Global, left: Tree<T>, right: Tree<T>) -> Result<Tree<T>, AllocError>
     requires left { 0 < length left }
     requires right { 0 < length right }
     ensures { IfOk result (λ tree. tree ≡ left ++ right) }
@@ -232,7 +269,7 @@ fn balanced(alloc: Global, left: Tree, right: Tree) -> Result<Tree, AllocError>
 }
 
 // The same, where one may be empty.
-fn joined(alloc: Global, left: Tree, right: Tree) -> Result<Tree, AllocError>
+fn joined<T: Copy>(alloc: Global, left: Tree<T>, right: Tree<T>) -> Result<Tree<T>, AllocError>
     ensures { IfOk result (λ tree. tree ≡ left ++ right) }
 {
     if left.len() == 0 {
@@ -244,9 +281,9 @@ fn joined(alloc: Global, left: Tree, right: Tree) -> Result<Tree, AllocError>
     balanced(alloc, left, right)
 }
 
-impl Tree {
+impl<T: Copy> Tree<T> {
     /// No integers. Takes no memory.
-    pub fn new() -> Tree
+    pub fn new() -> Tree<T>
         ensures { result ≡ [] }
     {
         Tree { node: Node::Empty }
@@ -272,12 +309,12 @@ impl Tree {
     }
 
     /// The first of them. Takes no memory, and constant time.
-    pub fn first(&self) -> i64
+    pub fn first(&self) -> T
         requires { 0 < length self.now }
-        ensures { result ≡ get_or self.now 0 (pos 0) }
+        ensures { (d : T) → result ≡ get_or self.now 0 d }
     {
         match &self.node {
-            Node::Empty => 0,
+            Node::Empty => unreachable!(),
             Node::Leaf(from, few) => few[*from as usize],
             Node::Fork(pair) => pair.first,
         }
@@ -285,7 +322,7 @@ impl Tree {
 
     /// The same integers, all of them shared. Takes constant time, and no memory; `AllocError` where as many share them as can be
     /// counted.
-    pub fn copy(&self) -> Result<Tree, AllocError>
+    pub fn copy(&self) -> Result<Tree<T>, AllocError>
         ensures { IfOk result (λ tree. tree ≡ self.now) }
     {
         match &self.node {
@@ -301,7 +338,7 @@ impl Tree {
 
     /// The integers with one more at this place; `AllocError` where there is no memory for it. Takes the time and the memory of the
     /// way to the place, which grow with the logarithm of how many integers there are.
-    pub fn with(&self, alloc: Global, at: usize, value: i64) -> Result<Tree, AllocError>
+    pub fn with(&self, alloc: Global, at: usize, value: T) -> Result<Tree<T>, AllocError>
         requires { at ≤ length self.now }
         ensures { IfOk result (λ tree. tree ≡ insert self.now at value) }
     {
@@ -310,7 +347,13 @@ impl Tree {
     }
 
     // The same, where a leaf with so many integers or more is parted.
-    fn with_in(&self, alloc: Global, at: usize, value: i64, most: usize) -> Result<Tree, AllocError>
+    fn with_in(
+        &self,
+        alloc: Global,
+        at: usize,
+        value: T,
+        most: usize,
+    ) -> Result<Tree<T>, AllocError>
         requires { at ≤ length self.now }
         ensures { IfOk result (λ tree. tree ≡ insert self.now at value) }
     {
@@ -340,7 +383,7 @@ impl Tree {
 
     /// The integers without the one at this place; `AllocError` where there is no memory for it. Takes the time and the memory of
     /// the way to the place, as above.
-    pub fn without(&self, alloc: Global, at: usize) -> Result<Tree, AllocError>
+    pub fn without(&self, alloc: Global, at: usize) -> Result<Tree<T>, AllocError>
         requires { at < length self.now }
         ensures { IfOk result (λ tree. tree ≡ remove self.now at) }
     {
@@ -368,7 +411,7 @@ impl Tree {
 
     /// The integers with this one in place of the one at this place; `AllocError` where there is no memory for it. Takes the time and
     /// the memory of the way there, as above.
-    pub fn replaced(&self, alloc: Global, at: usize, value: i64) -> Result<Tree, AllocError>
+    pub fn replaced(&self, alloc: Global, at: usize, value: T) -> Result<Tree<T>, AllocError>
         requires { at < length self.now }
         ensures { IfOk result (λ tree. tree ≡ take at self.now ++ value ∷ drop (at + 1) self.now) }
     {
@@ -388,7 +431,7 @@ impl Tree {
     }
 
     /// The integers from this place on, as far as they lie in one piece of memory. Takes no memory, and the time of the way there.
-    pub fn part_at(&self, at: usize) -> &[i64]
+    pub fn part_at(&self, at: usize) -> &[T]
         requires { at < length self.now }
         ensures some { 0 < length result.now }
         ensures within { at + length result.now ≤ length self.now }
@@ -408,25 +451,42 @@ impl Tree {
     }
 
     /// The integer at this place. Takes no memory, and the time of the way there.
-    pub fn get(&self, at: usize) -> i64
+    pub fn get(&self, at: usize) -> T
         requires { at < length self.now }
-        ensures { result ≡ get_or self.now at (pos 0) }
+        ensures { (d : T) → result ≡ get_or self.now at d }
     {
         self.part_at(at)[0]
     }
 
+    /// Puts the integers behind those in the list; `AllocError` where there is no memory for them, and then some may be put. Takes
+    /// the time of the integers.
+    pub fn append_to(&self, list: &mut Vec<T>) -> Result<(), AllocError>
+        ensures { OnOk result (list.new.items ≡ list.old.items ++ self.now) }
+    {
+        let len = self.len();
+        let mut at = 0;
+        'parts: while at < len {
+            let part = self.part_at(at);
+            list.extend_from_slice(part)?;
+            at += part.len();
+        }
+        Ok(())
+    }
+}
+
+impl<T: Placed> Tree<T> {
     /// A place in front of which stands an integer below the value, if any does, and at which stands none below it. In a row that
     /// never falls there is one alone. Takes no memory, and the time of the way there.
     pub fn place_of(&self, value: i64) -> usize
         ensures within { result ≤ length self.now }
-        ensures before { (k : ℕ) → result ≡ k + 1 → get_or self.now k (pos 0) <ℤ value }
-        ensures there { result < length self.now → value ≤ℤ get_or self.now result (pos 0) }
+        ensures before { (k : ℕ) (d : T) → result ≡ k + 1 → T.place (get_or self.now k d) <ℤ value }
+        ensures there { (d : T) → result < length self.now → value ≤ℤ T.place (get_or self.now result d) }
     {
         match &self.node {
             Node::Empty => 0,
             Node::Leaf(from, few) => place_in(behind(few, *from), value),
             Node::Fork(pair) => {
-                if pair.right.first() < value {
+                if pair.right.first().place() < value {
                     let behind = pair.right.len() - pair.right.place_of(value);
                     return self.len() - behind;
                 }
@@ -436,7 +496,7 @@ impl Tree {
     }
 
     /// Whether both have the same integers in the same order. Takes no memory.
-    pub fn same(&self, other: &Tree) -> bool
+    pub fn same(&self, other: &Tree<T>) -> bool
         ensures { IsTrue result ↔ (self.now ≡ other.now) }
     {
         if let Node::Fork(ours) = &self.node {
@@ -450,7 +510,7 @@ impl Tree {
     }
 
     // The same, by what lies in one piece of memory, part by part.
-    fn same_by_parts(&self, other: &Tree) -> bool
+    fn same_by_parts(&self, other: &Tree<T>) -> bool
         ensures { IsTrue result ↔ (self.now ≡ other.now) }
     {
         let len = self.len();
@@ -462,26 +522,11 @@ impl Tree {
             let ours = self.part_at(at);
             let theirs = other.part_at(at);
             let many = ours.len().min(theirs.len());
-            if !are_same(&ours[..many], &theirs[..many]) {
+            if !T::are_same(&ours[..many], &theirs[..many]) {
                 return false;
             }
             at += many;
         }
         true
-    }
-
-    /// Puts the integers behind those in the list; `AllocError` where there is no memory for them, and then some may be put. Takes
-    /// the time of the integers.
-    pub fn append_to(&self, list: &mut Vec<i64>) -> Result<(), AllocError>
-        ensures { OnOk result (list.new.items ≡ list.old.items ++ self.now) }
-    {
-        let len = self.len();
-        let mut at = 0;
-        'parts: while at < len {
-            let part = self.part_at(at);
-            list.extend_from_slice(part)?;
-            at += part.len();
-        }
-        Ok(())
     }
 }

@@ -4,7 +4,7 @@ use Rattle.persistent.proofs.Rows.{take_part, same_pieces}
 use Rattle.persistent.proofs.tree.Tree.same_by_parts.Goals as goal
 
 pub returns-then-not-are_same : goal.returns-then-not-are_same
-returns-then-not-are_same c =
+returns-then-not-are_same g c =
     let ours = c.part_at-ours in
     let theirs = c.part_at-theirs in
     let many = c.min-many.result in
@@ -17,7 +17,7 @@ returns-then-not-are_same c =
     )
 
 pub parts-preserved : goal.parts-preserved
-parts-preserved c =
+parts-preserved g c =
     let ours = c.part_at-ours in
     let theirs = c.part_at-theirs in
     let many = c.min-many.result in
