@@ -1,5 +1,5 @@
 -- Invariant: states that compare equal are the same, and lists of integers compare lawfully
-use Rattle.std.specs.Prelude.{◌≡◌, ℕ, ◌+◌, pos, get_or, ℤ, Bool, Option, Some, None, true, List, ◌++◌, length}
+use Rattle.std.specs.Prelude.{◌≡◌, ℤ, Bool, Option, Some, None, true, List, ◌++◌, length}
 use Rattle.std.specs.Bool.{beq, one_answer}
 use Rattle.std.specs.Option.{option_eq}
 use Rattle.std.specs.Hash as fed

@@ -8,21 +8,21 @@ use std::alloc::{AllocError, Global};
 use std::marker::Model;
 use std::sync::Arc;
 
-// As long as a row has no more integers than this, they lie in one piece of memory.
+// As long as a row has no more values than this, they lie in one piece of memory.
 const FLAT: usize = 128;
 
 // Of a longer row so many lie in one piece at most, once a change has come there.
 const FEW: usize = 64;
 
 /// Values in a row, each by its place. A change gives another tree, which shares with this one all but what is on the way to the
-/// place: that grows with the logarithm of how many integers there are. A copy shares all.
+/// place: that grows with the logarithm of how many values there are. A copy shares all.
 #[cycle(tree)]
 #[derive(Drop)]
 pub struct Tree<T: Copy> {
     node: Node<T>,
 }
 
-// A leaf has the integers from one place on of those that lie there.
+// A leaf has the values from one place on of those that lie there.
 #[cycle(tree)]
 #[derive(Drop)]
 enum Node<T: Copy> {
@@ -31,7 +31,7 @@ enum Node<T: Copy> {
     Fork(Arc<Pair<T>>),
 }
 
-// Two rows, one behind the other; how many integers both have, which is the first, and how many forks are above the deepest leaf.
+// Two rows, one behind the other; how many values both have, which is the first, and how many forks are above the deepest leaf.
 #[cycle(tree)]
 #[derive(Drop)]
 struct Pair<T: Copy> {
@@ -60,7 +60,7 @@ impl<T: Copy> Model for Tree<T> {
     ghost size_decreases = { λ a h. depth_le-length _ a.node h };
 }
 
-// A place in front of which stands an integer below the value, if any does, and at which stands none below it.
+// A place in front of which stands a value whose place is below this one, if any does, and at which stands none below it.
 fn place_in<T: Placed>(values: &[T], value: i64) -> usize
     ensures within { result ≤ length values.now }
     ensures before { (k : ℕ) (d : T) → result ≡ k + 1 → T.place (get_or values.now k d) <ℤ value }
@@ -116,7 +116,7 @@ fn leaf_around<T: Copy>(
     leaf_of(alloc, few)
 }
 
-// The row of these integers with one more at this place.
+// The row of these values with one more at this place.
 fn leaf_with<T: Copy>(
     alloc: Global,
     values: &[T],
@@ -129,7 +129,7 @@ fn leaf_with<T: Copy>(
     leaf_around(alloc, &values[..at], value, &values[at..])
 }
 
-// The row of these integers without the one at this place.
+// The row of these values without the one at this place.
 fn leaf_without<T: Copy>(alloc: Global, values: &[T], at: usize) -> Result<Tree<T>, AllocError>
     requires { at < length values.now }
     ensures { IfOk result (λ tree. tree ≡ remove values.now at) }
@@ -137,7 +137,7 @@ fn leaf_without<T: Copy>(alloc: Global, values: &[T], at: usize) -> Result<Tree<
     leaf(alloc, &values[..at], &values[at + 1..])
 }
 
-// The row of these integers with one in place of the one at this place.
+// The row of these values with one in place of the one at this place.
 fn leaf_replaced<T: Copy>(
     alloc: Global,
     values: &[T],
@@ -150,7 +150,7 @@ fn leaf_replaced<T: Copy>(
     leaf_around(alloc, &values[..at], value, &values[at + 1..])
 }
 
-// The integers from this place on.
+// The values from this place on.
 fn behind<T: Copy>(few: &Vec<T>, from: u32) -> &[T]
     requires { from ≤ length few.now.items }
     ensures { result.now ≡ drop from few.now.items }
@@ -184,7 +184,7 @@ fn fork<T: Copy>(alloc: Global, left: Tree<T>, right: Tree<T>) -> Result<Tree<T>
     })
 }
 
-// The row of these integers with one more at this place, which is not the end, as two leaves, each with half of them.
+// The row of these values with one more at this place, which is not the end, as two leaves, each with half of them.
 fn parted<T: Copy>(alloc: Global, values: &[T], at: usize, value: T) -> Result<Tree<T>, AllocError>
     requires { at < length values.now }
     ensures { IfOk result (λ tree. tree ≡ insert values.now at value) }
@@ -282,7 +282,7 @@ fn joined<T: Copy>(alloc: Global, left: Tree<T>, right: Tree<T>) -> Result<Tree<
 }
 
 impl<T: Copy> Tree<T> {
-    /// No integers. Takes no memory.
+    /// No values. Takes no memory.
     pub fn new() -> Tree<T>
         ensures { result ≡ [] }
     {
@@ -320,7 +320,7 @@ impl<T: Copy> Tree<T> {
         }
     }
 
-    /// The same integers, all of them shared. Takes constant time, and no memory; `AllocError` where as many share them as can be
+    /// The same values, all of them shared. Takes constant time, and no memory; `AllocError` where as many share them as can be
     /// counted.
     pub fn copy(&self) -> Result<Tree<T>, AllocError>
         ensures { IfOk result (λ tree. tree ≡ self.now) }
@@ -336,8 +336,8 @@ impl<T: Copy> Tree<T> {
         }
     }
 
-    /// The integers with one more at this place; `AllocError` where there is no memory for it. Takes the time and the memory of the
-    /// way to the place, which grow with the logarithm of how many integers there are.
+    /// The values with one more at this place; `AllocError` where there is no memory for it. Takes the time and the memory of the
+    /// way to the place, which grow with the logarithm of how many values there are.
     pub fn with(&self, alloc: Global, at: usize, value: T) -> Result<Tree<T>, AllocError>
         requires { at ≤ length self.now }
         ensures { IfOk result (λ tree. tree ≡ insert self.now at value) }
@@ -381,7 +381,7 @@ impl<T: Copy> Tree<T> {
         }
     }
 
-    /// The integers without the one at this place; `AllocError` where there is no memory for it. Takes the time and the memory of
+    /// The values without the one at this place; `AllocError` where there is no memory for it. Takes the time and the memory of
     /// the way to the place, as above.
     pub fn without(&self, alloc: Global, at: usize) -> Result<Tree<T>, AllocError>
         requires { at < length self.now }
@@ -409,7 +409,7 @@ impl<T: Copy> Tree<T> {
         }
     }
 
-    /// The integers with this one in place of the one at this place; `AllocError` where there is no memory for it. Takes the time and
+    /// The values with this one in place of the one at this place; `AllocError` where there is no memory for it. Takes the time and
     /// the memory of the way there, as above.
     pub fn replaced(&self, alloc: Global, at: usize, value: T) -> Result<Tree<T>, AllocError>
         requires { at < length self.now }
@@ -430,7 +430,7 @@ impl<T: Copy> Tree<T> {
         }
     }
 
-    /// The integers from this place on, as far as they lie in one piece of memory. Takes no memory, and the time of the way there.
+    /// The values from this place on, as far as they lie in one piece of memory. Takes no memory, and the time of the way there.
     pub fn part_at(&self, at: usize) -> &[T]
         requires { at < length self.now }
         ensures some { 0 < length result.now }
@@ -450,7 +450,7 @@ impl<T: Copy> Tree<T> {
         }
     }
 
-    /// The integer at this place. Takes no memory, and the time of the way there.
+    /// The value at this place. Takes no memory, and the time of the way there.
     pub fn get(&self, at: usize) -> T
         requires { at < length self.now }
         ensures { (d : T) → result ≡ get_or self.now at d }
@@ -458,8 +458,8 @@ impl<T: Copy> Tree<T> {
         self.part_at(at)[0]
     }
 
-    /// Puts the integers behind those in the list; `AllocError` where there is no memory for them, and then some may be put. Takes
-    /// the time of the integers.
+    /// Puts the values behind those in the list; `AllocError` where there is no memory for them, and then some may be put. Takes
+    /// the time of the values.
     pub fn append_to(&self, list: &mut Vec<T>) -> Result<(), AllocError>
         ensures { OnOk result (list.new.items ≡ list.old.items ++ self.now) }
     {
@@ -475,7 +475,7 @@ impl<T: Copy> Tree<T> {
 }
 
 impl<T: Placed> Tree<T> {
-    /// A place in front of which stands an integer below the value, if any does, and at which stands none below it. In a row that
+    /// A place in front of which stands a value whose place is below this one, if any does, and at which stands none below it. In a row that
     /// never falls there is one alone. Takes no memory, and the time of the way there.
     pub fn place_of(&self, value: i64) -> usize
         ensures within { result ≤ length self.now }
@@ -495,7 +495,7 @@ impl<T: Placed> Tree<T> {
         }
     }
 
-    /// Whether both have the same integers in the same order. Takes no memory.
+    /// Whether both have the same values in the same order. Takes no memory.
     pub fn same(&self, other: &Tree<T>) -> bool
         ensures { IsTrue result ↔ (self.now ≡ other.now) }
     {
