@@ -97,6 +97,7 @@ pub fn step<M: SeqObject>(
 ) -> Result<(), AllocError>
     ensures outcomes { OnOk result (outcomes.new.items ≡ M.apply_to op.now state.now) }
     ensures counted { applied.new ≡ min (applied.old + 1) (2 ^ 64 - 1) }
+    ensures never_falls { applied.old ≤ applied.new }
 {
     *applied = applied.saturating_add(1);
     outcomes.clear();
@@ -161,6 +162,7 @@ pub fn led_to<M: SeqObject>(
     ensures likes { moves.new.likes ≡ moves.old.likes }
     ensures widens { Widens table.old table.new }
     ensures rows { rows_of table.new ≡ rows_of table.old }
+    ensures never_falls { applied.old ≤ applied.new }
     ensures cost { applied.new ≤ applied.old + 1 }
 {
     match moves::recalled(moves, number, place, calls.len()) {
