@@ -108,6 +108,7 @@ fn tried<M: SeqObject>(
         × IsDeed table.new call.now (M.apply_to call.now.op s) deed) }
     ensures widens { Widens table.old table.new }
     ensures rows { rows_of table.new ≡ rows_of table.old }
+    ensures never_falls { applied.old ≤ applied.new }
     ensures cost { applied.new ≤ applied.old + 1 }
 {
     let Some(state) = table.states.get(number) else {
@@ -172,6 +173,7 @@ pub fn try_each<M: SeqObject>(
     ensures others { (n : ℕ) → OnOk result (IsTried deeds.new n → (n ≡ number) ⊎ IsTried deeds.old n) }
     ensures widens { Widens table.old table.new }
     ensures rows { rows_of table.new ≡ rows_of table.old }
+    ensures never_falls { applied.old ≤ applied.new }
     ensures cost { applied.new ≤ applied.old + length calls.now }
 {
     let before = deeds.deeds.len();
