@@ -19,6 +19,9 @@ const SOME: usize = 32;
 // More products than these become rows, and so do those above [`SOME`] that have fewer than four rows each.
 const MOST: usize = 128;
 
+// So many calls that were not tried make many ends of few.
+const MANY_UNTRIED: usize = 4;
+
 // So many things found, and so many states, do not ask for other numbers.
 const FEW_FOUND: usize = 24;
 
@@ -84,6 +87,12 @@ fn has_read(calls: &[PendingOp]) -> bool {
 pub fn may_be_few<S: Hash + Drop>(table: &Table<S>, calls: &[PendingOp]) -> bool {
     let rows = table.rows.len();
     rows > FEW && rows <= SOME && has_read(calls)
+}
+
+/// Whether rows become products before an ok: there are at most 32 of them, a read is among the calls, and four calls or more were not
+/// tried, so that an ok finds many ends. Takes no memory, and the time of the calls.
+pub fn may_grow<S: Hash + Drop>(table: &Table<S>, calls: &[PendingOp], tried: usize) -> bool {
+    table.rows.len() <= SOME && calls.len() >= tried.saturating_add(MANY_UNTRIED) && has_read(calls)
 }
 
 /// The products that are left take the place of the others. Takes no memory, and constant time.

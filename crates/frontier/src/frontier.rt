@@ -517,8 +517,8 @@ impl<M: SeqObject> Frontier<M> {
         Ok(all)
     }
 
-    // Products become rows where an operation may have several outcomes. On `AllocError` the frontier stands for what it stood
-    // for.
+    // The form in which all ends are found: products become rows where an operation may have several outcomes, and else few rows
+    // become products where many calls were not tried. On `AllocError` the frontier stands for what it stood for.
     fn suit_outcomes(&mut self) -> Result<(), AllocError>
         ensures keeps { let object = of_table M.State M.start_state M.apply_to in
             Keeps (IsListed object self.old) (IsListed object self.new) }
@@ -527,11 +527,15 @@ impl<M: SeqObject> Frontier<M> {
         ensures budget { budget_of self.new ≡ budget_of self.old }
         ensures cost { applied_of self.new ≡ applied_of self.old }
     {
-        if M::has_scalar_states() {
-            Ok(())
-        } else {
-            self.make_rows()
+        if !M::has_scalar_states() {
+            return self.make_rows();
         }
+        if self.as_products.is_none()
+            && as_products::may_grow(&self.table, &self.calls, self.tried)
+        {
+            return self.make_products();
+        }
+        Ok(())
     }
 
     // Puts what is left of all ends after the ok into the room. False where there are more ends than the budget.
@@ -568,6 +572,7 @@ impl<M: SeqObject> Frontier<M> {
                     &those.kept,
                     &mut those.room,
                     &self.calls,
+                    self.tried,
                     budget,
                     &mut self.applied,
                     id,

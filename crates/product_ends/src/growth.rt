@@ -1,12 +1,12 @@
 //! The ends that calls lead to from others, as products.
-ghost use Rattle.std.specs.Prelude.{◌≡◌, ◌≢◌, ◌<◌, ◌≤◌, ◌+◌, ◌-◌, ◌*◌, ◌^◌, ◌⊎◌, ℕ, List, [], IfOk, OnOk, true, false, Some, length, slice_get, slice_set};
+ghost use Rattle.std.specs.Prelude.{◌≡◌, ◌≢◌, ◌<◌, ◌≤◌, ◌+◌, ◌-◌, ◌*◌, ◌^◌, ◌⊎◌, ℕ, List, [], IfOk, OnOk, true, false, Some, length, slice_get, slice_set, take};
 ghost use Rattle.models.specs.Objects.{of_table};
 ghost use Rattle.models.specs.declared.operation.Op.{Op};
 ghost use Rattle.linspec.specs.Ends.{End};
 ghost use Rattle.linspec.specs.Orders.{Pairwise};
 ghost use Rattle.std.specs.List.{filter};
 ghost use Rattle.ends.specs.declared.pending_op.PendingOp.{PendingOp};
-ghost use Rattle.ends.specs.EndSteps.{Along, Fails, IsReached, ReachesMoreThan, is_other};
+ghost use Rattle.ends.specs.EndSteps.{Along, AreClosed, Fails, IsReached, ReachesMoreThan, is_other};
 ghost use Rattle.ends.specs.Tables.{AreShown, HasEachOnce, IsAdvanced, IsOpenAt, ShownWith, Shows, Widens, rows_of, with_rows};
 ghost use Rattle.products.specs.Products.{AreApart, AreIn, IsIn, IsInOne, rows_in};
 ghost use Rattle.product_ends.specs.Deeds.{AreDeeds, AreStays, AreWithin, IsTried};
@@ -447,20 +447,62 @@ fn grow<M: SeqObject>(
     Ok(true)
 }
 
+// Puts the products of what the answer leaves of the kept ends, from which the calls lead to no others, in place of those that were
+// there. False where the kept ends are more than the budget.
+fn settle_kept<M: SeqObject>(
+    table: &Table<M::State>,
+    kept: &Products,
+    work: &mut Work<M::State>,
+    left: &mut Products,
+    calls: &[PendingOp],
+    budget: u32,
+    id: u32,
+    answer: &Answer,
+) -> Result<bool, AllocError>
+    ensures all { let object = of_table M.State M.start_state M.apply_to in
+        HasEachOnce calls.now → (ends : List (End M.State))
+        → AreShown (with_rows table.now (rows_in kept.now.1)) calls.now ends → AreClosed object calls.now ends
+        → IfOk result (λ all. all ≡ true → IsAdvanced object
+        (with_rows table.now (rows_in left.new.1)) calls.now ends budget id answer.now) }
+    ensures over { let object = of_table M.State M.start_state M.apply_to in
+        (ends : List (End M.State)) → Pairwise (λ d e. d ≢ e) ends
+        → AreShown (with_rows table.now (rows_in kept.now.1)) calls.now ends
+        → IfOk result (λ all. all ≡ false → ReachesMoreThan object calls.now ends budget) }
+{
+    if kept.rows() > budget as u64 {
+        return Ok(false);
+    }
+    after::settled(
+        table,
+        kept,
+        left,
+        calls,
+        id,
+        answer,
+        &mut work.marks,
+        &mut work.next,
+        &mut work.stack,
+    )?;
+    Ok(true)
+}
+
 /// Puts the products of the ends that are left after the operation has returned with this answer into the room: of those where it
 /// is in and what it found fits, each without it. False where all ends, these and what the calls lead to from them one after
-/// another, are more than the budget. Each call has at most one outcome in a state. The rows of the table stay, and so do the kept
-/// products.
+/// another, are more than the budget. This is so where each call is of another operation, and the first calls, so many as were tried
+/// already, lead from the ends to no others. Each call has at most one outcome in a state. The rows of the table stay, and so do the
+/// kept products.
 ///
 /// `AllocError` where there is no memory for them: the steps that were made stay counted, and the room may have some of what is left.
-/// It makes at most one step for each call in each state, and compares each product that comes of one with all others: the square of
-/// the products at worst, and more where they are cut into pieces.
+/// It makes no step where all calls were tried, and then takes the time of the products. Else it makes at most one step for each call
+/// in each state, and compares each product that comes of one with all others: the square of the products at worst, and more where
+/// they are cut into pieces.
 pub fn advance<M: SeqObject>(
     alloc: Global,
     table: &mut Table<M::State>,
     kept: &Products,
     room: &mut Room<M::State>,
     calls: &[PendingOp],
+    tried: usize,
     budget: u32,
     applied: &mut u64,
     id: u32,
@@ -470,11 +512,13 @@ pub fn advance<M: SeqObject>(
     ensures all { let object = of_table M.State M.start_state M.apply_to in
         HasEachOnce calls.now → (ends : List (End M.State))
         → AreShown (with_rows table.old (rows_in kept.now.1)) calls.now ends
+        → AreClosed object (take tried calls.now) ends
         → IfOk result (λ all. all ≡ true → IsAdvanced object
         (with_rows table.new (rows_in room.new.left.1)) calls.now ends budget id answer.now) }
     ensures over { let object = of_table M.State M.start_state M.apply_to in
         HasEachOnce calls.now → (ends : List (End M.State)) → Pairwise (λ d e. d ≢ e) ends
         → AreShown (with_rows table.old (rows_in kept.now.1)) calls.now ends
+        → AreClosed object (take tried calls.now) ends
         → IfOk result (λ all. all ≡ false → ReachesMoreThan object calls.now ends budget) }
     ensures widens { Widens table.old table.new }
     ensures rows { rows_of table.new ≡ rows_of table.old }
@@ -486,6 +530,9 @@ pub fn advance<M: SeqObject>(
         return Err(AllocError);
     };
     let work = &mut **work;
+    if tried >= calls.len() {
+        return settle_kept::<M>(table, kept, work, &mut room.left, calls, budget, id, answer);
+    }
     if !grow::<M>(alloc, table, kept, work, calls, budget, applied)? {
         return Ok(false);
     }
