@@ -31,7 +31,7 @@ pub struct Room<S> {
 }
 
 impl<S> Room<S> {
-    /// None yet. Takes no memory.
+    /// None yet.
     pub fn new(alloc: Global) -> Room<S> {
         Room {
             moves: Moves::new(alloc),
@@ -43,7 +43,7 @@ impl<S> Room<S> {
 }
 
 impl<S: Drop> Room<S> {
-    /// Some for the oks of two clients, which grows where there are more. `AllocError` where there is no memory for it.
+    /// Some for the oks of two clients, which grows where there are more.
     pub fn for_two(alloc: Global) -> Result<Room<S>, AllocError> {
         let mut room = Room::new(alloc);
         room.moves = Moves::with_room(alloc)?;

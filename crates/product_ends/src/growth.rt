@@ -47,7 +47,7 @@ pub struct Room<S> {
 }
 
 impl<S> Room<S> {
-    /// None yet. Takes no memory.
+    /// None yet.
     pub fn new(alloc: Global) -> Room<S> {
         Room {
             work: None,
@@ -56,7 +56,7 @@ impl<S> Room<S> {
     }
 }
 
-// Makes the memory to work in, where there is none yet. `AllocError` where there is no memory for it.
+// Makes the memory to work in, where there is none yet.
 fn make<S: Drop>(alloc: Global, work: &mut Option<Box<Work<S>>>) -> Result<(), AllocError> {
     if work.is_none() {
         let none = Work {
@@ -551,8 +551,8 @@ pub fn advance<M: SeqObject>(
     Ok(true)
 }
 
-/// Puts the products after the operation, which is open, has failed into the room, of those ends that it is not in, each without its
-/// number. None where it is not open. `AllocError` where there is no memory for them. Takes the time of the products.
+/// Puts the products after the operation, which is open, has failed into the room, of those ends that it is not in, each without
+/// its number. None where it is not open. Takes the time of the products.
 pub fn failed<S: Hash + Drop>(
     alloc: Global,
     table: &Table<S>,
