@@ -559,6 +559,7 @@ impl<M: SeqObject> Frontier<M> {
         ensures rows { rows_of (table_of self.new) ≡ rows_of (table_of self.old) }
         ensures next { self.new.next ≡ self.old.next }
         ensures budget { budget_of self.new ≡ budget_of self.old }
+        ensures never_falls { applied_of self.old ≤ applied_of self.new }
         ensures cost { applied_of self.new
             ≤ applied_of self.old + (budget_of self.old + 1) * length self.old.calls.items }
     {
@@ -628,7 +629,7 @@ impl<M: SeqObject> Frontier<M> {
     }
 
     /// How many steps were made so far: how often an operation was tried in a state, also in an ok that was answered Over or
-    /// found no memory. Stops at the greatest u64. Takes no memory, and constant time.
+    /// found no memory. It never falls, and stops at the greatest u64. Takes no memory, and constant time.
     pub fn applied(&self) -> u64
         ensures { result ≡ applied_of self.now }
     {
