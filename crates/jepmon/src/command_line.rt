@@ -1,11 +1,11 @@
 //! The words of the command line.
-ghost use Rattle.std.specs.Prelude.{◌≡◌, length, IfOk, Ok, false, unwrap_or};
+ghost use Rattle.std.specs.Prelude.{◌≡◌, ◌≤◌, length, IfOk, IfSome, Ok, false};
 ghost use Rattle.harness.specs.Setups.{setup_of, IsSetup};
 ghost use Rattle.harness.specs.declared.config.Config.{Config};
-ghost use Rattle.clap.specs.Words.{first_value, found_of, kind_of};
+ghost use Rattle.clap.specs.Words.{found_of, kind_of};
 ghost use Rattle.run_plans.specs.Options.{default_setup};
-ghost use Rattle.jepmon.specs.CommandLine.{IsWithinLimits};
-ghost use Rattle.jepmon.specs.Stops.{IsUsageFault};
+ghost use Rattle.jepmon.specs.CommandLine.{AreJudgingTexts, AreRunTexts, ChecksAsFound, IsWithinLimits, JudgesAsFound, RunsAsFound, text_found, workers_found};
+ghost use Rattle.jepmon.specs.Stops.{IsStopBy, IsUsageFault};
 
 use crate::help;
 use clap::error::ErrorKind;
@@ -92,49 +92,82 @@ pub fn order_of(alloc: Global, words: &[String]) -> Result<Order, Stop>
     }
 }
 
-// The order to judge a recorded history.
-fn check_of(alloc: Global, options: &ArgMatches, config: Config) -> Result<Order, Stop>
+/// The order to judge a recorded history, by what was found of the options of a check beside those by which it is judged. It
+/// takes memory for the path, and for a usage fault.
+///
+/// # Errors
+///
+/// `Usage` without a file, and for workers that are no number, 1 to 64; `Refused` with `NoMemory` where memory is refused.
+pub fn check_of(alloc: Global, options: &ArgMatches, config: Config) -> Result<Order, Stop>
     requires { IsSetup (setup_of config) }
-    ensures { IfOk result IsWithinLimits }
+    ensures within { IfOk result IsWithinLimits }
+    ensures found { ChecksAsFound (found_of options.now) config result }
 {
     let Some(path) = options.get_str("FILE") else {
         return Err(usage_of(alloc, "check", "check takes a file"));
     };
-    let Some(workers) = options.get_str("workers").and_then(workers_in) else {
+    let Some(workers) = workers_of(options) else {
         return Err(usage_of(alloc, "check", "--workers takes a number, 1 to 64"));
     };
-    Ok(Order::Check {
-        path: String::from_str(alloc, path)?,
-        workers,
-        config,
-    })
+    match String::from_str(alloc, path) {
+        Ok(path) => Ok(Order::Check {
+            path,
+            workers,
+            config,
+        }),
+        Err(_) => Err(Stop::Refused(Refusal::NoMemory)),
+    }
 }
 
-// The order to run clients.
-fn run_of(alloc: Global, options: &ArgMatches) -> Result<Order, Stop>
-    ensures { IfOk result IsWithinLimits }
+// How many workers were asked for, 1 to 64.
+fn workers_of(options: &ArgMatches) -> Option<u32>
+    ensures found { result ≡ workers_found (found_of options.now) }
+    ensures limits { IfSome result (λ workers. (1 ≤ workers) × (workers ≤ 64)) }
 {
-    match run_texts(options).config(alloc) {
+    workers_in(options.get_str("workers")?)
+}
+
+/// The order to run clients, by what was found of the options of a run. It takes the time and the memory of
+/// [`RunTexts::config`].
+///
+/// # Errors
+///
+/// Those of [`order_of`] where the words are `run`, and of no other words.
+pub fn run_of(alloc: Global, options: &ArgMatches) -> Result<Order, Stop>
+    ensures within { IfOk result IsWithinLimits }
+    ensures found { RunsAsFound (found_of options.now) result }
+{
+    let defaults = RunTexts::defaults();
+    match run_texts(options, &defaults).config(alloc) {
         Ok(config) => Ok(Order::Run(config)),
         Err(why) => Err(stop_by(alloc, "run", why)),
     }
 }
 
-// How the options of the command of this name have a history judged.
-fn config_of(alloc: Global, name: &str, options: &ArgMatches) -> Result<Config, Stop>
-    ensures { IfOk result (λ config. IsSetup (setup_of config)) }
+/// How the one-thread object is opened by what was found of the options of the command of this name, which judges alone. It
+/// takes memory for a usage fault alone.
+///
+/// # Errors
+///
+/// `Usage` for a budget or a concurrency that is no number, and for a model of another name; else `Refused` with `BadBudget`,
+/// else with `BadConcurrency`, for a number out of its limits.
+pub fn config_of(alloc: Global, name: &str, options: &ArgMatches) -> Result<Config, Stop>
+    ensures within { IfOk result (λ config. IsSetup (setup_of config)) }
+    ensures found { JudgesAsFound (found_of options.now) result }
 {
-    match judging_texts(options).config(alloc) {
+    let defaults = JudgingTexts::defaults();
+    match judging_texts(options, &defaults).config(alloc) {
         Ok(config) => Ok(config),
         Err(why) => Err(stop_by(alloc, name, why)),
     }
 }
 
 // The texts of the options of a run.
-fn run_texts<'a>(options: &ArgMatches<'a>) -> RunTexts<'a> {
-    let defaults = RunTexts::defaults();
+fn run_texts<'a>(options: &ArgMatches<'a>, defaults: &RunTexts<'static>) -> RunTexts<'a>
+    ensures { AreRunTexts (found_of options.now) defaults.now result }
+{
     RunTexts {
-        judging: judging_texts(options),
+        judging: judging_texts(options, &defaults.judging),
         seed: text_or(options, "seed", defaults.seed),
         operations: text_or(options, "ops", defaults.operations),
         keys: text_or(options, "keys", defaults.keys),
@@ -145,8 +178,9 @@ fn run_texts<'a>(options: &ArgMatches<'a>) -> RunTexts<'a> {
 }
 
 // The texts of the options by which a history is judged.
-fn judging_texts<'a>(options: &ArgMatches<'a>) -> JudgingTexts<'a> {
-    let defaults = JudgingTexts::defaults();
+fn judging_texts<'a>(options: &ArgMatches<'a>, defaults: &JudgingTexts<'static>) -> JudgingTexts<'a>
+    ensures { AreJudgingTexts (found_of options.now) defaults.now result }
+{
     JudgingTexts {
         budget: text_or(options, "budget", defaults.budget),
         concurrency: text_or(options, "concurrency", defaults.concurrency),
@@ -156,7 +190,7 @@ fn judging_texts<'a>(options: &ArgMatches<'a>) -> JudgingTexts<'a> {
 
 // The text of an option, or this one where it has none.
 fn text_or<'a>(options: &ArgMatches<'a>, id: &str, default: &'static str) -> &'a str
-    ensures { result.now ≡ unwrap_or (first_value (found_of options.now) id.now) default.now }
+    ensures { result.now ≡ text_found (found_of options.now) id.now default.now }
 {
     match options.get_str(id) {
         Some(text) => text,
@@ -165,7 +199,9 @@ fn text_or<'a>(options: &ArgMatches<'a>, id: &str, default: &'static str) -> &'a
 }
 
 // Why there is no order of the command of this name: a usage fault of an option, or a refusal.
-fn stop_by(alloc: Global, name: &str, why: Misspelled) -> Stop {
+fn stop_by(alloc: Global, name: &str, why: Misspelled) -> Stop
+    ensures { IsStopBy why result }
+{
     match why {
         Misspelled::Unread(option) => usage_of(alloc, name, taken_by(option)),
         Misspelled::Refused(refusal) => Stop::Refused(refusal),
@@ -299,7 +335,9 @@ fn program<'a>(alloc: Global) -> Result<Command<'a>, AllocError> {
 }
 
 // A usage fault of the command of this name, with this message.
-fn usage_of(alloc: Global, name: &str, message: &str) -> Stop {
+fn usage_of(alloc: Global, name: &str, message: &str) -> Stop
+    ensures { IsUsageFault result }
+{
     let command = match name {
         "check" => check(alloc),
         "run" => run(alloc),
