@@ -1,9 +1,9 @@
 -- Promise: what the words of the command line ask for
-use Rattle.std.specs.Prelude.{◌≡◌, ◌≤◌, ◌⊎◌, ℕ, List, codes, Option, Some, option_and_then, unwrap_or, Result, Ok, Err, IsOk, MatchResult, String, string_bytes}
+use Rattle.std.specs.Prelude.{◌≡◌, ◌≤◌, ◌⊎◌, ℕ, Bool, true, false, List, codes, Option, Some, None, option_and_then, unwrap_or, Result, Ok, Err, IsOk, MatchResult, String, string_bytes}
 use Rattle.std.specs.declared.alloc.Global.{Global}
 use Rattle.edn.specs.declared.refusal.Refusal.TheVariants.{NoMemory}
 use Rattle.clap.specs.declared.parser.matches.Found.{Found}
-use Rattle.clap.specs.Matches.{first_value}
+use Rattle.clap.specs.Matches.{first_value, one_text}
 use Rattle.harness.specs.declared.config.Config.{Config}
 use Rattle.harness.specs.Setups.{IsSetup, setup_of}
 use Rattle.run_plans.specs.declared.options.JudgingTexts.{JudgingTexts}
@@ -46,7 +46,18 @@ AreRunTexts found defaults texts =
     × (texts.mode.now ≡ text_found found (codes "mode") defaults.mode.now)
     × (texts.faults.now ≡ text_found found (codes "faults") defaults.faults.now)
 
--- it is the configuration that the texts spell which were found, or those of the default; or the stop by what they miss
+-- how many workers the text of the option spells
+abbrev pub workers_found : Found → Option ℕ
+workers_found found = option_and_then (number_within 1 64) (first_value found (codes "workers"))
+
+-- whether the flag was given, as far as what was found says it
+abbrev pub IsFlagFound : Found → List ℕ → Bool → Type 0
+IsFlagFound found id flag =
+    ((one_text found id ≡ None) → (flag ≡ false))
+    × ((one_text found id ≡ Some (codes "true")) → (flag ≡ true))
+    × ((one_text found id ≡ Some (codes "false")) → (flag ≡ false))
+
+-- there is the configuration that the texts spell, or the stop by what they miss
 abbrev pub JudgesAsFound : Found → Result Config Stop → Type 0
 JudgesAsFound found result =
     (defaults : JudgingTexts) × (judging_spelled defaults ≡ Ok default_setup)
@@ -55,7 +66,28 @@ JudgesAsFound found result =
     (λ config. judging_spelled texts ≡ Ok (setup_of config))
     (λ stop. (why : Misspelled) × (judging_spelled texts ≡ Err why) × IsStopBy why stop))
 
--- the same of a run; or memory was refused, where they spell one
+-- where there is a configuration to judge by, the order is such a one; else there is the stop
+abbrev pub AfterJudging : Found → (Config → Result Order Stop → Type 0) → Result Order Stop → Type 0
+AfterJudging found IsSuch result =
+    (judged : Result Config Stop) × JudgesAsFound found judged
+    × MatchResult judged (λ config. IsSuch config result) (λ stop. result ≡ Err stop)
+
+-- lines are answered by this configuration, and the script is strict where that was found
+abbrev pub ScriptsAsFound : Found → Config → Result Order Stop → Type 0
+ScriptsAsFound found config result =
+    (is_strict : Bool) × (result ≡ Ok (Script config is_strict)) × IsFlagFound found (codes "strict") is_strict
+
+-- the file that was found is judged by this configuration, by so many workers; or there is a usage fault
+abbrev pub ChecksAsFound : Found → Config → Result Order Stop → Type 0
+ChecksAsFound found config result =
+    MatchResult result
+    (λ order. (path : String Global) × (workers : ℕ) × (order ≡ Check path workers config)
+    × (first_value found (codes "FILE") ≡ Some (string_bytes path))
+    × (workers_found found ≡ Some workers))
+    IsUsageFault
+
+-- clients run by the configuration that the texts of a run spell, or there is the stop by what they miss; or memory was
+-- refused, where they spell one
 abbrev pub RunsAsFound : Found → Result Order Stop → Type 0
 RunsAsFound found result =
     (defaults : RunTexts) × (run_spelled defaults ≡ Ok default_run)
@@ -65,16 +97,3 @@ RunsAsFound found result =
     (λ stop. (why : Misspelled)
     × ((run_spelled texts ≡ Err why) ⊎ ((why ≡ Refused NoMemory) × IsOk (run_spelled texts)))
     × IsStopBy why stop))
-
--- how many workers the text of the option spells
-abbrev pub workers_found : Found → Option ℕ
-workers_found found = option_and_then (number_within 1 64) (first_value found (codes "workers"))
-
--- it judges the file that was found, by so many workers, as this configuration says; or there is a usage fault
-abbrev pub ChecksAsFound : Found → Config → Result Order Stop → Type 0
-ChecksAsFound found config result =
-    MatchResult result
-    (λ order. (path : String Global) × (workers : ℕ) × (order ≡ Check path workers config)
-    × (first_value found (codes "FILE") ≡ Some (string_bytes path))
-    × (workers_found found ≡ Some workers))
-    IsUsageFault

@@ -1,10 +1,10 @@
 //! The words of the command line.
-ghost use Rattle.std.specs.Prelude.{◌≡◌, ◌≤◌, length, IfOk, IfSome, Ok, false};
+ghost use Rattle.std.specs.Prelude.{◌≡◌, ◌≤◌, length, IfOk, IfSome, Ok, false, codes};
 ghost use Rattle.harness.specs.Setups.{setup_of, IsSetup};
 ghost use Rattle.harness.specs.declared.config.Config.{Config};
 ghost use Rattle.clap.specs.Words.{found_of, kind_of};
 ghost use Rattle.run_plans.specs.Options.{default_setup};
-ghost use Rattle.jepmon.specs.CommandLine.{AreJudgingTexts, AreRunTexts, ChecksAsFound, IsWithinLimits, JudgesAsFound, RunsAsFound, text_found, workers_found};
+ghost use Rattle.jepmon.specs.CommandLine.{AfterJudging, AreJudgingTexts, AreRunTexts, ChecksAsFound, IsWithinLimits, JudgesAsFound, RunsAsFound, ScriptsAsFound, text_found, workers_found};
 ghost use Rattle.jepmon.specs.Stops.{IsStopBy, IsUsageFault};
 
 use crate::help;
@@ -78,27 +78,50 @@ pub fn order_of(alloc: Global, words: &[String]) -> Result<Order, Stop>
     let Some((name, options)) = matches.subcommand() else {
         return Err(usage(&mut command, "no command was given"));
     };
-    if name == "run" {
-        return run_of(alloc, options);
-    }
-    let config = config_of(alloc, name, options)?;
-    if name == "check" {
-        check_of(alloc, options, config)
-    } else {
-        Ok(Order::Script {
-            config,
-            is_strict: options.get_flag("strict"),
-        })
-    }
+    order_by(alloc, name, options)
 }
 
-/// The order to judge a recorded history, by what was found of the options of a check beside those by which it is judged. It
-/// takes memory for the path, and for a usage fault.
+/// The order of the command of this name, by what was found of its options: of `run`, of `check`, else of `script`. It takes
+/// memory for the parts of a run, for the path of a file, and for a usage fault.
 ///
 /// # Errors
 ///
-/// `Usage` without a file, and for workers that are no number, 1 to 64; `Refused` with `NoMemory` where memory is refused.
-pub fn check_of(alloc: Global, options: &ArgMatches, config: Config) -> Result<Order, Stop>
+/// Those of [`order_of`], but for help and for words that are none of the program's.
+pub fn order_by(alloc: Global, name: &str, options: &ArgMatches) -> Result<Order, Stop>
+    ensures within { IfOk result IsWithinLimits }
+    ensures run { name.now ≡ codes "run" → RunsAsFound (found_of options.now) result }
+    ensures check { name.now ≡ codes "check"
+        → AfterJudging (found_of options.now) (ChecksAsFound (found_of options.now)) result }
+    ensures script { name.now ≡ codes "script"
+        → AfterJudging (found_of options.now) (ScriptsAsFound (found_of options.now)) result }
+{
+    if name == "run" {
+        return run_of(alloc, options);
+    }
+    match config_of(alloc, name, options) {
+        Ok(config) => {
+            if name == "check" {
+                check_of(alloc, options, config)
+            } else {
+                Ok(script_of(options, config))
+            }
+        }
+        Err(stop) => Err(stop),
+    }
+}
+
+// The order to answer lines, which judges as this configuration says.
+fn script_of(options: &ArgMatches, config: Config) -> Order
+    ensures { ScriptsAsFound (found_of options.now) config (Ok result) }
+{
+    Order::Script {
+        config,
+        is_strict: options.get_flag("strict"),
+    }
+}
+
+// The order to judge a recorded history, which judges as this configuration says.
+fn check_of(alloc: Global, options: &ArgMatches, config: Config) -> Result<Order, Stop>
     requires { IsSetup (setup_of config) }
     ensures within { IfOk result IsWithinLimits }
     ensures found { ChecksAsFound (found_of options.now) config result }
@@ -127,13 +150,8 @@ fn workers_of(options: &ArgMatches) -> Option<u32>
     workers_in(options.get_str("workers")?)
 }
 
-/// The order to run clients, by what was found of the options of a run. It takes the time and the memory of
-/// [`RunTexts::config`].
-///
-/// # Errors
-///
-/// Those of [`order_of`] where the words are `run`, and of no other words.
-pub fn run_of(alloc: Global, options: &ArgMatches) -> Result<Order, Stop>
+// The order to run clients.
+fn run_of(alloc: Global, options: &ArgMatches) -> Result<Order, Stop>
     ensures within { IfOk result IsWithinLimits }
     ensures found { RunsAsFound (found_of options.now) result }
 {
@@ -144,14 +162,8 @@ pub fn run_of(alloc: Global, options: &ArgMatches) -> Result<Order, Stop>
     }
 }
 
-/// How the one-thread object is opened by what was found of the options of the command of this name, which judges alone. It
-/// takes memory for a usage fault alone.
-///
-/// # Errors
-///
-/// `Usage` for a budget or a concurrency that is no number, and for a model of another name; else `Refused` with `BadBudget`,
-/// else with `BadConcurrency`, for a number out of its limits.
-pub fn config_of(alloc: Global, name: &str, options: &ArgMatches) -> Result<Config, Stop>
+// How the one-thread object is opened, which judges alone, by the options of the command of this name.
+fn config_of(alloc: Global, name: &str, options: &ArgMatches) -> Result<Config, Stop>
     ensures within { IfOk result (λ config. IsSetup (setup_of config)) }
     ensures found { JudgesAsFound (found_of options.now) result }
 {
