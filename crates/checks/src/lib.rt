@@ -8,6 +8,7 @@ mod reading;
 mod recorded;
 mod telling;
 
-pub use check::{check_file, check_input, check_text};
+pub use check::{SeenFile, check_file, check_input, check_text};
+pub use reading::read_events;
 pub use recorded::{Findings, event_text, judge_text};
 pub use telling::{REFUSED, put_refused, put_text, status_of_verdict};

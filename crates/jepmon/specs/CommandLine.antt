@@ -14,12 +14,13 @@ use Rattle.run_plans.specs.Options.{default_run, default_setup, judging_spelled,
 use Rattle.jepmon.specs.Stops.{IsStopBy, IsUsageFault}
 use Rattle.jepmon.specs.declared.command_line.Stop.{Stop}
 use Rattle.jepmon.specs.declared.command_line.Order.{Order}
-use Rattle.jepmon.specs.declared.command_line.Order.TheVariants.{Script, Check, Run}
+use Rattle.jepmon.specs.declared.command_line.Order.TheVariants.{Script, Check, Confirm, Run}
 
 -- its numbers are within their limits. A run is as texts spell it; of its 64 seats the nemesis takes one
 abbrev pub IsWithinLimits : Order → Type 0
 IsWithinLimits (Script config is_strict) = IsSetup (setup_of config)
 IsWithinLimits (Check path workers config) = IsSetup (setup_of config) × (1 ≤ workers) × (workers ≤ 64)
+IsWithinLimits (Confirm path order_path concurrency kind) = (1 ≤ concurrency) × (concurrency ≤ 64)
 IsWithinLimits (Run config) =
     IsSetup (setup_of config) × (config.concurrency ≤ 63)
     × ((texts : RunTexts) × (run_spelled texts ≡ Ok (setup_of config)))
@@ -84,6 +85,15 @@ ChecksAsFound found config result =
     (λ order. (path : String Global) × (workers : ℕ) × (order ≡ Check path workers config)
     × (first_value found (codes "FILE") ≡ Some (string_bytes path))
     × (workers_found found ≡ Some workers))
+    IsUsageFault
+
+-- the order that was found is to be shown of the history that was found, which is read by this configuration; or there is a usage fault
+abbrev pub ConfirmsAsFound : Found → Config → Result Order Stop → Type 0
+ConfirmsAsFound found config result =
+    MatchResult result
+    (λ order. (path order_path : String Global) × (order ≡ Confirm path order_path config.concurrency config.kind)
+    × (first_value found (codes "FILE") ≡ Some (string_bytes path))
+    × (first_value found (codes "ORDER") ≡ Some (string_bytes order_path)))
     IsUsageFault
 
 -- clients run by the configuration that the texts of a run spell, or there is the stop by what they miss; or memory was

@@ -4,7 +4,7 @@ ghost use Rattle.harness.specs.Setups.{setup_of, IsSetup};
 ghost use Rattle.harness.specs.declared.config.Config.{Config};
 ghost use Rattle.clap.specs.Words.{found_of, kind_of};
 ghost use Rattle.run_plans.specs.Options.{default_setup};
-ghost use Rattle.jepmon.specs.CommandLine.{AfterJudging, AreJudgingTexts, AreRunTexts, ChecksAsFound, IsWithinLimits, JudgesAsFound, RunsAsFound, ScriptsAsFound, text_found, workers_found};
+ghost use Rattle.jepmon.specs.CommandLine.{AfterJudging, AreJudgingTexts, AreRunTexts, ChecksAsFound, ConfirmsAsFound, IsWithinLimits, JudgesAsFound, RunsAsFound, ScriptsAsFound, text_found, workers_found};
 ghost use Rattle.jepmon.specs.Stops.{IsStopBy, IsUsageFault};
 
 use crate::help;
@@ -34,6 +34,17 @@ pub enum Order {
         workers: u32,
         /// How the one-thread object is opened.
         config: Config,
+    },
+    /// Says what an order of its operations shows of a recorded history.
+    Confirm {
+        /// The file that the history stands in; `-` for standard input.
+        path: String,
+        /// The file that the order stands in.
+        order_path: String,
+        /// Threads of the clients.
+        concurrency: u32,
+        /// The object that every key is.
+        kind: ModelKind,
     },
     /// Runs clients against a store in the process.
     Run(Config),
@@ -81,8 +92,8 @@ pub fn order_of(alloc: Global, words: &[String]) -> Result<Order, Stop>
     order_by(alloc, name, options)
 }
 
-/// The order of the command of this name, by what was found of its options: of `run`, of `check`, else of `script`. It takes
-/// memory for the parts of a run, for the path of a file, and for a usage fault.
+/// The order of the command of this name, by what was found of its options: of `run`, of `check`, of `confirm`, else of `script`. It
+/// takes memory for the parts of a run, for the path of a file, and for a usage fault.
 ///
 /// # Errors
 ///
@@ -92,6 +103,8 @@ pub fn order_by(alloc: Global, name: &str, options: &ArgMatches) -> Result<Order
     ensures run { name.now ≡ codes "run" → RunsAsFound (found_of options.now) result }
     ensures check { name.now ≡ codes "check"
         → AfterJudging (found_of options.now) (ChecksAsFound (found_of options.now)) result }
+    ensures confirm { name.now ≡ codes "confirm"
+        → AfterJudging (found_of options.now) (ConfirmsAsFound (found_of options.now)) result }
     ensures script { name.now ≡ codes "script"
         → AfterJudging (found_of options.now) (ScriptsAsFound (found_of options.now)) result }
 {
@@ -102,6 +115,8 @@ pub fn order_by(alloc: Global, name: &str, options: &ArgMatches) -> Result<Order
         Ok(config) => {
             if name == "check" {
                 check_of(alloc, options, config)
+            } else if name == "confirm" {
+                confirm_of(alloc, options, config)
             } else {
                 Ok(script_of(options, config))
             }
@@ -140,6 +155,39 @@ fn check_of(alloc: Global, options: &ArgMatches, config: Config) -> Result<Order
         }),
         Err(_) => Err(Stop::Refused(Refusal::NoMemory)),
     }
+}
+
+// The order to say what an order of its operations shows of a recorded history, which is read as this configuration says.
+fn confirm_of(alloc: Global, options: &ArgMatches, config: Config) -> Result<Order, Stop>
+    requires { IsSetup (setup_of config) }
+    ensures within { IfOk result IsWithinLimits }
+    ensures found { ConfirmsAsFound (found_of options.now) config result }
+{
+    let Some(path) = options.get_str("FILE") else {
+        return Err(usage_of(alloc, "confirm", "confirm takes a file"));
+    };
+    let Some(order_path) = options.get_str("ORDER") else {
+        return Err(usage_of(alloc, "confirm", "confirm takes an order"));
+    };
+    match both_of(alloc, path, order_path) {
+        Ok((path, order_path)) => Ok(Order::Confirm {
+            path,
+            order_path,
+            concurrency: config.concurrency,
+            kind: config.kind,
+        }),
+        Err(_) => Err(Stop::Refused(Refusal::NoMemory)),
+    }
+}
+
+// The two texts, with memory of their own.
+fn both_of(alloc: Global, first: &str, second: &str) -> Result<(String, String), AllocError>
+    ensures { IfOk result (λ both. (string_bytes both.0 ≡ first.now) × (string_bytes both.1 ≡ second.now)) }
+{
+    Ok((
+        String::from_str(alloc, first)?,
+        String::from_str(alloc, second)?,
+    ))
 }
 
 // How many workers were asked for, 1 to 64.
@@ -281,11 +329,20 @@ fn with_settings<'a>(
     command: Command<'a>,
     concurrency: &'static str,
 ) -> Result<Command<'a>, AllocError> {
+    let budget = JudgingTexts::defaults().budget;
+    with_object(alloc, command, concurrency)?.arg(a_number(alloc, "budget", budget, help::BUDGET))
+}
+
+// A command with the options by which a history is read, and of which object.
+fn with_object<'a>(
+    alloc: Global,
+    command: Command<'a>,
+    concurrency: &'static str,
+) -> Result<Command<'a>, AllocError> {
     let defaults = JudgingTexts::defaults();
     command
         .arg(a_number(alloc, "concurrency", defaults.concurrency, concurrency))?
-        .arg(a_name(alloc, "model", defaults.model, help::MODEL))?
-        .arg(a_number(alloc, "budget", defaults.budget, help::BUDGET))
+        .arg(a_name(alloc, "model", defaults.model, help::MODEL))
 }
 
 // The command `script`, with its options and their help.
@@ -316,6 +373,20 @@ fn check<'a>(alloc: Global) -> Result<Command<'a>, AllocError> {
     with_settings(alloc, command, help::CONCURRENCY)
 }
 
+// The command `confirm`, with its options and their help.
+fn confirm<'a>(alloc: Global) -> Result<Command<'a>, AllocError> {
+    let file = Arg::new(alloc, "FILE").required(true).help(help::FILE);
+    let order = Arg::new(alloc, "ORDER").required(true).help(help::ORDER);
+    let command = Command::new(alloc, "confirm")
+        .about(help::CONFIRM)
+        .long_about(help::CONFIRM_LONG)
+        .after_help(help::CONFIRM_STATUS)
+        .after_long_help(help::CONFIRM_FORMS)
+        .arg(file)?
+        .arg(order)?;
+    with_object(alloc, command, help::CONCURRENCY)
+}
+
 // The command `run`, with its options and their help.
 fn run<'a>(alloc: Global) -> Result<Command<'a>, AllocError> {
     let defaults = RunTexts::defaults();
@@ -343,6 +414,7 @@ fn program<'a>(alloc: Global) -> Result<Command<'a>, AllocError> {
         .after_help(help::MORE)
         .subcommand(script(alloc)?)?
         .subcommand(check(alloc)?)?
+        .subcommand(confirm(alloc)?)?
         .subcommand(run(alloc)?)
 }
 
@@ -352,6 +424,7 @@ fn usage_of(alloc: Global, name: &str, message: &str) -> Stop
 {
     let command = match name {
         "check" => check(alloc),
+        "confirm" => confirm(alloc),
         "run" => run(alloc),
         _ => script(alloc),
     };
