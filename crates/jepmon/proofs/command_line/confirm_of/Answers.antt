@@ -7,6 +7,6 @@ returns-in-Ok-clause-found c = (
   c.in-Ok.path,
   c.in-Ok.order_path,
   refl,
-  sym c.in-Some.ensures ∙ ap Some (sym c.in-Ok.ensures.ok.0),
-  sym c.in-Some-2.ensures ∙ ap Some (sym c.in-Ok.ensures.ok.1),
+  sym c.in-Some.ensures ∙ ap Some (sym c.in-Ok.ensures.0),
+  sym c.in-Some-get_str.ensures ∙ ap Some (sym c.in-Ok.ensures.1),
 )
