@@ -1,4 +1,6 @@
 //! A recorded history, from its bytes to the text that says what it comes to: the report, or the line of a refusal.
+//!
+//! A call takes memory only where its result can be `AllocError`, or a refusal for want of memory.
 #![tactic(auto)]
 
 mod check;

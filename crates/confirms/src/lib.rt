@@ -1,4 +1,6 @@
 //! An order of a recorded history, from the bytes of both to the line that says what the order shows.
+//!
+//! A call takes memory only where its result can be `AllocError`, or a refusal for want of memory.
 #![tactic(auto)]
 
 mod confirming;

@@ -1,13 +1,15 @@
 -- all ends that are reached, by products whose rows say them
-use Rattle.std.proofs.Common.{inr, ⊎_elim, ℕ, ◌<◌, ◌≤◌, List, [], length, arith}
+use Rattle.std.proofs.Common.{◌≢◌, inr, ⊎_elim, ℕ, ◌<◌, ◌≤◌, List, [], length, arith}
 use Rattle.models.specs.declared.finding.Answer.{Answer}
 use Rattle.models.specs.Objects.{Object}
 use Rattle.linspec.specs.Ends.{End}
+use Rattle.linspec.specs.Orders.{Pairwise}
 use Rattle.linspec.proofs.Lists.{Contains-nil}
 use Rattle.ends.specs.declared.pending_op.PendingOp.{PendingOp}
 use Rattle.ends.specs.declared.table.Table.{Table}
-use Rattle.ends.specs.EndSteps.{Along, IsReached, ReachesMoreThan, Settles, is_other}
-use Rattle.ends.specs.Tables.{AreShown, IsAdvanced, Shows, ShownWith, with_rows}
+use Rattle.ends.specs.EndSteps.{Along, AreClosed, IsReached, ReachesMoreThan, Settles, is_other}
+use Rattle.ends.specs.Tables.{AreShown, IsAdvanced, Shows, ShownWith, rows_of, with_rows}
+use Rattle.ends.proofs.Growing.{Grows-itself, grown_all}
 use Rattle.ends.proofs.Reaching.{reached_itself}
 use Rattle.std.specs.List.{filter}
 use Rattle.products.specs.Products.{AreApart, IsInOne, Product, rows_in}
@@ -52,3 +54,24 @@ module _ (o : Object) (t : Table o.State) (calls : List PendingOp) (ends : List 
       within = (let long = reached.shown.long in omega (arith, long, few));
       left = left reached.more reached.shown;
     }
+
+-- ends that are kept, and from which the calls lead to no others
+module _ (o : Object) (t : Table o.State) (calls : List PendingOp) (ends : List (End o.State)) (shown : AreShown t calls ends) where
+  pub kept_beyond : (budget : ℕ) → budget < length (rows_of t) → Pairwise (λ d e. d ≢ e) ends → ReachesMoreThan o calls ends budget
+  kept_beyond budget over apart = record {
+    more = ends;
+    reached = reached_itself o calls ends;
+    once = apart;
+    many = (let long = shown.long in omega (arith, long, over));
+  }
+
+  -- what an ok leaves of them
+  pub kept_advanced : AreClosed o calls ends → (budget id : ℕ) (answer : Answer) (rows : List (List ℕ)) → length (rows_of t) ≤ budget
+      → ShownWith (with_rows t rows) (filter (is_other id) calls) [] (Along (Settles id answer) ends)
+      → IsAdvanced o (with_rows t rows) calls ends budget id answer
+  kept_advanced closed budget id answer rows few left = record {
+    all = ends;
+    adds = grown_all o calls ends ends (Grows-itself o calls ends) closed;
+    within = (let long = shown.long in omega (arith, long, few));
+    left = left;
+  }

@@ -1,12 +1,12 @@
 //! The ends that calls lead to from others, as products.
-ghost use Rattle.std.specs.Prelude.{◌≡◌, ◌≢◌, ◌<◌, ◌≤◌, ◌+◌, ◌-◌, ◌*◌, ◌^◌, ◌⊎◌, ℕ, List, [], IfOk, OnOk, true, false, Some, length, slice_get, slice_set};
+ghost use Rattle.std.specs.Prelude.{◌≡◌, ◌≢◌, ◌<◌, ◌≤◌, ◌+◌, ◌-◌, ◌*◌, ◌^◌, ◌⊎◌, ℕ, List, [], IfOk, OnOk, true, false, Some, length, slice_get, slice_set, take};
 ghost use Rattle.models.specs.Objects.{of_table};
 ghost use Rattle.models.specs.declared.operation.Op.{Op};
 ghost use Rattle.linspec.specs.Ends.{End};
 ghost use Rattle.linspec.specs.Orders.{Pairwise};
 ghost use Rattle.std.specs.List.{filter};
 ghost use Rattle.ends.specs.declared.pending_op.PendingOp.{PendingOp};
-ghost use Rattle.ends.specs.EndSteps.{Along, Fails, IsReached, ReachesMoreThan, is_other};
+ghost use Rattle.ends.specs.EndSteps.{Along, AreClosed, Fails, IsReached, ReachesMoreThan, is_other};
 ghost use Rattle.ends.specs.Tables.{AreShown, HasEachOnce, IsAdvanced, IsOpenAt, ShownWith, Shows, Widens, rows_of, with_rows};
 ghost use Rattle.products.specs.Products.{AreApart, AreIn, IsIn, IsInOne, rows_in};
 ghost use Rattle.product_ends.specs.Deeds.{AreDeeds, AreStays, AreWithin, IsTried};
@@ -47,7 +47,7 @@ pub struct Room<S> {
 }
 
 impl<S> Room<S> {
-    /// None yet. Takes no memory.
+    /// None yet.
     pub fn new(alloc: Global) -> Room<S> {
         Room {
             work: None,
@@ -56,7 +56,7 @@ impl<S> Room<S> {
     }
 }
 
-// Makes the memory to work in, where there is none yet. `AllocError` where there is no memory for it.
+// Makes the memory to work in, where there is none yet.
 fn make<S: Drop>(alloc: Global, work: &mut Option<Box<Work<S>>>) -> Result<(), AllocError> {
     if work.is_none() {
         let none = Work {
@@ -174,10 +174,11 @@ fn ready<M: SeqObject>(
     ensures tried { IfOk result (λ some. some ≡ true → IsTried deeds.new number) }
     ensures kept { OnOk result ((n : ℕ) → IsTried deeds.old n → IsTried deeds.new n) }
     ensures none { IfOk result (λ some. some ≡ false → (row : List ℕ) → ¬ AreIn (slice_set sets.now place word) row) }
-    ensures fresh { (applied.new ≤ applied.old)
+    ensures fresh { (applied.new ≡ applied.old)
         ⊎ ((¬ IsTried deeds.old number) × ((row : List ℕ) × AreIn (slice_set sets.now place word) row)) }
     ensures widens { Widens table.old table.new }
     ensures rows { rows_of table.new ≡ rows_of table.old }
+    ensures never_falls { applied.old ≤ applied.new }
     ensures cost { applied.new ≤ applied.old + length calls.now }
 {
     if deeds_in(deeds, number, calls.len()).is_some() {
@@ -224,6 +225,7 @@ fn put_widened<M: SeqObject>(
     ensures widens { Widens table.old table.new }
     ensures rows { rows_of table.new ≡ rows_of table.old }
     ensures paid { OnOk result (IsPaid (length calls.now) applied.old room.old.all.1 applied.new room.new.all.1) }
+    ensures never_falls { applied.old ≤ applied.new }
     ensures cost { applied.new ≤ applied.old + length calls.now }
 {
     if !ready::<M>(
@@ -285,6 +287,7 @@ fn grow_at<M: SeqObject>(
     ensures widens { Widens table.old table.new }
     ensures rows { rows_of table.new ≡ rows_of table.old }
     ensures paid { OnOk result (IsPaid (length calls.now) applied.old room.old.all.1 applied.new room.new.all.1) }
+    ensures never_falls { applied.old ≤ applied.new }
     ensures cost { applied.new ≤ applied.old + length calls.now }
 {
     let own = room.source[at];
@@ -336,6 +339,7 @@ fn grow_from<M: SeqObject>(
     ensures widens { Widens table.old table.new }
     ensures rows { rows_of table.new ≡ rows_of table.old }
     ensures paid { OnOk result (IsPaid (length calls.now) applied.old room.old.all.1 applied.new room.new.all.1) }
+    ensures never_falls { applied.old ≤ applied.new }
     ensures cost { applied.new + length calls.now * length (rows_in room.old.all.1)
         ≤ applied.old + length calls.now * (budget + 1) }
 {
@@ -382,6 +386,7 @@ fn begin<M: SeqObject>(
     ensures rows { rows_of table.new ≡ rows_of table.old }
     ensures paid { IfOk result (λ all. all ≡ true
         → applied.new ≤ applied.old + length calls.now * length (rows_in room.new.all.1)) }
+    ensures never_falls { applied.old ≤ applied.new }
     ensures cost { applied.new ≤ applied.old + length calls.now * (budget + 1) }
 {
     forget(&mut room.deeds);
@@ -426,6 +431,7 @@ fn grow<M: SeqObject>(
     ensures over { IfOk result (λ all. all ≡ false → budget < length (rows_in room.new.all.1)) }
     ensures widens { Widens table.old table.new }
     ensures rows { rows_of table.new ≡ rows_of table.old }
+    ensures never_falls { applied.old ≤ applied.new }
     ensures cost { applied.new ≤ applied.old + length calls.now * (budget + 1) }
 {
     if !begin::<M>(alloc, table, kept, room, calls, budget, applied)? {
@@ -441,20 +447,62 @@ fn grow<M: SeqObject>(
     Ok(true)
 }
 
+// Puts the products of what the answer leaves of the kept ends, from which the calls lead to no others, in place of those that were
+// there. False where the kept ends are more than the budget.
+fn settle_kept<M: SeqObject>(
+    table: &Table<M::State>,
+    kept: &Products,
+    work: &mut Work<M::State>,
+    left: &mut Products,
+    calls: &[PendingOp],
+    budget: u32,
+    id: u32,
+    answer: &Answer,
+) -> Result<bool, AllocError>
+    ensures all { let object = of_table M.State M.start_state M.apply_to in
+        HasEachOnce calls.now → (ends : List (End M.State))
+        → AreShown (with_rows table.now (rows_in kept.now.1)) calls.now ends → AreClosed object calls.now ends
+        → IfOk result (λ all. all ≡ true → IsAdvanced object
+        (with_rows table.now (rows_in left.new.1)) calls.now ends budget id answer.now) }
+    ensures over { let object = of_table M.State M.start_state M.apply_to in
+        (ends : List (End M.State)) → Pairwise (λ d e. d ≢ e) ends
+        → AreShown (with_rows table.now (rows_in kept.now.1)) calls.now ends
+        → IfOk result (λ all. all ≡ false → ReachesMoreThan object calls.now ends budget) }
+{
+    if kept.rows() > budget as u64 {
+        return Ok(false);
+    }
+    after::settled(
+        table,
+        kept,
+        left,
+        calls,
+        id,
+        answer,
+        &mut work.marks,
+        &mut work.next,
+        &mut work.stack,
+    )?;
+    Ok(true)
+}
+
 /// Puts the products of the ends that are left after the operation has returned with this answer into the room: of those where it
 /// is in and what it found fits, each without it. False where all ends, these and what the calls lead to from them one after
-/// another, are more than the budget. Each call has at most one outcome in a state. The rows of the table stay, and so do the kept
-/// products.
+/// another, are more than the budget. This is so where each call is of another operation, and the first calls, so many as were tried
+/// already, lead from the ends to no others. Each call has at most one outcome in a state. The rows of the table stay, and so do the
+/// kept products.
 ///
 /// `AllocError` where there is no memory for them: the steps that were made stay counted, and the room may have some of what is left.
-/// It makes at most one step for each call in each state, and compares each product that comes of one with all others: the square of
-/// the products at worst, and more where they are cut into pieces.
+/// It makes no step where all calls were tried, and then takes the time of the products. Else it makes at most one step for each call
+/// in each state, and compares each product that comes of one with all others: the square of the products at worst, and more where
+/// they are cut into pieces.
 pub fn advance<M: SeqObject>(
     alloc: Global,
     table: &mut Table<M::State>,
     kept: &Products,
     room: &mut Room<M::State>,
     calls: &[PendingOp],
+    tried: usize,
     budget: u32,
     applied: &mut u64,
     id: u32,
@@ -464,14 +512,17 @@ pub fn advance<M: SeqObject>(
     ensures all { let object = of_table M.State M.start_state M.apply_to in
         HasEachOnce calls.now → (ends : List (End M.State))
         → AreShown (with_rows table.old (rows_in kept.now.1)) calls.now ends
+        → AreClosed object (take tried calls.now) ends
         → IfOk result (λ all. all ≡ true → IsAdvanced object
         (with_rows table.new (rows_in room.new.left.1)) calls.now ends budget id answer.now) }
     ensures over { let object = of_table M.State M.start_state M.apply_to in
         HasEachOnce calls.now → (ends : List (End M.State)) → Pairwise (λ d e. d ≢ e) ends
         → AreShown (with_rows table.old (rows_in kept.now.1)) calls.now ends
+        → AreClosed object (take tried calls.now) ends
         → IfOk result (λ all. all ≡ false → ReachesMoreThan object calls.now ends budget) }
     ensures widens { Widens table.old table.new }
     ensures rows { rows_of table.new ≡ rows_of table.old }
+    ensures never_falls { applied.old ≤ applied.new }
     ensures cost { applied.new ≤ applied.old + (budget + 1) * length calls.now }
 {
     make(alloc, &mut room.work)?;
@@ -479,6 +530,9 @@ pub fn advance<M: SeqObject>(
         return Err(AllocError);
     };
     let work = &mut **work;
+    if tried >= calls.len() {
+        return settle_kept::<M>(table, kept, work, &mut room.left, calls, budget, id, answer);
+    }
     if !grow::<M>(alloc, table, kept, work, calls, budget, applied)? {
         return Ok(false);
     }
@@ -497,8 +551,8 @@ pub fn advance<M: SeqObject>(
     Ok(true)
 }
 
-/// Puts the products after the operation, which is open, has failed into the room, of those ends that it is not in, each without its
-/// number. None where it is not open. `AllocError` where there is no memory for them. Takes the time of the products.
+/// Puts the products after the operation, which is open, has failed into the room, of those ends that it is not in, each without
+/// its number. None where it is not open. Takes the time of the products.
 pub fn failed<S: Hash + Drop>(
     alloc: Global,
     table: &Table<S>,
