@@ -122,7 +122,9 @@ impl Products {
         ensures places { self.new.0 ≡ self.old.0 }
         ensures puts { OnOk result (Puts (first, sets.now) from self.old.1 self.new.1) }
     {
-        for at in from..self.firsts.len() {
+        let mut at = self.firsts.len();
+        while at > from {
+            at -= 1;
             if self.firsts[at] == first {
                 if let Some((place, set)) = joined_at(sets, self.sets(at)) {
                     self.replace(at, place, set, sets);
