@@ -1,7 +1,7 @@
 -- a value put in among spans
 use Rattle.std.proofs.Common.{◌≡◌, ◌≢◌, ◌+◌, ◌-◌, ◌%◌, ◌^◌, ◌<ℤ◌, ◌≤ℤ◌, ⊎_elim, sym, ap, ◌∙◌, subst, arith}
-use Rattle.std.specs.Prelude.{ℕ, zero, suc, ◌≤◌, ◌<◌, ℤ, pos, ◌+ℤ◌, ◌-ℤ◌, List, [], ◌∷◌, ◌++◌, length, get_or, take, drop}
-use Rattle.std.specs.List.{Contains}
+use Rattle.std.specs.Prelude.{refl, ℕ, zero, suc, ◌≤◌, ◌<◌, ℤ, pos, ◌+ℤ◌, ◌-ℤ◌, List, [], ◌∷◌, ◌++◌, length, get_or, take, drop}
+use Rattle.std.specs.List.{Contains, remove}
 use Rattle.std.proofs.lemmas.Bool.{cases_lt}
 use Rattle.std.proofs.lemmas.Int.{ints, by_lt_z}
 use Rattle.std.proofs.lemmas.List.{append-nil, append_assoc, take-append-drop, get_or-take, get_or-drop, length-take, length-drop, take_more, drop_more, drop_all}
@@ -188,3 +188,25 @@ integers_more xs at d lt =
     let s = get_or xs at d in
     ap integers_in (take_more xs at d lt) ∙ flat_map-append (λ (span : Span). from_to span.from span.to) (take at xs) (s ∷ [])
     ∙ ap (λ l. integers_in (take at xs) ++ l) (append-nil (from_to s.from s.to))
+
+-- a part of them
+pub part_apart : (spans part : List Span) (at many : ℕ) → StandApart spans → take (at + many) spans ≡ take at spans ++ part → StandApart part
+part_apart spans part at many is e = apart_back (take at spans) part (subst StandApart e (apart_before spans (at + many) is))
+
+-- one of them
+pub not_turned : (spans : List Span) (at : ℕ) (d : Span) → StandApart spans → at < length spans → (get_or spans at d).from ≤ℤ (get_or spans at d).to
+not_turned spans at d is h = not_empty spans is (get_or spans at d) (Contains-get_or spans at d h)
+
+-- one of them in place of two
+pub one_for_two : (s : List Span) (at : ℕ) (span : Span) → at + 2 ≤ length s
+    → take at (remove s at) ++ span ∷ drop (at + 1) (remove s at) ≡ take at s ++ span ∷ drop (at + 2) s
+one_for_two s at span fits =
+    let one : at + 1 ≡ suc at = omega arith in
+    let two : suc (suc at) ≡ at + 2 = omega arith in
+    ap (λ n. take at (remove s at) ++ span ∷ drop n (remove s at)) one ∙ two_less s at span fits ∙ ap (λ n. take at s ++ span ∷ drop n s) two
+  where
+    two_less : (s : List Span) (at : ℕ) (span : Span) → at + 2 ≤ length s → take at (remove s at) ++ span ∷ drop (suc at) (remove s at) ≡ take at s ++ span ∷ drop (suc (suc at)) s
+    two_less [] at span fits = absurd (omega arith)
+    two_less (x ∷ []) at span fits = absurd (omega arith)
+    two_less (x ∷ y ∷ s) zero span fits = refl
+    two_less (x ∷ y ∷ s) (suc at) span fits = ap (λ l. x ∷ l) (two_less (y ∷ s) at span (omega arith))

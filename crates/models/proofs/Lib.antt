@@ -11,8 +11,6 @@ pub mod Sorting
 pub mod Sums
 pub mod InSpans
 pub mod Joining
-pub mod SideBySide
-pub mod Alike
 pub mod Rolling
 pub mod Fronts
 pub mod Past

@@ -1,5 +1,5 @@
 -- Invariant: states that compare equal are the same, and lists of integers compare lawfully
-use Rattle.std.specs.Prelude.{◌≡◌, ℕ, ◌+◌, pos, get_or, ℤ, Bool, Option, Some, None, true, List, ◌++◌, length}
+use Rattle.std.specs.Prelude.{◌≡◌, ℤ, Bool, Option, Some, None, true, List, ◌++◌, length}
 use Rattle.std.specs.Bool.{beq, one_answer}
 use Rattle.std.specs.Option.{option_eq}
 use Rattle.std.specs.Hash as fed
@@ -82,9 +82,3 @@ rolled_fed xs = fed.u128 (rolled xs)
 
 pub rolled_fed-alike : (a b : List ℤ) → pointwise int_eq a b ≡ true → rolled_fed a ≡ rolled_fed b
 rolled_fed-alike a b e = ap rolled_fed (ints_eq-exact a b e)
-
--- the eight integers from this place on are the same
-abbrev pub AreSameAt : List ℤ → List ℤ → ℕ → Type 0
-AreSameAt xs ys at =
-    ((get_or xs at (pos 0) ≡ get_or ys at (pos 0)) × (get_or xs (at + 1) (pos 0) ≡ get_or ys (at + 1) (pos 0)) × (get_or xs (at + 2) (pos 0) ≡ get_or ys (at + 2) (pos 0)) × (get_or xs (at + 3) (pos 0) ≡ get_or ys (at + 3) (pos 0))
-    × (get_or xs (at + 4) (pos 0) ≡ get_or ys (at + 4) (pos 0)) × (get_or xs (at + 5) (pos 0) ≡ get_or ys (at + 5) (pos 0)) × (get_or xs (at + 6) (pos 0) ≡ get_or ys (at + 6) (pos 0)) × (get_or xs (at + 7) (pos 0) ≡ get_or ys (at + 7) (pos 0)))

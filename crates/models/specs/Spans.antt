@@ -22,12 +22,6 @@ from_to a b = in_turn a (many a b)
 abbrev pub integers_in : List Span → List ℤ
 integers_in spans = flat_map (λ (span : Span). from_to span.from span.to) spans
 
--- spans by their first and by their last integers, as many as there are of both
-abbrev pub paired : List ℤ → List ℤ → List Span
-paired [] lasts = []
-paired (a ∷ firsts) [] = []
-paired (a ∷ firsts) (b ∷ lasts) = record { from = a; to = b } ∷ paired firsts lasts
-
 -- each of these spans ends before x, and an integer is missing between
 abbrev pub EndBefore : List Span → ℤ → Type 0
 EndBefore spans x = (span : Span) → Contains spans span → (span.to +ℤ pos 1) <ℤ x

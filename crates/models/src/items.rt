@@ -21,7 +21,7 @@ const BACK: u128 = 10455382779074951524300553632856583309;
 #[derive(Drop)]
 pub struct Items {
     alloc: Global,
-    items: Tree,
+    items: Tree<i64>,
     sum: u128,
     weight: u128,
 }

@@ -7,7 +7,8 @@ ghost use Rattle.models.specs.Members.{IsAscending, put_in};
 ghost use Rattle.models.specs.Comparisons.{ints_alike, ints_equal, ints_cmp, ints_ordered, ints_ranked, ints_agree, ints_tie, members_fed, members_fed-alike};
 ghost use Rattle.models.specs.Sums.{IsListed, members_in, mixed, sum_of};
 
-use crate::copies::{are_same, copy_with_room};
+use crate::copies::copy_with_room;
+use persistent::are_same;
 use std::alloc::{AllocError, Global};
 use std::cmp::Ordering;
 use std::hash::{Hash, Hasher};

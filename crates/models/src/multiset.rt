@@ -16,7 +16,7 @@ use std::marker::Model;
 #[derive(Drop)]
 pub struct Multiset {
     alloc: Global,
-    values: Tree,
+    values: Tree<i64>,
     sum: u128,
 }
 

@@ -7,7 +7,7 @@ ghost use Rattle.std.specs.Cmp.Lexicographic.{pointwise};
 ghost use Rattle.models.specs.declared.span_row.Span.{Span};
 ghost use Rattle.models.specs.Members.{put_in};
 ghost use Rattle.models.specs.Comparisons.{ints_alike, ints_equal, sum_fed, sum_fed-alike};
-ghost use Rattle.models.specs.Spans.{AreSpans, EndBefore, StandApart, StartBehind, from_to, integers_in, paired};
+ghost use Rattle.models.specs.Spans.{AreSpans, EndBefore, StandApart, StartBehind, from_to, integers_in};
 
 use crate::members::{Members, mixed};
 use crate::span_row::{Span, SpanRow};
@@ -91,16 +91,15 @@ fn end_of(spans: &SpanRow, at: usize, value: i64) -> (usize, i64)
     (at, value)
 }
 
-// How many integers the spans have whose first and last ones these are, or the greatest number where they are more.
-fn room_of(firsts: &[i64], lasts: &[i64]) -> usize
-    requires both { length firsts.now ≡ length lasts.now }
-    requires apart { StandApart (paired firsts.now lasts.now) }
-    ensures { result ≡ min (length (integers_in (paired firsts.now lasts.now))) usize.MAX }
+// How many integers these spans have, or the greatest number where they are more.
+fn room_of(spans: &[Span]) -> usize
+    requires { StandApart spans.now }
+    ensures { result ≡ min (length (integers_in spans.now)) usize.MAX }
 {
     let mut room: usize = 0;
-    for at in 0..firsts.len() {
+    for at in 0..spans.len() {
         room = room
-            .saturating_add(lasts[at].abs_diff(firsts[at]) as usize)
+            .saturating_add(spans[at].to.abs_diff(spans[at].from) as usize)
             .saturating_add(1);
     }
     room
@@ -115,9 +114,9 @@ fn room_for(spans: &SpanRow) -> usize
     let mut room: usize = 0;
     let mut at = 0;
     'parts: while at < len {
-        let (firsts, lasts) = spans.part_at(at);
-        room = room.saturating_add(room_of(firsts, lasts));
-        at += firsts.len();
+        let part = spans.part_at(at);
+        room = room.saturating_add(room_of(part));
+        at += part.len();
     }
     room
 }
@@ -137,14 +136,13 @@ fn append_integers(items: &mut Vec<i64>, from: i64, to: i64) -> Result<(), Alloc
     }
 }
 
-// Puts the integers of the spans whose first and last ones these are behind the others; `AllocError` where there is no memory for them.
-fn append_spans(items: &mut Vec<i64>, firsts: &[i64], lasts: &[i64]) -> Result<(), AllocError>
-    requires both { length firsts.now ≡ length lasts.now }
-    requires apart { StandApart (paired firsts.now lasts.now) }
-    ensures { OnOk result (items.new.items ≡ items.old.items ++ integers_in (paired firsts.now lasts.now)) }
+// Puts the integers of these spans behind the others; `AllocError` where there is no memory for them.
+fn append_spans(items: &mut Vec<i64>, spans: &[Span]) -> Result<(), AllocError>
+    requires { StandApart spans.now }
+    ensures { OnOk result (items.new.items ≡ items.old.items ++ integers_in spans.now) }
 {
-    for at in 0..firsts.len() {
-        append_integers(items, firsts[at], lasts[at])?;
+    for at in 0..spans.len() {
+        append_integers(items, spans[at].from, spans[at].to)?;
     }
     Ok(())
 }
@@ -201,9 +199,9 @@ impl Spans {
         let len = self.spans.len();
         let mut at = 0;
         'parts: while at < len {
-            let (firsts, lasts) = self.spans.part_at(at);
-            append_spans(&mut items, firsts, lasts)?;
-            at += firsts.len();
+            let part = self.spans.part_at(at);
+            append_spans(&mut items, part)?;
+            at += part.len();
         }
         Members::of_listed(items, self.sum)
     }

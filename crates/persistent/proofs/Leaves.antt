@@ -1,32 +1,24 @@
--- the integers of a leaf
-use Rattle.std.proofs.Common.{◌≡◌, ℕ, ◌+◌, ◌-◌, ◌<◌, ℤ, List, [], ◌∷◌, ◌++◌, length, take, drop, set, sym, ap, ◌∙◌, arith}
+-- the values of a leaf
+use Rattle.std.proofs.Common.{◌≡◌, ℕ, ◌-◌, ◌≤◌, List, [], ◌∷◌, ◌++◌, length, take, drop, sym, ap, ◌∙◌, append_assoc, append-nil, arith}
 use Rattle.std.specs.List.{insert}
-use Rattle.std.proofs.Math.Seq.{drop-length, take-append_seam, take-length, take-set-lt}
-use Rattle.std.proofs.lemmas.List.{drop-drop, drop-set, drop-take, take-append-drop, take-set}
+use Rattle.std.proofs.Math.Seq.{take-add}
+use Rattle.std.proofs.lemmas.List.{drop-drop, take-append-drop, take_rest}
 
--- one integer in the place of another
-set_is : (xs : List ℤ) (at : ℕ) (v : ℤ) → at < length xs → set xs at v ≡ take at xs ++ v ∷ drop (at + 1) xs
-set_is xs at v within =
-    sym (take-append-drop at (set xs at v)) ∙ ap (λ l. l ++ drop at (set xs at v)) (take-set xs at v) ∙ ap (λ l. take at xs ++ l) (drop-set xs at v within)
+-- two halves, one of them with one more
+pub made_in_front : {T : Type 0} (xs left right : List T) (at half : ℕ) (v : T) → at ≤ half → left ≡ take at xs ++ v ∷ take (half - at) (drop at xs)
+    → right ≡ take (length xs - half) (drop half xs) ++ [] → left ++ right ≡ insert xs at v
+made_in_front xs left right at half v before l r =
+    let part = take (half - at) (drop at xs) in
+    let rest = drop (half - at) (drop at xs) in
+    let far : drop half xs ≡ rest = ap (λ n. drop n xs) (omega arith) ∙ sym (drop-drop (half - at) at xs) in
+    ap (λ x. x ++ right) l ∙ ap (λ x. (take at xs ++ v ∷ part) ++ x) (r ∙ append-nil (take (length xs - half) (drop half xs)) ∙ take_rest xs half ∙ far)
+    ∙ append_assoc (take at xs) (v ∷ part) rest ∙ ap (λ x. take at xs ++ v ∷ x) (take-append-drop (half - at) (drop at xs))
 
-pub set_in_front : (few values : List ℤ) (at : ℕ) (passed v : ℤ) → take (length values) few ≡ values → at < length values → passed ≡ v
-    → take (length values) (set few at passed) ≡ take at values ++ v ∷ drop (at + 1) values
-set_in_front few values at passed v front within same =
-    take-set-lt (length values) few at passed within ∙ ap (λ l. set l at passed) front ∙ ap (set values at) same ∙ set_is values at v within
-
--- the first one taken out of those from a place on
-pub without_first : (few : List ℤ) (from to : ℕ) → from < to → take (to - (from + 1)) (drop (from + 1) few) ≡ drop 1 (take (to - from) (drop from few))
-without_first few from to some =
-    let long : to - from ≡ 1 + (to - (from + 1)) = omega arith in
-    sym (ap (λ n. drop 1 (take n (drop from few))) long ∙ drop-take 1 (to - (from + 1)) (drop from few) ∙ ap (take (to - (from + 1))) (drop-drop 1 from few))
-
--- one more behind those from the first place on
-pub one_longer : (few now : List ℤ) (from to at : ℕ) (passed v : ℤ) → now ≡ take (to - from) (drop from few) → from ≡ 0 → at ≡ length now → passed ≡ v
-    → take at few ++ passed ∷ [] ≡ insert now at v
-one_longer few now from to at passed v is zero here same =
-    let n = to - from in
-    let front : now ≡ take n few = is ∙ ap (λ k. take n (drop k few)) zero in
-    let whole : few ≡ now ++ drop n few = sym (ap (λ l. l ++ drop n few) front ∙ take-append-drop n few) in
-    let begin : take at few ≡ now = ap (λ k. take k few) here ∙ ap (take (length now)) whole ∙ take-append_seam now (drop n few) in
-    ap (λ l. l ++ passed ∷ []) begin ∙ ap (λ x. now ++ x ∷ []) same
-    ∙ sym (ap (λ k. insert now k v) here ∙ ap (λ l. l ++ v ∷ drop (length now) now) (take-length now) ∙ ap (λ l. now ++ v ∷ l) (drop-length now))
+pub made_behind : {T : Type 0} (xs left right : List T) (at half : ℕ) (v : T) → half ≤ at → left ≡ take half xs ++ []
+    → right ≡ take (at - half) (drop half xs) ++ v ∷ take (length xs - at) (drop at xs) → left ++ right ≡ insert xs at v
+made_behind xs left right at half v behind l r =
+    let front = take half xs in
+    let part = take (at - half) (drop half xs) in
+    let near : take at xs ≡ front ++ part = ap (λ n. take n xs) (omega arith) ∙ take-add half (at - half) xs in
+    ap (λ x. x ++ right) (l ∙ append-nil front) ∙ ap (λ x. front ++ x) (r ∙ ap (λ x. part ++ v ∷ x) (take_rest xs at))
+    ∙ sym (append_assoc front part (v ∷ drop at xs)) ∙ ap (λ x. x ++ v ∷ drop at xs) (sym near)

@@ -1,13 +1,13 @@
 -- rows, one behind the other
-use Rattle.std.proofs.Common.{◌≡◌, ℕ, zero, suc, ◌+◌, ◌-◌, ◌<◌, ◌≤◌, ℤ, pos, ◌<ℤ◌, ◌≤ℤ◌, List, ◌∷◌, ◌++◌, get_or, length, take, drop, sym, ap, subst, ◌∙◌, append_assoc, add-one, arith}
+use Rattle.std.proofs.Common.{◌≡◌, ℕ, zero, suc, ◌+◌, ◌-◌, ◌<◌, ◌≤◌, ℤ, ◌<ℤ◌, ◌≤ℤ◌, List, [], ◌∷◌, ◌++◌, get_or, length, take, drop, sym, ap, subst, ◌∙◌, append_assoc, add-one, arith}
 use Rattle.std.specs.List.{insert, remove}
-use Rattle.std.proofs.Math.Seq.{take-append-add, drop-append-add, drop-append_seam}
+use Rattle.std.proofs.Math.Seq.{take-append-add, drop-append-add, drop-append_seam, take-append_seam}
 use Rattle.std.proofs.lemmas.Int.{ints}
-use Rattle.std.proofs.lemmas.List.{get_or-append-add, take-append-drop, take-append-le, length-take-le}
+use Rattle.std.proofs.lemmas.List.{get_or-append-add, take-append-drop, length-append, take-append-le, length-take-le}
 use Rattle.std.proofs.lemmas.List.Edits.{insert-append_right, remove-append_right}
 
 -- a part of the second one
-pub part_right : (l r part : List ℤ) (many at : ℕ) → length l ≡ many → many ≤ at → take ((at - many) + length part) r ≡ take (at - many) r ++ part
+pub part_right : {T : Type 0} (l r part : List T) (many at : ℕ) → length l ≡ many → many ≤ at → take ((at - many) + length part) r ≡ take (at - many) r ++ part
     → take (at + length part) (l ++ r) ≡ take at (l ++ r) ++ part
 part_right l r part many at is behind here =
     let on : at ≡ length l + (at - many) = omega arith in
@@ -15,26 +15,26 @@ part_right l r part many at is behind here =
     ap (λ n. take n (l ++ r)) far ∙ take-append-add l r ((at - many) + length part) ∙ ap (λ x. l ++ x) here
     ∙ sym (append_assoc l (take (at - many) r) part) ∙ ap (λ x. x ++ part) (sym (ap (λ n. take n (l ++ r)) on ∙ take-append-add l r (at - many)))
 
-pub part_of_right : (now l r same part : List ℤ) (many at : ℕ) → now ≡ l ++ r → same ≡ r → length l ≡ many → many ≤ at
+pub part_of_right : {T : Type 0} (now l r same part : List T) (many at : ℕ) → now ≡ l ++ r → same ≡ r → length l ≡ many → many ≤ at
     → take ((at - many) + length part) same ≡ take (at - many) same ++ part → take (at + length part) now ≡ take at now ++ part
 part_of_right now l r same part many at is again len behind here =
     subst (λ x. take (at + length part) x ≡ take at x ++ part) (sym is)
     (part_right l r part many at len behind (subst (λ x. take ((at - many) + length part) x ≡ take (at - many) x ++ part) again here))
 
 -- one more in the second one, and one less
-pub with_right : (now l r same new other : List ℤ) (many at : ℕ) (v passed : ℤ) → now ≡ l ++ r → other ≡ l → same ≡ r → length l ≡ many → many ≤ at
+pub with_right : {T : Type 0} (now l r same new other : List T) (many at : ℕ) (v passed : T) → now ≡ l ++ r → other ≡ l → same ≡ r → length l ≡ many → many ≤ at
     → passed ≡ v → new ≡ insert same (at - many) passed → other ++ new ≡ insert now at v
 with_right now l r same new other many at v passed is left again len behind value made =
     ap (λ x. x ++ new) left ∙ ap (λ x. l ++ x) (made ∙ ap (λ x. insert x (at - many) passed) again ∙ ap (insert r (at - many)) value)
     ∙ sym (insert-append_right l r many at v len behind) ∙ ap (λ x. insert x at v) (sym is)
 
-pub without_right : (now l r same new other : List ℤ) (many at : ℕ) → now ≡ l ++ r → other ≡ l → same ≡ r → length l ≡ many → many ≤ at
+pub without_right : {T : Type 0} (now l r same new other : List T) (many at : ℕ) → now ≡ l ++ r → other ≡ l → same ≡ r → length l ≡ many → many ≤ at
     → new ≡ remove same (at - many) → other ++ new ≡ remove now at
 without_right now l r same new other many at is left again len behind made =
     ap (λ x. x ++ new) left ∙ ap (λ x. l ++ x) (made ∙ ap (λ x. remove x (at - many)) again)
     ∙ sym (remove-append_right l r many at len behind) ∙ ap (λ x. remove x at) (sym is)
 
-pub replaced_right : (now l r same new other : List ℤ) (many at : ℕ) (v passed : ℤ) → now ≡ l ++ r → other ≡ l → same ≡ r → length l ≡ many → many ≤ at
+pub replaced_right : {T : Type 0} (now l r same new other : List T) (many at : ℕ) (v passed : T) → now ≡ l ++ r → other ≡ l → same ≡ r → length l ≡ many → many ≤ at
     → passed ≡ v → new ≡ take (at - many) same ++ passed ∷ drop ((at - many) + 1) same → other ++ new ≡ take at now ++ v ∷ drop (at + 1) now
 replaced_right now l r same new other many at v passed is left again len behind value made =
     let on : at ≡ length l + (at - many) = omega arith in
@@ -47,16 +47,30 @@ replaced_right now l r same new other many at v passed is left again len behind 
     ∙ ap (λ x. take at (l ++ r) ++ v ∷ x) (sym back) ∙ ap (λ x. take at x ++ v ∷ drop (at + 1) x) (sym is)
 
 -- where the second one begins below v, its place is the place in both
-pub before_right : (l r : List ℤ) (v : ℤ) (place : ℕ) → get_or r 0 (pos 0) <ℤ v → 0 < length r
-    → ((k : ℕ) → place ≡ k + 1 → get_or r k (pos 0) <ℤ v) → (place < length r → v ≤ℤ get_or r place (pos 0))
-    → (k : ℕ) → length l + place ≡ k + 1 → get_or (l ++ r) k (pos 0) <ℤ v
-before_right l r v zero low some before there k is = let h : v ≤ℤ get_or r 0 (pos 0) = there some in absurd (omega (arith, ints))
-before_right l r v (suc j) low some before there k is =
+pub before_right : {T : Type 0} (place : T → ℤ) (l r : List T) (v : ℤ) (at : ℕ) (d : T) → place (get_or r 0 d) <ℤ v → 0 < length r
+    → ((k : ℕ) → at ≡ k + 1 → place (get_or r k d) <ℤ v) → (at < length r → v ≤ℤ place (get_or r at d))
+    → (k : ℕ) → length l + at ≡ k + 1 → place (get_or (l ++ r) k d) <ℤ v
+before_right place l r v zero d low some before there k is = let h : v ≤ℤ place (get_or r 0 d) = there some in absurd (omega (arith, ints))
+before_right place l r v (suc j) d low some before there k is =
     let on : k ≡ length l + j = omega arith in
-    subst (λ z. z <ℤ v) (sym (ap (λ n. get_or (l ++ r) n (pos 0)) on ∙ get_or-append-add l r j (pos 0))) (before j (sym (add-one j)))
+    subst (λ z. place z <ℤ v) (sym (ap (λ n. get_or (l ++ r) n d) on ∙ get_or-append-add l r j d)) (before j (sym (add-one j)))
+
+pub there_right : {T : Type 0} (place : T → ℤ) (l r : List T) (v : ℤ) (at : ℕ) (d : T) → (at < length r → v ≤ℤ place (get_or r at d))
+    → length l + at < length (l ++ r) → v ≤ℤ place (get_or (l ++ r) (length l + at) d)
+there_right place l r v at d there within =
+    let long = length-append l r in
+    subst (λ z. v ≤ℤ place z) (sym (get_or-append-add l r at d)) (there (omega (arith, long, within)))
+
+-- where it begins at v or behind, the place in the first one is the place in both
+pub there_left : {T : Type 0} (place : T → ℤ) (l r : List T) (v : ℤ) (at : ℕ) (d : T) → at ≤ length l → (at < length l → v ≤ℤ place (get_or l at d))
+    → v ≤ℤ place (get_or r 0 d) → v ≤ℤ place (get_or (l ++ r) at d)
+there_left place [] r v zero d within there first = first
+there_left place [] r v (suc at) d within there first = absurd (omega arith)
+there_left place (x ∷ l) r v zero d within there first = there (omega arith)
+there_left place (x ∷ l) r v (suc at) d within there first = there_left place l r v at d (omega arith) (λ h. there (omega arith)) first
 
 -- some of a part
-pub take_part : (s p : List ℤ) (at many : ℕ) → at + length p ≤ length s → take (at + length p) s ≡ take at s ++ p → many ≤ length p
+pub take_part : {T : Type 0} (s p : List T) (at many : ℕ) → at + length p ≤ length s → take (at + length p) s ≡ take at s ++ p → many ≤ length p
     → take (at + many) s ≡ take at s ++ take many p
 take_part s p at many within part few =
     let front = take at s in
@@ -66,7 +80,7 @@ take_part s p at many within part few =
     ap (λ l. take (at + many) l) whole ∙ ap (λ n. take (n + many) (front ++ (p ++ rest))) (sym long)
     ∙ take-append-add front (p ++ rest) many ∙ ap (λ l. front ++ l) (take-append-le many p rest few)
 
-piece_is : (s p : List ℤ) (at many : ℕ) → at + length p ≤ length s → take (at + length p) s ≡ take at s ++ p → many ≤ length p
+piece_is : {T : Type 0} (s p : List T) (at many : ℕ) → at + length p ≤ length s → take (at + length p) s ≡ take at s ++ p → many ≤ length p
     → take many p ≡ drop at (take (at + many) s)
 piece_is s p at many within part few =
     let front = take at s in
@@ -74,7 +88,16 @@ piece_is s p at many within part few =
     sym (ap (drop at) (take_part s p at many within part few) ∙ ap (λ n. drop n (front ++ take many p)) (sym long) ∙ drop-append_seam front (take many p))
 
 -- equal rows have equal parts
-pub same_pieces : (s t p q : List ℤ) (at many : ℕ) → at + length p ≤ length s → take (at + length p) s ≡ take at s ++ p → many ≤ length p
+pub same_pieces : {T : Type 0} (s t p q : List T) (at many : ℕ) → at + length p ≤ length s → take (at + length p) s ≡ take at s ++ p → many ≤ length p
     → at + length q ≤ length t → take (at + length q) t ≡ take at t ++ q → many ≤ length q → s ≡ t → take many p ≡ take many q
 same_pieces s t p q at many s_within s_part s_few t_within t_part t_few e =
     piece_is s p at many s_within s_part s_few ∙ ap (λ l. drop at (take (at + many) l)) e ∙ sym (piece_is t q at many t_within t_part t_few)
+
+-- of two rows, one behind the other, that are the same as two others, of which the first one is as long
+pub left_same : {T : Type 0} (l r m s : List T) → length l ≡ length m → l ++ r ≡ m ++ s → l ≡ m
+left_same l r m s long e =
+    sym (take-append_seam l r) ∙ ap (take (length l)) e ∙ ap (λ n. take n (m ++ s)) long ∙ take-append_seam m s
+
+pub right_same : {T : Type 0} (l r m s : List T) → length l ≡ length m → l ++ r ≡ m ++ s → r ≡ s
+right_same l r m s long e =
+    sym (drop-append_seam l r) ∙ ap (drop (length l)) e ∙ ap (λ n. drop n (m ++ s)) long ∙ drop-append_seam m s

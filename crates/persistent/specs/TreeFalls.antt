@@ -5,9 +5,9 @@ use Rattle.std.proofs.Common.{arith, length-append}
 use Rattle.persistent.specs.declared.tree.Node.{Node}
 use Rattle.persistent.specs.declared.tree.Node.TheVariants.{Empty, Leaf, Fork}
 use Rattle.persistent.specs.declared.tree.Tree.TheDeep.{deep-Node}
-use Rattle.persistent.specs.Trees.{integers_of, IsWhole}
+use Rattle.persistent.specs.Trees.{values_of, IsWhole}
 
-pub depth_le-length : (n : Node) → IsWhole n → max (deep-Node n) 0 ≤ length (integers_of n)
-depth_le-length Empty h = omega arith
-depth_le-length (Leaf from to few) h = omega arith
-depth_le-length (Fork pair) h = omega (arith, length-append (arc_value pair).left (arc_value pair).right)
+pub depth_le-length : (T : Type 0) (n : Node T) → IsWhole n → max (deep-Node T n) 0 ≤ length (values_of n)
+depth_le-length T Empty h = omega arith
+depth_le-length T (Leaf from few) h = omega arith
+depth_le-length T (Fork pair) h = omega (arith, length-append (arc_value pair).left (arc_value pair).right)

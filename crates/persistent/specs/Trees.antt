@@ -1,19 +1,19 @@
 -- Invariant: what a node of a tree has
-use Rattle.std.specs.Prelude.{◌≡◌, ◌<◌, ◌≤◌, ◌+◌, ◌-◌, take, drop, ℤ, pos, List, [], ◌++◌, get_or, length}
+use Rattle.std.specs.Prelude.{◌≡◌, ◌<◌, ◌≤◌, ◌+◌, drop, List, [], ◌++◌, get_or, length}
 use Rattle.std.specs.Arc.{arc_value}
 use Rattle.persistent.specs.declared.tree.Node.{Node}
 use Rattle.persistent.specs.declared.tree.Node.TheVariants.{Empty, Leaf, Fork}
 
--- the integers in a row
-abbrev pub integers_of : Node → List ℤ
-integers_of Empty = []
-integers_of (Leaf from to few) = take (to - from) (drop from (arc_value few))
-integers_of (Fork pair) = (arc_value pair).left ++ (arc_value pair).right
+-- the values in a row
+abbrev pub values_of : {T : Type 0} → Node T → List T
+values_of Empty = []
+values_of (Leaf from few) = drop from (arc_value few).items
+values_of (Fork pair) = (arc_value pair).left ++ (arc_value pair).right
 
--- a leaf has the integers from one place up to another; a fork has two rows, none of them empty, and knows how many integers they have, and the first
-abbrev pub IsWhole : Node → Type 0
+-- a leaf has the values from one place on; a fork has two rows, none of them empty, and knows how many integers they have, and the first
+abbrev pub IsWhole : {T : Type 0} → Node T → Type 0
 IsWhole Empty = Unit {0}
-IsWhole (Leaf from to few) = (from ≤ to) × (to ≤ 14) × (length (arc_value few) ≡ 14)
-IsWhole (Fork pair) = (0 < length (arc_value pair).left) × (0 < length (arc_value pair).right)
+IsWhole (Leaf from few) = from ≤ length (arc_value few).items
+IsWhole {T} (Fork pair) = (0 < length (arc_value pair).left) × (0 < length (arc_value pair).right)
     × ((arc_value pair).len ≡ length (arc_value pair).left + length (arc_value pair).right)
-    × ((arc_value pair).first ≡ get_or (arc_value pair).left 0 (pos 0))
+    × ((d : T) → (arc_value pair).first ≡ get_or (arc_value pair).left 0 d)

@@ -1,6 +1,10 @@
 //! Rows of integers that share what they have in common.
 #![tactic(auto)]
 
+pub mod alike;
+pub mod placed;
 pub mod tree;
 
+pub use alike::are_same;
+pub use placed::Placed;
 pub use tree::Tree;

@@ -1,51 +1,55 @@
-//! Integers in a row, as a tree whose parts are shared.
+//! Values in a row, as a tree whose parts are shared.
 ghost use Rattle.std.specs.Prelude.{◌≡◌, ◌↔◌, ◌+◌, ◌<◌, ◌≤◌, ℕ, ℤ, pos, IfOk, OnOk, IsTrue};
 ghost use Rattle.std.specs.Prelude.{[], ◌∷◌, ◌++◌, ◌-◌, get_or, length, take, drop, ◌<ℤ◌, ◌≤ℤ◌};
 ghost use Rattle.std.specs.List.{insert, remove};
 
+use crate::placed::Placed;
 use std::alloc::{AllocError, Global};
 use std::marker::Model;
 use std::sync::Arc;
 
-// So many integers lie in one piece of memory at most.
-const FEW: usize = 14;
+// As long as a row has no more values than this, they lie in one piece of memory.
+const FLAT: usize = 128;
 
-/// Integers in a row, each by its place. A change gives another tree, which shares with this one all but what is on the way to the
-/// place: that grows with the logarithm of how many integers there are. A copy shares all.
+// Of a longer row so many lie in one piece at most, once a change has come there.
+const FEW: usize = 64;
+
+/// Values in a row, each by its place. A change gives another tree, which shares with this one all but what is on the way to the
+/// place: that grows with the logarithm of how many values there are. A copy shares all.
 #[cycle(tree)]
 #[derive(Drop)]
-pub struct Tree {
-    node: Node,
+pub struct Tree<T: Copy> {
+    node: Node<T>,
 }
 
-// A leaf has the integers from one place up to another of those that lie there.
+// A leaf has the values from one place on of those that lie there.
 #[cycle(tree)]
 #[derive(Drop)]
-enum Node {
+enum Node<T: Copy> {
     Empty,
-    Leaf(u8, u8, Arc<[i64; 14]>),
-    Fork(Arc<Pair>),
+    Leaf(u32, Arc<Vec<T>>),
+    Fork(Arc<Pair<T>>),
 }
 
-// Two rows, one behind the other; how many integers both have, which is the first, and how many forks are above the deepest leaf.
+// Two rows, one behind the other; how many values both have, which is the first, and how many forks are above the deepest leaf.
 #[cycle(tree)]
 #[derive(Drop)]
-struct Pair {
-    left: Tree,
-    right: Tree,
+struct Pair<T: Copy> {
+    left: Tree<T>,
+    right: Tree<T>,
     len: usize,
-    first: i64,
+    first: T,
     height: u8,
 }
 
-impl Model for Tree {
-    ghost use Rattle.std.specs.Prelude.{List, ℤ, length};
+impl<T: Copy> Model for Tree<T> {
+    ghost use Rattle.std.specs.Prelude.{List, length};
 
-    ghost Value = { List ℤ };
+    ghost Value = { List T };
 
-    ghost use Rattle.persistent.specs.Trees.{integers_of, IsWhole};
+    ghost use Rattle.persistent.specs.Trees.{values_of, IsWhole};
 
-    ghost view = { λ a. integers_of a.node };
+    ghost view = { λ a. values_of a.node };
 
     ghost invariant = { λ a. IsWhole a.node };
 
@@ -53,116 +57,109 @@ impl Model for Tree {
 
     ghost use Rattle.persistent.specs.TreeFalls.{depth_le-length};
 
-    ghost size_decreases = { λ a h. depth_le-length a.node h };
+    ghost size_decreases = { λ a h. depth_le-length _ a.node h };
 }
 
-// Where the first stands that is not below the value, or how many there are where each is below it.
-fn place_in(values: &[i64], value: i64) -> usize
+// A place in front of which stands a value whose place is below this one, if any does, and at which stands none below it.
+fn place_in<T: Placed>(values: &[T], value: i64) -> usize
     ensures within { result ≤ length values.now }
-    ensures before { (k : ℕ) → k < result → get_or values.now k (pos 0) <ℤ value }
-    ensures there { result < length values.now → value ≤ℤ get_or values.now result (pos 0) }
+    ensures before { (k : ℕ) (d : T) → result ≡ k + 1 → T.place (get_or values.now k d) <ℤ value }
+    ensures there { (d : T) → result < length values.now → value ≤ℤ T.place (get_or values.now result d) }
 {
-    for at in 0..values.len() {
-        if values[at] >= value {
-            return at;
+    let mut from = 0;
+    let mut to = values.len();
+    'halves: while from < to {
+        let middle = from + (to - from) / 2;
+        if values[middle].place() < value {
+            from = middle + 1;
+        } else {
+            to = middle;
         }
     }
-    values.len()
+    from
 }
 
-// Whether so many integers at the front of both are the same.
-fn begin_alike(xs: &[i64], ys: &[i64], many: usize) -> bool
-    requires xs { many ≤ length xs.now }
-    requires ys { many ≤ length ys.now }
-    ensures { IsTrue result ↔ (take many xs.now ≡ take many ys.now) }
-{
-    &xs[..many] == &ys[..many]
-}
-
-// The integers with these in the places from this one on.
-fn laid(few: [i64; 14], at: usize, values: &[i64]) -> [i64; 14]
-    requires { at + length values.now ≤ 14 }
-    ensures { take (at + length values.now) result ≡ take at few ++ values.now }
-{
-    let mut laid = few;
-    for place in 0..values.len() {
-        laid[at + place] = values[place];
-    }
-    laid
-}
-
-// The row of so many of these integers.
-fn leaf(alloc: Global, few: [i64; 14], many: usize) -> Result<Tree, AllocError>
-    requires { many ≤ 14 }
-    ensures { IfOk result (λ tree. tree ≡ take many few) }
+// The row of these values.
+fn leaf_of<T: Copy>(alloc: Global, few: Vec<T>) -> Result<Tree<T>, AllocError>
+    ensures { IfOk result (λ tree. tree ≡ few.items) }
 {
     let few = Arc::new(alloc, few)?;
     Ok(Tree {
-        node: Node::Leaf(0, many as u8, few),
+        node: Node::Leaf(0, few),
     })
 }
 
-// The row of these integers, with memory of its own.
-fn leaf_of(alloc: Global, values: &[i64]) -> Result<Tree, AllocError>
-    requires { length values.now ≤ 14 }
-    ensures { IfOk result (λ tree. tree ≡ values.now) }
+// The row of these values, one part behind the other, with memory of its own.
+fn leaf<T: Copy>(alloc: Global, first: &[T], second: &[T]) -> Result<Tree<T>, AllocError>
+    ensures { IfOk result (λ tree. tree ≡ first.now ++ second.now) }
 {
-    leaf(alloc, laid([0; 14], 0, values), values.len())
+    let mut few = Vec::with_capacity(alloc, first.len().saturating_add(second.len()))?;
+    few.extend_from_slice(first)?;
+    few.extend_from_slice(second)?;
+    leaf_of(alloc, few)
 }
 
-// The row of these integers with one more at this place.
-fn leaf_with(alloc: Global, values: &[i64], at: usize, value: i64) -> Result<Tree, AllocError>
-    requires place { at ≤ length values.now }
-    requires room { length values.now < 14 }
+// The same, with one value between both parts.
+fn leaf_around<T: Copy>(
+    alloc: Global,
+    first: &[T],
+    value: T,
+    second: &[T],
+) -> Result<Tree<T>, AllocError>
+    ensures { IfOk result (λ tree. tree ≡ first.now ++ value ∷ second.now) }
+{
+    let many = first.len().saturating_add(second.len());
+    let mut few = Vec::with_capacity(alloc, many.saturating_add(1))?;
+    few.extend_from_slice(first)?;
+    few.push(value)?;
+    few.extend_from_slice(second)?;
+    leaf_of(alloc, few)
+}
+
+// The row of these values with one more at this place.
+fn leaf_with<T: Copy>(
+    alloc: Global,
+    values: &[T],
+    at: usize,
+    value: T,
+) -> Result<Tree<T>, AllocError>
+    requires { at ≤ length values.now }
     ensures { IfOk result (λ tree. tree ≡ insert values.now at value) }
 {
-    let mut few = laid([0; 14], 0, &values[..at]);
-    few[at] = value;
-    leaf(alloc, laid(few, at + 1, &values[at..]), values.len() + 1)
+    leaf_around(alloc, &values[..at], value, &values[at..])
 }
 
-// The row of the first so many of these integers and one more behind them.
-fn leaf_longer(alloc: Global, few: &[i64; 14], many: usize, value: i64) -> Result<Tree, AllocError>
-    requires { many < 14 }
-    ensures { IfOk result (λ tree. tree ≡ take many few.now ++ value ∷ []) }
-{
-    let mut more = *few;
-    more[many] = value;
-    leaf(alloc, more, many + 1)
-}
-
-// The row of these integers without the one at this place.
-fn leaf_without(alloc: Global, values: &[i64], at: usize) -> Result<Tree, AllocError>
-    requires place { at < length values.now }
-    requires few { length values.now ≤ 14 }
+// The row of these values without the one at this place.
+fn leaf_without<T: Copy>(alloc: Global, values: &[T], at: usize) -> Result<Tree<T>, AllocError>
+    requires { at < length values.now }
     ensures { IfOk result (λ tree. tree ≡ remove values.now at) }
 {
-    let few = laid([0; 14], 0, &values[..at]);
-    leaf(alloc, laid(few, at, &values[at + 1..]), values.len() - 1)
+    leaf(alloc, &values[..at], &values[at + 1..])
 }
 
-// The row of these integers with one in place of the one at this place.
-fn leaf_replaced(alloc: Global, values: &[i64], at: usize, value: i64) -> Result<Tree, AllocError>
-    requires place { at < length values.now }
-    requires few { length values.now ≤ 14 }
+// The row of these values with one in place of the one at this place.
+fn leaf_replaced<T: Copy>(
+    alloc: Global,
+    values: &[T],
+    at: usize,
+    value: T,
+) -> Result<Tree<T>, AllocError>
+    requires { at < length values.now }
     ensures { IfOk result (λ tree. tree ≡ take at values.now ++ value ∷ drop (at + 1) values.now) }
 {
-    let mut few = laid([0; 14], 0, values);
-    few[at] = value;
-    leaf(alloc, few, values.len())
+    leaf_around(alloc, &values[..at], value, &values[at + 1..])
 }
 
-// The integers from one place up to another.
-fn between(few: &[i64; 14], from: u8, to: u8) -> &[i64]
-    requires order { from ≤ to }
-    requires within { to ≤ 14 }
-    ensures { result.now ≡ take (to - from) (drop from few.now) }
+// The values from this place on.
+fn behind<T: Copy>(few: &Vec<T>, from: u32) -> &[T]
+    requires { from ≤ length few.now.items }
+    ensures { result.now ≡ drop from few.now.items }
 {
-    &few[from as usize..to as usize]
+    &few.as_slice()[from as usize..]
 }
 
 // The two rows, one behind the other. None of them is empty.
-fn fork(alloc: Global, left: Tree, right: Tree) -> Result<Tree, AllocError>
+fn fork<T: Copy>(alloc: Global, left: Tree<T>, right: Tree<T>) -> Result<Tree<T>, AllocError>
     requires left { 0 < length left }
     requires right { 0 < length right }
     ensures { IfOk result (λ tree. tree ≡ left ++ right) }
@@ -187,19 +184,27 @@ fn fork(alloc: Global, left: Tree, right: Tree) -> Result<Tree, AllocError>
     })
 }
 
-// The row of these integers with one more at this place, which is not the end, as two leaves.
-fn parted(alloc: Global, values: &[i64], at: usize, value: i64) -> Result<Tree, AllocError>
-    requires place { at < length values.now }
-    requires few { length values.now ≤ 14 }
+// The row of these values with one more at this place, which is not the end, as two leaves, each with half of them.
+fn parted<T: Copy>(alloc: Global, values: &[T], at: usize, value: T) -> Result<Tree<T>, AllocError>
+    requires { at < length values.now }
     ensures { IfOk result (λ tree. tree ≡ insert values.now at value) }
 {
-    let left = leaf_with(alloc, &values[..at], at, value)?;
-    let right = leaf_of(alloc, &values[at..])?;
-    fork(alloc, left, right)
+    let half = values.len() / 2;
+    if at <= half {
+        let left = leaf_around(alloc, &values[..at], value, &values[at..half])?;
+        return fork(alloc, left, leaf(alloc, &values[half..], &[])?);
+    }
+    let right = leaf_around(alloc, &values[half..at], value, &values[at..])?;
+    fork(alloc, leaf(alloc, &values[..half], &[])?, right)
 }
 
 // The three rows, one behind the other. The one in the middle is divided, where it has two halves.
-fn fork_around(alloc: Global, left: Tree, middle: &Tree, right: Tree) -> Result<Tree, AllocError>
+fn fork_around<T: Copy>(
+    alloc: Global,
+    left: Tree<T>,
+    middle: &Tree<T>,
+    right: Tree<T>,
+) -> Result<Tree<T>, AllocError>
     requires left { 0 < length left }
     requires middle { 0 < length middle.now }
     requires right { 0 < length right }
@@ -215,7 +220,7 @@ fn fork_around(alloc: Global, left: Tree, middle: &Tree, right: Tree) -> Result<
 }
 
 // The two rows, of which the left one is too high for a fork of both.
-fn lean_left(alloc: Global, left: &Tree, right: Tree) -> Result<Tree, AllocError>
+fn lean_left<T: Copy>(alloc: Global, left: &Tree<T>, right: Tree<T>) -> Result<Tree<T>, AllocError>
     requires left { 0 < length left.now }
     requires right { 0 < length right }
     ensures { IfOk result (λ tree. tree ≡ left.now ++ right) }
@@ -232,7 +237,7 @@ fn lean_left(alloc: Global, left: &Tree, right: Tree) -> Result<Tree, AllocError
 }
 
 // The two rows, of which the right one is too high for a fork of both.
-fn lean_right(alloc: Global, left: Tree, right: &Tree) -> Result<Tree, AllocError>
+fn lean_right<T: Copy>(alloc: Global, left: Tree<T>, right: &Tree<T>) -> Result<Tree<T>, AllocError>
     requires left { 0 < length left }
     requires right { 0 < length right.now }
     ensures { IfOk result (λ tree. tree ≡ left ++ right.now) }
@@ -249,7 +254,7 @@ fn lean_right(alloc: Global, left: Tree, right: &Tree) -> Result<Tree, AllocErro
 }
 
 // The two rows, one behind the other, of which one may be too high for a fork of both.
-fn balanced(alloc: Global, left: Tree, right: Tree) -> Result<Tree, AllocError>
+fn balanced<T: Copy>(alloc: Global, left: Tree<T>, right: Tree<T>) -> Result<Tree<T>, AllocError>
     requires left { 0 < length left }
     requires right { 0 < length right }
     ensures { IfOk result (λ tree. tree ≡ left ++ right) }
@@ -264,7 +269,7 @@ fn balanced(alloc: Global, left: Tree, right: Tree) -> Result<Tree, AllocError>
 }
 
 // The same, where one may be empty.
-fn joined(alloc: Global, left: Tree, right: Tree) -> Result<Tree, AllocError>
+fn joined<T: Copy>(alloc: Global, left: Tree<T>, right: Tree<T>) -> Result<Tree<T>, AllocError>
     ensures { IfOk result (λ tree. tree ≡ left ++ right) }
 {
     if left.len() == 0 {
@@ -276,9 +281,9 @@ fn joined(alloc: Global, left: Tree, right: Tree) -> Result<Tree, AllocError>
     balanced(alloc, left, right)
 }
 
-impl Tree {
-    /// No integers. Takes no memory.
-    pub fn new() -> Tree
+impl<T: Copy> Tree<T> {
+    /// No values. Takes no memory.
+    pub fn new() -> Tree<T>
         ensures { result ≡ [] }
     {
         Tree { node: Node::Empty }
@@ -290,7 +295,7 @@ impl Tree {
     {
         match &self.node {
             Node::Empty => 0,
-            Node::Leaf(from, to, _) => (*to - *from) as usize,
+            Node::Leaf(from, few) => behind(few, *from).len(),
             Node::Fork(pair) => pair.len,
         }
     }
@@ -304,26 +309,26 @@ impl Tree {
     }
 
     /// The first of them. Takes no memory, and constant time.
-    pub fn first(&self) -> i64
+    pub fn first(&self) -> T
         requires { 0 < length self.now }
-        ensures { result ≡ get_or self.now 0 (pos 0) }
+        ensures { (d : T) → result ≡ get_or self.now 0 d }
     {
         match &self.node {
-            Node::Empty => 0,
-            Node::Leaf(from, _, few) => few[*from as usize],
+            Node::Empty => unreachable!(),
+            Node::Leaf(from, few) => few[*from as usize],
             Node::Fork(pair) => pair.first,
         }
     }
 
-    /// The same integers, all of them shared. Takes constant time, and no memory; `AllocError` where as many share them as can be
+    /// The same values, all of them shared. Takes constant time, and no memory; `AllocError` where as many share them as can be
     /// counted.
-    pub fn copy(&self) -> Result<Tree, AllocError>
+    pub fn copy(&self) -> Result<Tree<T>, AllocError>
         ensures { IfOk result (λ tree. tree ≡ self.now) }
     {
         match &self.node {
             Node::Empty => Ok(Tree::new()),
-            Node::Leaf(from, to, few) => Ok(Tree {
-                node: Node::Leaf(*from, *to, Arc::try_clone(few)?),
+            Node::Leaf(from, few) => Ok(Tree {
+                node: Node::Leaf(*from, Arc::try_clone(few)?),
             }),
             Node::Fork(pair) => Ok(Tree {
                 node: Node::Fork(Arc::try_clone(pair)?),
@@ -331,54 +336,66 @@ impl Tree {
         }
     }
 
-    /// The integers with one more at this place; `AllocError` where there is no memory for it. Takes the time and the memory of the
-    /// way to the place, which grow with the logarithm of how many integers there are.
-    pub fn with(&self, alloc: Global, at: usize, value: i64) -> Result<Tree, AllocError>
+    /// The values with one more at this place; `AllocError` where there is no memory for it. Takes the time and the memory of the
+    /// way to the place, which grow with the logarithm of how many values there are.
+    pub fn with(&self, alloc: Global, at: usize, value: T) -> Result<Tree<T>, AllocError>
+        requires { at ≤ length self.now }
+        ensures { IfOk result (λ tree. tree ≡ insert self.now at value) }
+    {
+        let most = if self.len() < FLAT { FLAT } else { FEW };
+        self.with_in(alloc, at, value, most)
+    }
+
+    // The same, where a leaf with so many integers or more is parted.
+    fn with_in(
+        &self,
+        alloc: Global,
+        at: usize,
+        value: T,
+        most: usize,
+    ) -> Result<Tree<T>, AllocError>
         requires { at ≤ length self.now }
         ensures { IfOk result (λ tree. tree ≡ insert self.now at value) }
     {
         match &self.node {
             Node::Empty => leaf_with(alloc, &[], at, value),
-            Node::Leaf(from, to, few) => {
-                let values = between(few, *from, *to);
-                if *from == 0 && at < FEW && at == values.len() {
-                    return leaf_longer(alloc, few, at, value);
-                }
-                if values.len() < FEW {
+            Node::Leaf(from, few) => {
+                let values = behind(few, *from);
+                if values.len() < most {
                     return leaf_with(alloc, values, at, value);
                 }
                 if at < values.len() {
                     return parted(alloc, values, at, value);
                 }
-                fork(alloc, self.copy()?, leaf_with(alloc, &[], 0, value)?)
+                joined(alloc, self.copy()?, leaf_with(alloc, &[], 0, value)?)
             }
             Node::Fork(pair) => {
                 let many = pair.left.len();
                 if at < many {
-                    let left = pair.left.with(alloc, at, value)?;
+                    let left = pair.left.with_in(alloc, at, value, most)?;
                     return balanced(alloc, left, pair.right.copy()?);
                 }
-                let right = pair.right.with(alloc, at - many, value)?;
+                let right = pair.right.with_in(alloc, at - many, value, most)?;
                 balanced(alloc, pair.left.copy()?, right)
             }
         }
     }
 
-    /// The integers without the one at this place; `AllocError` where there is no memory for it. Takes the time and the memory of
+    /// The values without the one at this place; `AllocError` where there is no memory for it. Takes the time and the memory of
     /// the way to the place, as above.
-    pub fn without(&self, alloc: Global, at: usize) -> Result<Tree, AllocError>
+    pub fn without(&self, alloc: Global, at: usize) -> Result<Tree<T>, AllocError>
         requires { at < length self.now }
         ensures { IfOk result (λ tree. tree ≡ remove self.now at) }
     {
         match &self.node {
             Node::Empty => Ok(Tree::new()),
-            Node::Leaf(from, to, few) => {
-                if at == 0 {
+            Node::Leaf(from, few) => {
+                if at == 0 && *from < u32::MAX {
                     return Ok(Tree {
-                        node: Node::Leaf(*from + 1, *to, Arc::try_clone(few)?),
+                        node: Node::Leaf(*from + 1, Arc::try_clone(few)?),
                     });
                 }
-                leaf_without(alloc, between(few, *from, *to), at)
+                leaf_without(alloc, behind(few, *from), at)
             }
             Node::Fork(pair) => {
                 let many = pair.left.len();
@@ -392,17 +409,15 @@ impl Tree {
         }
     }
 
-    /// The integers with this one in place of the one at this place; `AllocError` where there is no memory for it. Takes the time and
+    /// The values with this one in place of the one at this place; `AllocError` where there is no memory for it. Takes the time and
     /// the memory of the way there, as above.
-    pub fn replaced(&self, alloc: Global, at: usize, value: i64) -> Result<Tree, AllocError>
+    pub fn replaced(&self, alloc: Global, at: usize, value: T) -> Result<Tree<T>, AllocError>
         requires { at < length self.now }
         ensures { IfOk result (λ tree. tree ≡ take at self.now ++ value ∷ drop (at + 1) self.now) }
     {
         match &self.node {
             Node::Empty => Ok(Tree::new()),
-            Node::Leaf(from, to, few) => {
-                leaf_replaced(alloc, between(few, *from, *to), at, value)
-            }
+            Node::Leaf(from, few) => leaf_replaced(alloc, behind(few, *from), at, value),
             Node::Fork(pair) => {
                 let many = pair.left.len();
                 if at < many {
@@ -415,8 +430,8 @@ impl Tree {
         }
     }
 
-    /// The integers from this place on, as far as they lie in one piece of memory. Takes no memory, and the time of the way there.
-    pub fn part_at(&self, at: usize) -> &[i64]
+    /// The values from this place on, as far as they lie in one piece of memory. Takes no memory, and the time of the way there.
+    pub fn part_at(&self, at: usize) -> &[T]
         requires { at < length self.now }
         ensures some { 0 < length result.now }
         ensures within { at + length result.now ≤ length self.now }
@@ -424,7 +439,7 @@ impl Tree {
     {
         match &self.node {
             Node::Empty => &[],
-            Node::Leaf(from, to, few) => &between(few, *from, *to)[at..],
+            Node::Leaf(from, few) => &behind(few, *from)[at..],
             Node::Fork(pair) => {
                 let many = pair.left.len();
                 if at < many {
@@ -435,26 +450,43 @@ impl Tree {
         }
     }
 
-    /// The integer at this place. Takes no memory, and the time of the way there.
-    pub fn get(&self, at: usize) -> i64
+    /// The value at this place. Takes no memory, and the time of the way there.
+    pub fn get(&self, at: usize) -> T
         requires { at < length self.now }
-        ensures { result ≡ get_or self.now at (pos 0) }
+        ensures { (d : T) → result ≡ get_or self.now at d }
     {
         self.part_at(at)[0]
     }
 
-    /// A place in front of which stands an integer below the value, if any does, and at which stands none below it. In a row that
+    /// Puts the values behind those in the list; `AllocError` where there is no memory for them, and then some may be put. Takes
+    /// the time of the values.
+    pub fn append_to(&self, list: &mut Vec<T>) -> Result<(), AllocError>
+        ensures { OnOk result (list.new.items ≡ list.old.items ++ self.now) }
+    {
+        let len = self.len();
+        let mut at = 0;
+        'parts: while at < len {
+            let part = self.part_at(at);
+            list.extend_from_slice(part)?;
+            at += part.len();
+        }
+        Ok(())
+    }
+}
+
+impl<T: Placed> Tree<T> {
+    /// A place in front of which stands a value whose place is below this one, if any does, and at which stands none below it. In a row that
     /// never falls there is one alone. Takes no memory, and the time of the way there.
     pub fn place_of(&self, value: i64) -> usize
         ensures within { result ≤ length self.now }
-        ensures before { (k : ℕ) → result ≡ k + 1 → get_or self.now k (pos 0) <ℤ value }
-        ensures there { result < length self.now → value ≤ℤ get_or self.now result (pos 0) }
+        ensures before { (k : ℕ) (d : T) → result ≡ k + 1 → T.place (get_or self.now k d) <ℤ value }
+        ensures there { (d : T) → result < length self.now → value ≤ℤ T.place (get_or self.now result d) }
     {
         match &self.node {
             Node::Empty => 0,
-            Node::Leaf(from, to, few) => place_in(between(few, *from, *to), value),
+            Node::Leaf(from, few) => place_in(behind(few, *from), value),
             Node::Fork(pair) => {
-                if pair.right.first() < value {
+                if pair.right.first().place() < value {
                     let behind = pair.right.len() - pair.right.place_of(value);
                     return self.len() - behind;
                 }
@@ -463,8 +495,22 @@ impl Tree {
         }
     }
 
-    /// Whether both have the same integers in the same order. Takes no memory.
-    pub fn same(&self, other: &Tree) -> bool
+    /// Whether both have the same values in the same order. Takes no memory.
+    pub fn same(&self, other: &Tree<T>) -> bool
+        ensures { IsTrue result ↔ (self.now ≡ other.now) }
+    {
+        if let Node::Fork(ours) = &self.node {
+            if let Node::Fork(theirs) = &other.node {
+                if ours.left.len() == theirs.left.len() {
+                    return ours.left.same(&theirs.left) && ours.right.same(&theirs.right);
+                }
+            }
+        }
+        self.same_by_parts(other)
+    }
+
+    // The same, by what lies in one piece of memory, part by part.
+    fn same_by_parts(&self, other: &Tree<T>) -> bool
         ensures { IsTrue result ↔ (self.now ≡ other.now) }
     {
         let len = self.len();
@@ -476,26 +522,11 @@ impl Tree {
             let ours = self.part_at(at);
             let theirs = other.part_at(at);
             let many = ours.len().min(theirs.len());
-            if !begin_alike(ours, theirs, many) {
+            if !T::are_same(&ours[..many], &theirs[..many]) {
                 return false;
             }
             at += many;
         }
         true
-    }
-
-    /// Puts the integers behind those in the list; `AllocError` where there is no memory for them, and then some may be put. Takes
-    /// the time of the integers.
-    pub fn append_to(&self, list: &mut Vec<i64>) -> Result<(), AllocError>
-        ensures { OnOk result (list.new.items ≡ list.old.items ++ self.now) }
-    {
-        let len = self.len();
-        let mut at = 0;
-        'parts: while at < len {
-            let part = self.part_at(at);
-            list.extend_from_slice(part)?;
-            at += part.len();
-        }
-        Ok(())
     }
 }

@@ -1,7 +1,7 @@
 use Rattle.std.proofs.Common.{◌≡◌, ◌-◌, ◌^◌, length, take}
 use Rattle.std.specs.Prelude.{min}
-use Rattle.models.specs.Spans.{integers_in, paired}
+use Rattle.models.specs.Spans.{integers_in}
 use Rattle.models.proofs.spans.room_of.Given as goal
 
 abbrev pub invariant-loop-at : goal.invariant-loop-at
-invariant-loop-at l = l.room ≡ min (length (integers_in (take l.at (paired l.firsts l.lasts)))) (2 ^ 64 - 1)
+invariant-loop-at l = l.room ≡ min (length (integers_in (take l.at l.spans))) (2 ^ 64 - 1)

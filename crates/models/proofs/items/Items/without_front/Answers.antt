@@ -1,4 +1,4 @@
-use Rattle.std.proofs.Common.{rules, ◌≡◌, ◌+◌, ◌<◌, ◌∷◌, drop, length, sym, ap, subst, ◌∙◌, FitsSigned, to_z, of_z, w64, arith}
+use Rattle.std.proofs.Common.{pos, rules, ◌≡◌, ◌+◌, ◌<◌, ◌∷◌, drop, length, sym, ap, subst, ◌∙◌, FitsSigned, to_z, of_z, w64, arith}
 use Rattle.std.proofs.lemmas.Int.{to_z-of_z}
 use Rattle.models.specs.Rolled.{power, rolled}
 use Rattle.models.proofs.Rolling.{first_and_rest}
@@ -13,7 +13,7 @@ invariant_of-result c =
     let passed = to_z w64 (of_z w64 first) in
     let fits : FitsSigned w64 first = search rules in
     let front : passed ≡ first = to_z-of_z w64 first fits in
-    let parts : xs ≡ passed ∷ rest = first_and_rest xs some ∙ ap (λ x. x ∷ rest) (sym (front ∙ c.first-front.ensures)) in
+    let parts : xs ≡ passed ∷ rest = first_and_rest xs some ∙ ap (λ x. x ∷ rest) (sym (front ∙ c.first-front.ensures (pos 0))) in
     let one : length xs ≡ length rest + 1 = let e = ap length parts in omega (arith, e) in
     let left : c.in_ok-items.items ≡ rest = c.in_ok-items.ensures in
     let weighs : c.weight_without-weight.result ≡ power (length rest) = c.weight_without-weight.ensures (length rest) (c.self.invariant.weighs ∙ ap power one) in

@@ -14,7 +14,7 @@ invariant_of-result c =
     let fits : at < length xs = subst (λ l. at < length l) (sym c.self.view_is) c.requires in
     let value = c.get-value.result in
     let value_fits : FitsSigned w64 value = search rules in
-    let here : c.mixed.result ≡ mixed v = c.mixed.ensures ∙ ap mixed (to_z-of_z w64 value value_fits ∙ c.get-value.ensures) in
+    let here : c.mixed.result ≡ mixed v = c.mixed.ensures ∙ ap mixed (to_z-of_z w64 value value_fits ∙ c.get-value.ensures (pos 0)) in
     let bound : c.mixed.result < 2 ^ 128 = search rules in
     record {
       never_falls = subst NeverFalls (sym c.in_ok-values.ensures) (NeverFalls-remove xs at c.self.invariant.never_falls);

@@ -3,15 +3,15 @@ use Rattle.std.proofs.Common.{◌≡◌, length, sym, ap, ◌∙◌, subst, arit
 use Rattle.std.proofs.lemmas.List.{take_all}
 use Rattle.models.specs.Members.{IsAscending}
 use Rattle.models.specs.Sums.{sum_of}
-use Rattle.models.specs.Spans.{integers_in, paired}
+use Rattle.models.specs.Spans.{integers_in}
 use Rattle.models.proofs.InSpans.{integers_ascend}
-use Rattle.models.proofs.SideBySide.{part_apart}
+use Rattle.models.proofs.Joining.{part_apart}
 use Rattle.models.proofs.spans.Spans.to_members.Goals as goal
 
-pub append_spans-requires-clause-apart : goal.append_spans-requires-clause-apart
-append_spans-requires-clause-apart c =
-    let part = c.part_at.result in
-    part_apart c.self.inside.spans (paired part.0.now part.1.now) c.parts.at (length part.0.now) c.self.invariant.apart c.part_at.ensures.part
+pub append_spans-requires : goal.append_spans-requires
+append_spans-requires c =
+    let part = c.part_at-part.result.now in
+    part_apart c.self.inside.spans part c.parts.at (length part) c.self.invariant.apart c.part_at-part.ensures.part
 
 pub of_listed-requires : goal.of_listed-requires
 of_listed-requires c =

@@ -2,10 +2,10 @@ use Rattle.std.proofs.Common.{◌≡◌, ◌≤◌, ◌-◌, ◌++◌, length, t
 use Rattle.persistent.proofs.tree.Tree.append_to.Given as goal
 
 abbrev pub invariant-parts : goal.invariant-parts
-invariant-parts l = record {
+invariant-parts g l = record {
   within : l.at ≤ length l.self;
   so_far : l.list.items ≡ l.initial.list.items ++ take l.at l.self;
 }
 
 abbrev pub decreases-parts : goal.decreases-parts
-decreases-parts l = length l.self - l.at
+decreases-parts g l = length l.self - l.at

@@ -1,8 +1,8 @@
 use Rattle.std.proofs.Common.{ap}
 use Rattle.std.proofs.lemmas.Bool.Decides.{Decides-int_eq}
 use Rattle.std.proofs.lemmas.Slice.Eq.{slice_eq-Decides}
-use Rattle.models.proofs.Alike.{rest, same_whole}
-use Rattle.models.proofs.copies.are_same.Goals as goal
+use Rattle.persistent.proofs.Eights.{rest, same_whole}
+use Rattle.persistent.proofs.alike.are_same.Goals as goal
 
 pub returns : goal.returns
 returns c =

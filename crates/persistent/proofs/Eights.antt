@@ -1,7 +1,7 @@
 -- lists that are the same as far as they were compared
 use Rattle.std.proofs.Common.{◌≡◌, ℕ, ◌+◌, ◌-◌, ◌<◌, ◌≤◌, ℤ, pos, List, [], ◌∷◌, ◌++◌, length, take, drop, get_or, refl, sym, ap, ◌∙◌, arith}
 use Rattle.std.proofs.lemmas.List.{take_more, take_all, take-append-drop, length-drop}
-use Rattle.models.specs.Comparisons.{AreSameAt}
+use Rattle.persistent.specs.Eights.{AreSameAt}
 
 pub same_at : (xs ys : List ℤ) (at : ℕ) → xs ≡ ys → AreSameAt xs ys at
 same_at xs ys at e = (here at, here (at + 1), here (at + 2), here (at + 3), here (at + 4), here (at + 5), here (at + 6), here (at + 7))
