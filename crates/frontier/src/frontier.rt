@@ -341,8 +341,8 @@ impl<M: SeqObject> Frontier<M> {
         }
     }
 
-    // Ends whose reads double them are kept as products, while these are not many; and products are numbered anew where many of
-    // their numbers are no longer used. On `AllocError` the frontier stands for what it stood for.
+    // Ends whose reads double them, or of which an ok will find many, are kept as products, while these are not many; and products
+    // are numbered anew where many of their numbers are no longer used. On `AllocError` the frontier stands for what it stood for.
     fn choose_form(&mut self) -> Result<(), AllocError>
         ensures keeps { let object = of_table M.State M.start_state M.apply_to in
             Keeps (IsIdle object self.old) (IsIdle object self.new) }
@@ -354,7 +354,9 @@ impl<M: SeqObject> Frontier<M> {
             Some(those) if as_products::are_many(those) => self.make_rows(),
             Some(those) if as_products::is_crowded(those, &self.table) => self.renumber(),
             Some(_) => Ok(()),
-            None if as_products::may_be_few(&self.table, &self.calls) && M::has_scalar_states() => {
+            None
+                if M::has_scalar_states()
+                    && as_products::may_be_few(&self.table, &self.calls, self.tried) => {
                 self.make_products()
             }
             None => Ok(()),
@@ -517,8 +519,8 @@ impl<M: SeqObject> Frontier<M> {
         Ok(all)
     }
 
-    // The form in which all ends are found: products become rows where an operation may have several outcomes, and else few rows
-    // become products where many calls were not tried. On `AllocError` the frontier stands for what it stood for.
+    // Products become rows where an operation may have several outcomes. On `AllocError` the frontier stands for what it stood
+    // for.
     fn suit_outcomes(&mut self) -> Result<(), AllocError>
         ensures keeps { let object = of_table M.State M.start_state M.apply_to in
             Keeps (IsListed object self.old) (IsListed object self.new) }
@@ -527,15 +529,11 @@ impl<M: SeqObject> Frontier<M> {
         ensures budget { budget_of self.new ≡ budget_of self.old }
         ensures cost { applied_of self.new ≡ applied_of self.old }
     {
-        if !M::has_scalar_states() {
-            return self.make_rows();
+        if M::has_scalar_states() {
+            Ok(())
+        } else {
+            self.make_rows()
         }
-        if self.as_products.is_none()
-            && as_products::may_grow(&self.table, &self.calls, self.tried)
-        {
-            return self.make_products();
-        }
-        Ok(())
     }
 
     // Puts what is left of all ends after the ok into the room. False where there are more ends than the budget.
