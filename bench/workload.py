@@ -1,8 +1,9 @@
 #!/usr/bin/env python3
-"""Prints a legal history: `workload.py EVENTS CLIENTS SEED [MODEL [KEYS [LOST]]]`, of one key unless a number of keys is given.
+"""Prints a legal history: `workload.py EVENTS CLIENTS SEED [MODEL [KEYS [LOST [ORDER]]]]`, of one key unless a number of keys is given.
 
 Operations take place at random moments, on keys drawn at random. Of the reads the part LOST, 0 unless it is given, is never
-answered: the client notes `:info`, and its thread goes on with its next process.
+answered: the client notes `:info`, and its thread goes on with its next process. The order in which the operations took place is
+written to the file ORDER, as `jepmon confirm` reads it.
 """
 import random
 import sys
@@ -109,19 +110,23 @@ LOADS = {
 }
 
 
-def lines(events, clients, seed, model="register", keys=1, lost=0.0):
-    """Events of a store whose keys are such objects, one a line, with operations open at once. So many of the reads are lost."""
+def lines(events, clients, seed, model="register", keys=1, lost=0.0, order=None):
+    """Events of a store whose keys are such objects, one a line, with operations open at once. So many of the reads are lost. The index
+    of each operation's invocation is put into the list `order`, if there is one, when it takes place."""
     draw = random.Random(seed)
+    total = events
     start, apply, choose = LOADS[model]
     states = {}
     doing = [None] * clients
     last = [(None, None)] * clients
     process = list(range(clients))
 
-    def take(key, name, part):
+    def take(key, name, part, index):
         taken = apply(states.get(key, start), name, part)
         if taken:
             states[key] = taken[0]
+            if order is not None:
+                order.append(index)
         return taken
 
     def text(kind, thread, name, key, part):
@@ -135,31 +140,35 @@ def lines(events, clients, seed, model="register", keys=1, lost=0.0):
             waiting = [op[1] for op in filter(None, doing) if op[0] == key and not op[3]]
             name, part = choose(draw, states.get(key, start), waiting, before if key == held else None)
             last[thread] = key, name
-            doing[thread] = [key, name, part, False]
+            doing[thread] = [key, name, part, False, total - events]
             yield text("invoke", thread, name, key, part)
             events -= 1
         else:
-            key, name, part, done = doing[thread]
+            key, name, part, done, index = doing[thread]
             if lost and name == "read" and draw.random() < lost:
                 doing[thread] = None
                 yield text("info", thread, name, key, "nil")
                 process[thread] += clients
                 events -= 1
                 continue
-            taken = (None, part) if done else take(key, name, part)
+            taken = (None, part) if done else take(key, name, part, index)
             if taken:
                 doing[thread] = None
                 yield text("ok", thread, name, key, taken[1])
                 events -= 1
         for op in filter(None, doing):
             if not op[3] and draw.random() < 0.3:
-                taken = take(op[0], op[1], op[2])
+                taken = take(op[0], op[1], op[2], op[4])
                 if taken:
-                    op[2:] = [taken[1], True]
+                    op[2:4] = [taken[1], True]
 
 
 if __name__ == "__main__":
     keys = int(sys.argv[5]) if len(sys.argv) > 5 else 1
     lost = float(sys.argv[6]) if len(sys.argv) > 6 else 0.0
-    for line in lines(int(sys.argv[1]), int(sys.argv[2]), int(sys.argv[3]), *sys.argv[4:5], keys=keys, lost=lost):
+    order = []
+    for line in lines(int(sys.argv[1]), int(sys.argv[2]), int(sys.argv[3]), *sys.argv[4:5], keys=keys, lost=lost, order=order):
         print(line)
+    if len(sys.argv) > 7:
+        with open(sys.argv[7], "w", encoding="ascii") as file:
+            file.writelines(f"{index}\n" for index in order)

@@ -2,8 +2,8 @@
 """Refuses each allocation of the program in turn, and looks at what is left of the run.
 
 For each n from 1 to the last allocation a run is made again in which the nth one is refused (tests/refuse.py). `script` has then
-written a beginning of the replies and ended with status 3; `check` and `run` the line of want of memory, or nothing where even
-that line found none. Or the run was as with memory, where the program can do without.
+written a beginning of the replies and ended with status 3; `check`, `confirm` and `run` the line of want of memory, or nothing where
+even that line found none. Or the run was as with memory, where the program can do without.
 
 Calls that the program does not make one by one are made by the program `refusals`: it makes each call once more that wanted
 memory, says whether all was seen as before, and then goes on; so it writes what it writes with memory, and one line more.
@@ -25,7 +25,8 @@ SCRIPTS = {
     "rewind_brings_processes_back": 100, "refusals_in_order": 100, "unreadable_places": 20, "open_reads_within_their_ends": 150,
     "products_of_large_numbers": 200,
 }
-CHECKS = {"check_finds_a_stale_read": 50, "check_of_failed_and_crashed": 50}
+CHECKS = {"check_finds_a_stale_read": 50, "check_of_failed_and_crashed": 50, "confirm_of_an_order_for_each_key": 50,
+          "confirm_of_a_dequeue_by_its_value": 50}
 
 # Words of runs of one client, whose report the seed tells; more clients come in any order.
 RUNS = {"run --ops 4 --concurrency 1": 50, "run --ops 10 --concurrency 1 --faults on --model set": 50}

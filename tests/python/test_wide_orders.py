@@ -2,13 +2,16 @@
 from __future__ import annotations
 
 import random
+import subprocess
 import time
 import unittest
-from typing import FrozenSet, List, Set, Tuple
+from typing import FrozenSet, Iterator, List, Sequence, Set, Tuple
 
-from jepmon.history import Event, operations
+from jepmon import program
+from jepmon.history import Event, Operation, operations
 from jepmon.kinds import REGISTERS
 from jepmon.objects import START, State, rule
+from jepmon.wide.confirmed import by_program
 from jepmon.wide.fifo import Search as FifoSearch
 from jepmon.wide.operation import Clock, Conflict, Op, Order, OutOfTime, front
 from jepmon.wide.ordered import is_order
@@ -110,6 +113,48 @@ class Fronts(unittest.TestCase):
         events = Clients(random.Random(2), 20).history("fifo-queue", Way(events=2000, clients=20, values=1 << 40, crash=0), 0)
         search = FifoSearch(front(operations(events, 20), events[-1].index), Clock(60, time.process_time))
         self.assertIsInstance(search.run(), Order)
+
+
+def has_confirm() -> bool:
+    try:
+        words = [program.find_program(), "confirm", "--help"]
+        return subprocess.run(words, stdout=subprocess.DEVNULL, stderr=subprocess.DEVNULL, check=False).returncode == 0
+    except (OSError, program.ProgramError):
+        return False
+
+
+def some_orders(made: Sequence[Operation], model: str, chance: random.Random) -> Iterator[List[int]]:
+    """An order, if one is found, else what has returned; and the same with one of them at another place. Of a queue without an order no
+    dequeue is in it that has not returned, of which a program may find another value than the other."""
+    last = max((completion.index for _, completion, _ in made if completion is not None), default=-1)
+    found = solve(model, front(made, last), Clock(60, time.process_time))
+    returned = [operation.invocation.index for operation in made if operation.outcome == "ok"]
+    order = found.ids if isinstance(found, Order) and model != "unordered-queue" else returned
+    for _ in range(4):
+        yield order
+        order = list(order)
+        if order:
+            order.insert(chance.randrange(len(order)), order.pop(chance.randrange(len(order))))
+
+
+@unittest.skipUnless(has_confirm(), "there is no program with the command confirm")
+class Program(unittest.TestCase):
+    """`jepmon confirm` and the stand-in say the same."""
+
+    def test_each_kind(self) -> None:
+        asked = program.find_program()
+        for model in NAMES:
+            chance = random.Random(model)
+            said = {True: 0, False: 0}
+            for number in range(20):
+                way = WAYS[number % len(WAYS)]
+                made = operations(Clients(chance, way.clients).history(model, way, 0), way.clients)
+                for order in some_orders(made, model, chance):
+                    with self.subTest(model=model, number=number, order=order):
+                        told = by_program(made, program.Options(way.clients, model), order, asked, 60.0)
+                        self.assertEqual(told, is_order(made, model, order))
+                        said[bool(told)] += 1
+            self.assertGreater(min(said.values()), 2, model)
 
 
 class IsOrder(unittest.TestCase):

@@ -1,4 +1,6 @@
 //! One monitor that many threads share: a lock round the one-thread object, one tape of its calls, glances that take no lock.
+//!
+//! A call takes memory only where its result can be `AllocError`, or a refusal for want of memory.
 #![tactic(auto)]
 
 mod blank;

@@ -31,7 +31,7 @@ pub trait OneThread: Drop {
     // The state that `commit` will bring, where a command is prepared.
     ghost promised: { Self → Option Self.State };
 
-    /// What readers may be shown now. It takes no memory.
+    /// What readers may be shown now.
     fn summary(&self) -> Self::Summary
         ensures { summarizes (state self.now) result };
 

@@ -21,7 +21,7 @@ impl Model for Invocations {
 }
 
 impl Invocations {
-    /// None. Takes no memory.
+    /// None.
     pub(crate) fn new(alloc: Global) -> Invocations
         ensures { (process : ℕ) → noted_of result process ≡ None }
     {
@@ -30,7 +30,7 @@ impl Invocations {
         }
     }
 
-    /// The same invocations, with memory of their own; `AllocError` where there is none.
+    /// The same invocations, with memory of their own.
     pub(crate) fn copy(&self) -> Result<Invocations, AllocError>
         ensures { IfOk result (λ copy. copy ≡ self.now) }
     {
@@ -69,7 +69,7 @@ impl Invocations {
         Ok(())
     }
 
-    /// Forgets what is noted for the process, and for no other. Takes no memory.
+    /// Forgets what is noted for the process, and for no other.
     pub(crate) fn forget(&mut self, process: u32)
         ensures { (q : ℕ) → q ≢ process → noted_of self.new q ≡ noted_of self.old q }
     {

@@ -92,10 +92,6 @@ impl Model for KeyLine {
 impl KeyLine {
     /// The line of no events of a key whose object is of this kind. An ok of it may find at most `budget` ends just before it.
     /// It takes constant time.
-    ///
-    /// # Errors
-    ///
-    /// `AllocError` where memory was refused.
     pub fn new(alloc: Global, kind: ModelKind, budget: u32) -> Result<Self, AllocError>
         ensures { IfOk result (λ made. made ≡ at_rest (without_events kind budget) 0) }
     {
@@ -234,7 +230,7 @@ impl KeyLine {
         Ok(status)
     }
 
-    /// Carries out what is prepared. Takes no memory.
+    /// Carries out what is prepared.
     pub fn commit(&mut self)
         requires { IsSome self.old.next }
         ensures { IfSome self.old.next (λ next.
@@ -269,7 +265,7 @@ impl KeyLine {
         }
     }
 
-    /// Drops what is prepared, if anything is. Takes no memory.
+    /// Drops what is prepared, if anything is.
     pub fn drop_prepared(&mut self)
         ensures { self.new ≡ at_rest self.old.now self.old.replayed }
     {
@@ -337,15 +333,15 @@ impl KeyLine {
         Ok(())
     }
 
-    /// What is known of the key. Takes no memory.
+    /// What is known of the key.
     pub fn status(&self) -> KeyStatus
         ensures { IsStatusOf self.now.now result }
     {
         self.state.status()
     }
 
-    /// How many replays the committed changes took: one for each event that was pushed, and one for each that a cut or a
-    /// rebuild gave again to what judges the key. It stops at the greatest `u64`. Takes no memory.
+    /// How many replays the committed changes took: one for each event that was pushed, and one for each that a cut or a rebuild
+    /// gave again to what judges the key. It stops at the greatest `u64`.
     pub fn replayed(&self) -> u64
         ensures { result ≡ self.now.replayed }
     {
@@ -353,7 +349,7 @@ impl KeyLine {
         count
     }
 
-    /// How many replays the prepared change took, and 0 where none is prepared. Takes no memory.
+    /// How many replays the prepared change took, and 0 where none is prepared.
     pub fn due(&self) -> u64
         ensures { result ≡ self.now.due }
     {
@@ -364,22 +360,21 @@ impl KeyLine {
         }
     }
 
-    /// How many events the line has. Takes no memory.
+    /// How many events the line has.
     pub fn len(&self) -> usize
         ensures { result ≡ length self.now.now.events }
     {
         self.places.len()
     }
 
-    /// Whether a cut at `n` takes events of the key away: its last event has an index of `n` or more. Takes no memory, and
-    /// constant time.
+    /// Whether a cut at `n` takes events of the key away: its last event has an index of `n` or more. Takes constant time.
     pub fn loses(&self, n: u32) -> bool
         ensures { result ≡ loses_at n self.now.now }
     {
         has_from(&self.places, n)
     }
 
-    /// Whether the key has an event of index below `n`: its first one has. Takes no memory, and constant time.
+    /// Whether the key has an event of index below `n`: its first one has. Takes constant time.
     pub fn begins_below(&self, n: u32) -> bool
         ensures { result ≡ begins_below n self.now.now }
     {

@@ -62,7 +62,7 @@ impl KeyState {
         }
     }
 
-    /// Carries out what becomes of the key. Takes no memory.
+    /// Carries out what becomes of the key.
     pub(crate) fn commit(&mut self, next: Next)
         ensures { (kind : ModelKind) (budget : ℕ) (events : List (ℕ × Event))
             → IsNext kind budget events self.old next → IsKeyState kind budget events self.new }

@@ -131,7 +131,7 @@ impl LiveKey {
         }
     }
 
-    /// Carries out what is prepared: the ends go on, and an operation that is completed is open no more. Takes no memory.
+    /// Carries out what is prepared: the ends go on, and an operation that is completed is open no more.
     pub(crate) fn commit(&mut self)
         ensures { (kind : ModelKind) (budget : ℕ) (events : List (ℕ × Event))
             → WillBeLive kind budget events self.old → IsLiveKey kind budget events self.new }

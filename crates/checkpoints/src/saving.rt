@@ -28,7 +28,7 @@ pub(crate) enum Saves {
     Anew(Vec<KeyState>),
 }
 
-/// Carries out what becomes of the saved states, where so many events are kept. Takes no memory.
+/// Carries out what becomes of the saved states, where so many events are kept.
 pub(crate) fn keep_or_renew(saved: &mut Vec<KeyState>, kept: usize, saves: Saves)
     ensures { saved.new.items ≡ saved_by kept saves saved.old.items }
 {

@@ -117,12 +117,12 @@ pub fn check_input<
     check_text(rt, alloc, config, workers, &mut reader, writer, onlooker)
 }
 
-// A file, at whose reads somebody looks on.
+/// A file, at whose reads somebody looks on, who is told of one that fails by this path.
 #[derive(Drop)]
-struct SeenFile<'a, R, L> {
-    file: R,
-    path: &'a str,
-    onlooker: &'a L,
+pub struct SeenFile<'a, R, L> {
+    pub file: R,
+    pub path: &'a str,
+    pub onlooker: &'a L,
 }
 
 impl<'a, R: Read, L: Onlooker> Read for SeenFile<'a, R, L> {

@@ -1,4 +1,6 @@
 //! A recorded history, from its bytes to the text that says what it comes to: the report, or the line of a refusal.
+//!
+//! A call takes memory only where its result can be `AllocError`, or a refusal for want of memory.
 #![tactic(auto)]
 
 mod check;
@@ -6,6 +8,7 @@ mod reading;
 mod recorded;
 mod telling;
 
-pub use check::{check_file, check_input, check_text};
+pub use check::{SeenFile, check_file, check_input, check_text};
+pub use reading::read_events;
 pub use recorded::{Findings, event_text, judge_text};
 pub use telling::{REFUSED, put_refused, put_text, status_of_verdict};

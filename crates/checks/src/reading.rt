@@ -22,7 +22,7 @@ use std::alloc::Global;
 /// # Errors
 ///
 /// `Unreadable` where the bytes are no text, with its place; `NoMemory` where memory is refused.
-pub(crate) fn read_events<L: Onlooker>(
+pub fn read_events<L: Onlooker>(
     alloc: Global,
     history: &mut History,
     bytes: &[u8],

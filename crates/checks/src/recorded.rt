@@ -133,10 +133,6 @@ fn told_by<L: Onlooker>(alloc: Global, monitor: &Monitor, onlooker: &L) -> Resul
 
 /// The line of an event that is refused, where so many were taken before it, as `refused 6 BadIndex event 1`. Takes memory
 /// for the line.
-///
-/// # Errors
-///
-/// `AllocError` where there is no memory for it.
 pub fn event_text(alloc: Global, taken: usize, refusal: &Refusal) -> Result<String, AllocError>
     ensures { IfOk result (λ text. string_bytes text ≡ event_line taken refusal.now) }
 {

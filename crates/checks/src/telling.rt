@@ -21,7 +21,7 @@ const NO_MEMORY: &[u8] = b"refused 13 NoMemory\n";
 // The line of a reader that failed, which no want of memory may stand for.
 const READ_FAILED: &[u8] = b"refused 20 ReadFailed\n";
 
-/// The exit status of a verdict: 0 legal, 1 illegal, 2 unknown. Takes no memory.
+/// The exit status of a verdict: 0 legal, 1 illegal, 2 unknown.
 pub fn status_of_verdict(verdict: &Verdict) -> u8
     ensures { result ≡ status_of verdict.now }
 {

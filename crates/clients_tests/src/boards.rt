@@ -7,6 +7,7 @@ use generators::{Cycle, Gen, Item};
 use harness::{Command, Config};
 use history::{Body, Event, EventKind, Process};
 use models::{ModelKind, Name, Op, Part};
+use nemesis::Schedule;
 use std::alloc::Global;
 use std::process::Abort;
 use std::sync::atomic::{AtomicBool, Ordering};
@@ -52,11 +53,17 @@ pub fn append_write(kind: EventKind) -> Command {
     })
 }
 
-// So many operations, which are these in turn.
-fn config(alloc: Global, operations: u64, items: Vec<Item>) -> Result<Config, Refusal> {
+// So many operations, which are these in turn, under these faults.
+fn config(
+    alloc: Global,
+    operations: u64,
+    items: Vec<Item>,
+    schedule: Schedule,
+) -> Result<Config, Refusal> {
     let child = Box::new(alloc, Gen::Ops(Cycle::new(items)))?;
     Ok(Config {
         generator: Gen::Limit(operations, child),
+        schedule,
         ..Config::to_judge(alloc, 2, ModelKind::Register, 4096)
     })
 }
@@ -71,7 +78,22 @@ pub fn blank<R: Abort>(
 ) -> Blank
     ensures { result.seats ≡ seats }
 {
-    let Ok(config) = config(alloc, operations, items) else {
+    let schedule = Schedule::new(Vec::new(alloc));
+    blank_under(rt, alloc, seats, operations, items, schedule)
+}
+
+/// The same, under these faults.
+pub fn blank_under<R: Abort>(
+    rt: &R,
+    alloc: Global,
+    seats: u32,
+    operations: u64,
+    items: Vec<Item>,
+    schedule: Schedule,
+) -> Blank
+    ensures { result.seats ≡ seats }
+{
+    let Ok(config) = config(alloc, operations, items, schedule) else {
         panic!(rt; "no memory")
     };
     match Blank::new(alloc, config, seats) {

@@ -12,3 +12,5 @@ mod news;
 mod overlap;
 #[cfg(test)]
 mod shared;
+#[cfg(test)]
+mod striking;

@@ -30,7 +30,7 @@ fn ends_atom(b: u8) -> bool
     )
 }
 
-/// The bytes up to the first that ends an atom, and the rest. Takes no memory.
+/// The bytes up to the first that ends an atom, and the rest.
 pub fn token(text: &[u8]) -> (&[u8], &[u8])
     ensures whole { text.now ≡ result.0.now ++ result.1.now }
     ensures inside { IsToken result.0.now }
@@ -131,8 +131,8 @@ fn longest_name(text: &[u8]) -> Option<(&[u8], &[u8])>
     Some(text.split_at(text.len() - rest.len()))
 }
 
-/// Whether the bytes are the name of a keyword: an ASCII letter, and then ASCII letters, digits and `-`, `_`, `?`, `!`, `*` or
-/// `.`. Takes no memory, and the time of the bytes.
+/// Whether the bytes are the name of a keyword: an ASCII letter, and then ASCII letters, digits and `-`, `_`, `?`, `!`, `*` or `.`.
+/// Takes the time of the bytes.
 pub fn is_keyword_name(bytes: &[u8]) -> bool
     ensures { IsTrue result ↔ IsKeywordText bytes.now }
 {
@@ -176,7 +176,7 @@ fn without_plus(text: &[u8]) -> &[u8]
     }
 }
 
-/// The longest atom at the front, and what follows it; or none where no atom stands there. Takes no memory.
+/// The longest atom at the front, and what follows it; or none where no atom stands there.
 pub fn longest_atom(text: &[u8]) -> Option<(Atom<'_>, &[u8])>
     ensures found { IfSome result (λ x. IsLongest IsAtom text.now (atom_value x.0) x.1.now) }
     ensures none { IfNone result (HasNone IsAtom text.now) }

@@ -35,7 +35,7 @@ fn with_bytes(number: u64, bytes: &[u8]) -> u64
 }
 
 /// The number of an element. Elements that are the same have the same one, whatever the order of the pairs of a map or of the
-/// members of a set. Takes no memory, and the time of the element.
+/// members of a set. Takes the time of the element.
 #[cycle(digest)]
 pub fn digest(element: &Edn) -> u64
     ensures { result ≡ digest (value_of element.now) }

@@ -16,7 +16,7 @@ use std::collections::BTreeSet;
 pub trait Keyed {
     ghost key_value: { Self → Value };
 
-    /// Its key. Takes no memory.
+    /// Its key.
     fn key(&self) -> &Edn
         ensures { value_of result.now ≡ key_value self.now };
 }

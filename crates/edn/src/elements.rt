@@ -33,7 +33,7 @@ impl<'a> Model for Elements<'a> {
 }
 
 impl<'a> Elements<'a> {
-    /// Reads nothing yet. Takes no memory.
+    /// Reads nothing yet.
     pub fn new(bytes: &'a [u8]) -> Self
         ensures bytes { result.bytes ≡ bytes.now }
         ensures left { result.left ≡ bytes.now }
@@ -68,16 +68,15 @@ impl<'a> Elements<'a> {
         Ok(found)
     }
 
-    /// What stands behind the elements that were given: the gap in front of the next one, that element, and so on. Takes no
-    /// memory.
+    /// What stands behind the elements that were given: the gap in front of the next one, that element, and so on.
     pub fn left(&self) -> &'a [u8]
         ensures { result.now ≡ self.now.left }
     {
         self.rest
     }
 
-    /// Passes over the next element, which the caller has read at the front of [`left`](Elements::left) by itself: rest follows
-    /// it. Takes no memory, and constant time.
+    /// Passes over the next element, which the caller has read at the front of [`left`](Elements::left) by itself: rest follows it.
+    /// Takes constant time.
     pub fn pass_to(&mut self, rest: &'a [u8])
         requires { (v : Value) × IsNextAt self.old.left v rest.now }
         ensures bytes { self.new.bytes ≡ self.old.bytes }

@@ -5,6 +5,8 @@
 //! space, comments and discards between them. [`Elements`] gives them one after the other, so that a long text need not be
 //! held as elements, and [`check_text`] says beforehand whether it is one. [`same`] compares two elements and leaves out of
 //! account in which order a map or a set was spelled. Texts are written by the crate `edn_writer`.
+//!
+//! A call takes memory only where its result can be `AllocError`, or a refusal for want of memory.
 #![tactic(auto)]
 
 mod atom;

@@ -56,7 +56,7 @@ pub enum Refusal {
 }
 
 impl Refusal {
-    /// The number of the refusal, 1 to 22. Takes no memory.
+    /// The number of the refusal, 1 to 22.
     pub fn number(&self) -> u8
         ensures { result ≡ number_of self.now }
     {
@@ -86,7 +86,7 @@ impl Refusal {
         }
     }
 
-    /// The name of the refusal, as it is spelled here, without a place. Takes no memory.
+    /// The name of the refusal, as it is spelled here, without a place.
     pub fn name(&self) -> &'static str
         ensures { result.now ≡ name_of self.now }
     {

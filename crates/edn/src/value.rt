@@ -21,14 +21,14 @@ pub enum Edn {
 }
 
 impl Edn {
-    /// Whether this is nil. Takes no memory.
+    /// Whether this is nil.
     pub fn is_nil(&self) -> bool
         ensures { IsTrue result ↔ (value_of self.now ≡ nil) }
     {
         matches!(self, Edn::Nil)
     }
 
-    /// The integer, if this is one. Takes no memory.
+    /// The integer, if this is one.
     pub fn as_int(&self) -> Option<i64>
         ensures { result ≡ int_in (value_of self.now) }
     {
@@ -38,7 +38,7 @@ impl Edn {
         }
     }
 
-    /// The name of the keyword, without its colon, if this is one. Takes no memory.
+    /// The name of the keyword, without its colon, if this is one.
     pub fn as_keyword(&self) -> Option<&str>
         ensures { option_copied result ≡ name_in (value_of self.now) }
     {
@@ -48,7 +48,7 @@ impl Edn {
         }
     }
 
-    /// The elements of the vector, in order, if this is one. Takes no memory.
+    /// The elements of the vector, in order, if this is one.
     pub fn as_slice(&self) -> Option<&[Edn]>
         ensures { option_map values_of (option_copied result) ≡ elements_in (value_of self.now) }
     {
@@ -58,8 +58,8 @@ impl Edn {
         }
     }
 
-    /// The value of the map's first pair whose key is the keyword of this name, if this is a map with such a key. Takes no
-    /// memory. The time is that of one pass over the pairs.
+    /// The value of the map's first pair whose key is the keyword of this name, if this is a map with such a key. The time is that
+    /// of one pass over the pairs.
     pub fn get(&self, name: &str) -> Option<&Edn>
         ensures { found_value result ≡ value_in name.now (value_of self.now) }
     {

@@ -1,5 +1,7 @@
 //! The writer of texts: [`in_profile`] says whether an element has a text, and [`write`] appends its canonical one, which
 //! reads as that element.
+//!
+//! A call takes memory only where its result can be `AllocError`, or a refusal for want of memory.
 #![tactic(auto)]
 
 mod laws;

@@ -23,7 +23,7 @@ fn is_open(call: &PendingOp, id: u32) -> bool
     call.id == id && !call.crashed
 }
 
-/// Where the open operation stands among the calls; none where it is not open. Takes no memory, and the time of the calls.
+/// Where the open operation stands among the calls; none where it is not open. Takes the time of the calls.
 pub fn place_of_open(calls: &[PendingOp], id: u32) -> Option<usize>
     ensures there { IfSome result (λ at. IsOpenAt calls.now at id) }
     ensures within { IfSome result (λ at. at < length calls.now) }
@@ -70,9 +70,8 @@ pub fn mark_fitting(
     Ok(())
 }
 
-/// Puts the rows after the operation has returned with this answer, of those where it is in and what it found fits, each
-/// without it, in place of the rows that were there. None where it is not open. `AllocError` where there is no memory for them.
-/// Looks at one number of each row.
+/// Puts the rows after the operation has returned with this answer, of those where it is in and what it found fits, each without
+/// it, in place of the rows that were there. None where it is not open. Looks at one number of each row.
 pub fn settled<S: Hash + Drop>(
     table: &Table<S>,
     calls: &[PendingOp],
@@ -99,9 +98,8 @@ pub fn settled<S: Hash + Drop>(
     }
 }
 
-/// Puts the rows after the operation, which is open, has failed, of those ends that it is not in, each without its number, in
-/// place of the rows that were there. None where it is not open. `AllocError` where there is no memory for them. Looks at one
-/// number of each row.
+/// Puts the rows after the operation, which is open, has failed, of those ends that it is not in, each without its number, in place
+/// of the rows that were there. None where it is not open. Looks at one number of each row.
 pub fn failed<S: Hash + Drop>(
     table: &Table<S>,
     calls: &[PendingOp],
@@ -143,9 +141,9 @@ fn crashed_end<M: SeqObject>(
     Ok(after)
 }
 
-/// The ends after the operation has crashed, in the same order. If it counts it is among the crashed ones of an end that it is
-/// in, and else it is in no end any more. Ends that differed before may be the same then. `AllocError` where there is no memory
-/// for them. Takes the time of the ends: for each that of a copy of its state, and of the operations in it.
+/// The ends after the operation has crashed, in the same order. If it counts it is among the crashed ones of an end that it is in,
+/// and else it is in no end any more. Ends that differed before may be the same then. Takes the time of the ends: for each that of
+/// a copy of its state, and of the operations in it.
 pub fn crashed_ends<M: SeqObject>(
     alloc: Global,
     ends: &[KeptEnd<M::State>],

@@ -9,8 +9,7 @@ use models::SeqObject;
 use rows::RowSet;
 use std::alloc::{AllocError, Global};
 
-/// The same table, with memory of its own. `AllocError` where there is none. Takes the time of the rows, the states and what was
-/// found.
+/// The same table, with memory of its own. Takes the time of the rows, the states and what was found.
 pub fn copied_whole<M: SeqObject>(
     alloc: Global,
     table: &Table<M::State>,
@@ -79,9 +78,8 @@ fn narrowed<M: SeqObject>(
     Ok(Some(other))
 }
 
-/// A table that shows the same ends, with no more states than it has rows. Rows and states are copied, while the items of
-/// queues and the members that were found are shared. `AllocError` where there is no memory for it. Takes the time of the rows,
-/// the states and what was found.
+/// A table that shows the same ends, with no more states than it has rows. Rows and states are copied, while the items of queues
+/// and the members that were found are shared. Takes the time of the rows, the states and what was found.
 pub fn copied<M: SeqObject>(
     alloc: Global,
     table: &Table<M::State>,

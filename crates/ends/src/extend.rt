@@ -31,7 +31,7 @@ pub struct Room<S> {
 }
 
 impl<S> Room<S> {
-    /// None yet. Takes no memory.
+    /// None yet.
     pub fn new(alloc: Global) -> Room<S> {
         Room {
             moves: Moves::new(alloc),
@@ -43,7 +43,7 @@ impl<S> Room<S> {
 }
 
 impl<S: Drop> Room<S> {
-    /// Some for the oks of two clients, which grows where there are more. `AllocError` where there is no memory for it.
+    /// Some for the oks of two clients, which grows where there are more.
     pub fn for_two(alloc: Global) -> Result<Room<S>, AllocError> {
         let mut room = Room::new(alloc);
         room.moves = Moves::with_room(alloc)?;
@@ -154,6 +154,7 @@ fn grow_at<M: SeqObject>(
     ensures likes { moves.new.likes ≡ moves.old.likes }
     ensures widens { Widens table.old table.new }
     ensures front { IsFront (rows_of table.old) (rows_of table.new) }
+    ensures never_falls { applied.old ≤ applied.new }
     ensures cost { applied.new ≤ applied.old + 1 }
 {
     let to = table::led_to::<M>(alloc, table, moves, number, row, calls, at, place, applied)?;
@@ -190,6 +191,7 @@ fn grow_from<M: SeqObject>(
     ensures likes { moves.new.likes ≡ moves.old.likes }
     ensures widens { Widens table.old table.new }
     ensures front { IsFront (rows_of table.old) (rows_of table.new) }
+    ensures never_falls { applied.old ≤ applied.new }
     ensures cost { applied.new ≤ applied.old + length calls.now }
 {
     let number = row.first();
@@ -274,6 +276,7 @@ fn grow<M: SeqObject>(
         → IfOk result (λ all. all ≡ false → ReachesMoreThan object calls.now ends budget) }
     ensures widens { Widens table.old table.new }
     ensures front { IsFront (rows_of table.old) (rows_of table.new) }
+    ensures never_falls { applied.old ≤ applied.new }
     ensures cost { applied.new ≤ applied.old + (budget + 1) * length calls.now }
 {
     moves::forget(alloc, moves, table::first_number(table));
@@ -323,6 +326,7 @@ fn found_rows<M: SeqObject>(
         → IfOk result (λ all. all ≡ false → ReachesMoreThan object calls.now ends budget) }
     ensures widens { Widens table.old table.new }
     ensures front { IsFront (rows_of table.old) (rows_of table.new) }
+    ensures never_falls { applied.old ≤ applied.new }
     ensures cost { applied.new ≤ applied.old + (budget + 1) * length calls.now }
 {
     if !grow::<M>(
@@ -372,6 +376,7 @@ pub fn advance<M: SeqObject>(
         → IfOk result (λ all. all ≡ false → ReachesMoreThan object calls.now ends budget) }
     ensures widens { Widens table.old table.new }
     ensures rows { rows_of table.new ≡ rows_of table.old }
+    ensures never_falls { applied.old ≤ applied.new }
     ensures cost { applied.new ≤ applied.old + (budget + 1) * length calls.now }
 {
     let kept = table.rows.len();

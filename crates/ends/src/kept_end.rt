@@ -15,7 +15,7 @@ pub struct KeptEnd<S> {
     pub crashed: Vec<u32>,
 }
 
-/// What the operation found, where it is among these. Takes no memory, and the time of these.
+/// What the operation found, where it is among these. Takes the time of these.
 pub fn found_in(pending: &[(u32, Found)], id: u32) -> Option<&Found>
     ensures { option_copied result ≡ found_at pending.now id }
 {
@@ -27,7 +27,7 @@ pub fn found_in(pending: &[(u32, Found)], id: u32) -> Option<&Found>
     None
 }
 
-/// Whether the operation is among these. Takes no memory, and the time of these.
+/// Whether the operation is among these. Takes the time of these.
 pub fn has(ids: &[u32], id: u32) -> bool
     ensures { result ≡ has_crashed ids.now id }
 {
@@ -46,8 +46,8 @@ fn copied(alloc: Global, pending: &[(u32, Found)]) -> Result<Vec<(u32, Found)>, 
     Ok(entries)
 }
 
-/// The same end. The items of queues and the members that were found are shared. `AllocError` where there is no memory for it.
-/// Takes the time of a copy of its state, and of the operations in it.
+/// The same end. The items of queues and the members that were found are shared. Takes the time of a copy of its state, and of the
+/// operations in it.
 pub fn copy_of<M: SeqObject>(
     alloc: Global,
     kept: &KeptEnd<M::State>,
@@ -87,8 +87,7 @@ impl<S> KeptEnd<S> {
         Ok(())
     }
 
-    /// The open operation is done now, and what it found is told no more. Takes no memory, and the time of the open operations
-    /// in it.
+    /// The open operation is done now, and what it found is told no more. Takes the time of the open operations in it.
     pub fn settle(&mut self, id: u32)
         ensures { end_kept self.new ≡ settled (end_kept self.old) id }
     {

@@ -1,4 +1,6 @@
 //! The ends of the legal orders of one key's history, as rows of small numbers, and what operations and answers make of them.
+//!
+//! A call takes memory only where its result can be `AllocError`, or a refusal for want of memory.
 #![tactic(auto)]
 
 mod after;

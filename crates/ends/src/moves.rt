@@ -59,7 +59,7 @@ pub struct Moves<S> {
 }
 
 impl<S> Moves<S> {
-    /// Nothing is known yet. Takes no memory.
+    /// Nothing is known yet.
     pub fn new(alloc: Global) -> Moves<S> {
         Moves {
             known: Known {
@@ -75,7 +75,7 @@ impl<S> Moves<S> {
 
 impl<S: Drop> Moves<S> {
     /// Nothing is known yet, and there is room for the calls of two clients and for one outcome of a step, since most keys need no
-    /// more. `AllocError` where there is no memory for it.
+    /// more.
     pub fn with_room(alloc: Global) -> Result<Moves<S>, AllocError> {
         let mut moves = Moves::new(alloc);
         moves.likes = Vec::with_capacity(alloc, 2)?;
@@ -97,7 +97,7 @@ fn place_of(base: usize, number: usize, at: usize, calls: usize) -> usize
     ((number - base) * calls).saturating_add(at)
 }
 
-/// Forgets all moves, and takes this base for those to come. Keeps their memory, if it is not much. Takes no memory.
+/// Forgets all moves, and takes this base for those to come. Keeps their memory, if it is not much.
 pub fn forget<S: Drop>(alloc: Global, moves: &mut Moves<S>, base: usize)
     ensures known { AreUntried moves.new.known.list }
     ensures targets { moves.new.targets.items ≡ [] }
@@ -282,8 +282,7 @@ fn first_alike(calls: &[PendingOp], at: usize) -> usize
     at
 }
 
-/// Notes which calls do the same. `AllocError` where there is no memory for it. Takes the time of the calls: each is compared
-/// with the first 16 at most.
+/// Notes which calls do the same. Takes the time of the calls: each is compared with the first 16 at most.
 pub fn note_likes<S>(moves: &mut Moves<S>, calls: &[PendingOp]) -> Result<(), AllocError>
     ensures likes { OnOk result (AreAlike calls.now moves.new.likes.items) }
     ensures known { moves.new.known ≡ moves.old.known }
@@ -333,7 +332,7 @@ fn like_anew(calls: &[PendingOp], at: usize) -> Like
     Like { place, run: 1 }
 }
 
-/// Which calls from this place on do the same. Takes no memory, and constant time.
+/// Which calls from this place on do the same. Takes constant time.
 pub fn alike_at<S>(moves: &Moves<S>, calls: &[PendingOp], at: usize) -> Like
     requires within { at < length calls.now }
     ensures within { result.place ≤ at }
@@ -347,7 +346,7 @@ pub fn alike_at<S>(moves: &Moves<S>, calls: &[PendingOp], at: usize) -> Like
 }
 
 /// How many of the calls from this place on that do the same are known to lead nowhere from the state with this number: all or
-/// none. Takes no memory, and constant time.
+/// none. Takes constant time.
 #[inline(always)]
 pub fn stuck<S>(
     moves: &Moves<S>,
@@ -375,8 +374,7 @@ fn leads_nowhere<S>(moves: &Moves<S>, number: usize, at: usize, calls: usize) ->
     matches!(known_of(&moves.known, number, at, calls), Move::Nowhere)
 }
 
-/// What is known of the call at this place in the state with this number, where it was tried. Takes no memory, and constant
-/// time.
+/// What is known of the call at this place in the state with this number, where it was tried. Takes constant time.
 pub fn recalled<S>(moves: &Moves<S>, number: usize, at: usize, calls: usize) -> Option<Move>
     ensures { IfSome result (λ to. (to ≡ known_at moves.now.known calls number at)
         × IsKnown to moves.now.targets.items) }
@@ -417,6 +415,7 @@ pub fn tried<M: SeqObject>(
     ensures likes { moves.new.likes ≡ moves.old.likes }
     ensures widens { Widens table.old table.new }
     ensures rows { rows_of table.new ≡ rows_of table.old }
+    ensures never_falls { applied.old ≤ applied.new }
     ensures cost { applied.new ≤ applied.old + 1 }
 {
     forget_many(alloc, moves);

@@ -40,7 +40,7 @@ impl Model for Notes {
 }
 
 impl Notes {
-    /// Nothing is noted. Takes no memory.
+    /// Nothing is noted.
     pub fn new(alloc: Global) -> Notes
         ensures { result ≡ [] }
     {
@@ -62,7 +62,7 @@ impl Notes {
         }
     }
 
-    /// Notes the move at this place. `AllocError` where there is no memory for it.
+    /// Notes the move at this place.
     #[inline(always)]
     pub fn note(&mut self, place: usize, to: Move) -> Result<(), AllocError>
         requires { place < 1048576 }
@@ -73,8 +73,7 @@ impl Notes {
         put_at(&mut self.list, place, Noted { stamp, to })
     }
 
-    /// Forgets all that is noted. Keeps its memory, if it is not much. Takes no memory, and constant time but for one call in
-    /// 2^32.
+    /// Forgets all that is noted. Keeps its memory, if it is not much. Takes constant time but for one call in 2^32.
     pub fn forget(&mut self, alloc: Global)
         ensures { AreUntried self.new }
     {

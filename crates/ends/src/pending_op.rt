@@ -15,8 +15,7 @@ pub struct PendingOp {
     pub crashed: bool,
 }
 
-/// The same calls, which share the members of sets. `AllocError` where there is no memory for them. Takes the time of the
-/// calls.
+/// The same calls, which share the members of sets. Takes the time of the calls.
 pub fn copy_calls(alloc: Global, calls: &[PendingOp]) -> Result<Vec<PendingOp>, AllocError>
     ensures { IfOk result (λ copies. copies.items ≡ calls.now) }
 {
@@ -32,7 +31,7 @@ pub fn copy_calls(alloc: Global, calls: &[PendingOp]) -> Result<Vec<PendingOp>, 
     Ok(copies)
 }
 
-/// Takes the operation out, if it is there. Takes no memory, and the time of the calls.
+/// Takes the operation out, if it is there. Takes the time of the calls.
 pub fn drop_call(calls: &mut Vec<PendingOp>, id: u32)
     ensures { calls.new.items ≡ filter (is_other id) calls.old.items }
 {
@@ -46,7 +45,7 @@ fn is_read_of(call: &PendingOp, id: u32) -> bool
     call.id == id && call.op.name == Name::Read
 }
 
-/// Whether the operation is among the calls and is a read. Takes no memory, and the time of the calls.
+/// Whether the operation is among the calls and is a read. Takes the time of the calls.
 pub fn is_read(calls: &[PendingOp], id: u32) -> bool
     ensures { IsTrue result ↔ HasRead calls.now id }
 {
@@ -58,8 +57,7 @@ pub fn is_read(calls: &[PendingOp], id: u32) -> bool
     false
 }
 
-/// The operation has crashed: it is told as a crashed one if it counts, and else taken out. Takes no memory, and the time of
-/// the calls.
+/// The operation has crashed: it is told as a crashed one if it counts, and else taken out. Takes the time of the calls.
 pub fn crash_call(calls: &mut Vec<PendingOp>, id: u32, counts: bool)
     ensures { calls.new.items ≡ calls_after_crash counts id calls.old.items }
 {

@@ -97,13 +97,14 @@ pub fn step<M: SeqObject>(
 ) -> Result<(), AllocError>
     ensures outcomes { OnOk result (outcomes.new.items ≡ M.apply_to op.now state.now) }
     ensures counted { applied.new ≡ min (applied.old + 1) (2 ^ 64 - 1) }
+    ensures never_falls { applied.old ≤ applied.new }
 {
     *applied = applied.saturating_add(1);
     outcomes.clear();
     M::append_outcomes(alloc, state, op, outcomes)
 }
 
-/// The state with this number: that of the end of each row that has this number first. Takes no memory, and constant time.
+/// The state with this number: that of the end of each row that has this number first. Takes constant time.
 pub fn state_numbered<S: Hash + Drop>(table: &Table<S>, number: usize) -> Option<&S>
     ensures { (calls : List PendingOp) (row : List ℕ) (e : End S) → number ≡ get_or row 0 0
         → Shows table.now calls row e → IsSomeAnd result (λ s. s.now ≡ e.state) }
@@ -112,7 +113,7 @@ pub fn state_numbered<S: Hash + Drop>(table: &Table<S>, number: usize) -> Option
 }
 
 /// The number of the state of the first row, which is seldom above that of another one; or zero where there are few states, which
-/// come again and again. Takes no memory, and constant time.
+/// come again and again. Takes constant time.
 pub fn first_number<S: Hash + Drop>(table: &Table<S>) -> usize {
     if table.states.len() > FEW_STATES {
         table.rows.number(0, 0)
@@ -121,16 +122,15 @@ pub fn first_number<S: Hash + Drop>(table: &Table<S>) -> usize {
     }
 }
 
-/// What is told of what the call found: of a crashed one nothing. Takes no memory.
+/// What is told of what the call found: of a crashed one nothing.
 pub fn told_by(crashed: bool, found: Found) -> Found
     ensures { result ≡ told_by crashed found }
 {
     if crashed { Found::Unit } else { found }
 }
 
-/// Where the call at this place, which is not in it, leads from the end of the row, whose state has this number. The call at
-/// the other place does the same. `AllocError` where there is no memory for the outcomes. Takes constant time where that is
-/// known, and else one step, and the time of looking its outcomes up.
+/// Where the call at this place, which is not in it, leads from the end of the row, whose state has this number. The call at the
+/// other place does the same. Takes constant time where that is known, and else one step, and the time of looking its outcomes up.
 pub fn led_to<M: SeqObject>(
     alloc: Global,
     table: &mut Table<M::State>,
@@ -161,6 +161,7 @@ pub fn led_to<M: SeqObject>(
     ensures likes { moves.new.likes ≡ moves.old.likes }
     ensures widens { Widens table.old table.new }
     ensures rows { rows_of table.new ≡ rows_of table.old }
+    ensures never_falls { applied.old ≤ applied.new }
     ensures cost { applied.new ≤ applied.old + 1 }
 {
     match moves::recalled(moves, number, place, calls.len()) {
@@ -169,7 +170,7 @@ pub fn led_to<M: SeqObject>(
     }
 }
 
-/// A table without ends. Takes no memory.
+/// A table without ends.
 pub fn empty<S: Hash + Drop>(alloc: Global) -> Table<S>
     ensures { rows_of result ≡ [] }
 {
@@ -180,8 +181,8 @@ pub fn empty<S: Hash + Drop>(alloc: Global) -> Table<S>
     }
 }
 
-/// Takes all ends away, with their states and what was found, and keeps the memory of their lists. Takes no memory, and the time
-/// of the states and of what was found.
+/// Takes all ends away, with their states and what was found, and keeps the memory of their lists. Takes the time of the states and
+/// of what was found.
 pub fn clear<S: Hash + Drop>(table: &mut Table<S>)
     ensures { rows_of table.new ≡ [] }
 {
@@ -212,8 +213,8 @@ pub fn refill<M: SeqObject>(
     Ok(())
 }
 
-/// The ends as rows, in order; ends that are the same become one row. `AllocError` where there is no memory for them. Takes the
-/// time of a copy of each end's state, and of looking each call up in each end.
+/// The ends as rows, in order; ends that are the same become one row. Takes the time of a copy of each end's state, and of looking
+/// each call up in each end.
 pub fn of_ends<M: SeqObject>(
     alloc: Global,
     ends: &[KeptEnd<M::State>],
@@ -228,7 +229,7 @@ pub fn of_ends<M: SeqObject>(
     Ok(table)
 }
 
-/// What the call at this place found, by the row that stands here, if it is in. Takes no memory, and constant time.
+/// What the call at this place found, by the row that stands here, if it is in. Takes constant time.
 pub fn found_in_row<'a, S: Hash + Drop>(
     table: &'a Table<S>,
     from: usize,
@@ -319,8 +320,7 @@ fn push_end<M: SeqObject>(
     }
 }
 
-/// The ends that the rows say, in order. `AllocError` where there is no memory for them. Takes the time of all numbers of the
-/// rows, and of a copy of each row's state.
+/// The ends that the rows say, in order. Takes the time of all numbers of the rows, and of a copy of each row's state.
 pub fn ends_of<M: SeqObject>(
     alloc: Global,
     table: &Table<M::State>,

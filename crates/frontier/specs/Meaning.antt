@@ -68,11 +68,13 @@ most_steps budget n (Invoked id op) = 0
 most_steps budget n (Failed id) = 0
 most_steps budget n (Crashed id) = 0
 
--- the mark costs no more steps than that, by how many were made before it and after it
+-- the mark costs no more steps than that, by how many were made before it and after it, and the count
+-- of steps never falls
 abbrev pub CostsAtMost : ℕ → (List Mark → Type 0) → Mark → ℕ → ℕ → Type 0
 CostsAtMost budget old mark before after =
-    (marks : List Mark) → old marks → (n : ℕ) → HasAtMostPending marks n
-    → after ≤ before + most_steps budget n mark
+    (before ≤ after)
+    × ((marks : List Mark) → old marks → (n : ℕ) → HasAtMostPending marks n
+    → after ≤ before + most_steps budget n mark)
 
 -- what an event makes of the histories that are stood for: those before it and those after it
 module _ (old new : List Mark → Type 0) where

@@ -106,8 +106,8 @@ fn copied<M: SeqObject>(frontier: &Frontier<M>) -> Result<Box<Frontier<M>>, Allo
 }
 
 impl AnyFrontier {
-    /// The frontier of a history without events of an object of this kind. The budget is the greatest number of ends that an ok
-    /// may meet. `AllocError` where there is no memory for it. Takes constant time.
+    /// The frontier of a history without events of an object of this kind. The budget is the greatest number of ends that an ok may
+    /// meet. Takes constant time.
     pub fn start(alloc: Global, kind: ModelKind, budget: u32) -> Result<Self, AllocError>
         ensures stands { IfOk result (λ f. AnyStandsFor f []) }
         ensures kind { IfOk result (λ f. kind_of_frontier f ≡ kind) }
@@ -156,7 +156,7 @@ impl AnyFrontier {
         each_kind!(prepare_of; self, id, kind, op)
     }
 
-    /// Carries out what is prepared, if anything is: [`Frontier::commit`]. Takes no memory.
+    /// Carries out what is prepared, if anything is: [`Frontier::commit`].
     pub fn commit(&mut self)
         ensures stands { Keeps (AnyWillStandFor self.old) (AnyStandsFor self.new) }
         ensures kind { kind_of_frontier self.new ≡ kind_of_frontier self.old }
@@ -166,7 +166,7 @@ impl AnyFrontier {
         each_kind!(commit_of; self)
     }
 
-    /// How many steps were made so far: [`Frontier::applied`]. Takes no memory.
+    /// How many steps were made so far: [`Frontier::applied`].
     pub fn applied(&self) -> u64
         ensures { result ≡ any_applied_of self.now }
     {
@@ -174,8 +174,7 @@ impl AnyFrontier {
     }
 
     /// An equal frontier, which shares the items of queues and the members that were found; nothing is prepared of it:
-    /// [`Frontier::copy`]. `AllocError` where there is no memory for it. Takes the time of the calls, the rows, the states and
-    /// what was found.
+    /// [`Frontier::copy`]. Takes the time of the calls, the rows, the states and what was found.
     pub fn copy(&self) -> Result<Self, AllocError>
         ensures same { IfOk result (λ f. (marks : List Mark)
             → AnyStandsFor f marks ↔ AnyStandsFor self.now marks) }

@@ -37,7 +37,7 @@ pub struct AsProducts<S> {
     pub most_states: usize,
 }
 
-/// These products, with memory to work in. `AllocError` where there is none. Takes constant time.
+/// These products, with memory to work in. Takes constant time.
 pub fn of_kept<S: Drop>(alloc: Global, kept: Products) -> Result<Box<AsProducts<S>>, AllocError>
     ensures { IfOk result (λ those. those.value.kept ≡ kept) }
 {
@@ -51,20 +51,19 @@ pub fn of_kept<S: Drop>(alloc: Global, kept: Products) -> Result<Box<AsProducts<
 }
 
 /// Whether products become rows: there are more than 128 of them, or more than 32 that have fewer than four rows each on the
-/// average. Takes no memory, and constant time.
+/// average. Takes constant time.
 pub fn are_many<S>(those: &AsProducts<S>) -> bool {
     let products = those.kept.len();
     products > MOST || products > SOME && products as u64 > those.kept.rows() / 4
 }
 
-/// Whether there are more things found, or more states, than may be before the products get new numbers. Takes no memory, and
-/// constant time.
+/// Whether there are more things found, or more states, than may be before the products get new numbers. Takes constant time.
 pub fn is_crowded<S: Hash + Drop>(those: &AsProducts<S>, table: &Table<S>) -> bool {
     table.founds.len() > those.most_found || table.states.len() > those.most_states
 }
 
-/// How many things found and how many states there may be before products with the numbers of this table get new ones: twice as many
-/// as it has, and no fewer than 24 and 64. Takes no memory, and constant time.
+/// How many things found and how many states there may be before products with the numbers of this table get new ones: twice as
+/// many as it has, and no fewer than 24 and 64. Takes constant time.
 pub fn to_come<S: Hash + Drop>(table: &Table<S>) -> (usize, usize) {
     (
         table.founds.len().saturating_mul(2).max(FEW_FOUND),
@@ -84,14 +83,14 @@ fn has_read(calls: &[PendingOp]) -> bool {
 
 /// Whether rows become products before an operation gets its place: there are at most 32 of them, a read is among the calls, which
 /// may have found the state in each order of what changes it, and there are more than 8, or with the operation four calls or more were
-/// not tried, so that the next ok finds many ends of few. Takes no memory, and the time of the calls.
+/// not tried, so that the next ok finds many ends of few. Takes the time of the calls.
 pub fn may_be_few<S: Hash + Drop>(table: &Table<S>, calls: &[PendingOp], tried: usize) -> bool {
     let rows = table.rows.len();
-    let grow = rows > FEW || calls.len() >= tried.saturating_add(MANY_UNTRIED);
+    let grow = rows > FEW || calls.len().saturating_sub(tried) >= MANY_UNTRIED;
     grow && rows <= SOME && has_read(calls)
 }
 
-/// The products that are left take the place of the others. Takes no memory, and constant time.
+/// The products that are left take the place of the others. Takes constant time.
 pub fn take_left<S>(those: &mut AsProducts<S>)
     ensures { those.new.kept ≡ those.old.room.left }
 {
@@ -109,7 +108,7 @@ pub fn lengthen<S>(alloc: Global, those: &mut AsProducts<S>) -> Result<(), Alloc
     those.kept.lengthen(alloc)
 }
 
-/// The same products, with memory of their own. `AllocError` where there is none. Takes the time of the products.
+/// The same products, with memory of their own. Takes the time of the products.
 pub fn copied<S: Drop>(
     alloc: Global,
     those: &AsProducts<S>,
@@ -119,7 +118,7 @@ pub fn copied<S: Drop>(
     of_kept(alloc, those.kept.copied(alloc)?)
 }
 
-/// Zero where no rows are left, and else another number. Takes no memory, and constant time.
+/// Zero where no rows are left, and else another number. Takes constant time.
 pub fn left<S>(those: &AsProducts<S>) -> usize
     ensures { (result ≡ 0) ↔ (length (rows_in those.now.room.left.1) ≡ 0) }
 {

@@ -27,7 +27,7 @@ pub enum Change<S: Hash + Drop> {
     Anew(Vec<PendingOp>, Box<Table<S>>, usize),
 }
 
-/// Nothing is prepared any more. Takes no memory.
+/// Nothing is prepared any more.
 pub fn drop_change<S: Hash + Drop>(change: &mut Change<S>)
     ensures { change.new ≡ Change.Nothing }
 {

@@ -80,8 +80,8 @@ fn spare_table<S: Hash + Drop>(
 }
 
 impl<M: SeqObject> Frontier<M> {
-    /// The frontier of a history without events. The budget is the greatest number of ends that an ok may meet. `AllocError`
-    /// where there is no memory for it. Takes constant time.
+    /// The frontier of a history without events. The budget is the greatest number of ends that an ok may meet. Takes constant
+    /// time.
     pub fn start(alloc: Global, budget: u32) -> Result<Self, AllocError>
         ensures stands { let object = of_table M.State M.start_state M.apply_to in
             IfOk result (λ f. StandsFor object f []) }
@@ -184,7 +184,7 @@ impl<M: SeqObject> Frontier<M> {
         }
     }
 
-    /// Carries out what is prepared, if anything is. Takes no memory, and the time of the calls and of what it drops.
+    /// Carries out what is prepared, if anything is. Takes the time of the calls and of what it drops.
     pub fn commit(&mut self)
         ensures stands { let object = of_table M.State M.start_state M.apply_to in
             Keeps (WillStandFor object self.old) (StandsFor object self.new) }
@@ -557,6 +557,7 @@ impl<M: SeqObject> Frontier<M> {
         ensures rows { rows_of (table_of self.new) ≡ rows_of (table_of self.old) }
         ensures next { self.new.next ≡ self.old.next }
         ensures budget { budget_of self.new ≡ budget_of self.old }
+        ensures never_falls { applied_of self.old ≤ applied_of self.new }
         ensures cost { applied_of self.new
             ≤ applied_of self.old + (budget_of self.old + 1) * length self.old.calls.items }
     {
@@ -625,8 +626,8 @@ impl<M: SeqObject> Frontier<M> {
         Ok(step_of(self.left()))
     }
 
-    /// How many steps were made so far: how often an operation was tried in a state, also in an ok that was answered Over or
-    /// found no memory. Stops at the greatest u64. Takes no memory, and constant time.
+    /// How many steps were made so far: how often an operation was tried in a state, also in an ok that was answered Over or found
+    /// no memory. It never falls, and stops at the greatest u64. Takes constant time.
     pub fn applied(&self) -> u64
         ensures { result ≡ applied_of self.now }
     {
@@ -752,9 +753,8 @@ impl<M: SeqObject> Frontier<M> {
         self.alloc
     }
 
-    /// An equal frontier, which shares the items of queues and the members that were found; nothing is prepared of it.
-    /// `AllocError` where there is no memory for it. Takes the time of the calls, the rows or products, the states and what was
-    /// found.
+    /// An equal frontier, which shares the items of queues and the members that were found; nothing is prepared of it. Takes the
+    /// time of the calls, the rows or products, the states and what was found.
     pub fn copy(&self) -> Result<Self, AllocError>
         ensures same { let object = of_table M.State M.start_state M.apply_to in
             IfOk result (λ f. (marks : List Mark)

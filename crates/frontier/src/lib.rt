@@ -1,4 +1,6 @@
 //! The ends of one key's history, found just in time as its events come, and a count of the steps that this takes.
+//!
+//! A call takes memory only where its result can be `AllocError`, or a refusal for want of memory.
 #![tactic(auto)]
 
 pub mod any_frontier;

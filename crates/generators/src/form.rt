@@ -28,8 +28,8 @@ pub enum Gen {
 }
 
 impl Gen {
-    /// A generator with an equal copy of the child for each of the threads 0 to `threads` - 1; `AllocError` where there is
-    /// no memory for them. Takes the time of so many copies of the child.
+    /// A generator with an equal copy of the child for each of the threads 0 to `threads` - 1. Takes the time of so many copies of
+    /// the child.
     pub fn each_thread(alloc: Global, threads: u32, child: Gen) -> Result<Gen, AllocError>
         ensures { IfOk result (λ g.
             generator_of g ≡ each_thread (copies threads (generator_of child))) }
@@ -42,7 +42,7 @@ impl Gen {
         Ok(Gen::EachThread(children))
     }
 
-    /// Whether there is nothing left for anybody. Takes no memory, and the time of the forms in it.
+    /// Whether there is nothing left for anybody. Takes the time of the forms in it.
     #[cycle(over)]
     pub fn is_over(&self) -> bool
         ensures { result ≡ is_over (generator_of self.now) }

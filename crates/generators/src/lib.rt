@@ -1,4 +1,6 @@
 //! Generators of operations and faults, in the manner of Jepsen's.
+//!
+//! A call takes memory only where its result can be `AllocError`, or a refusal for want of memory.
 #![tactic(auto)]
 
 mod asking;

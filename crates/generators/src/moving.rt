@@ -61,7 +61,7 @@ fn advance_first(children: &mut Vec<Gen>, path: &[usize])
     }
 }
 
-// Drops the first so many. Takes no memory.
+// Drops the first so many.
 fn drop_front(children: &mut Vec<Gen>, number: usize)
     ensures { children.new.items ≡ drop number children.old.items }
 {

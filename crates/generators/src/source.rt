@@ -49,7 +49,7 @@ impl Source {
     ghost use Rattle.generators.specs.Words.{word};
     ghost use Rattle.generators.specs.Sources.{upcoming, committed};
 
-    /// The generator, at the beginning of the stream of the seed. Takes no memory.
+    /// The generator, at the beginning of the stream of the seed.
     pub fn new(alloc: Global, generator: Gen, seed: u64) -> Source
         ensures { result ≡ record {
           generator = generator_of generator;
@@ -66,7 +66,7 @@ impl Source {
         }
     }
 
-    /// The place of the next word in the stream, modulo 2^68. Takes no memory.
+    /// The place of the next word in the stream, modulo 2^68.
     pub fn place(&self) -> u128
         ensures value { result ≡ self.now.place }
         ensures bound { result < 2 ^ 68 }

@@ -28,7 +28,7 @@ impl Model for Words {
 }
 
 impl Words {
-    /// The beginning of the stream of a seed. Takes no memory.
+    /// The beginning of the stream of a seed.
     pub fn new(seed: u64) -> Words
         ensures { result ≡ record { seed = seed; place = 0 } }
     {
@@ -38,7 +38,7 @@ impl Words {
         }
     }
 
-    /// The place of the next word, below 2^68. Takes no memory.
+    /// The place of the next word, below 2^68.
     pub fn place(&self) -> u128
         ensures value { result ≡ self.now.place }
         ensures bound { result < 2 ^ 68 }
@@ -46,7 +46,7 @@ impl Words {
         self.rng.get_word_pos()
     }
 
-    /// The word at this place; the next place is modulo 2^68. Takes no memory.
+    /// The word at this place; the next place is modulo 2^68.
     pub fn next(&mut self) -> u32
         ensures word { result ≡ word self.old.seed self.old.place }
         ensures place { self.new ≡ record self.old { place = next_place self.old.place } }
@@ -54,7 +54,7 @@ impl Words {
         self.rng.next_word()
     }
 
-    /// The same place of the same stream. Takes no memory.
+    /// The same place of the same stream.
     pub fn copy(&self) -> Words
         ensures { result ≡ self.now }
     {

@@ -35,8 +35,8 @@ pub struct Config {
 }
 
 impl Config {
-    /// How it is opened where it only judges a history that others make: no operation to draw and no fault to come, one
-    /// replica, strict, and seed 0. The numbers are not tested here. Takes no memory.
+    /// How it is opened where it only judges a history that others make: no operation to draw and no fault to come, one replica,
+    /// strict, and seed 0. The numbers are not tested here.
     pub fn to_judge(alloc: Global, concurrency: u32, kind: ModelKind, budget: u32) -> Config
         ensures { setup_of result ≡ judging concurrency kind budget }
     {

@@ -135,14 +135,14 @@ impl Core {
         self.inner.step(command)
     }
 
-    /// The verdict on the history as it stands. Takes no memory, and constant time.
+    /// The verdict on the history as it stands. Takes constant time.
     pub fn verdict(&self) -> Verdict
         ensures { IsVerdictOn self.now.machine.judged result }
     {
         self.inner.verdict()
     }
 
-    /// The monitor as it stands: its history, and its keys by first event. Takes no memory.
+    /// The monitor as it stands: its history, and its keys by first event.
     pub fn monitor(&self) -> &Monitor
         ensures { result.now.now ≡ self.now.machine.judged }
     {

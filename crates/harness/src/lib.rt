@@ -1,5 +1,7 @@
 //! The one-thread object: commands in, verdicts out. A history under a monitor, a generator of operations and faults, a
 //! schedule of faults, a replicated store in the process, and tickets.
+//!
+//! A call takes memory only where its result can be `AllocError`, or a refusal for want of memory.
 #![tactic(auto)]
 
 mod asking;

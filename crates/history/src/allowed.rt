@@ -51,8 +51,7 @@ fn is_ok_part(name: Name, part: &Part) -> bool
     each_name!(is_answer; name, part)
 }
 
-/// Whether the part is one that an event of this kind and name may have (this project's own table). Takes no memory, and
-/// constant time.
+/// Whether the part is one that an event of this kind and name may have (this project's own table). Takes constant time.
 pub fn is_part_of(kind: EventKind, name: Name, part: &Part) -> bool
     ensures { IsTrue result ↔ IsPartOf kind name part.now }
 {
@@ -62,8 +61,7 @@ pub fn is_part_of(kind: EventKind, name: Name, part: &Part) -> bool
     }
 }
 
-/// Whether an event of this kind and name may have a set, whatever its members: the empty one stands for all. Takes no
-/// memory.
+/// Whether an event of this kind and name may have a set, whatever its members: the empty one stands for all.
 pub fn takes_sets(alloc: Global, kind: EventKind, name: Name) -> bool
     ensures { IsTrue result ↔ IsPartOf kind name (Set []) }
 {
@@ -85,7 +83,7 @@ fn is_fault(fault: &Fault) -> bool
     }
 }
 
-/// Whether an event of this kind and process may be about this. Takes no memory, and the time of a partition's groups.
+/// Whether an event of this kind and process may be about this. Takes the time of a partition's groups.
 #[inline(always)]
 pub fn is_in_tables(kind: EventKind, process: Process, body: &Body) -> bool
     ensures { IsTrue result ↔ IsInTables kind process body.now }
@@ -109,7 +107,7 @@ fn repeats(kind: EventKind, invoked: &Part, op: &Op) -> bool
     (matches!(kind, EventKind::Ok) && each_name!(is_answered; op.name)) || op.part.same(invoked)
 }
 
-/// Whether a completion of this kind and operation completes the invoked one. Takes no memory.
+/// Whether a completion of this kind and operation completes the invoked one.
 #[inline(always)]
 pub fn completes(kind: EventKind, invoked: &Op, op: &Op) -> bool
     ensures { IsTrue result ↔ Completes kind invoked.now op.now }

@@ -52,7 +52,7 @@ impl Clients {
     }
 
     /// After an event of this index the thread of its process moves on. Where its process may not do so, nothing is said. Takes
-    /// no memory, and constant time.
+    /// constant time.
     pub fn move_on(&mut self, index: u32, kind: EventKind, process: Process)
         requires some { 0 < length self.old.opened.items }
         requires next { HasNext process }

@@ -10,14 +10,14 @@ use edn::Edn;
 use models::Members;
 use std::alloc::{AllocError, Global};
 
-/// The integer of 0 to 255 that an element is, if it is one. Takes no memory.
+/// The integer of 0 to 255 that an element is, if it is one.
 pub fn byte_of(element: &Edn) -> Option<u8>
     ensures { result ≡ number_in (2 ^ 8) (value_of element.now) }
 {
     u8::try_from(element.as_int()?).ok()
 }
 
-/// The integer of 0 to 65,535 that an element is, if it is one. Takes no memory.
+/// The integer of 0 to 65,535 that an element is, if it is one.
 pub fn count_of(element: &Edn) -> Option<u16>
     ensures { result ≡ number_in (2 ^ 16) (value_of element.now) }
 {
@@ -77,7 +77,7 @@ fn members_of(integers: Vec<i64>) -> Result<Members, AllocError>
     Members::of_unordered(integers)
 }
 
-/// Whether an element is groups of replicas' numbers, each number at most once. Takes no memory.
+/// Whether an element is groups of replicas' numbers, each number at most once.
 pub fn are_groups(element: &Edn) -> bool
     ensures { IsTrue result ↔ IsSomeAnd (groups_in (value_of element.now)) AreGroups }
 {
@@ -117,8 +117,7 @@ fn mark_each(element: &Edn, seen: &mut [bool]) -> bool
     true
 }
 
-/// The groups of numbers that an element is, a vector of vectors, if it is one. `AllocError` where there is no memory for them.
-/// Takes the time of the numbers.
+/// The groups of numbers that an element is, a vector of vectors, if it is one. Takes the time of the numbers.
 pub fn groups_of(alloc: Global, element: &Edn) -> Result<Option<Groups>, AllocError>
     ensures { IfOk result (λ found. found ≡ groups_in (value_of element.now)) }
 {

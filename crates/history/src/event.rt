@@ -52,7 +52,7 @@ pub struct Event {
 }
 
 impl Fault {
-    /// An equal fault, with memory of its own; `AllocError` where there is none. Takes the time of a partition's groups.
+    /// An equal fault, with memory of its own. Takes the time of a partition's groups.
     pub fn copy(&self) -> Result<Fault, AllocError>
         ensures { IfOk result (λ other. other ≡ self.now) }
     {
@@ -69,8 +69,7 @@ impl Fault {
 }
 
 impl Body {
-    /// An equal body; `AllocError` where there is no memory for it. The members of a set are shared. Takes the time of a
-    /// partition's groups, and else constant time.
+    /// An equal body. The members of a set are shared. Takes the time of a partition's groups, and else constant time.
     pub fn copy(&self) -> Result<Body, AllocError>
         ensures { IfOk result (λ other. other ≡ self.now) }
     {
@@ -82,8 +81,7 @@ impl Body {
 }
 
 impl Event {
-    /// An equal event; `AllocError` where there is no memory for it. The members of a set are shared. Takes the time of a
-    /// partition's groups, and else constant time.
+    /// An equal event. The members of a set are shared. Takes the time of a partition's groups, and else constant time.
     pub fn copy(&self) -> Result<Event, AllocError>
         ensures { IfOk result (λ other. other ≡ self.now) }
     {
@@ -97,7 +95,6 @@ impl Event {
     }
 
     /// The key of the operation that the event speaks of, or `None` where it speaks of none, as a fault of the nemesis.
-    /// Takes no memory.
     pub fn key(&self) -> Option<Key>
         ensures { result ≡ key_of self.now }
     {
@@ -107,7 +104,7 @@ impl Event {
         }
     }
 
-    /// Whether the event speaks of an operation on this key. Takes no memory.
+    /// Whether the event speaks of an operation on this key.
     pub fn is_of_key(&self, key: Key) -> bool
         ensures { result ≡ is_event_of key self.now }
     {

@@ -202,8 +202,8 @@ fn map_of_values(
     Ok(Edn::Map(pairs))
 }
 
-/// The map of the event, which states this index. `AllocError` where there is no memory for it. Takes the time of the members
-/// of a set, or of a partition's groups, and else constant time.
+/// The map of the event, which states this index. Takes the time of the members of a set, or of a partition's groups, and else
+/// constant time.
 pub fn map_of_event(alloc: Global, index: u32, event: &Event) -> Result<Edn, AllocError>
     requires { IsInTables event.now.kind event.now.process event.now.body }
     ensures value { IfOk result (λ element. value_of element ≡ map_of index event.now) }

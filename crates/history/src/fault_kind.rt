@@ -19,7 +19,7 @@ pub enum FaultKind {
 }
 
 impl FaultKind {
-    /// The kind that is spelled so, or `None` where there is none. Takes no memory.
+    /// The kind that is spelled so, or `None` where there is none.
     pub fn of_text(text: &str) -> Option<FaultKind>
         ensures { Finds result (λ kind. text.now ≡ text_of_fault kind) }
     {
@@ -47,7 +47,7 @@ impl FaultKind {
         None
     }
 
-    /// The kind of a fault. Takes no memory.
+    /// The kind of a fault.
     pub fn of(fault: &Fault) -> FaultKind
         ensures { result ≡ kind_of_fault fault.now }
     {
@@ -62,7 +62,7 @@ impl FaultKind {
         }
     }
 
-    /// The kind as a text spells it. Takes no memory.
+    /// The kind as a text spells it.
     pub fn text(self) -> &'static str
         ensures { result.now ≡ text_of_fault self }
     {

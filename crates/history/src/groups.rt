@@ -26,21 +26,21 @@ impl Model for Groups {
 }
 
 impl Groups {
-    /// These groups, each the numbers of its replicas. Takes no memory.
+    /// These groups, each the numbers of its replicas.
     pub fn new(groups: Vec<Vec<u8>>) -> Groups
         ensures { result ≡ map (λ v. v.items) groups.items }
     {
         Groups { groups }
     }
 
-    /// The groups, in the order in which they were given. Takes no memory.
+    /// The groups, in the order in which they were given.
     pub fn groups(&self) -> &[Vec<u8>]
         ensures { map (λ v. v.items) result.now ≡ self.now }
     {
         self.groups.as_slice()
     }
 
-    /// Equal groups, with memory of their own; `AllocError` where there is none. Takes the time of the numbers.
+    /// Equal groups, with memory of their own. Takes the time of the numbers.
     pub fn copy(&self) -> Result<Groups, AllocError>
         ensures { IfOk result (λ other. other ≡ self.now) }
     {
@@ -53,7 +53,7 @@ impl Groups {
         Ok(Groups { groups })
     }
 
-    /// Whether the numbers are those of replicas, 0 to 6, and each stands there at most once. Takes no memory.
+    /// Whether the numbers are those of replicas, 0 to 6, and each stands there at most once.
     pub fn are_apart(&self) -> bool
         ensures { IsTrue result ↔ AreGroups self.now }
     {
@@ -67,8 +67,8 @@ impl Groups {
     }
 }
 
-/// Marks the replicas that the numbers name. It answers false where a number is not that of a replica, or is marked. Takes no
-/// memory, and the time of the numbers.
+/// Marks the replicas that the numbers name. It answers false where a number is not that of a replica, or is marked. Takes the time
+/// of the numbers.
 pub fn mark(numbers: &[u8], seen: &mut [bool]) -> bool
     requires { length seen.old ≡ 7 }
     ensures { (before : List ℕ) → HasSeen seen.old before → MatchBool result

@@ -115,7 +115,7 @@ impl History {
         Ok(())
     }
 
-    /// The event that is prepared to be appended, if one is. Takes no memory.
+    /// The event that is prepared to be appended, if one is.
     pub fn prepared_event(&self) -> Option<&Event>
         ensures { (event : Event) → self.now.next ≡ Some (self.now.events ++ event ∷ [])
             → option_copied result ≡ Some event }
@@ -272,7 +272,7 @@ impl History {
         }
     }
 
-    /// The number of threads, 1 to 64. Takes no memory.
+    /// The number of threads, 1 to 64.
     pub fn concurrency(&self) -> u32
         ensures value { result ≡ self.now.concurrency }
         ensures limits { IsConcurrency result }
@@ -281,7 +281,7 @@ impl History {
     }
 
     /// The number of events, at most 2^20, which is the index of the next event. What is said here of the events holds of every
-    /// history. Takes no memory.
+    /// history.
     pub fn len(&self) -> u32
         ensures value { result ≡ length self.now.events }
         ensures limit { result ≤ 2 ^ 20 }
@@ -290,14 +290,14 @@ impl History {
         self.count
     }
 
-    /// Whether there is no event. Takes no memory.
+    /// Whether there is no event.
     pub fn is_empty(&self) -> bool
         ensures { IsTrue result ↔ (self.now.events ≡ []) }
     {
         self.count == 0
     }
 
-    /// The events, in order. Takes no memory.
+    /// The events, in order.
     pub fn events(&self) -> &[Event]
         ensures { result.now ≡ self.now.events }
     {
@@ -343,7 +343,7 @@ impl History {
         )
     }
 
-    /// The process that the thread's next invocation must name (the process rule of the Jepsen documentation). Takes no memory.
+    /// The process that the thread's next invocation must name (the process rule of the Jepsen documentation).
     pub fn current(&self, thread: u32) -> u32
         requires { thread < self.now.concurrency }
         ensures { result ≡ current_of self.now.concurrency (moves_of self.now.events) thread }
@@ -351,7 +351,7 @@ impl History {
         self.clients.threads.current(thread)
     }
 
-    /// The index of the invocation that a thread has open, if it has one. Takes no memory.
+    /// The index of the invocation that a thread has open, if it has one.
     pub fn open_at(&self, thread: u32) -> Option<u32>
         requires { thread < self.now.concurrency }
         ensures { result ≡ open_index self.now.concurrency self.now.events thread }

@@ -1,4 +1,6 @@
 //! Histories of client events, in the manner of Jepsen.
+//!
+//! A call takes memory only where its result can be `AllocError`, or a refusal for want of memory.
 #![tactic(auto)]
 
 mod allowed;

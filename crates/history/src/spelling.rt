@@ -141,7 +141,7 @@ fn fault_by(alloc: Global, kind: FaultKind, value: &Edn) -> Result<Option<Fault>
     }
 }
 
-// Whether the value tells groups that are apart, where the fault is a partition. Takes no memory.
+// Whether the value tells groups that are apart, where the fault is a partition.
 fn may_tell(kind: FaultKind, value: &Edn) -> bool
     ensures { IsTrue result ↔ MayTell kind (value_of value.now) }
 {

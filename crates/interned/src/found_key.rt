@@ -15,7 +15,7 @@ pub enum FoundKey {
 }
 
 impl FoundKey {
-    /// The key of what was found. Takes no memory.
+    /// The key of what was found.
     pub fn of(found: Found) -> FoundKey
         ensures { found_of result ≡ found }
     {

@@ -36,7 +36,7 @@ impl Model for Founds {
 }
 
 impl Founds {
-    /// Nothing. Takes no memory.
+    /// Nothing.
     pub fn new(alloc: Global) -> Founds
         ensures { result ≡ [] }
     {
@@ -46,14 +46,14 @@ impl Founds {
         }
     }
 
-    /// How many there are. Takes no memory, and constant time.
+    /// How many there are. Takes constant time.
     pub fn len(&self) -> usize
         ensures { result ≡ length self.now }
     {
         self.items.len()
     }
 
-    /// Takes all away, and keeps the memory of their list. Takes no memory, and the time of what was found.
+    /// Takes all away, and keeps the memory of their list. Takes the time of what was found.
     pub fn clear(&mut self)
         ensures { self.new ≡ [] }
     {
@@ -61,7 +61,7 @@ impl Founds {
         self.slots.clear();
     }
 
-    /// What stands at this place, if anything does. Takes no memory, and constant time.
+    /// What stands at this place, if anything does. Takes constant time.
     pub fn get(&self, at: usize) -> Option<&Found>
         ensures { option_copied result ≡ slice_get self.now at }
     {
@@ -203,8 +203,7 @@ fn slot_behind(founds: &mut Founds, found: Found) -> Result<usize, AllocError>
     Ok(founds.items.len())
 }
 
-/// The same things, with the same numbers, which share the members of sets. `AllocError` where there is no memory for them. The
-/// time grows with n log n.
+/// The same things, with the same numbers, which share the members of sets. The time grows with n log n.
 pub fn copied(alloc: Global, founds: &Founds) -> Result<Founds, AllocError>
     ensures { IfOk result (λ copy. copy ≡ founds.now) }
 {

@@ -19,7 +19,7 @@ pub struct Index {
 // There are always fewer hashes in an index, since its places are of 32 bits.
 const MANY: usize = 1073741820;
 
-/// The hash of the value. Takes no memory, and the time of what the value feeds.
+/// The hash of the value. Takes the time of what the value feeds.
 pub fn hash_of<T: Hash>(value: &T) -> u64
     ensures { result ≡ hash_by T.hash_input value.now }
 {
@@ -120,8 +120,8 @@ fn stands_at<M: SeqObject>(
     M::same(&items[at], state)
 }
 
-/// Where the state stands, if it is there: it has this hash, and all hashes are indexed. Takes no memory. Compares the hashes
-/// of one bucket, and the states of the same hash.
+/// Where the state stands, if it is there: it has this hash, and all hashes are indexed. Compares the hashes of one bucket, and the
+/// states of the same hash.
 pub fn place_of<M: SeqObject>(
     items: &[M::State],
     index: &Index,
@@ -148,7 +148,7 @@ pub fn place_of<M: SeqObject>(
     None
 }
 
-/// Puts the hash behind the others, which are all indexed. There is room for it. Takes no memory, and constant time.
+/// Puts the hash behind the others, which are all indexed. There is room for it. Takes constant time.
 pub fn put_behind(index: &mut Index, hash: u64)
     requires index { IsIndex (bucket (length index.old.last.items)) index.old.hashes.items
         index.old.last.items index.old.before.items }

@@ -1,5 +1,7 @@
 //! Values by small numbers: each different state, and each thing that was found, stands once and has a number, so that ends are rows
 //! of numbers.
+//!
+//! A call takes memory only where its result can be `AllocError`, or a refusal for want of memory.
 #![tactic(auto)]
 
 mod found_key;

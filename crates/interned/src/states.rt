@@ -33,7 +33,7 @@ impl<S: Hash + Drop> Model for States<S> {
 }
 
 impl<S: Hash + Drop> States<S> {
-    /// No states. Takes no memory.
+    /// No states.
     pub fn new(alloc: Global) -> States<S>
         ensures { result ≡ [] }
     {
@@ -47,7 +47,7 @@ impl<S: Hash + Drop> States<S> {
         }
     }
 
-    /// Takes all states away, and keeps the memory of their list and of its index. Takes no memory, and the time of the states.
+    /// Takes all states away, and keeps the memory of their list and of its index. Takes the time of the states.
     pub fn clear(&mut self)
         ensures { self.new ≡ [] }
     {
@@ -57,7 +57,7 @@ impl<S: Hash + Drop> States<S> {
         self.index.last.clear();
     }
 
-    /// How many there are. Takes no memory, and constant time.
+    /// How many there are. Takes constant time.
     pub fn len(&self) -> usize
         ensures is { result ≡ length self.now }
         ensures once { IsOnceIn self.now }
@@ -65,7 +65,7 @@ impl<S: Hash + Drop> States<S> {
         self.items.len()
     }
 
-    /// The state with this number, if there is one. Takes no memory, and constant time.
+    /// The state with this number, if there is one. Takes constant time.
     pub fn get(&self, at: usize) -> Option<&S>
         ensures { option_copied result ≡ slice_get self.now at }
     {
@@ -137,8 +137,7 @@ pub fn number_of<M: SeqObject>(
     numbered::<M>(&mut states.items, &mut states.index, hash, state)
 }
 
-/// The same states, with the same numbers; `AllocError` where there is no memory for them. Takes the time of a copy of each
-/// state. They are indexed when one is looked up.
+/// The same states, with the same numbers. Takes the time of a copy of each state. They are indexed when one is looked up.
 pub fn copied<M: SeqObject>(
     alloc: Global,
     states: &States<M::State>,

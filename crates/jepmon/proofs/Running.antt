@@ -1,5 +1,5 @@
 -- what a run says, and that a strict store's is no illegal verdict
-use Rattle.std.proofs.Common.{◌≡◌, ◌≢◌, ℕ, Bool, Option, List, ◌⊎◌, IfOk, Result, Ok, Err, String, string_bytes, refl, sym, ◌∙◌, subst, inl, inr, ⊎_elim, arith}
+use Rattle.std.proofs.Common.{◌≡◌, ◌≢◌, ℕ, Bool, Option, List, IfOk, Result, Ok, Err, String, string_bytes, refl, sym, ◌∙◌, subst, inl, inr, ⊎_elim, arith}
 use Rattle.std.specs.declared.alloc.AllocError.{AllocError}
 use Rattle.std.specs.declared.alloc.Global.{Global}
 use Rattle.edn.specs.declared.refusal.Refusal.{Refusal}

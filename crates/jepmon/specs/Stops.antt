@@ -1,6 +1,8 @@
 -- Promise: what stands in place of an order
 use Rattle.std.specs.Prelude.{◌≡◌}
 use Rattle.edn.specs.declared.refusal.Refusal.TheVariants.{NoMemory}
+use Rattle.run_plans.specs.declared.options.Misspelled.{Misspelled}
+use Rattle.run_plans.specs.declared.options.Misspelled.TheVariants.{Unread, Refused as IsRefused}
 use Rattle.jepmon.specs.declared.command_line.Stop.{Stop}
 use Rattle.jepmon.specs.declared.command_line.Stop.TheVariants.{Help, Usage, Refused}
 
@@ -15,3 +17,8 @@ abbrev pub IsUsageFault : Stop → Type 0
 IsUsageFault (Help error) = ⊥
 IsUsageFault (Usage error) = Unit {0}
 IsUsageFault (Refused why) = why ≡ NoMemory
+
+-- what texts that spell no configuration come to: a usage fault of the option, or the refusal
+abbrev pub IsStopBy : Misspelled → Stop → Type 0
+IsStopBy (Unread option) stop = IsUsageFault stop
+IsStopBy (IsRefused why) stop = stop ≡ Refused why

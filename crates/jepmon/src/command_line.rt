@@ -1,10 +1,11 @@
 //! The words of the command line.
-ghost use Rattle.std.specs.Prelude.{◌≡◌, ◌≤◌, length, IfOk, IfSome, Ok, false};
+ghost use Rattle.std.specs.Prelude.{◌≡◌, ◌≤◌, length, IfOk, IfSome, Ok, false, codes, string_bytes};
 ghost use Rattle.harness.specs.Setups.{setup_of, IsSetup};
 ghost use Rattle.harness.specs.declared.config.Config.{Config};
-ghost use Rattle.clap.specs.Words.{kind_of};
-ghost use Rattle.jepmon.specs.CommandLine.{default_setup, IsWithinLimits};
-ghost use Rattle.jepmon.specs.Stops.{IsUsageFault};
+ghost use Rattle.clap.specs.Words.{found_of, kind_of};
+ghost use Rattle.run_plans.specs.Options.{default_setup};
+ghost use Rattle.jepmon.specs.CommandLine.{AfterJudging, AreJudgingTexts, AreRunTexts, ChecksAsFound, ConfirmsAsFound, IsWithinLimits, JudgesAsFound, RunsAsFound, ScriptsAsFound, text_found, workers_found};
+ghost use Rattle.jepmon.specs.Stops.{IsStopBy, IsUsageFault};
 
 use crate::help;
 use clap::error::ErrorKind;
@@ -12,21 +13,8 @@ use clap::{Arg, ArgAction, ArgMatches, Command};
 use edn::Refusal;
 use harness::Config;
 use models::ModelKind;
-use run_plans::RunPlan;
+use run_plans::{JudgingTexts, Misspelled, OptionName, RunTexts, workers_in};
 use std::alloc::{AllocError, Global};
-use test_store::Mode;
-
-// Workers at most.
-const MOST_WORKERS: u32 = 64;
-
-// Clients of a run at most: of the 64 seats of a board the nemesis takes one.
-const MOST_CLIENTS: u32 = 63;
-
-const MOST_SEED: u64 = 0x7fff_ffff_ffff_ffff;
-
-const MOST_OPERATIONS: u64 = 100_000;
-
-const MOST_KEYS: u64 = 64;
 
 /// What the words ask the program to do.
 #[derive(Drop)]
@@ -46,6 +34,17 @@ pub enum Order {
         workers: u32,
         /// How the one-thread object is opened.
         config: Config,
+    },
+    /// Says what an order of its operations shows of a recorded history.
+    Confirm {
+        /// The file that the history stands in; `-` for standard input.
+        path: String,
+        /// The file that the order stands in.
+        order_path: String,
+        /// Threads of the clients.
+        concurrency: u32,
+        /// The object that every key is.
+        kind: ModelKind,
     },
     /// Runs clients against a store in the process.
     Run(Config),
@@ -90,115 +89,198 @@ pub fn order_of(alloc: Global, words: &[String]) -> Result<Order, Stop>
     let Some((name, options)) = matches.subcommand() else {
         return Err(usage(&mut command, "no command was given"));
     };
-    let config = config_of(alloc, name, options)?;
-    config.check()?;
-    if name == "check" {
-        check_of(alloc, options, config)
-    } else if name == "run" {
-        run_of(alloc, options, config)
-    } else {
-        Ok(Order::Script {
-            config,
-            is_strict: options.get_flag("strict"),
-        })
+    order_by(alloc, name, options)
+}
+
+/// The order of the command of this name, by what was found of its options: of `run`, of `check`, of `confirm`, else of `script`. It
+/// takes memory for the parts of a run, for the path of a file, and for a usage fault.
+///
+/// # Errors
+///
+/// Those of [`order_of`], but for help and for words that are none of the program's.
+pub fn order_by(alloc: Global, name: &str, options: &ArgMatches) -> Result<Order, Stop>
+    ensures within { IfOk result IsWithinLimits }
+    ensures run { name.now ≡ codes "run" → RunsAsFound (found_of options.now) result }
+    ensures check { name.now ≡ codes "check"
+        → AfterJudging (found_of options.now) (ChecksAsFound (found_of options.now)) result }
+    ensures confirm { name.now ≡ codes "confirm"
+        → AfterJudging (found_of options.now) (ConfirmsAsFound (found_of options.now)) result }
+    ensures script { name.now ≡ codes "script"
+        → AfterJudging (found_of options.now) (ScriptsAsFound (found_of options.now)) result }
+{
+    if name == "run" {
+        return run_of(alloc, options);
+    }
+    match config_of(alloc, name, options) {
+        Ok(config) => {
+            if name == "check" {
+                check_of(alloc, options, config)
+            } else if name == "confirm" {
+                confirm_of(alloc, options, config)
+            } else {
+                Ok(script_of(options, config))
+            }
+        }
+        Err(stop) => Err(stop),
     }
 }
 
-// The order to judge a recorded history.
+// The order to answer lines, which judges as this configuration says.
+fn script_of(options: &ArgMatches, config: Config) -> Order
+    ensures { ScriptsAsFound (found_of options.now) config (Ok result) }
+{
+    Order::Script {
+        config,
+        is_strict: options.get_flag("strict"),
+    }
+}
+
+// The order to judge a recorded history, which judges as this configuration says.
 fn check_of(alloc: Global, options: &ArgMatches, config: Config) -> Result<Order, Stop>
     requires { IsSetup (setup_of config) }
-    ensures { IfOk result IsWithinLimits }
+    ensures within { IfOk result IsWithinLimits }
+    ensures found { ChecksAsFound (found_of options.now) config result }
 {
     let Some(path) = options.get_str("FILE") else {
         return Err(usage_of(alloc, "check", "check takes a file"));
     };
-    match number(options, "workers") {
-        Some(workers) if (1..=MOST_WORKERS).contains(&workers) => Ok(Order::Check {
-            path: String::from_str(alloc, path)?,
+    let Some(workers) = workers_of(options) else {
+        return Err(usage_of(alloc, "check", "--workers takes a number, 1 to 64"));
+    };
+    match String::from_str(alloc, path) {
+        Ok(path) => Ok(Order::Check {
+            path,
             workers,
             config,
         }),
-        _ => Err(usage_of(alloc, "check", "--workers takes a number, 1 to 64")),
+        Err(_) => Err(Stop::Refused(Refusal::NoMemory)),
     }
 }
 
-// The order to run clients, which else judge as this configuration says.
-fn run_of(alloc: Global, options: &ArgMatches, judging: Config) -> Result<Order, Stop>
-    ensures { IfOk result IsWithinLimits }
+// The order to say what an order of its operations shows of a recorded history, which is read as this configuration says.
+fn confirm_of(alloc: Global, options: &ArgMatches, config: Config) -> Result<Order, Stop>
+    requires { IsSetup (setup_of config) }
+    ensures within { IfOk result IsWithinLimits }
+    ensures found { ConfirmsAsFound (found_of options.now) config result }
 {
-    let plan = plan_of(alloc, options)?;
-    if judging.concurrency > MOST_CLIENTS {
-        return Err(Stop::Refused(Refusal::BadConcurrency));
-    }
-    let config = plan.config(alloc, judging)?;
-    config.check()?;
-    Ok(Order::Run(config))
-}
-
-// What the options of a run say. The limits of the replicas are not tested yet.
-fn plan_of(alloc: Global, options: &ArgMatches) -> Result<RunPlan, Stop> {
-    let Some(seed) = within(options, "seed", 0, MOST_SEED) else {
-        return Err(usage_of(
-            alloc,
-            "run",
-            "--seed takes a number, 0 to 9223372036854775807",
-        ));
+    let Some(path) = options.get_str("FILE") else {
+        return Err(usage_of(alloc, "confirm", "confirm takes a file"));
     };
-    let Some(operations) = within(options, "ops", 0, MOST_OPERATIONS) else {
-        return Err(usage_of(alloc, "run", "--ops takes a number, 0 to 100000"));
+    let Some(order_path) = options.get_str("ORDER") else {
+        return Err(usage_of(alloc, "confirm", "confirm takes an order"));
     };
-    let Some(keys) = within(options, "keys", 1, MOST_KEYS) else {
-        return Err(usage_of(alloc, "run", "--keys takes a number, 1 to 64"));
-    };
-    let Some(replicas) = number(options, "replicas") else {
-        return Err(usage_of(alloc, "run", "--replicas takes a number, 1 to 7"));
-    };
-    let Some(mode) = mode_of(options) else {
-        return Err(usage_of(alloc, "run", "--mode takes one of strict, sloppy"));
-    };
-    let Some(has_faults) = faults_of(options) else {
-        return Err(usage_of(alloc, "run", "--faults takes one of off, on"));
-    };
-    Ok(RunPlan {
-        seed,
-        operations: operations as u32,
-        keys: keys as u16,
-        replicas: u8::try_from(replicas).unwrap_or(u8::MAX),
-        mode,
-        has_faults,
-    })
-}
-
-// How the replicas serve.
-fn mode_of(options: &ArgMatches) -> Option<Mode> {
-    match options.get_str("mode")? {
-        "strict" => Some(Mode::Strict),
-        "sloppy" => Some(Mode::Sloppy),
-        _ => None,
+    match both_of(alloc, path, order_path) {
+        Ok((path, order_path)) => Ok(Order::Confirm {
+            path,
+            order_path,
+            concurrency: config.concurrency,
+            kind: config.kind,
+        }),
+        Err(_) => Err(Stop::Refused(Refusal::NoMemory)),
     }
 }
 
-// Whether faults strike.
-fn faults_of(options: &ArgMatches) -> Option<bool> {
-    match options.get_str("faults")? {
-        "on" => Some(true),
-        "off" => Some(false),
-        _ => None,
+// The two texts, with memory of their own.
+fn both_of(alloc: Global, first: &str, second: &str) -> Result<(String, String), AllocError>
+    ensures { IfOk result (λ both. (string_bytes both.0 ≡ first.now) × (string_bytes both.1 ≡ second.now)) }
+{
+    Ok((
+        String::from_str(alloc, first)?,
+        String::from_str(alloc, second)?,
+    ))
+}
+
+// How many workers were asked for, 1 to 64.
+fn workers_of(options: &ArgMatches) -> Option<u32>
+    ensures found { result ≡ workers_found (found_of options.now) }
+    ensures limits { IfSome result (λ workers. (1 ≤ workers) × (workers ≤ 64)) }
+{
+    workers_in(options.get_str("workers")?)
+}
+
+// The order to run clients.
+fn run_of(alloc: Global, options: &ArgMatches) -> Result<Order, Stop>
+    ensures within { IfOk result IsWithinLimits }
+    ensures found { RunsAsFound (found_of options.now) result }
+{
+    let defaults = RunTexts::defaults();
+    match run_texts(options, &defaults).config(alloc) {
+        Ok(config) => Ok(Order::Run(config)),
+        Err(why) => Err(stop_by(alloc, "run", why)),
     }
 }
 
-// How the options of the command of this name have a history judged. Their limits are not tested yet.
-fn config_of(alloc: Global, name: &str, options: &ArgMatches) -> Result<Config, Stop> {
-    let Some(budget) = number(options, "budget") else {
-        return Err(usage_of(alloc, name, "--budget takes a number, 1 to 65536"));
-    };
-    let Some(concurrency) = number(options, "concurrency") else {
-        return Err(usage_of(alloc, name, "--concurrency takes a number, 1 to 64"));
-    };
-    let Some(kind) = options.get_str("model").and_then(ModelKind::of_name) else {
-        return Err(usage_of(alloc, name, help::NO_MODEL));
-    };
-    Ok(Config::to_judge(alloc, concurrency, kind, budget))
+// How the one-thread object is opened, which judges alone, by the options of the command of this name.
+fn config_of(alloc: Global, name: &str, options: &ArgMatches) -> Result<Config, Stop>
+    ensures within { IfOk result (λ config. IsSetup (setup_of config)) }
+    ensures found { JudgesAsFound (found_of options.now) result }
+{
+    let defaults = JudgingTexts::defaults();
+    match judging_texts(options, &defaults).config(alloc) {
+        Ok(config) => Ok(config),
+        Err(why) => Err(stop_by(alloc, name, why)),
+    }
+}
+
+// The texts of the options of a run.
+fn run_texts<'a>(options: &ArgMatches<'a>, defaults: &RunTexts<'static>) -> RunTexts<'a>
+    ensures { AreRunTexts (found_of options.now) defaults.now result }
+{
+    RunTexts {
+        judging: judging_texts(options, &defaults.judging),
+        seed: text_or(options, "seed", defaults.seed),
+        operations: text_or(options, "ops", defaults.operations),
+        keys: text_or(options, "keys", defaults.keys),
+        replicas: text_or(options, "replicas", defaults.replicas),
+        mode: text_or(options, "mode", defaults.mode),
+        faults: text_or(options, "faults", defaults.faults),
+    }
+}
+
+// The texts of the options by which a history is judged.
+fn judging_texts<'a>(options: &ArgMatches<'a>, defaults: &JudgingTexts<'static>) -> JudgingTexts<'a>
+    ensures { AreJudgingTexts (found_of options.now) defaults.now result }
+{
+    JudgingTexts {
+        budget: text_or(options, "budget", defaults.budget),
+        concurrency: text_or(options, "concurrency", defaults.concurrency),
+        model: text_or(options, "model", defaults.model),
+    }
+}
+
+// The text of an option, or this one where it has none.
+fn text_or<'a>(options: &ArgMatches<'a>, id: &str, default: &'static str) -> &'a str
+    ensures { result.now ≡ text_found (found_of options.now) id.now default.now }
+{
+    match options.get_str(id) {
+        Some(text) => text,
+        None => default,
+    }
+}
+
+// Why there is no order of the command of this name: a usage fault of an option, or a refusal.
+fn stop_by(alloc: Global, name: &str, why: Misspelled) -> Stop
+    ensures { IsStopBy why result }
+{
+    match why {
+        Misspelled::Unread(option) => usage_of(alloc, name, taken_by(option)),
+        Misspelled::Refused(refusal) => Stop::Refused(refusal),
+    }
+}
+
+// What the option takes.
+fn taken_by(option: OptionName) -> &'static str {
+    match option {
+        OptionName::Budget => "--budget takes a number, 1 to 65536",
+        OptionName::Concurrency => "--concurrency takes a number, 1 to 64",
+        OptionName::Model => help::NO_MODEL,
+        OptionName::Seed => "--seed takes a number, 0 to 9223372036854775807",
+        OptionName::Operations => "--ops takes a number, 0 to 100000",
+        OptionName::Keys => "--keys takes a number, 1 to 64",
+        OptionName::Replicas => "--replicas takes a number, 1 to 7",
+        OptionName::Mode => "--mode takes one of strict, sloppy",
+        OptionName::Faults => "--faults takes one of off, on",
+    }
 }
 
 /// Why there is no order of words that are no text: `Usage`, or `Refused` with `NoMemory` where there is no memory to say
@@ -247,10 +329,20 @@ fn with_settings<'a>(
     command: Command<'a>,
     concurrency: &'static str,
 ) -> Result<Command<'a>, AllocError> {
+    let budget = JudgingTexts::defaults().budget;
+    with_object(alloc, command, concurrency)?.arg(a_number(alloc, "budget", budget, help::BUDGET))
+}
+
+// A command with the options by which a history is read, and of which object.
+fn with_object<'a>(
+    alloc: Global,
+    command: Command<'a>,
+    concurrency: &'static str,
+) -> Result<Command<'a>, AllocError> {
+    let defaults = JudgingTexts::defaults();
     command
-        .arg(a_number(alloc, "concurrency", "2", concurrency))?
-        .arg(a_name(alloc, "model", "register", help::MODEL))?
-        .arg(a_number(alloc, "budget", "4096", help::BUDGET))
+        .arg(a_number(alloc, "concurrency", defaults.concurrency, concurrency))?
+        .arg(a_name(alloc, "model", defaults.model, help::MODEL))
 }
 
 // The command `script`, with its options and their help.
@@ -281,19 +373,34 @@ fn check<'a>(alloc: Global) -> Result<Command<'a>, AllocError> {
     with_settings(alloc, command, help::CONCURRENCY)
 }
 
+// The command `confirm`, with its options and their help.
+fn confirm<'a>(alloc: Global) -> Result<Command<'a>, AllocError> {
+    let file = Arg::new(alloc, "FILE").required(true).help(help::FILE);
+    let order = Arg::new(alloc, "ORDER").required(true).help(help::ORDER);
+    let command = Command::new(alloc, "confirm")
+        .about(help::CONFIRM)
+        .long_about(help::CONFIRM_LONG)
+        .after_help(help::CONFIRM_STATUS)
+        .after_long_help(help::CONFIRM_FORMS)
+        .arg(file)?
+        .arg(order)?;
+    with_object(alloc, command, help::CONCURRENCY)
+}
+
 // The command `run`, with its options and their help.
 fn run<'a>(alloc: Global) -> Result<Command<'a>, AllocError> {
+    let defaults = RunTexts::defaults();
     let command = Command::new(alloc, "run")
         .about(help::RUN)
         .long_about(help::RUN_LONG)
         .after_help(help::STATUS)
         .after_long_help(help::RUN_FORMS)
-        .arg(a_number(alloc, "seed", "0", help::SEED))?
-        .arg(a_number(alloc, "ops", "100", help::OPERATIONS))?
-        .arg(a_number(alloc, "keys", "1", help::KEYS))?
-        .arg(a_number(alloc, "replicas", "3", help::REPLICAS))?
-        .arg(a_name(alloc, "mode", "strict", help::MODE))?
-        .arg(a_name(alloc, "faults", "off", help::FAULTS))?;
+        .arg(a_number(alloc, "seed", defaults.seed, help::SEED))?
+        .arg(a_number(alloc, "ops", defaults.operations, help::OPERATIONS))?
+        .arg(a_number(alloc, "keys", defaults.keys, help::KEYS))?
+        .arg(a_number(alloc, "replicas", defaults.replicas, help::REPLICAS))?
+        .arg(a_name(alloc, "mode", defaults.mode, help::MODE))?
+        .arg(a_name(alloc, "faults", defaults.faults, help::FAULTS))?;
     with_settings(alloc, command, help::CLIENTS)
 }
 
@@ -307,42 +414,17 @@ fn program<'a>(alloc: Global) -> Result<Command<'a>, AllocError> {
         .after_help(help::MORE)
         .subcommand(script(alloc)?)?
         .subcommand(check(alloc)?)?
+        .subcommand(confirm(alloc)?)?
         .subcommand(run(alloc)?)
 }
 
-// The value of an option that is a number from the least to the most.
-fn within(options: &ArgMatches, id: &str, least: u64, most: u64) -> Option<u64>
-    ensures { IfSome result (λ value. (least ≤ value) × (value ≤ most)) }
-{
-    let value = options.get_str(id)?.parse::<u64>().ok()?;
-    if (least..=most).contains(&value) {
-        Some(value)
-    } else {
-        None
-    }
-}
-
-// The value of an option that is a number, however long. One past the ends of 0 to 2^32 - 1 counts as that end, which
-// is out of the limits of every option too.
-fn number(options: &ArgMatches, id: &str) -> Option<u32> {
-    let text = options.get_str(id)?;
-    let (is_negative, digits) = match text.strip_prefix('-') {
-        Some(digits) => (true, digits),
-        None => (false, text.strip_prefix('+').unwrap_or(text)),
-    };
-    if digits.is_empty() || !digits.bytes().all(|byte| byte.is_ascii_digit()) {
-        return None;
-    }
-    if is_negative {
-        return Some(0);
-    }
-    Some(digits.parse::<u32>().unwrap_or(u32::MAX))
-}
-
 // A usage fault of the command of this name, with this message.
-fn usage_of(alloc: Global, name: &str, message: &str) -> Stop {
+fn usage_of(alloc: Global, name: &str, message: &str) -> Stop
+    ensures { IsUsageFault result }
+{
     let command = match name {
         "check" => check(alloc),
+        "confirm" => confirm(alloc),
         "run" => run(alloc),
         _ => script(alloc),
     };

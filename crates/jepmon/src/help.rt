@@ -4,7 +4,7 @@ use models::each_kind;
 use onlookers::each_hint;
 
 /// The program's version, and the logic in which it is proved: the last two words that `rt version` prints.
-pub const VERSION: &str = "1.2.0
+pub const VERSION: &str = "1.3.0
 logic dac8208d650f15bf";
 
 pub const ABOUT: &str = "Judges whether what clients saw of a store is linearizable";
@@ -48,6 +48,41 @@ or, in place of all that,
 
   refused NUMBER NAME event I  event I is none that may come there
   refused NUMBER NAME          the file can't be read, or is no text";
+
+pub const CONFIRM: &str =
+    "Says whether an order of a recorded history shows that it is linearizable";
+
+pub const CONFIRM_LONG: &str =
+    "Reads a file of events, as check does, and a file with an order of their operations, and says whether
+in that order they can take place one after another, with the answers that they had and none before
+one that had returned when it began. It tries no other order. It prints one line:
+
+  linearizable                  the order is one of the history, which is linearizable
+  no order place P event E WHY  it is none: the operation that event E invokes, at place P of the
+                                order, from 0, does not fit there; of the history nothing is said
+  refused 5 BadValue order place P event E WHY
+                                the list can be no order of the history's operations
+  refused 5 BadValue order element I
+                                element I of the order, from 0, is no index, and no vector of them
+  refused NUMBER NAME order     the order can't be read, or is no text
+  refused NUMBER NAME event I   event I is none that may come there
+  refused NUMBER NAME           the history can't be read, or is no text
+
+WHY is, of what does not fit, one of
+
+  failed             the operation has failed, so it did not take place
+  too-late           it has returned before an operation was invoked that stands before it
+  cannot-take-place  it can't take place behind those that stand before it
+  another-answer     it would find something else there than it has answered
+
+and of a list that can be no order, one of
+
+  no-event           the history has no event of this index
+  no-invocation      the event invokes no operation
+  twice              the operation stands in the list before
+  left-out           it has returned, and does not stand in the list, whose length P is";
+
+pub const CONFIRM_STATUS: &str = "Exit status: 0 linearizable, 1 no order, 3 refused";
 
 pub const RUN: &str = "Runs clients against a store in the process, and judges what they saw";
 
@@ -121,6 +156,24 @@ pub const CHECK_FORMS: &str = each_hint!(with_forms;
   {:type :invoke, :process 0, :f :write, :value [7 3]}
                      process 0 begins to write 3 to key 7",
 "Exit status: 0 legal, 1 illegal, 2 unknown, 3 refused");
+
+pub const CONFIRM_FORMS: &str = each_hint!(with_forms;
+"The order has the indices of the events, from 0, that invoke the operations, in the order in which
+these took place: integers, or vectors of them, one after the other.
+
+  0 3 2              the operations that events 0, 3 and 2 invoke
+  [0 2] [1]          the same for each key of two, of which the operations may stand in any order
+
+What has returned must stand there. What has not completed, or has :info, may be left out: then it did
+not take place.
+
+The file has events, one after the other:
+
+  {:type :invoke, :process 0, :f :write, :value [7 3]}
+                     process 0 begins to write 3 to key 7",
+"Exit status: 0 linearizable, 1 no order, 3 refused");
+
+pub const ORDER: &str = "The file of the order; its indices stand in it cut into lines or not";
 
 pub const NO_FILE: &str =
     "script takes no file: it reads standard input, as in jepmon script < FILE; \

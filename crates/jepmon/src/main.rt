@@ -1,6 +1,7 @@
 //! `jepmon script` reads events of a store's clients, a line each, and answers each by the verdict on all of them:
 //! whether what the clients saw is linearizable (Herlihy and Wing, TOPLAS 1990). `jepmon check FILE` judges a recorded
-//! history, and `jepmon run` what clients see of a store in the process, under faults.
+//! history, `jepmon confirm FILE ORDER` says what an order of its operations shows, and `jepmon run` judges what clients see of a
+//! store in the process, under faults.
 #![tactic(auto)]
 
 ghost use Rattle.std.specs.Prelude.{IfOk};
@@ -14,6 +15,7 @@ mod run_line;
 
 use checks::{check_file, check_input};
 use command_line::{Order, Stop, no_text, order_of};
+use confirms::{confirm_file, confirm_input};
 use edn::Refusal;
 use exit_status::{say_unwritten, status_after, status_of_stop};
 use line_loop::Watched;
@@ -100,6 +102,43 @@ fn main(rt: HostRuntime) -> ExitCode {
                     path.as_str(),
                     config,
                     workers,
+                    &mut writer,
+                    &aside,
+                )
+            };
+            aside.end();
+            say_unwritten(&rt, alloc, &writer, &aside);
+            status
+        },
+        Ok(
+            Order::Confirm {
+                path,
+                order_path,
+                concurrency,
+                kind,
+            },
+        ) => {
+            let mut writer = Watched::new(rt.stdout());
+            let status = if path.as_str() == "-" {
+                confirm_input(
+                    &rt,
+                    alloc,
+                    rt.stdin(),
+                    "standard input",
+                    order_path.as_str(),
+                    concurrency,
+                    kind,
+                    &mut writer,
+                    &aside,
+                )
+            } else {
+                confirm_file(
+                    &rt,
+                    alloc,
+                    path.as_str(),
+                    order_path.as_str(),
+                    concurrency,
+                    kind,
                     &mut writer,
                     &aside,
                 )

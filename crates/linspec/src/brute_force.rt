@@ -259,8 +259,7 @@ fn start_states(
 /// else, so that it may serve as the measure of quicker ways. Nothing is said where the list lacks a key of the history,
 /// or gives one two kinds.
 ///
-/// Meant for at most eight operations: the time grows with the number of their orders, and beyond that it is out of
-/// reach. `AllocError` where there is no memory.
+/// Meant for at most eight operations: the time grows with the number of their orders, and beyond that it is out of reach.
 pub fn brute(
     alloc: Global,
     history: &History,

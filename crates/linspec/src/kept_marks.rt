@@ -72,8 +72,7 @@ fn mark_at(events: &[Event], at: usize) -> Result<Option<KeptMark>, AllocError>
     }
 }
 
-/// What happens to the operations of a history of these events. `AllocError` where there is no memory for it. Takes the square
-/// of their number.
+/// What happens to the operations of a history of these events. Takes the square of their number.
 pub fn marks_of(alloc: Global, events: &[Event]) -> Result<Vec<KeptMark>, AllocError>
     ensures { IfOk result (λ all.
         marks_of_kept all.items ≡ marks (entries_of (indexed_from 0 events.now))) }
@@ -115,15 +114,14 @@ fn has_returned(marks: &[KeptMark], id: usize) -> bool
     marks.iter().any(|mark| returns(mark, id))
 }
 
-/// Whether the operation has failed. Takes no memory, and the time of the marks.
+/// Whether the operation has failed. Takes the time of the marks.
 pub fn has_failed(marks: &[KeptMark], id: usize) -> bool
     ensures { IsTrue result ↔ Contains (marks_of_kept marks.now) (Failed id) }
 {
     marks.iter().any(|mark| fails(mark, id))
 }
 
-/// Whether `a` has returned before `b` is invoked (Herlihy and Wing 1990, section 2). Takes no memory, and the time of the
-/// marks.
+/// Whether `a` has returned before `b` is invoked (Herlihy and Wing 1990, section 2). Takes the time of the marks.
 pub fn precedes(marks: &[KeptMark], a: usize, b: usize) -> bool
     ensures { IsTrue result ↔ Precedes (marks_of_kept marks.now) a b }
 {
@@ -146,7 +144,7 @@ fn agrees(mark: &KeptMark, id: usize, found: &Found) -> bool
     }
 }
 
-/// Whether what the operation found fits its answer, where it has returned. Takes no memory, and the time of the marks.
+/// Whether what the operation found fits its answer, where it has returned. Takes the time of the marks.
 pub fn fits_answer(marks: &[KeptMark], id: usize, found: &Found) -> bool
     ensures { IsTrue result ↔ ((answer : Answer) →
         Contains (marks_of_kept marks.now) (Returned id answer) → Fits found.now answer) }
@@ -154,7 +152,7 @@ pub fn fits_answer(marks: &[KeptMark], id: usize, found: &Found) -> bool
     marks.iter().all(|mark| agrees(mark, id, found))
 }
 
-/// Whether the operation is among these. Takes no memory, and the time of these.
+/// Whether the operation is among these. Takes the time of these.
 pub fn is_among(taken: &[usize], id: usize) -> bool
     ensures { IsTrue result ↔ Contains taken.now id }
 {

@@ -79,14 +79,14 @@ macro_rules! outcomes_in {
 }
 
 impl AnyState {
-    /// The start state of an object of this kind. Takes no memory.
+    /// The start state of an object of this kind.
     pub fn start(alloc: Global, kind: ModelKind) -> AnyState
         ensures { result ≡ any kind (object_of kind).start }
     {
         each_kind!(start_of; alloc, kind)
     }
 
-    /// The kind of the object whose state this is. Takes no memory, and constant time.
+    /// The kind of the object whose state this is. Takes constant time.
     pub fn kind(&self) -> ModelKind
         ensures { result ≡ kind_of_state self.now }
     {
@@ -101,7 +101,7 @@ impl AnyState {
         each_kind!(copy_of_state; self, alloc)
     }
 
-    /// Whether both are the same state of the same kind. Takes no memory.
+    /// Whether both are the same state of the same kind.
     pub fn same(&self, other: &AnyState) -> bool
         ensures { IsTrue result ↔ (self.now ≡ other.now) }
     {

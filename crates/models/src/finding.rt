@@ -33,7 +33,7 @@ impl Found {
         }
     }
 
-    /// Whether both are the same. Takes no memory.
+    /// Whether both are the same.
     pub fn same(&self, other: &Found) -> bool
         ensures { IsTrue result ↔ (self.now ≡ other.now) }
     {
@@ -87,8 +87,8 @@ impl Answer {
     }
 }
 
-/// Whether what was found agrees with the answer: a register answers its state or nil, a queue its front alone, a set
-/// its members alone; what finds nothing agrees with every answer (this project's own). Takes no memory.
+/// Whether what was found agrees with the answer: a register answers its state or nil, a queue its front alone, a set its members
+/// alone; what finds nothing agrees with every answer (this project's own).
 pub fn fits(found: &Found, answer: &Answer) -> bool
     ensures { IsTrue result ↔ Fits found.now answer.now }
 {

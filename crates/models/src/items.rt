@@ -67,7 +67,7 @@ fn sum_without_front(sum: u128, weight: u128, front: i64) -> u128
 }
 
 impl Items {
-    /// No items. Takes no memory.
+    /// No items.
     pub fn new(alloc: Global) -> Items
         ensures { result ≡ [] }
     {
@@ -79,14 +79,14 @@ impl Items {
         }
     }
 
-    /// How many there are. Takes no memory, and constant time.
+    /// How many there are. Takes constant time.
     pub fn len(&self) -> usize
         ensures { result ≡ length self.now }
     {
         self.items.len()
     }
 
-    /// The front one. Takes no memory, and constant time.
+    /// The front one. Takes constant time.
     pub fn front(&self) -> i64
         requires { 0 < length self.now }
         ensures { result ≡ get_or self.now 0 (pos 0) }
@@ -107,8 +107,7 @@ impl Items {
         })
     }
 
-    /// These items with one more behind them; `AllocError` where there is no memory for it. Takes time and memory that grow with
-    /// the logarithm of how many there are.
+    /// These items with one more behind them. Takes time and memory that grow with the logarithm of how many there are.
     pub fn with(&self, value: i64) -> Result<Items, AllocError>
         ensures { IfOk result (λ more. more ≡ self.now ++ value ∷ []) }
     {
@@ -121,7 +120,7 @@ impl Items {
         })
     }
 
-    /// These items without the front one; `AllocError` where there is no memory for what is changed. Takes time and memory as above.
+    /// These items without the front one. Takes time and memory as above.
     pub(crate) fn without_front(&self) -> Result<Items, AllocError>
         requires { 0 < length self.now }
         ensures { IfOk result (λ rest. rest ≡ drop 1 self.now) }

@@ -1,4 +1,6 @@
 //! The sequential objects: operations, what they find, and what answers say of it.
+//!
+//! A call takes memory only where its result can be `AllocError`, or a refusal for want of memory.
 #![tactic(auto)]
 
 pub mod any_state;

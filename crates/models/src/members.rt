@@ -79,7 +79,7 @@ fn sum_of(values: &[i64]) -> u128
 }
 
 impl Members {
-    /// The empty set. Takes no memory.
+    /// The empty set.
     pub fn new(alloc: Global) -> Members
         ensures { result ≡ [] }
     {
@@ -130,7 +130,7 @@ impl Members {
         Members::of_ascending(items)
     }
 
-    /// The members, ascending. Takes no memory, and constant time.
+    /// The members, ascending. Takes constant time.
     pub fn as_slice(&self) -> &[i64]
         ensures value { result.now ≡ self.now }
         ensures ascending { IsAscending self.now }
@@ -165,14 +165,14 @@ impl Members {
         }
     }
 
-    /// Whether both have the same members. Takes no memory, and constant time where their numbers or their sums differ.
+    /// Whether both have the same members. Takes constant time where their numbers or their sums differ.
     pub fn same(&self, other: &Members) -> bool
         ensures { IsTrue result ↔ (self.now ≡ other.now) }
     {
         self == other
     }
 
-    /// The set with the value put in; `AllocError` where there is no memory for it. Takes the time of the members.
+    /// The set with the value put in. Takes the time of the members.
     pub fn with(&self, value: i64) -> Result<Members, AllocError>
         ensures { IfOk result (λ more. more ≡ put_in value self.now) }
     {

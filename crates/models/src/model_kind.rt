@@ -58,14 +58,14 @@ macro_rules! kind_of_name {
 }
 
 impl ModelKind {
-    /// The kind's name, as a command line and a script give it. Takes no memory.
+    /// The kind's name, as a command line and a script give it.
     pub fn name(self) -> &'static str
         ensures { result.now ≡ name_of self }
     {
         each_kind!(name_of_kind; self)
     }
 
-    /// The kind of this name, or `None` where there is none. Takes no memory.
+    /// The kind of this name, or `None` where there is none.
     pub fn of_name(text: &str) -> Option<ModelKind>
         ensures { Finds result (λ kind. text.now ≡ name_of kind) }
     {

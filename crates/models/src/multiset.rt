@@ -32,7 +32,7 @@ impl Model for Multiset {
 }
 
 impl Multiset {
-    /// Without values. Takes no memory.
+    /// Without values.
     pub fn new(alloc: Global) -> Multiset
         ensures { result ≡ [] }
     {
@@ -43,7 +43,7 @@ impl Multiset {
         }
     }
 
-    /// How many values there are, each as often as it is in; and they ascend. Takes no memory, and constant time.
+    /// How many values there are, each as often as it is in; and they ascend. Takes constant time.
     pub fn len(&self) -> usize
         ensures is { result ≡ length self.now }
         ensures never_falls { NeverFalls self.now }
@@ -51,7 +51,7 @@ impl Multiset {
         self.values.len()
     }
 
-    /// The value at this place, in ascending order. Takes no memory, and the logarithm of how many there are.
+    /// The value at this place, in ascending order. Takes the logarithm of how many there are.
     pub fn get(&self, at: usize) -> i64
         requires { at < length self.now }
         ensures value { result ≡ get_or self.now at (pos 0) }
@@ -60,7 +60,7 @@ impl Multiset {
         self.values.get(at)
     }
 
-    /// The place behind the last value that equals the one at this place. Takes no memory, and the logarithm of how many there are.
+    /// The place behind the last value that equals the one at this place. Takes the logarithm of how many there are.
     pub fn past(&self, at: usize) -> usize
         requires { at < length self.now }
         ensures later { at < result }
@@ -104,8 +104,7 @@ impl Multiset {
         })
     }
 
-    /// The multiset with one more of the value; `AllocError` where there is no memory for it. Takes time and memory that grow with
-    /// the logarithm of how many values there are.
+    /// The multiset with one more of the value. Takes time and memory that grow with the logarithm of how many values there are.
     pub fn with(&self, value: i64) -> Result<Multiset, AllocError>
         ensures { IfOk result (λ more. more ≡ with_one value self.now) }
     {
@@ -118,8 +117,7 @@ impl Multiset {
         })
     }
 
-    /// The multiset without the value at this place; `AllocError` where there is no memory for what is changed. Takes time and
-    /// memory as above.
+    /// The multiset without the value at this place. Takes time and memory as above.
     pub fn without(&self, at: usize) -> Result<Multiset, AllocError>
         requires { at < length self.now }
         ensures { IfOk result (λ rest. rest ≡ remove self.now at) }

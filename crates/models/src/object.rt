@@ -21,7 +21,7 @@ pub trait SeqObject {
     /// The outcomes of an operation in a state, each the state after it and what it finds.
     ghost apply_to: { Op → Self.State → List (Self.State × Found) };
 
-    /// The start state. Takes no memory.
+    /// The start state.
     fn start(alloc: Global) -> Self::State
         ensures { result ≡ start_state };
 
@@ -38,8 +38,8 @@ pub trait SeqObject {
         ensures more { IsTrue result ↔ (most < length (apply_to op.now state.now)) }
         ensures apart { AreApart (apply_to op.now state.now) };
 
-    /// Whether a state is one value without memory of its own, and each operation has at most one outcome in it, so that what
-    /// each operation does in a state is told at little cost. Takes no memory, and constant time.
+    /// Whether a state is one value without memory of its own, and each operation has at most one outcome in it, so that what each
+    /// operation does in a state is told at little cost. Takes constant time.
     fn has_scalar_states() -> bool
         ensures { IsTrue result → (op : Op) (state : Self.State) → length (apply_to op state) ≤ 1 };
 
@@ -78,7 +78,7 @@ pub trait SeqObject {
         Ok(outcomes)
     }
 
-    /// Whether both are the same state. Takes no memory.
+    /// Whether both are the same state.
     final fn same(a: &Self::State, b: &Self::State) -> bool
         ensures { IsTrue result ↔ (a.now ≡ b.now) }
     {

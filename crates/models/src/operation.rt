@@ -61,14 +61,14 @@ macro_rules! name_of_text {
 }
 
 impl Name {
-    /// The name as a history spells it. Takes no memory.
+    /// The name as a history spells it.
     pub fn text(self) -> &'static str
         ensures { result.now ≡ text_of self }
     {
         each_name!(text_of_name; self)
     }
 
-    /// The name that is spelled so, or `None` where there is none. Takes no memory.
+    /// The name that is spelled so, or `None` where there is none.
     pub fn of_text(text: &str) -> Option<Name>
         ensures { Finds result (λ name. text.now ≡ text_of name) }
     {
@@ -103,7 +103,7 @@ impl Part {
         }
     }
 
-    /// Whether both are the same part. Takes no memory.
+    /// Whether both are the same part.
     pub fn same(&self, other: &Part) -> bool
         ensures { IsTrue result ↔ (self.now ≡ other.now) }
     {

@@ -75,21 +75,21 @@ fn row_spliced(
 }
 
 impl SpanRow {
-    /// No spans. Takes no memory.
+    /// No spans.
     pub fn new() -> SpanRow
         ensures { result ≡ [] }
     {
         SpanRow { spans: Tree::new() }
     }
 
-    /// How many there are. Takes no memory, and constant time.
+    /// How many there are. Takes constant time.
     pub fn len(&self) -> usize
         ensures { result ≡ length self.now }
     {
         self.spans.len()
     }
 
-    /// The first integer of the span at this place. Takes no memory, and the logarithm of how many there are.
+    /// The first integer of the span at this place. Takes the logarithm of how many there are.
     pub fn first_at(&self, at: usize) -> i64
         requires { at < length self.now }
         ensures { (d : Span) → result ≡ (get_or self.now at d).from }
@@ -133,8 +133,8 @@ impl SpanRow {
         Ok(SpanRow { spans })
     }
 
-    /// The spans with this one in place of those from one place up to another, which are two at most; `AllocError` where there is no
-    /// memory for it. Takes time and memory that grow with the logarithm of how many there are.
+    /// The spans with this one in place of those from one place up to another, which are two at most. Takes time and memory that
+    /// grow with the logarithm of how many there are.
     pub fn spliced(
         &self,
         alloc: Global,
@@ -151,7 +151,7 @@ impl SpanRow {
         Ok(SpanRow { spans })
     }
 
-    /// Whether both have the same spans in the same order. Takes no memory.
+    /// Whether both have the same spans in the same order.
     pub fn same(&self, other: &SpanRow) -> bool
         ensures { IsTrue result ↔ (self.now ≡ other.now) }
     {

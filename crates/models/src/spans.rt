@@ -121,7 +121,7 @@ fn room_for(spans: &SpanRow) -> usize
     room
 }
 
-// Puts the integers from the first to the last behind the others; `AllocError` where there is no memory for them.
+// Puts the integers from the first to the last behind the others.
 fn append_integers(items: &mut Vec<i64>, from: i64, to: i64) -> Result<(), AllocError>
     requires { from ≤ℤ to }
     ensures { OnOk result (items.new.items ≡ items.old.items ++ from_to from to) }
@@ -136,7 +136,7 @@ fn append_integers(items: &mut Vec<i64>, from: i64, to: i64) -> Result<(), Alloc
     }
 }
 
-// Puts the integers of these spans behind the others; `AllocError` where there is no memory for them.
+// Puts the integers of these spans behind the others.
 fn append_spans(items: &mut Vec<i64>, spans: &[Span]) -> Result<(), AllocError>
     requires { StandApart spans.now }
     ensures { OnOk result (items.new.items ≡ items.old.items ++ integers_in spans.now) }
@@ -148,7 +148,7 @@ fn append_spans(items: &mut Vec<i64>, spans: &[Span]) -> Result<(), AllocError>
 }
 
 impl Spans {
-    /// The empty set. Takes no memory.
+    /// The empty set.
     pub fn new(alloc: Global) -> Spans
         ensures { result ≡ [] }
     {
@@ -170,8 +170,8 @@ impl Spans {
         })
     }
 
-    /// The set with the value put in; `AllocError` where there is no memory for it. Takes time and memory that grow with the logarithm of
-    /// how many spans there are, and no memory where the value is in already.
+    /// The set with the value put in. Takes time and memory that grow with the logarithm of how many spans there are, and no memory
+    /// where the value is in already.
     pub fn with(&self, value: i64) -> Result<Spans, AllocError>
         ensures { IfOk result (λ more. more ≡ put_in value self.now) }
     {
@@ -191,7 +191,7 @@ impl Spans {
         })
     }
 
-    /// The set by its members; `AllocError` where there is no memory for them. Takes the time of the members.
+    /// The set by its members. Takes the time of the members.
     pub fn to_members(&self) -> Result<Members, AllocError>
         ensures { IfOk result (λ members. members ≡ self.now) }
     {

@@ -1,4 +1,6 @@
 //! The live verdict on a history of many keys, each with its own kind of object and its own budget.
+//!
+//! A call takes memory only where its result can be `AllocError`, or a refusal for want of memory.
 #![tactic(auto)]
 
 pub mod fronts;

@@ -38,7 +38,7 @@ impl Model for Lines {
 }
 
 impl Lines {
-    /// No lines. Takes no memory.
+    /// No lines.
     pub fn new(alloc: Global) -> Lines
         ensures { result.rows ≡ [] }
     {
@@ -47,21 +47,21 @@ impl Lines {
         }
     }
 
-    /// How many there are. Takes no memory, and constant time.
+    /// How many there are. Takes constant time.
     pub fn len(&self) -> usize
         ensures { result ≡ length self.now.rows }
     {
         self.map.len()
     }
 
-    /// The place of a key's line, if the key has events. Takes no memory, and constant time.
+    /// The place of a key's line, if the key has events. Takes constant time.
     pub fn find(&self, key: Key) -> Option<usize>
         ensures { result ≡ position (nat_eq key) (keys_of self.now.rows) }
     {
         self.map.get_index_of(&key)
     }
 
-    /// The key and the line at a place. Takes no memory, and constant time.
+    /// The key and the line at a place. Takes constant time.
     pub fn at(&self, place: usize) -> (Key, &KeyLine)
         requires { place < length self.now.rows }
         ensures { slice_get self.now.rows place ≡ Some (result.0, result.1.now) }
@@ -194,7 +194,7 @@ impl Lines {
         verdict
     }
 
-    /// Carries out what is prepared at a place. Takes no memory.
+    /// Carries out what is prepared at a place.
     pub fn commit(&mut self, place: usize)
         requires { IsSomeAnd (slice_get self.old.rows place) (λ row. IsSome row.1.next) }
         ensures { IfSome (slice_get self.old.rows place) (λ row. IfSome row.1.next (λ next.
@@ -222,8 +222,8 @@ impl Lines {
         }
     }
 
-    /// How many events of the line at a place were judged again for a prepared cut at `n`: none of a line that has no event
-    /// before `n`. Takes no memory, and constant time.
+    /// How many events of the line at a place were judged again for a prepared cut at `n`: none of a line that has no event before
+    /// `n`. Takes constant time.
     pub fn replays_at(&self, place: usize, n: u32) -> u64
         requires within { place < length self.now.rows }
         requires next { AreCutAt n self.now.rows }
@@ -246,7 +246,7 @@ impl Lines {
         self.map.reserve(1)
     }
 
-    /// Adds the line of a new key as the last one. Takes no memory.
+    /// Adds the line of a new key as the last one.
     pub fn add(&mut self, key: Key, line: KeyLine)
         requires room { 0 < self.old.room }
         requires new { position (nat_eq key) (keys_of self.old.rows) ≡ None }
@@ -329,7 +329,7 @@ impl Lines {
         }
     }
 
-    // Drops what each line has prepared. Takes no memory.
+    // Drops what each line has prepared.
     fn drop_prepared(&mut self)
         ensures rows { self.new.rows ≡ each_line without_next self.old.rows }
         ensures room { self.old.room ≤ self.new.room }
@@ -339,7 +339,7 @@ impl Lines {
         }
     }
 
-    // Drops what the line at a place has prepared. Takes no memory.
+    // Drops what the line at a place has prepared.
     fn drop_prepared_at(&mut self, place: usize)
         requires { place < length self.old.rows }
         ensures rows { IfSome (slice_get self.old.rows place) (λ row.

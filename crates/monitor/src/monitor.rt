@@ -376,7 +376,7 @@ impl Monitor {
         Ok(verdict)
     }
 
-    /// The verdict on the history as it stands. Takes no memory, and constant time.
+    /// The verdict on the history as it stands. Takes constant time.
     pub fn verdict(&self) -> Verdict
         ensures { IsVerdictOn self.now.now result }
     {
@@ -391,7 +391,7 @@ impl Monitor {
         let _verdict = self.verdict;
     }
 
-    /// The history as it stands. Takes no memory.
+    /// The history as it stands.
     pub fn history(&self) -> &History
         ensures events { result.now.events ≡ self.now.now.events }
         ensures concurrency { result.now.concurrency ≡ self.now.now.concurrency }
@@ -399,22 +399,22 @@ impl Monitor {
         &self.history
     }
 
-    /// The lines of the keys that have events, by first event. Each tells how many replays were made for it so far, of which
-    /// each event that was pushed is one ([`KeyLine::replayed`]). Takes no memory.
+    /// The lines of the keys that have events, by first event. Each tells how many replays were made for it so far, of which each
+    /// event that was pushed is one ([`KeyLine::replayed`]).
     pub fn lines(&self) -> &Lines
         ensures { nows result.now.rows ≡ rows_of self.now.now }
     {
         &self.lines
     }
 
-    /// How many keys have events. Takes no memory.
+    /// How many keys have events.
     pub fn key_count(&self) -> usize
         ensures { result ≡ length (keys_in_order self.now.now.events) }
     {
         self.lines.len()
     }
 
-    /// The `i`-th key by first event: its kind, its budget, how many events it has, and how it stands. Takes no memory.
+    /// The `i`-th key by first event: its kind, its budget, how many events it has, and how it stands.
     pub fn key_at(&self, i: usize) -> KeyRow
         requires { i < length (keys_in_order self.now.now.events) }
         ensures key { slice_get (keys_in_order self.now.now.events) i ≡ Some result.key }
@@ -433,9 +433,9 @@ impl Monitor {
         }
     }
 
-    /// How many events of the key were judged again for the rewind that is prepared: fewer than 64 where the key loses events,
-    /// and none where it does not. Each was given to what judges the key, from the last state on that was saved before the
-    /// cut. 0 where another change is prepared, or none. [`commit`](Self::commit) judges nothing again. Takes no memory.
+    /// How many events of the key were judged again for the rewind that is prepared: fewer than 64 where the key loses events, and
+    /// none where it does not. Each was given to what judges the key, from the last state on that was saved before the cut. 0 where
+    /// another change is prepared, or none. [`commit`](Self::commit) judges nothing again.
     pub fn replays(&self, key: Key) -> u64
         ensures counted { IfSome self.now.next (λ next.
             result ≡ replays_by self.now.now next key) }

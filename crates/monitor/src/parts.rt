@@ -66,7 +66,7 @@ pub(crate) fn prepare_rebuild(
     Ok(lines.joined_with(place, status))
 }
 
-/// Carries out what the line at this place has prepared, if there is one. Takes no memory.
+/// Carries out what the line at this place has prepared, if there is one.
 pub(crate) fn commit_line(lines: &mut Lines, place: Option<usize>)
     requires { (rows : List (ℕ × KeyHistory)) × AreRowsWith lines.old place rows }
     ensures { (rows : List (ℕ × KeyHistory)) → AreRowsWith lines.old place rows

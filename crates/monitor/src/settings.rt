@@ -25,7 +25,7 @@ impl<T: Copy> Model for Settings<T> {
 }
 
 impl<T: Copy> Settings<T> {
-    /// The default for every key. Takes no memory.
+    /// The default for every key.
     pub(crate) fn new(alloc: Global, default: T) -> Settings<T>
         ensures default { result.default ≡ default }
         ensures none { result.set ≡ [] }
@@ -36,7 +36,7 @@ impl<T: Copy> Settings<T> {
         }
     }
 
-    /// What the key has. Takes no memory, and constant time.
+    /// What the key has. Takes constant time.
     pub(crate) fn of(&self, key: Key) -> T
         ensures { result ≡ setting_of self.now key }
     {
@@ -55,7 +55,7 @@ impl<T: Copy> Settings<T> {
         self.set.reserve(1)
     }
 
-    /// Sets what the key has. Takes no memory.
+    /// Sets what the key has.
     pub(crate) fn put(&mut self, key: Key, value: T)
         requires { 0 < self.old.room }
         ensures default { self.new.default ≡ self.old.default }

@@ -26,7 +26,7 @@ impl Model for Schedule {
 }
 
 impl Schedule {
-    /// These faults, each with the length of the history from which it is due, which never falls. Takes no memory.
+    /// These faults, each with the length of the history from which it is due, which never falls.
     pub fn new(faults: Vec<(u32, Fault)>) -> Schedule
         requires { NeverFalls faults.items }
         ensures { result ≡ faults.items }
@@ -34,7 +34,7 @@ impl Schedule {
         Schedule { faults, taken: 0 }
     }
 
-    /// The first fault that was not taken, if it is due at this length of the history. Takes no memory.
+    /// The first fault that was not taken, if it is due at this length of the history.
     pub fn due(&self, length: u32) -> Option<&Fault>
         ensures { option_copied result ≡ due_at length self.now }
     {
@@ -45,14 +45,14 @@ impl Schedule {
         if *at <= length { Some(fault) } else { None }
     }
 
-    /// The faults that were not taken, in order, each with the length of the history from which it is due. Takes no memory.
+    /// The faults that were not taken, in order, each with the length of the history from which it is due.
     pub fn faults(&self) -> &[(u32, Fault)]
         ensures { result.now ≡ self.now }
     {
         &self.faults[self.taken..]
     }
 
-    /// Takes the first fault that was not taken, if there is one. Takes no memory.
+    /// Takes the first fault that was not taken, if there is one.
     pub fn advance(&mut self)
         ensures { self.new ≡ after_first self.old }
     {

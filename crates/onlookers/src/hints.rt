@@ -45,8 +45,8 @@ const REPLICAS: &str = "--replicas takes a number, 1 to 7.";
 const NO_SEAT: &str =
     "A client got no place on the board. Try again, or with a smaller --concurrency.";
 
-/// What is usually the cause of the refusal of this number, as a sentence or two; `None` for 14 to 17, which the program
-/// never prints, and for what is no refusal's number. Takes no memory.
+/// What is usually the cause of the refusal of this number, as a sentence or two; `None` for 14 to 17, which the program never
+/// prints, and for what is no refusal's number.
 pub fn hint_of(number: u8) -> Option<&'static str>
     ensures { IsPrinted number → IsSome result }
 {

@@ -39,17 +39,17 @@ impl<'a, X: Clock + Eprint> MovingLine<'a, X> {
         }
     }
 
-    /// Whether it is ever shown: not without a terminal, and not where the clock can't be read. Takes no memory.
+    /// Whether it is ever shown: not without a terminal, and not where the clock can't be read.
     pub fn moves(&self) -> bool {
         self.next.get().is_some()
     }
 
-    /// Whether it stands there, and no line follows it yet. Takes no memory.
+    /// Whether it stands there, and no line follows it yet.
     pub fn is_shown(&self) -> bool {
         self.is_open.get()
     }
 
-    /// Whether it is time to show it, by the clock. Takes no memory.
+    /// Whether it is time to show it, by the clock.
     pub fn is_time(&self) -> bool {
         let Some(next) = self.next.get() else {
             return false;

@@ -35,7 +35,7 @@ impl<'a> Model for KeyEvents<'a> {
 }
 
 impl<'a> KeyEvents<'a> {
-    /// No events of this key, to be judged as an object of this kind, by this budget. Takes no memory.
+    /// No events of this key, to be judged as an object of this kind, by this budget.
     pub fn new(alloc: Global, key: Key, kind: ModelKind, budget: u32) -> Self
         ensures { result ≡ piece_of key (without_events kind budget) }
     {
@@ -62,7 +62,7 @@ impl<'a> KeyEvents<'a> {
         Ok(())
     }
 
-    /// The key. Takes no memory.
+    /// The key.
     pub fn key(&self) -> Key
         ensures { result ≡ self.now.key }
     {

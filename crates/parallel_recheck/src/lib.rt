@@ -1,4 +1,6 @@
 //! The lines of many keys, judged by several threads at once.
+//!
+//! A call takes memory only where its result can be `AllocError`, or a refusal for want of memory.
 #![tactic(auto)]
 
 mod key_events;

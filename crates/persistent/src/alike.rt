@@ -16,7 +16,7 @@ fn eight_are_same(xs: &[i64], ys: &[i64], at: usize) -> bool
     first & second & third & fourth
 }
 
-/// Whether the integers are the same in the same order. Takes no memory.
+/// Whether the integers are the same in the same order.
 pub fn are_same(xs: &[i64], ys: &[i64]) -> bool
     ensures { IsTrue result ↔ (xs.now ≡ ys.now) }
 {

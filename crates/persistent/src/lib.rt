@@ -1,4 +1,6 @@
 //! Rows of integers that share what they have in common.
+//!
+//! A call takes memory only where its result can be `AllocError`, or a refusal for want of memory.
 #![tactic(auto)]
 
 pub mod alike;

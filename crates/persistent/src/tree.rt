@@ -282,14 +282,14 @@ fn joined<T: Copy>(alloc: Global, left: Tree<T>, right: Tree<T>) -> Result<Tree<
 }
 
 impl<T: Copy> Tree<T> {
-    /// No values. Takes no memory.
+    /// No values.
     pub fn new() -> Tree<T>
         ensures { result ≡ [] }
     {
         Tree { node: Node::Empty }
     }
 
-    /// How many there are. Takes no memory, and constant time.
+    /// How many there are. Takes constant time.
     pub fn len(&self) -> usize
         ensures { result ≡ length self.now }
     {
@@ -308,7 +308,7 @@ impl<T: Copy> Tree<T> {
         }
     }
 
-    /// The first of them. Takes no memory, and constant time.
+    /// The first of them. Takes constant time.
     pub fn first(&self) -> T
         requires { 0 < length self.now }
         ensures { (d : T) → result ≡ get_or self.now 0 d }
@@ -336,8 +336,8 @@ impl<T: Copy> Tree<T> {
         }
     }
 
-    /// The values with one more at this place; `AllocError` where there is no memory for it. Takes the time and the memory of the
-    /// way to the place, which grow with the logarithm of how many values there are.
+    /// The values with one more at this place. Takes the time and the memory of the way to the place, which grow with the logarithm
+    /// of how many values there are.
     pub fn with(&self, alloc: Global, at: usize, value: T) -> Result<Tree<T>, AllocError>
         requires { at ≤ length self.now }
         ensures { IfOk result (λ tree. tree ≡ insert self.now at value) }
@@ -381,8 +381,7 @@ impl<T: Copy> Tree<T> {
         }
     }
 
-    /// The values without the one at this place; `AllocError` where there is no memory for it. Takes the time and the memory of
-    /// the way to the place, as above.
+    /// The values without the one at this place. Takes the time and the memory of the way to the place, as above.
     pub fn without(&self, alloc: Global, at: usize) -> Result<Tree<T>, AllocError>
         requires { at < length self.now }
         ensures { IfOk result (λ tree. tree ≡ remove self.now at) }
@@ -409,8 +408,7 @@ impl<T: Copy> Tree<T> {
         }
     }
 
-    /// The values with this one in place of the one at this place; `AllocError` where there is no memory for it. Takes the time and
-    /// the memory of the way there, as above.
+    /// The values with this one in place of the one at this place. Takes the time and the memory of the way there, as above.
     pub fn replaced(&self, alloc: Global, at: usize, value: T) -> Result<Tree<T>, AllocError>
         requires { at < length self.now }
         ensures { IfOk result (λ tree. tree ≡ take at self.now ++ value ∷ drop (at + 1) self.now) }
@@ -430,7 +428,7 @@ impl<T: Copy> Tree<T> {
         }
     }
 
-    /// The values from this place on, as far as they lie in one piece of memory. Takes no memory, and the time of the way there.
+    /// The values from this place on, as far as they lie in one piece of memory. Takes the time of the way there.
     pub fn part_at(&self, at: usize) -> &[T]
         requires { at < length self.now }
         ensures some { 0 < length result.now }
@@ -450,7 +448,7 @@ impl<T: Copy> Tree<T> {
         }
     }
 
-    /// The value at this place. Takes no memory, and the time of the way there.
+    /// The value at this place. Takes the time of the way there.
     pub fn get(&self, at: usize) -> T
         requires { at < length self.now }
         ensures { (d : T) → result ≡ get_or self.now at d }
@@ -475,8 +473,8 @@ impl<T: Copy> Tree<T> {
 }
 
 impl<T: Placed> Tree<T> {
-    /// A place in front of which stands a value whose place is below this one, if any does, and at which stands none below it. In a row that
-    /// never falls there is one alone. Takes no memory, and the time of the way there.
+    /// A place in front of which stands a value whose place is below this one, if any does, and at which stands none below it. In a
+    /// row that never falls there is one alone. Takes the time of the way there.
     pub fn place_of(&self, value: i64) -> usize
         ensures within { result ≤ length self.now }
         ensures before { (k : ℕ) (d : T) → result ≡ k + 1 → T.place (get_or self.now k d) <ℤ value }
@@ -495,7 +493,7 @@ impl<T: Placed> Tree<T> {
         }
     }
 
-    /// Whether both have the same values in the same order. Takes no memory.
+    /// Whether both have the same values in the same order.
     pub fn same(&self, other: &Tree<T>) -> bool
         ensures { IsTrue result ↔ (self.now ≡ other.now) }
     {

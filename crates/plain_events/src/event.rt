@@ -16,7 +16,7 @@ use history::{Body, Event, EventKind, Process, is_part_of};
 use models::Op;
 use std::alloc::Global;
 
-/// The pair of `:index` and a number, where it is there, and what follows it; or none, which says nothing. Takes no memory.
+/// The pair of `:index` and a number, where it is there, and what follows it; or none, which says nothing.
 #[inline(always)]
 pub fn index_pair(text: &[u8]) -> Option<(Option<u32>, &[u8])>
     ensures { IfSome result (λ x. IsIndexAt text.now x.0 x.1.now) }
@@ -46,7 +46,7 @@ fn kind_at(text: &[u8]) -> Option<(EventKind, &[u8])>
     Some((EventKind::Info, rest))
 }
 
-/// The pair of `:type` and what happens to the operation, and what follows it; or none, which says nothing. Takes no memory.
+/// The pair of `:type` and what happens to the operation, and what follows it; or none, which says nothing.
 #[inline(always)]
 pub fn kind_pair(text: &[u8]) -> Option<(EventKind, &[u8])>
     ensures { IfSome result
@@ -56,7 +56,7 @@ pub fn kind_pair(text: &[u8]) -> Option<(EventKind, &[u8])>
     kind_at(value)
 }
 
-/// The pair of `:process` and the number of a client's, and what follows it; or none, which says nothing. Takes no memory.
+/// The pair of `:process` and the number of a client's, and what follows it; or none, which says nothing.
 #[inline(always)]
 pub fn process_pair(text: &[u8]) -> Option<(u32, &[u8])>
     ensures pair { IfSome result

@@ -157,7 +157,7 @@ impl Found {
         self.put_further(text)
     }
 
-    /// The event of a client of which this is all that is found; or none, which says nothing. Takes no memory.
+    /// The event of a client of which this is all that is found; or none, which says nothing.
     pub fn event(self) -> Option<Event>
         ensures { IfSome result (λ event. IsEventOf self event) }
     {

@@ -55,7 +55,7 @@ fn name_bytes(text: &[u8]) -> (&[u8], &[u8])
     text.split_at(n)
 }
 
-/// The name of a keyword, and what follows it and the white space behind it; or none, which says nothing. Takes no memory.
+/// The name of a keyword, and what follows it and the white space behind it; or none, which says nothing.
 pub fn keyword_at(text: &[u8]) -> Option<(&[u8], &[u8])>
     ensures { IfSome result (λ x. IsAtomAt text.now (keyword x.0.now) x.1.now) }
 {
@@ -95,8 +95,8 @@ fn put_mark(marks: &mut Marks, mark: u64) -> Option<()>
     Some(())
 }
 
-/// What follows a key that is other than those of which these are the marks, and the white space behind it; or none, which
-/// says nothing. Its mark is put behind them. Takes no memory.
+/// What follows a key that is other than those of which these are the marks, and the white space behind it; or none, which says
+/// nothing. Its mark is put behind them.
 pub fn past_new_key<'a>(marks: &mut Marks, text: &'a [u8]) -> Option<&'a [u8]>
     ensures { IfSome result (λ rest. (name : List ℕ)
         × IsNewKeyAt marks.old.items text.now name marks.new.items rest.now) }

@@ -75,7 +75,7 @@ fn negated(size: u64) -> i64
     -(size as i64)
 }
 
-/// An integer, and what follows it and the white space behind it; or none, which says nothing. Takes no memory.
+/// An integer, and what follows it and the white space behind it; or none, which says nothing.
 #[inline(always)]
 pub fn integer(text: &[u8]) -> Option<(i64, &[u8])>
     ensures { IfSome result (λ x. IsAtomAt text.now (int x.0) x.1.now) }
@@ -89,7 +89,7 @@ pub fn integer(text: &[u8]) -> Option<(i64, &[u8])>
     Some((plain(size), rest))
 }
 
-/// A number of 32 bits, and what follows it and the white space behind it; or none, which says nothing. Takes no memory.
+/// A number of 32 bits, and what follows it and the white space behind it; or none, which says nothing.
 #[inline(always)]
 pub fn number(text: &[u8]) -> Option<(u32, &[u8])>
     ensures atom { IfSome result (λ x. IsAtomAt text.now (number x.0) x.1.now) }

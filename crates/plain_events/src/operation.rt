@@ -27,7 +27,7 @@ fn name_at(text: &[u8]) -> Option<(Name, &[u8])>
     each_name!(name_at; text)
 }
 
-/// The pair of `:f` and a name, and what follows it; or none, which says nothing. Takes no memory.
+/// The pair of `:f` and a name, and what follows it; or none, which says nothing.
 #[inline(never)]
 pub fn name_pair(text: &[u8]) -> Option<(Name, &[u8])>
     ensures { IfSome result (λ x. IsPairAt text.now (codes "f") (keyword (text_of x.0)) x.1.now) }

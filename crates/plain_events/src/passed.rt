@@ -41,8 +41,8 @@ fn past_word_or_integer(text: &[u8]) -> Option<&[u8]>
     Some(rest)
 }
 
-/// What follows a value, and the white space behind it, while so many collections are open; or none, which says nothing. It is
-/// an atom, a string, a vector, or a map whose keys are keywords. Takes no memory, and the time of one pass over it.
+/// What follows a value, and the white space behind it, while so many collections are open; or none, which says nothing. It is an
+/// atom, a string, a vector, or a map whose keys are keywords. Takes the time of one pass over it.
 #[cycle(values)]
 pub fn past_value(depth: u8, text: &[u8]) -> Option<&[u8]>
     ensures { IfSome result (λ rest. IsPassedAt depth text.now rest.now) }

@@ -48,8 +48,8 @@ fn past_escape(text: &[u8]) -> Option<&[u8]>
     Some(rest)
 }
 
-/// What follows the closing quote of a string, whose inside stands at the front; or none, which says nothing. Takes no memory,
-/// and the time of one pass over the string.
+/// What follows the closing quote of a string, whose inside stands at the front; or none, which says nothing. Takes the time of one
+/// pass over the string.
 pub fn past_string(text: &[u8]) -> Option<&[u8]>
     ensures { IfSome result (λ rest. IsStringAt text.now rest.now) }
 {

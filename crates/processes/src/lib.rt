@@ -1,5 +1,7 @@
 //! Which process a thread goes on with, and which is busy: the process rule of the Jepsen documentation
 //! (<https://github.com/jepsen-io/jepsen>).
+//!
+//! A call takes memory only where its result can be `AllocError`, or a refusal for want of memory.
 #![tactic(auto)]
 
 mod laws;

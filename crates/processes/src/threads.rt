@@ -67,7 +67,7 @@ impl Threads {
         Ok(Threads { threads })
     }
 
-    /// The process that the thread's next invocation must name. Takes no memory.
+    /// The process that the thread's next invocation must name.
     pub fn current(&self, thread: u32) -> u32
         requires { thread < length self.now }
         ensures current { (moves : List Move) → StandAfter self.now moves →

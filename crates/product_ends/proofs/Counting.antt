@@ -58,10 +58,10 @@ module _ (old new : List Product) (apart : AreApart old) (kept : (row : List ℕ
       (λ other h. ⊎_elim (λ e. subst (Contains (rows_in new)) e ((contains_rows_in new row).1 now)) (still other) (Contains-cons_cases row (rows_in old) other h)) in
       omega (arith, more)
 
-  pub paid_none : (steps before after : ℕ) → after ≤ before → IsPaid steps before old after new
-  paid_none steps before after le =
+  pub paid_none : (steps before after : ℕ) → after ≡ before → IsPaid steps before old after new
+  paid_none steps before after same =
       let more : steps * length (rows_in old) ≤ steps * length (rows_in new) = mul-le-mul_left steps no_fewer in
-      omega (arith, more, le)
+      omega (arith, more, same)
 
   pub paid_one : (steps before after : ℕ) (row : List ℕ) → IsInOne new row → (IsInOne old row → ⊥) → after ≤ before + steps → IsPaid steps before old after new
   paid_one steps before after row now not_yet le =

@@ -13,8 +13,7 @@ use std::alloc::AllocError;
 use std::hash::Hash;
 
 /// Puts the products after the operation has returned with this answer, of the ends where it is in and what it found fits, each
-/// without it, in place of those that were there. None where it is not open. `AllocError` where there is no memory for them. Takes
-/// the time of the products.
+/// without it, in place of those that were there. None where it is not open. Takes the time of the products.
 pub fn settled<S: Hash + Drop>(
     table: &Table<S>,
     all: &Products,
@@ -49,8 +48,7 @@ pub fn settled<S: Hash + Drop>(
 }
 
 /// Puts the products after the operation, which is open, has failed, of those ends that it is not in, each without its number, in
-/// place of those that were there. None where it is not open. `AllocError` where there is no memory for them. Takes the time of
-/// the products.
+/// place of those that were there. None where it is not open. Takes the time of the products.
 pub fn failed<S: Hash + Drop>(
     table: &Table<S>,
     kept: &Products,

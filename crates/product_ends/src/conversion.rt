@@ -110,7 +110,7 @@ fn put_rows_with(
     Ok(())
 }
 
-/// The rows of the products. `AllocError` where there is no memory for them. Takes the time of [`RowSet::put`] for each row.
+/// The rows of the products. Takes the time of [`RowSet::put`] for each row.
 pub fn as_rows(alloc: Global, products: &Products) -> Result<RowSet, AllocError>
     ensures rows { IfOk result (λ rows. (row : List ℕ) → Contains rows row ↔ IsInOne products.now.1 row) }
     ensures once { IfOk result (λ rows. Pairwise (λ one other. one ≢ other) rows) }
@@ -189,8 +189,7 @@ fn renumber_sets(
 
 /// A table with the states of these products and with what was found in them alone, and without rows, and the products by its
 /// numbers. None where a state, or what was found, is not in the table, or where a set of several numbers would get one above 62.
-/// `AllocError` where there is no memory for them. Takes the time of a copy of each product's state, of its numbers, and of
-/// [`Products::put`] for each product.
+/// Takes the time of a copy of each product's state, of its numbers, and of [`Products::put`] for each product.
 pub fn renumbered<M: SeqObject>(
     alloc: Global,
     table: &Table<M::State>,

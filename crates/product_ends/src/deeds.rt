@@ -33,7 +33,7 @@ pub struct Deeds<S> {
 }
 
 impl<S> Deeds<S> {
-    /// None. Takes no memory.
+    /// None.
     pub fn new(alloc: Global) -> Deeds<S> {
         Deeds {
             order: Vec::new(alloc),
@@ -44,7 +44,7 @@ impl<S> Deeds<S> {
     }
 }
 
-/// Forgets all, and keeps the memory. Takes no memory, and constant time.
+/// Forgets all, and keeps the memory. Takes constant time.
 pub fn forget<S: Drop>(deeds: &mut Deeds<S>)
     ensures none { (number : ℕ) → order_in deeds.new number ≡ 0 }
     ensures stays { (calls : ℕ) → AreStays deeds.new calls }
@@ -72,8 +72,7 @@ fn part_in<'a, T>(order: &[usize], all: &'a [T], number: usize, calls: usize) ->
     }
 }
 
-/// What the calls, of which there are so many, do in the state with this number, if they were tried there. Takes no memory, and
-/// constant time.
+/// What the calls, of which there are so many, do in the state with this number, if they were tried there. Takes constant time.
 #[inline(always)]
 pub fn deeds_in<S>(deeds: &Deeds<S>, number: usize, calls: usize) -> Option<&[Deed]>
     ensures some { IfSome result (λ those. (order : ℕ) × (order_in deeds.now number ≡ order + 1)
@@ -84,7 +83,7 @@ pub fn deeds_in<S>(deeds: &Deeds<S>, number: usize, calls: usize) -> Option<&[De
 }
 
 /// What the calls, of which there are so many, find where they stay in the state with this number, each a set, if they were tried
-/// there: no number where the call cannot take place, or leads to another state. Takes no memory, and constant time.
+/// there: no number where the call cannot take place, or leads to another state. Takes constant time.
 #[inline(always)]
 pub fn stays_in<S>(deeds: &Deeds<S>, number: usize, calls: usize) -> Option<&[u64]>
     ensures some { IfSome result (λ those. (order : ℕ) × (order_in deeds.now number ≡ order + 1)
@@ -108,6 +107,7 @@ fn tried<M: SeqObject>(
         × IsDeed table.new call.now (M.apply_to call.now.op s) deed) }
     ensures widens { Widens table.old table.new }
     ensures rows { rows_of table.new ≡ rows_of table.old }
+    ensures never_falls { applied.old ≤ applied.new }
     ensures cost { applied.new ≤ applied.old + 1 }
 {
     let Some(state) = table.states.get(number) else {
@@ -172,6 +172,7 @@ pub fn try_each<M: SeqObject>(
     ensures others { (n : ℕ) → OnOk result (IsTried deeds.new n → (n ≡ number) ⊎ IsTried deeds.old n) }
     ensures widens { Widens table.old table.new }
     ensures rows { rows_of table.new ≡ rows_of table.old }
+    ensures never_falls { applied.old ≤ applied.new }
     ensures cost { applied.new ≤ applied.old + length calls.now }
 {
     let before = deeds.deeds.len();

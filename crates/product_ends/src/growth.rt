@@ -47,7 +47,7 @@ pub struct Room<S> {
 }
 
 impl<S> Room<S> {
-    /// None yet. Takes no memory.
+    /// None yet.
     pub fn new(alloc: Global) -> Room<S> {
         Room {
             work: None,
@@ -56,7 +56,7 @@ impl<S> Room<S> {
     }
 }
 
-// Makes the memory to work in, where there is none yet. `AllocError` where there is no memory for it.
+// Makes the memory to work in, where there is none yet.
 fn make<S: Drop>(alloc: Global, work: &mut Option<Box<Work<S>>>) -> Result<(), AllocError> {
     if work.is_none() {
         let none = Work {
@@ -174,10 +174,11 @@ fn ready<M: SeqObject>(
     ensures tried { IfOk result (λ some. some ≡ true → IsTried deeds.new number) }
     ensures kept { OnOk result ((n : ℕ) → IsTried deeds.old n → IsTried deeds.new n) }
     ensures none { IfOk result (λ some. some ≡ false → (row : List ℕ) → ¬ AreIn (slice_set sets.now place word) row) }
-    ensures fresh { (applied.new ≤ applied.old)
+    ensures fresh { (applied.new ≡ applied.old)
         ⊎ ((¬ IsTried deeds.old number) × ((row : List ℕ) × AreIn (slice_set sets.now place word) row)) }
     ensures widens { Widens table.old table.new }
     ensures rows { rows_of table.new ≡ rows_of table.old }
+    ensures never_falls { applied.old ≤ applied.new }
     ensures cost { applied.new ≤ applied.old + length calls.now }
 {
     if deeds_in(deeds, number, calls.len()).is_some() {
@@ -224,6 +225,7 @@ fn put_widened<M: SeqObject>(
     ensures widens { Widens table.old table.new }
     ensures rows { rows_of table.new ≡ rows_of table.old }
     ensures paid { OnOk result (IsPaid (length calls.now) applied.old room.old.all.1 applied.new room.new.all.1) }
+    ensures never_falls { applied.old ≤ applied.new }
     ensures cost { applied.new ≤ applied.old + length calls.now }
 {
     if !ready::<M>(
@@ -285,6 +287,7 @@ fn grow_at<M: SeqObject>(
     ensures widens { Widens table.old table.new }
     ensures rows { rows_of table.new ≡ rows_of table.old }
     ensures paid { OnOk result (IsPaid (length calls.now) applied.old room.old.all.1 applied.new room.new.all.1) }
+    ensures never_falls { applied.old ≤ applied.new }
     ensures cost { applied.new ≤ applied.old + length calls.now }
 {
     let own = room.source[at];
@@ -336,6 +339,7 @@ fn grow_from<M: SeqObject>(
     ensures widens { Widens table.old table.new }
     ensures rows { rows_of table.new ≡ rows_of table.old }
     ensures paid { OnOk result (IsPaid (length calls.now) applied.old room.old.all.1 applied.new room.new.all.1) }
+    ensures never_falls { applied.old ≤ applied.new }
     ensures cost { applied.new + length calls.now * length (rows_in room.old.all.1)
         ≤ applied.old + length calls.now * (budget + 1) }
 {
@@ -382,6 +386,7 @@ fn begin<M: SeqObject>(
     ensures rows { rows_of table.new ≡ rows_of table.old }
     ensures paid { IfOk result (λ all. all ≡ true
         → applied.new ≤ applied.old + length calls.now * length (rows_in room.new.all.1)) }
+    ensures never_falls { applied.old ≤ applied.new }
     ensures cost { applied.new ≤ applied.old + length calls.now * (budget + 1) }
 {
     forget(&mut room.deeds);
@@ -426,6 +431,7 @@ fn grow<M: SeqObject>(
     ensures over { IfOk result (λ all. all ≡ false → budget < length (rows_in room.new.all.1)) }
     ensures widens { Widens table.old table.new }
     ensures rows { rows_of table.new ≡ rows_of table.old }
+    ensures never_falls { applied.old ≤ applied.new }
     ensures cost { applied.new ≤ applied.old + length calls.now * (budget + 1) }
 {
     if !begin::<M>(alloc, table, kept, room, calls, budget, applied)? {
@@ -516,6 +522,7 @@ pub fn advance<M: SeqObject>(
         → IfOk result (λ all. all ≡ false → ReachesMoreThan object calls.now ends budget) }
     ensures widens { Widens table.old table.new }
     ensures rows { rows_of table.new ≡ rows_of table.old }
+    ensures never_falls { applied.old ≤ applied.new }
     ensures cost { applied.new ≤ applied.old + (budget + 1) * length calls.now }
 {
     make(alloc, &mut room.work)?;
@@ -544,8 +551,8 @@ pub fn advance<M: SeqObject>(
     Ok(true)
 }
 
-/// Puts the products after the operation, which is open, has failed into the room, of those ends that it is not in, each without its
-/// number. None where it is not open. `AllocError` where there is no memory for them. Takes the time of the products.
+/// Puts the products after the operation, which is open, has failed into the room, of those ends that it is not in, each without
+/// its number. None where it is not open. Takes the time of the products.
 pub fn failed<S: Hash + Drop>(
     alloc: Global,
     table: &Table<S>,

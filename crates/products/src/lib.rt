@@ -1,4 +1,6 @@
 //! Products of sets of numbers, each of which stands for many rows.
+//!
+//! A call takes memory only where its result can be `AllocError`, or a refusal for want of memory.
 #![tactic(auto)]
 
 pub mod appending;

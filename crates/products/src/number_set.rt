@@ -24,7 +24,7 @@ pub fn alone(number: usize) -> Result<u64, AllocError>
     }
 }
 
-/// Whether the set has the number. Takes no memory, and constant time.
+/// Whether the set has the number. Takes constant time.
 #[inline(always)]
 pub fn has(set: u64, number: usize) -> bool
     ensures { IsTrue result ↔ Has set number }
@@ -36,7 +36,7 @@ pub fn has(set: u64, number: usize) -> bool
     }
 }
 
-/// What both sets have. Takes no memory, and constant time.
+/// What both sets have. Takes constant time.
 #[inline(always)]
 pub fn common(set: u64, other: u64) -> u64
     ensures { (n : ℕ) → Has result n ↔ (Has set n × Has other n) }
@@ -68,7 +68,7 @@ fn common_alone(set: u64, other: u64) -> u64
     }
 }
 
-/// What the first set has and the other one has not. Takes no memory, and constant time.
+/// What the first set has and the other one has not. Takes constant time.
 #[inline(always)]
 pub(crate) fn outside(set: u64, other: u64) -> u64
     ensures { (n : ℕ) → Has result n ↔ (Has set n × ¬ Has other n) }
@@ -103,7 +103,7 @@ fn outside_alone(set: u64, other: u64) -> u64
     }
 }
 
-/// What one of the sets has or both have, if both are told by bits or they are the same. Takes no memory, and constant time.
+/// What one of the sets has or both have, if both are told by bits or they are the same. Takes constant time.
 #[inline(always)]
 pub fn joined(set: u64, other: u64) -> Option<u64>
     ensures { IfSome result (λ both. (n : ℕ) → Has both n ↔ (Has set n ⊎ Has other n)) }
@@ -117,7 +117,7 @@ pub fn joined(set: u64, other: u64) -> Option<u64>
     }
 }
 
-/// How many numbers the set has. Takes no memory, and constant time.
+/// How many numbers the set has. Takes constant time.
 #[inline(always)]
 pub fn size(set: u64) -> u64
     ensures { result ≡ length (numbers_of set) }

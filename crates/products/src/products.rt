@@ -33,7 +33,7 @@ impl Model for Products {
 }
 
 impl Products {
-    /// None, of rows with so many numbers after the first. Takes no memory.
+    /// None, of rows with so many numbers after the first.
     pub fn new(alloc: Global, places: usize) -> Products
         ensures { result ≡ (places, []) }
     {
@@ -45,8 +45,7 @@ impl Products {
         }
     }
 
-    /// Takes all out. Those to come are of rows with so many numbers after the first. Keeps all of the memory. Takes no memory, and
-    /// constant time.
+    /// Takes all out. Those to come are of rows with so many numbers after the first. Keeps all of the memory. Takes constant time.
     pub fn restart(&mut self, places: usize)
         ensures { self.new ≡ (places, []) }
     {
@@ -56,22 +55,22 @@ impl Products {
         self.rows = 0;
     }
 
-    /// How many sets each product has. Takes no memory, and constant time.
+    /// How many sets each product has. Takes constant time.
     pub fn places(&self) -> usize
         ensures { result ≡ self.now.0 }
     {
         self.places
     }
 
-    /// How many products there are. Takes no memory, and constant time.
+    /// How many products there are. Takes constant time.
     pub fn len(&self) -> usize
         ensures { result ≡ length self.now.1 }
     {
         self.firsts.len()
     }
 
-    /// How many rows they stand for, no two of which are the same; the greatest u64 where they are more. It also says that no row is
-    /// in two of the products, and that each has as many sets as there are places. Takes no memory, and constant time.
+    /// How many rows they stand for, no two of which are the same; the greatest u64 where they are more. It also says that no row
+    /// is in two of the products, and that each has as many sets as there are places. Takes constant time.
     pub fn rows(&self) -> u64
         ensures rows { result ≡ min (length (rows_in self.now.1)) (2 ^ 64 - 1) }
         ensures apart { AreApart self.now.1 }
@@ -80,7 +79,7 @@ impl Products {
         self.rows
     }
 
-    /// The first number of the product at this place. Takes no memory, and constant time.
+    /// The first number of the product at this place. Takes constant time.
     pub fn first(&self, at: usize) -> usize
         requires { at < length self.now.1 }
         ensures { (product : Product) → slice_get self.now.1 at ≡ Some product → result ≡ product.0 }
@@ -88,7 +87,7 @@ impl Products {
         self.firsts[at]
     }
 
-    /// The sets of the product at this place. Takes no memory, and constant time.
+    /// The sets of the product at this place. Takes constant time.
     #[inline(always)]
     pub fn sets(&self, at: usize) -> &[u64]
         requires { at < length self.now.1 }
@@ -304,7 +303,7 @@ impl Products {
         Ok(())
     }
 
-    /// The same products, with memory of their own; `AllocError` where there is none. Takes their time.
+    /// The same products, with memory of their own. Takes their time.
     pub fn copied(&self, alloc: Global) -> Result<Products, AllocError>
         ensures { IfOk result (λ copy. copy ≡ self.now) }
     {
@@ -316,7 +315,7 @@ impl Products {
         })
     }
 
-    /// Each gets the products of the other. Takes no memory, and constant time.
+    /// Each gets the products of the other. Takes constant time.
     pub fn trade(&mut self, other: &mut Products)
         ensures mine { self.new ≡ other.old }
         ensures others { other.new ≡ self.old }

@@ -1,4 +1,6 @@
 //! What a monitor knows, as text: a line for each key that has events, and the line of the verdict.
+//!
+//! A call takes memory only where its result can be `AllocError`, or a refusal for want of memory.
 #![tactic(auto)]
 
 mod key_line;

@@ -6,10 +6,6 @@ use linspec::Verdict;
 use std::alloc::{AllocError, Global};
 
 /// The line of a verdict with its line feed, as `illegal key 7 index 3`. Takes memory for the line.
-///
-/// # Errors
-///
-/// `AllocError` where there is no memory for it.
 pub fn verdict_text(alloc: Global, verdict: &Verdict) -> Result<String, AllocError>
     ensures { IfOk result (λ text. string_bytes text ≡ verdict_line verdict.now) }
 {

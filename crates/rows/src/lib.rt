@@ -1,4 +1,6 @@
 //! Rows of numbers, each once.
+//!
+//! A call takes memory only where its result can be `AllocError`, or a refusal for want of memory.
 #![tactic(auto)]
 
 mod index;

@@ -48,14 +48,14 @@ fn put_list(lists: &mut IndexSet<Vec<usize>>, list: Vec<usize>) -> Result<(), Al
 }
 
 impl ListSet {
-    /// No lists. Takes no memory.
+    /// No lists.
     pub fn new() -> ListSet
         ensures { result ≡ [] }
     {
         ListSet { kept: None }
     }
 
-    /// How many lists there are. Takes no memory, and constant time.
+    /// How many lists there are. Takes constant time.
     #[inline(always)]
     pub fn len(&self) -> usize
         ensures { result ≡ length self.now }
@@ -66,7 +66,7 @@ impl ListSet {
         }
     }
 
-    /// The list that stands here, if one does. Takes no memory, and constant time.
+    /// The list that stands here, if one does. Takes constant time.
     #[inline(never)]
     pub fn get(&self, at: usize) -> Option<&[usize]>
         ensures { option_copied result ≡ slice_get self.now at }
@@ -80,7 +80,7 @@ impl ListSet {
         }
     }
 
-    /// The number at this place of the list that stands here, and zero where there is none. Takes no memory, and constant time.
+    /// The number at this place of the list that stands here, and zero where there is none. Takes constant time.
     #[inline(never)]
     pub fn number(&self, at: usize, place: usize) -> usize
         ensures { result ≡ get_or (get_or self.now at []) place 0 }
@@ -94,7 +94,7 @@ impl ListSet {
         }
     }
 
-    /// How many numbers the list that stands here has, and zero where there is none. Takes no memory, and constant time.
+    /// How many numbers the list that stands here has, and zero where there is none. Takes constant time.
     pub fn long_at(&self, at: usize) -> usize
         ensures { result ≡ length (get_or self.now at []) }
     {
@@ -117,7 +117,7 @@ impl ListSet {
         outcome
     }
 
-    /// Leaves so many lists, the first ones. Takes no memory, and at most the time of the lists.
+    /// Leaves so many lists, the first ones. Takes at most the time of the lists.
     #[inline(never)]
     pub fn truncate(&mut self, len: usize)
         ensures { self.new ≡ take len self.old }
@@ -129,7 +129,7 @@ impl ListSet {
         self.kept = Some(lists);
     }
 
-    /// The same lists, with memory of their own; `AllocError` where there is none. Takes the time of all their numbers.
+    /// The same lists, with memory of their own. Takes the time of all their numbers.
     #[inline(never)]
     pub fn copied(&self, alloc: Global) -> Result<ListSet, AllocError>
         ensures { IfOk result (λ lists. lists ≡ self.now) }

@@ -28,7 +28,7 @@ impl Model for LongRow {
 }
 
 impl LongRow {
-    /// No numbers. Takes no memory.
+    /// No numbers.
     pub fn new(alloc: Global) -> LongRow
         ensures { result ≡ [] }
     {
@@ -40,8 +40,7 @@ impl LongRow {
         }
     }
 
-    /// The numbers of the word, so many, each of so many bits, in place of those that were there.
-    /// Takes no memory, and constant time.
+    /// The numbers of the word, so many, each of so many bits, in place of those that were there. Takes constant time.
     #[inline(always)]
     pub fn set_word(&mut self, word: u128, bits: u32, long: usize)
         requires few { bits ≤ 32 }
@@ -54,8 +53,7 @@ impl LongRow {
         self.word = word;
     }
 
-    /// These numbers, in place of those that were there. `AllocError` where there is no memory for
-    /// them. Takes the time of the numbers.
+    /// These numbers, in place of those that were there. Takes the time of the numbers.
     #[inline(never)]
     pub fn set_list(&mut self, list: &[usize]) -> Result<(), AllocError>
         ensures { OnOk result (self.new ≡ list.now) }
@@ -66,7 +64,7 @@ impl LongRow {
         Ok(())
     }
 
-    /// Its first number, and zero where there is none. Takes no memory, and constant time.
+    /// Its first number, and zero where there is none. Takes constant time.
     #[inline(always)]
     pub fn first(&self) -> usize
         ensures { result ≡ get_or self.now 0 0 }
@@ -78,8 +76,7 @@ impl LongRow {
         }
     }
 
-    /// Whether it has a zero at this place, and not only no number. Takes no memory, and constant
-    /// time.
+    /// Whether it has a zero at this place, and not only no number. Takes constant time.
     #[inline(always)]
     pub fn has_zero(&self, place: usize) -> bool
         ensures { IsTrue result ↔ (slice_get self.now place ≡ Some 0) }

@@ -142,7 +142,7 @@ fn number_in_word(words: &WordSet, bits: u32, long: usize, at: usize, place: usi
 }
 
 impl RowSet {
-    /// No rows. They are expected to have so many numbers. Takes no memory.
+    /// No rows. They are expected to have so many numbers.
     pub fn new(alloc: Global, long: usize) -> RowSet
         ensures { result ≡ [] }
     {
@@ -157,16 +157,15 @@ impl RowSet {
         }
     }
 
-    /// Takes all rows out. Those to come are expected to have so many numbers. Keeps the memory, unless that was for far more
-    /// rows than there were last. Takes no memory, and at most the time of the rows.
+    /// Takes all rows out. Those to come are expected to have so many numbers. Keeps the memory, unless that was for far more rows
+    /// than there were last. Takes at most the time of the rows.
     pub fn restart(&mut self, long: usize)
         ensures { self.new ≡ [] }
     {
         self.restart_with(long, bits_for(long, false), false);
     }
 
-    /// The same, where rows are expected to have numbers as those of the other. Takes no memory, and at most the time of the
-    /// rows.
+    /// The same, where rows are expected to have numbers as those of the other. Takes at most the time of the rows.
     pub fn restart_like(&mut self, other: &RowSet, long: usize)
         ensures { self.new ≡ [] }
     {
@@ -196,7 +195,7 @@ impl RowSet {
         self.bits = bits;
     }
 
-    /// How many rows there are. Takes no memory, and constant time.
+    /// How many rows there are. Takes constant time.
     pub fn len(&self) -> usize
         ensures { result ≡ length self.now }
     {
@@ -246,7 +245,7 @@ impl RowSet {
         }
     }
 
-    /// The number at this place of the row that stands here, and zero where there is none. Takes no memory, and constant time.
+    /// The number at this place of the row that stands here, and zero where there is none. Takes constant time.
     pub fn number(&self, at: usize, place: usize) -> usize
         ensures { result ≡ get_or (get_or self.now at []) place 0 }
     {
@@ -475,8 +474,7 @@ impl RowSet {
         }
     }
 
-    /// Each row gets a zero behind it, if there is room for it without new memory, and it is told whether. Takes no memory, and
-    /// constant time.
+    /// Each row gets a zero behind it, if there is room for it without new memory, and it is told whether. Takes constant time.
     pub fn lengthen(&mut self) -> bool
         ensures longer { IsTrue result → self.new ≡ map (λ row. row ++ 0 ∷ []) self.old }
         ensures same { result ≡ false → self.new ≡ self.old }
@@ -488,7 +486,7 @@ impl RowSet {
         true
     }
 
-    /// Each set gets the rows of the other. Takes no memory, and constant time.
+    /// Each set gets the rows of the other. Takes constant time.
     pub fn trade(&mut self, other: &mut RowSet)
         ensures mine { self.new ≡ other.old }
         ensures others { other.new ≡ self.old }
@@ -504,7 +502,7 @@ impl RowSet {
         swap(&mut self.lists, &mut other.lists);
     }
 
-    /// Leaves so many rows, the first ones. Takes no memory, and at most the time of the rows.
+    /// Leaves so many rows, the first ones. Takes at most the time of the rows.
     #[inline(never)]
     pub fn truncate(&mut self, len: usize)
         ensures { self.new ≡ take len self.old }
@@ -516,7 +514,7 @@ impl RowSet {
         }
     }
 
-    /// The same rows, with memory of their own; `AllocError` where there is none. Takes the time of all their numbers.
+    /// The same rows, with memory of their own. Takes the time of all their numbers.
     pub fn copied(&self) -> Result<RowSet, AllocError>
         ensures { IfOk result (λ rows. rows ≡ self.now) }
     {

@@ -36,7 +36,7 @@ impl Model for WordSet {
 }
 
 impl WordSet {
-    /// No words. Takes no memory.
+    /// No words.
     pub fn new(alloc: Global) -> WordSet
         ensures { result ≡ [] }
     {
@@ -49,7 +49,7 @@ impl WordSet {
         }
     }
 
-    /// How many words there are. Takes no memory.
+    /// How many words there are.
     pub fn len(&self) -> usize
         ensures len { result ≡ length self.now }
         ensures apart { AreApart self.now }
@@ -57,19 +57,19 @@ impl WordSet {
         self.words.len()
     }
 
-    /// For how many words there is room. Takes no memory.
+    /// For how many words there is room.
     pub fn capacity(&self) -> usize {
         self.words.capacity()
     }
 
-    /// The word that stands here, if one does. Takes no memory, and constant time.
+    /// The word that stands here, if one does. Takes constant time.
     pub fn get(&self, at: usize) -> Option<u128>
         ensures { result ≡ slice_get self.now at }
     {
         self.words.get(at).copied()
     }
 
-    /// Takes all words out. Takes no memory.
+    /// Takes all words out.
     pub fn clear(&mut self)
         ensures { self.new ≡ [] }
     {
@@ -78,8 +78,7 @@ impl WordSet {
         self.index.before.clear();
     }
 
-    /// Leaves so many words, the first ones. Where words go that are indexed, all are indexed anew when one is put. Takes no
-    /// memory.
+    /// Leaves so many words, the first ones. Where words go that are indexed, all are indexed anew when one is put.
     pub fn truncate(&mut self, len: usize)
         ensures { self.new ≡ take len self.old }
     {
@@ -129,8 +128,7 @@ impl WordSet {
         Ok(())
     }
 
-    /// The same words, with memory of their own; `AllocError` where there is none. They are indexed when one is put. Takes the
-    /// time of the words.
+    /// The same words, with memory of their own. They are indexed when one is put. Takes the time of the words.
     pub fn copied(&self, alloc: Global) -> Result<WordSet, AllocError>
         ensures { IfOk result (λ words. words ≡ self.now) }
     {

@@ -15,7 +15,7 @@ fn base_of(bits: u32) -> u128
     1 << bits
 }
 
-/// The largest number of so many bits. Takes no memory, and constant time.
+/// The largest number of so many bits. Takes constant time.
 pub fn largest_of(bits: u32) -> u64
     requires { bits ≤ 32 }
     ensures { result ≡ 2 ^ bits - 1 }
@@ -30,7 +30,7 @@ fn low_half(word: u128) -> u64
     (word % 18446744073709551616) as u64
 }
 
-/// The first number of the word. Takes no memory, and constant time.
+/// The first number of the word. Takes constant time.
 pub fn first_of(word: u128, bits: u32) -> usize
     requires { bits ≤ 32 }
     ensures { result ≡ word % 2 ^ bits }
@@ -48,7 +48,7 @@ fn placed(number: usize, bits: u32, at: usize) -> u128
     (number as u128) << (bits * at as u32)
 }
 
-/// The number at this place of the word. Takes no memory, and constant time.
+/// The number at this place of the word. Takes constant time.
 pub fn number_at(word: u128, bits: u32, at: usize) -> usize
     requires bits { bits ≤ 32 }
     requires some { 0 < bits }
@@ -58,8 +58,7 @@ pub fn number_at(word: u128, bits: u32, at: usize) -> usize
     first_of(word >> (bits * at as u32), bits)
 }
 
-/// The first number of the word, which is of 64 bits, by the largest number. Takes no memory, and
-/// constant time.
+/// The first number of the word, which is of 64 bits, by the largest number. Takes constant time.
 #[inline(always)]
 pub fn first_in_half(word: u64, largest: u64) -> usize
     ensures { (bits : ℕ) → largest ≡ 2 ^ bits - 1 → result ≡ word % 2 ^ bits }
@@ -67,8 +66,7 @@ pub fn first_in_half(word: u64, largest: u64) -> usize
     (word & largest) as usize
 }
 
-/// Whether zero stands at this place of the word, which is of 64 bits, by the largest number. Takes
-/// no memory, and constant time.
+/// Whether zero stands at this place of the word, which is of 64 bits, by the largest number. Takes constant time.
 #[inline(always)]
 pub fn has_zero_in_half(word: u64, bits: u32, largest: u64, at: usize) -> bool
     requires bits { bits ≤ 32 }
@@ -80,7 +78,7 @@ pub fn has_zero_in_half(word: u64, bits: u32, largest: u64, at: usize) -> bool
     first_in_half(word >> (bits * at as u32), largest) == 0
 }
 
-/// Whether zero stands at this place of the word. Takes no memory, and constant time.
+/// Whether zero stands at this place of the word. Takes constant time.
 #[inline(always)]
 pub fn has_zero_in_whole(word: u128, bits: u32, at: usize) -> bool
     requires bits { bits ≤ 32 }
@@ -125,8 +123,7 @@ fn lengthen(row: &mut Vec<usize>, long: usize) -> Result<(), AllocError>
     row.resize(long, 0)
 }
 
-/// Writes the numbers of the word: so many, each of so many bits, the first from the lowest. `AllocError` where there is no
-/// memory for them. Takes the time of the numbers.
+/// Writes the numbers of the word: so many, each of so many bits, the first from the lowest. Takes the time of the numbers.
 #[inline(always)]
 pub fn unpack(word: u128, bits: u32, long: usize, row: &mut Vec<usize>) -> Result<(), AllocError>
     requires { bits ≤ 32 }
@@ -166,7 +163,7 @@ fn without_in_whole(word: u128, bits: u32, shift: u32) -> u128
     word - (rest << shift) + (rest >> bits << shift)
 }
 
-/// The word without the number at this place. Takes no memory, and constant time.
+/// The word without the number at this place. Takes constant time.
 #[inline(always)]
 pub fn without(word: u128, bits: u32, long: usize, at: usize) -> u128
     requires bits { bits ≤ 32 }
@@ -183,7 +180,7 @@ pub fn without(word: u128, bits: u32, long: usize, at: usize) -> u128
     }
 }
 
-/// The word of the row, if none of its numbers has more bits. Takes no memory, and the time of its numbers.
+/// The word of the row, if none of its numbers has more bits. Takes the time of its numbers.
 pub fn packed(row: &[usize], bits: u32) -> Option<u128>
     requires bits { bits ≤ 32 }
     requires room { bits * length row.now ≤ 128 }
@@ -201,7 +198,7 @@ pub fn packed(row: &[usize], bits: u32) -> Option<u128>
     Some(word)
 }
 
-/// The word with this first number, and with this number at a place where zero stands. Takes no memory, and constant time.
+/// The word with this first number, and with this number at a place where zero stands. Takes constant time.
 pub fn changed(word: u128, bits: u32, long: usize, to: usize, at: usize, slot: usize) -> u128
     requires bits { bits ≤ 32 }
     requires some { 0 < bits }

@@ -37,10 +37,6 @@ impl RunPlan {
     /// opened where the replicas are 1 to 7, and this one can be.
     ///
     /// It takes the time and the memory of the keys.
-    ///
-    /// # Errors
-    ///
-    /// `AllocError` where memory is refused.
     pub fn config(self, alloc: Global, judging: Config) -> Result<Config, AllocError>
         ensures planned { IfOk result (λ config.
             setup_of config ≡ run_setup self (setup_of judging)) }

@@ -25,7 +25,7 @@ pub(crate) fn test(replicas: u8, fault: &Fault) -> Result<(), Refusal>
     Ok(())
 }
 
-/// Whether a fault names no replica twice. Takes no memory, and the time of a partition's groups.
+/// Whether a fault names no replica twice. Takes the time of a partition's groups.
 pub fn names_once(fault: &Fault) -> bool
     ensures { IsTrue result ↔ AreOnce (numbers_of fault.now) }
 {
@@ -35,7 +35,7 @@ pub fn names_once(fault: &Fault) -> bool
     }
 }
 
-/// Whether a fault names replicas below this number alone. Takes no memory, and the time of a partition's groups.
+/// Whether a fault names replicas below this number alone. Takes the time of a partition's groups.
 pub fn names_present(replicas: u8, fault: &Fault) -> bool
     ensures { result ≡ are_below replicas (numbers_of fault.now) }
 {

@@ -67,7 +67,7 @@ impl Row {
         self.held.as_slice()
     }
 
-    /// An equal row, with memory of its own; `AllocError` where there is none.
+    /// An equal row, with memory of its own.
     pub(crate) fn copy(&self, alloc: Global) -> Result<Row, AllocError>
         ensures { IfOk result (λ other. other ≡ self.now) }
     {

@@ -1,4 +1,6 @@
 //! A replicated store in the process, with faults: what a test under a monitor talks to.
+//!
+//! A call takes memory only where its result can be `AllocError`, or a refusal for want of memory.
 #![tactic(auto)]
 
 mod fault;

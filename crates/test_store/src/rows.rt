@@ -27,7 +27,7 @@ impl Model for Rows {
 }
 
 impl Rows {
-    /// No rows. Takes no memory.
+    /// No rows.
     pub(crate) fn new(alloc: Global) -> Rows
         ensures { result.rows ≡ [] }
     {
@@ -51,7 +51,7 @@ impl Rows {
         self.map.reserve(1)
     }
 
-    /// Puts the row of a key in the place of the one before. Takes no memory.
+    /// Puts the row of a key in the place of the one before.
     pub(crate) fn put(&mut self, key: Key, row: Row)
         requires { 0 < self.old.room }
         ensures { self.new.rows ≡ insert_entry nat_eq self.old.rows key row }
@@ -62,8 +62,7 @@ impl Rows {
         }
     }
 
-    /// Equal rows, with memory of their own; `AllocError` where there is none. No replica is chosen, so none takes anything
-    /// over.
+    /// Equal rows, with memory of their own. No replica is chosen, so none takes anything over.
     pub(crate) fn copy(&self, alloc: Global) -> Result<Rows, AllocError>
         ensures { IfOk result (λ other. other.rows ≡ self.now.rows) }
     {

@@ -86,7 +86,7 @@ impl Store {
         })
     }
 
-    /// How many replicas it has, 1 to 7. Takes no memory.
+    /// How many replicas it has, 1 to 7.
     pub fn replicas(&self) -> u8
         ensures value { result ≡ self.now.now.replicas }
         ensures limits { IsCount result }

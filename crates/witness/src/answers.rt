@@ -12,7 +12,7 @@ use history::{Body, Event, Process};
 use models::{Answer, Op};
 use std::alloc::{AllocError, Global};
 
-/// What became of the operation of this index. Takes no memory.
+/// What became of the operation of this index.
 pub fn fate_at(fates: &[Fate], id: usize) -> Fate
     ensures { result ≡ fate_at fates.now id }
 {
@@ -59,10 +59,6 @@ fn call_by(events: &[Event], fates: &[Fate], id: usize) -> Result<Call, AllocErr
 }
 
 /// The operations that stand there, with their answers. Takes their time, and memory for them, but not for the members of sets.
-///
-/// # Errors
-///
-/// `AllocError` where memory was refused.
 pub fn calls_by(
     alloc: Global,
     events: &[Event],

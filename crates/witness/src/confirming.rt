@@ -33,10 +33,6 @@ pub enum Confirmation {
 /// Takes the time of the events and of the order, each with a logarithm: of the keys, of the processes, of the state. A read of a set
 /// takes that of the members besides. Of a queue without an order a dequeue takes its value out wherever it is in; and one that
 /// has no answer takes out what no later one needs.
-///
-/// # Errors
-///
-/// `AllocError` where memory was refused.
 pub fn confirm(
     alloc: Global,
     history: &History,

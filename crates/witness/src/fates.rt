@@ -95,10 +95,6 @@ fn note(
 
 /// What became of the operation that each event invokes. Takes the time of the events, each with the logarithm of how many processes
 /// there are.
-///
-/// # Errors
-///
-/// `AllocError` where memory was refused.
 pub fn fates_of(alloc: Global, events: &[Event]) -> Result<Vec<Fate>, AllocError>
     ensures { IfOk result (λ fates. AreFates events.now fates.items) }
 {

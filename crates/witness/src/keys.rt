@@ -137,10 +137,6 @@ fn end_of_key(stands: &[Stand], start: usize) -> usize
 
 /// What does not fit first of the operations of each key, beside what was found of the order before, if something does not. Takes the
 /// time of a sort by the keys, and of the operations of each key: of each the logarithm of the state.
-///
-/// # Errors
-///
-/// `AllocError` where memory was refused.
 pub fn first_unfit(
     alloc: Global,
     events: &[Event],

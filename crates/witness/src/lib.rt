@@ -1,4 +1,6 @@
 //! Whether an order of the operations of a history shows that it is linearizable.
+//!
+//! A call takes memory only where its result can be `AllocError`, or a refusal for want of memory.
 #![tactic(auto)]
 
 mod answers;

@@ -84,10 +84,6 @@ fn left_out(fates: &[Fate], taken: &[bool], end: usize) -> Option<Unfit>
 
 /// The operations of an order up to the first that can't stand there, and that one; or, where all stand, one that is left out. Takes
 /// the time of the order and of the events.
-///
-/// # Errors
-///
-/// `AllocError` where memory was refused.
 pub fn place_all(
     alloc: Global,
     events: &[Event],

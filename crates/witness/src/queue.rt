@@ -94,10 +94,6 @@ fn why_unfit(alloc: Global, calls: &[Call], at: usize) -> Result<Misfit, AllocEr
 
 /// Where the calls of a queue without an order halt first, if they do. Takes the time of the calls, each that of the square of
 /// the logarithm of what is needed, and where they halt the logarithm of the calls as often.
-///
-/// # Errors
-///
-/// `AllocError` where memory was refused.
 pub fn queue_halt(alloc: Global, calls: &[Call]) -> Result<Option<Halt>, AllocError>
     ensures { IfOk result (λ first. MatchOption first (CanRun unordered_queue calls.now [])
         (λ halt. IsHalt unordered_queue calls.now halt.at halt.why)) }

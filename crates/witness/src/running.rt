@@ -31,10 +31,6 @@ fn halt_in_turn(alloc: Global, kind: ModelKind, calls: &[Call]) -> Result<Option
 /// of this kind on, and each finds what fits its answer.
 ///
 /// Takes the time of the calls, each that of the logarithm of the state, and for a read of a set that of its members.
-///
-/// # Errors
-///
-/// `AllocError` where memory was refused.
 pub fn first_halt(
     alloc: Global,
     kind: ModelKind,

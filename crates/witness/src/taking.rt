@@ -12,7 +12,7 @@ use crate::misfit::Misfit;
 use models::{Answer, AnyState, Found, fits};
 use std::alloc::{AllocError, Global};
 
-/// Whether what was found fits the answer, if there is one. Takes no memory.
+/// Whether what was found fits the answer, if there is one.
 pub(crate) fn fits_if(found: &Found, answer: &Option<Answer>) -> bool
     ensures { IsTrue result ↔ FitsIf found.now answer.now }
 {
@@ -40,8 +40,8 @@ fn settled(outcome: Option<(AnyState, Found)>, answer: &Option<Answer>) -> Resul
     }
 }
 
-/// The state that the call leads to, or why there is none; of any kind but a queue without an order. `AllocError` where there
-/// is no memory for it. Takes the time of the members of a set that is read, and else such as grows with the logarithm of the state.
+/// The state that the call leads to, or why there is none; of any kind but a queue without an order. Takes the time of the members
+/// of a set that is read, and else such as grows with the logarithm of the state.
 pub(crate) fn take_call(
     alloc: Global,
     state: &AnyState,

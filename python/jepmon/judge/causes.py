@@ -16,7 +16,8 @@ from .events import of_key
 from .judging import Task
 from .words import NAME
 
-BY_PART = "Proved is what jepmon was asked, and nothing else: that the key is illegal because this part is so is argued."
+BY_PART = ("Proved is what jepmon was asked, and of each sort of removal that a key is illegal where what is left of it is so. That this part "
+           "is left by such removals is tested, and not proved.")
 BY_ORDER = ("The verdict is jepmon's, and proved, and so is the order: jepmon confirm says that it is one of the operations of this key. The "
             "other sentences are not proved.")
 SECONDS = 10.0  # for the smallest part
@@ -88,8 +89,8 @@ def sentences(key: Shown) -> List[str]:
     who = "jepmon confirm says that it is one" if key.decided.is_proved else "a program that is not proved says that it is one"
     if key.decided.index is None:
         return [*said, f"The key was over its budget, and an order of all its operations was found afterwards; {who}."]
-    return [*said, "The key was over its budget, and was decided afterwards: the smallest part is illegal by jepmon check (that the whole "
-            f"is so too is argued, and not proved), and there is an order of what stands before event {key.decided.index}; {who}."]
+    return [*said, "The key was over its budget, and was decided afterwards: the smallest part is illegal by jepmon check, and so is the key, "
+            f"which is proved of each sort of removal; and there is an order of what stands before event {key.decided.index}; {who}."]
 
 
 def proviso(key: Shown) -> str:

@@ -26,6 +26,7 @@ loop-at-init g c =
       widens = widens_itself c.args.table.now;
       front = IsFront-itself (rows_of c.args.table.now);
       grown = λ once ends shown closed. (ends, shown, Grows-itself o c.args.calls.now ends, (λ e f h n. absurd (Contains-nil e h)), IsFront-itself ends);
+      never_falls = omega arith;
       cost = omega arith;
     }
 
@@ -44,6 +45,7 @@ loop-at-preserved g c =
           let v = c.in_ok-grow_from.ensures.adds c.loop-at.invariant.moves c.loop-at.invariant.alike once p.0 s.0 p.2 s.1 in
           let w = all_tried o c.args.calls.now ends s.0 c.args.tried c.first_for-first.result c.loop-at.at p.0 p.1 s.4 closed (λ lt. c.first_for-first.ensures.old (omega (arith, long, lt))) (λ le. c.first_for-first.ensures.new (omega (arith, long, le))) c.grow_from.new.table v in
           (w.more, w.shown, grows_on o c.args.calls.now ends s.0 c.loop-at.at p.0 p.1 c.grow_from.new.table w s.2, done_on o c.args.calls.now ends s.0 c.loop-at.at p.0 p.1 c.grow_from.new.table w s.3, IsFront-trans ends s.0 w.more s.4 w.front);
+      never_falls = (let a = c.loop-at.invariant.never_falls in let b = c.in_ok-grow_from.ensures.never_falls in omega (arith, a, b));
       cost = cost_more c.args.applied.now c.loop-at.applied c.grow_from.new.applied c.loop-at.at (length c.args.calls.now) c.loop-at.invariant.cost c.in_ok-grow_from.ensures.cost;
     }
 
@@ -67,6 +69,7 @@ loop-at-preserved-then-first-calls g c =
           let w = all_tried o calls ends s.0 c.args.tried c.first_for-first.result at p.0 p.1 s.4 closed (λ lt. c.first_for-first.ensures.old (omega (arith, long, lt))) (λ le. c.first_for-first.ensures.new (omega (arith, long, le))) t
           (none_more o calls t c.first_for-first.result p.0 s.0 (omega arith) s.1) in
           (w.more, w.shown, grows_on o calls ends s.0 at p.0 p.1 t w s.2, done_on o calls ends s.0 at p.0 p.1 t w s.3, IsFront-trans ends s.0 w.more s.4 w.front);
+      never_falls = i.never_falls;
       cost = cost_more c.args.applied.now c.loop-at.applied c.loop-at.applied at (length calls) i.cost (omega arith);
     }
 

@@ -19,5 +19,6 @@ invariant-loop-at g l =
           → (more : List (End g.row.M-State.Denot)) × AreShown l.table l.calls more × Grows (of_table g.row.M-State.Denot g.M.SeqObject.start_state g.M.SeqObject.apply_to) l.calls ends more
           × AreDone (of_table g.row.M-State.Denot g.M.SeqObject.start_state g.M.SeqObject.apply_to) l.calls more l.at
           × IsFront ends more;
+      never_falls : l.initial.applied ≤ l.applied;
       cost : l.applied ≤ l.initial.applied + l.at * length l.calls;
     }

@@ -23,6 +23,7 @@ places-init g c = record {
   likes = refl;
   from = omega arith;
   upto = omega arith;
+  never_falls = omega arith;
   cost = omega arith;
 }
 
@@ -50,6 +51,7 @@ places-preserved g c =
       likes = c.in_ok-grow_at.ensures.likes ∙ i.likes;
       from = (let a = i.from in omega (arith, a));
       upto = omega arith;
+      never_falls = (let a = i.never_falls in let b = c.in_ok-grow_at.ensures.never_falls in omega (arith, a, b));
       cost = (let a = i.cost in let b = c.in_ok-grow_at.ensures.cost in omega (arith, a, b));
     }
 
@@ -74,6 +76,7 @@ places-preserved-then-not-has_zero g c =
       likes = i.likes;
       from = (let a = i.from in omega (arith, a));
       upto = omega arith;
+      never_falls = i.never_falls;
       cost = (let a = i.cost in omega (arith, a));
     }
 
@@ -100,6 +103,7 @@ places-preserved-then-stuck-gt0 g c =
       likes = i.likes;
       from = (let a = i.from in omega (arith, a));
       upto = omega (arith, high);
+      never_falls = i.never_falls;
       cost = (let a = i.cost in omega (arith, a));
     }
 

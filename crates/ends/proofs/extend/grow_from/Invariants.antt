@@ -20,6 +20,7 @@ invariant-places g l =
       likes : l.moves.likes ≡ l.initial.moves.likes;
       from : l.first ≤ l.at;
       upto : l.at ≤ l.first + length l.calls;
+      never_falls : l.initial.applied ≤ l.applied;
       cost : l.applied + l.first ≤ l.initial.applied + l.at;
     }
 

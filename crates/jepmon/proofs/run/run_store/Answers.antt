@@ -1,4 +1,4 @@
-use Rattle.std.proofs.Common.{refl, sym, ◌∙◌, ◌+◌, subst, inl, inr}
+use Rattle.std.proofs.Common.{refl, sym, ◌∙◌, subst, inl, inr}
 use Rattle.edn.specs.declared.refusal.Refusal.TheVariants.{NoMemory}
 use Rattle.harness.specs.Setups.{setup_of}
 use Rattle.line_loop.specs.RefusalLine.{refusal_line}

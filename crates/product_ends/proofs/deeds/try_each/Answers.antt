@@ -52,6 +52,7 @@ loop-call-preserved g c =
           (stays_more c.args.number (length old) n c.stay.result mid stays c.in_ok-deed.deed long (omega (arith, as_many, same)) c.stay.ensures (i.stays same)));
       widens = widens_on c.args.table.now c.loop-call.table c.tried.new.table i.widens c.tried.ensures.widens;
       rows = c.tried.ensures.rows ∙ i.rows;
+      never_falls = (let a = i.never_falls in let b = c.tried.ensures.never_falls in omega (arith, a, b));
       cost = (let cost = c.tried.ensures.cost in omega arith);
     }
 

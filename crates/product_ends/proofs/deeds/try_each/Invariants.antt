@@ -16,5 +16,6 @@ invariant-loop-call g l = record {
   tried : AreTriedTo g.M.SeqObject.apply_to l.table l.calls l.number l.deeds.deeds.items (length l.fn.deeds.deeds.items) l.call-index;
   widens : Widens l.fn.table l.table;
   rows : rows_of l.table ≡ rows_of l.fn.table;
+  never_falls : l.fn.applied ≤ l.applied;
   cost : l.applied ≤ l.fn.applied + l.call-index;
 }

@@ -19,6 +19,7 @@ loop-at-init g c = record {
   places = search rules;
   widens = search rules;
   rows = search rules;
+  never_falls = search rules;
   paid = search rules;
   reached = search rules;
   all = search rules;
@@ -60,6 +61,7 @@ loop-at-preserved g c =
       places = e.places ∙ i.places;
       widens = widens_on c.args.table.now c.loop-at.table c.put_widened.new.table i.widens e.widens;
       rows = e.rows ∙ i.rows;
+      never_falls = (let a = i.never_falls in let b = e.never_falls in omega (arith, a, b));
       paid = (let a = i.paid in let b = e.paid in omega (arith, a, b));
       reached = λ once ends shown.
           e.reached once ends (i.reached once ends shown)

@@ -14,6 +14,7 @@ invariant-loop-at g l =
       places : l.room.all.0 ≡ l.kept.0;
       widens : Widens l.initial.table l.table;
       rows : rows_of l.table ≡ rows_of l.initial.table;
+      never_falls : l.initial.applied ≤ l.applied;
       paid : l.applied ≤ l.initial.applied + length l.calls * length (rows_in l.room.all.1);
       reached : HasEachOnce l.calls → (ends : List (End g.row.M-State.Denot)) → AreShown (with_rows l.initial.table (rows_in l.kept.1)) l.calls ends
           → HoldReached (of_table g.row.M-State.Denot g.M.SeqObject.start_state g.M.SeqObject.apply_to) l.table l.calls ends l.room.all.1;

@@ -21,6 +21,7 @@ loop-at-preserved g c =
       few = e.within c.if-not-branch-2.false;
       widens = widens_on c.args.table.now c.loop-at.table c.grow_from.new.table i.widens e.widens;
       rows = e.rows ∙ i.rows;
+      never_falls = (let a = i.never_falls in let b = e.never_falls in omega (arith, a, b));
       paid = (let a = i.paid in let b = e.paid in omega (arith, a, b));
       all = λ row is. e.gains.kept row (i.all row is);
       reached = λ once ends shown. e.reached once ends (i.reached once ends shown);

@@ -13,6 +13,7 @@ invariant-loop-at g l =
       few : length (rows_in l.room.all.1) ≤ l.budget;
       widens : Widens l.fn.table l.table;
       rows : rows_of l.table ≡ rows_of l.fn.table;
+      never_falls : l.fn.applied ≤ l.applied;
       paid : l.applied ≤ l.fn.applied + length l.calls * length (rows_in l.room.all.1);
       all : (row : List ℕ) → IsInOne l.kept.1 row → IsInOne l.room.all.1 row;
       reached : HasEachOnce l.calls → (ends : List (End g.row.M-State.Denot)) → AreShown (with_rows l.fn.table (rows_in l.kept.1)) l.calls ends

@@ -41,6 +41,7 @@ loop-at-preserved g c =
       places = e.places ∙ i.places;
       widens = widens_on c.args.table.now c.loop-at.table c.grow_at.new.table i.widens e.widens;
       rows = e.rows ∙ i.rows;
+      never_falls = (let a = i.never_falls in let b = e.never_falls in omega (arith, a, b));
       paid = paid_then (length c.args.calls.now) c.args.applied.now c.loop-at.applied c.grow_at.new.applied old mid new i.paid e.paid;
       reached = λ once start hold. e.reached once start (i.reached once start hold);
       led = λ once start hold k call row lt here is.

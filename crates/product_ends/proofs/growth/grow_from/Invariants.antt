@@ -17,6 +17,7 @@ invariant-loop-at g l =
       places : l.room.all.0 ≡ l.initial.room.all.0;
       widens : Widens l.initial.table l.table;
       rows : rows_of l.table ≡ rows_of l.initial.table;
+      never_falls : l.initial.applied ≤ l.applied;
       paid : IsPaid (length l.calls) l.initial.applied l.initial.room.all.1 l.applied l.room.all.1;
       reached : HasEachOnce l.calls → (start : List (End g.row.M-State.Denot))
           → HoldReached (of_table g.row.M-State.Denot g.M.SeqObject.start_state g.M.SeqObject.apply_to) l.initial.table l.calls start l.initial.room.all.1

@@ -54,7 +54,7 @@ returns-clause-paid g c =
     let new = c.put.new.self.1 in
     let gains = put_gains c.args.number c.args.from c.deref-3.result.now old new c.in_ok-put.ensures.puts in
     ⊎_elim
-    (λ le. paid_none old new c.requires.known.apart gains.kept _ c.args.applied.now c.ready.new.applied le)
+    (λ same. paid_none old new c.requires.known.apart gains.kept _ c.args.applied.now c.ready.new.applied same)
     (λ fresh.
     let row = c.args.number ∷ fresh.1.0 in
     let is : IsIn (c.args.number, base) row = (refl, subst (λ l. AreIn (set l c.args.place c.args.word) fresh.1.0) c.deref.ensures.value fresh.1.1) in

@@ -22,16 +22,19 @@ returns-in_err-all-clause-now g c marks given =
     listed_stands o _ marks (c.advance.ensures.is.3 ∙ l.none) (lists_more o f _ c.advance.ensures.is.1 c.advance.ensures.is.2 c.advance.ensures.widens c.advance.ensures.rows marks l.lists)
 
 pub returns-in_err-all-clause-cost : goal.returns-in_err-all-clause-cost
-returns-in_err-all-clause-cost g c marks given n most =
-    let o = of_table g.row.M-State.Denot g.M.SeqObject.start_state g.M.SeqObject.apply_to in
+returns-in_err-all-clause-cost g c =
     let f = c.suit_outcomes.new.self in
-    let l = c.suit_outcomes.ensures.keeps marks (c.in_ok-list_fresh.ensures.listed marks given) in
-    let calls = f.calls.items in
-    let within =
-    cost_within f.applied c.advance.new.self.applied f.budget (length calls) n c.advance.ensures.cost
-    (no_more_calls calls marks l.lists.well_kept.pending l.lists.well_kept.calls_once n most) in
-    subst (λ a. c.advance.new.self.applied ≤ a + (c.args.self.now.budget + 1) * n) (c.suit_outcomes.ensures.cost ∙ c.in_ok-list_fresh.ensures.cost)
-    (subst (λ b. c.advance.new.self.applied ≤ f.applied + (b + 1) * n) (c.suit_outcomes.ensures.budget ∙ c.in_ok-list_fresh.ensures.budget) within)
+    let same = c.suit_outcomes.ensures.cost ∙ c.in_ok-list_fresh.ensures.cost in (
+      subst (λ a. a ≤ c.advance.new.self.applied) same c.advance.ensures.never_falls,
+      λ marks given n most.
+          let l = c.suit_outcomes.ensures.keeps marks (c.in_ok-list_fresh.ensures.listed marks given) in
+          let calls = f.calls.items in
+          let within =
+          cost_within f.applied c.advance.new.self.applied f.budget (length calls) n c.advance.ensures.cost
+          (no_more_calls calls marks l.lists.well_kept.pending l.lists.well_kept.calls_once n most) in
+          subst (λ a. c.advance.new.self.applied ≤ a + (c.args.self.now.budget + 1) * n) same
+          (subst (λ b. c.advance.new.self.applied ≤ f.applied + (b + 1) * n) (c.suit_outcomes.ensures.budget ∙ c.in_ok-list_fresh.ensures.budget) within),
+    )
 
 pub returns-clause-now : goal.returns-clause-now
 returns-clause-now g c marks given =
@@ -89,16 +92,19 @@ returns-clause-left g c all marks given is_open h made =
     (stands_after o f marks l.lists f.budget t c.args.id is_open c.args.answer.now found h made.0 (made.1 ∙ ap (filter (is_other c.args.id)) c.advance.ensures.is.1) (made.2 ∙ ap (λ calls. length calls - 1) c.advance.ensures.is.1))
 
 pub returns-clause-cost : goal.returns-clause-cost
-returns-clause-cost g c marks given n most =
-    let o = of_table g.row.M-State.Denot g.M.SeqObject.start_state g.M.SeqObject.apply_to in
+returns-clause-cost g c =
     let f = c.suit_outcomes.new.self in
-    let l = c.suit_outcomes.ensures.keeps marks (c.in_ok-list_fresh.ensures.listed marks given) in
-    let calls = f.calls.items in
-    let within =
-    cost_within f.applied c.advance.new.self.applied f.budget (length calls) n c.advance.ensures.cost
-    (no_more_calls calls marks l.lists.well_kept.pending l.lists.well_kept.calls_once n most) in
-    subst (λ a. c.advance.new.self.applied ≤ a + (c.args.self.now.budget + 1) * n) (c.suit_outcomes.ensures.cost ∙ c.in_ok-list_fresh.ensures.cost)
-    (subst (λ b. c.advance.new.self.applied ≤ f.applied + (b + 1) * n) (c.suit_outcomes.ensures.budget ∙ c.in_ok-list_fresh.ensures.budget) within)
+    let same = c.suit_outcomes.ensures.cost ∙ c.in_ok-list_fresh.ensures.cost in (
+      subst (λ a. a ≤ c.advance.new.self.applied) same c.advance.ensures.never_falls,
+      λ marks given n most.
+          let l = c.suit_outcomes.ensures.keeps marks (c.in_ok-list_fresh.ensures.listed marks given) in
+          let calls = f.calls.items in
+          let within =
+          cost_within f.applied c.advance.new.self.applied f.budget (length calls) n c.advance.ensures.cost
+          (no_more_calls calls marks l.lists.well_kept.pending l.lists.well_kept.calls_once n most) in
+          subst (λ a. c.advance.new.self.applied ≤ a + (c.args.self.now.budget + 1) * n) same
+          (subst (λ b. c.advance.new.self.applied ≤ f.applied + (b + 1) * n) (c.suit_outcomes.ensures.budget ∙ c.in_ok-list_fresh.ensures.budget) within),
+    )
 
 pub returns-in_err-suit_outcomes-clause-now : goal.returns-in_err-suit_outcomes-clause-now
 returns-in_err-suit_outcomes-clause-now g c marks given =

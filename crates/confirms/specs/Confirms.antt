@@ -1,0 +1,55 @@
+-- Promise: what is read of a recorded history and of an order, found and said (this project's own)
+use Rattle.std.specs.Prelude.{◌≡◌, ◌≢◌, ℕ, Bool, true, false, List, Option, None, ◌⊎◌}
+use Rattle.std.specs.Io.KnownBytes.{Consumes, IsAtEnd}
+use Rattle.edn.specs.declared.refusal.Refusal.TheVariants.{NoMemory, ReadFailed}
+use Rattle.models.specs.declared.model_kind.ModelKind.{ModelKind}
+use Rattle.checks.specs.Checks.{IsPut}
+use Rattle.confirms.specs.declared.found.Found.{Found}
+use Rattle.confirms.specs.declared.found.Found.TheVariants.{Refused, RefusedOrder}
+use Rattle.confirms.specs.Found.{ComesTo, found_text, found_status}
+
+-- what a reader gave, had left, and whether it has failed
+pub record Input : Type 0 where
+  pub bytes : List ℕ
+  pub left : Option (List ℕ)
+  pub has_failed : Bool
+
+-- it was read to its end, and has not failed
+abbrev pub WasRead : Input → Type 0
+WasRead input = IsAtEnd input.left × (input.has_failed ≡ false)
+
+-- what was found of two readers: what their bytes come to, where both were read to their ends and have not failed; or one has
+-- failed; or none has, and memory ran out
+abbrev pub IsFound : ℕ → ModelKind → Input → Input → Found → Type 0
+IsFound c kind history order found =
+    (WasRead history × WasRead order × ComesTo c kind history.bytes order.bytes found)
+    ⊎ (((found ≡ Refused ReadFailed) × (history.has_failed ≡ true))
+    ⊎ (((found ≡ RefusedOrder ReadFailed) × (order.has_failed ≡ true))
+    ⊎ ((found ≡ Refused NoMemory) × (history.has_failed ≡ false) × (order.has_failed ≡ false))))
+
+-- a writer was told of what was found
+abbrev pub IsTold : Found → Option (List ℕ) → Option (List ℕ) → Bool → Bool → ℕ → Type 0
+IsTold found = IsPut (found_text found) (found_status found)
+
+-- the line of what was found was written; or that of want of memory in its place, but never for a reader that failed
+abbrev pub StandsFor : Found → Found → Type 0
+StandsFor told found = (told ≡ found) ⊎ ((told ≡ Refused NoMemory) × (found ≢ Refused ReadFailed) × (found ≢ RefusedOrder ReadFailed))
+
+-- readers of a history and of an order that had these left, and have those left after it, and what a writer was told of them
+pub record Confirms (c : ℕ) (kind : ModelKind) (left left' : Option (List ℕ)) (read_failed : Bool)
+    (order_left order_left' : Option (List ℕ)) (order_failed : Bool)
+    (before after : Option (List ℕ)) (write_failed is_flushed : Bool) (status : ℕ) : Type 0 where
+  pub input : List ℕ
+  pub read : Consumes left left' input
+  pub order : List ℕ
+  pub order_read : Consumes order_left order_left' order
+  pub found : Found
+  pub is_found : IsFound c kind (record { bytes = input; left = left'; has_failed = read_failed }) (record { bytes = order; left = order_left'; has_failed = order_failed }) found
+  pub told : IsTold found before after write_failed is_flushed status
+
+-- the same of a history that had left, and of an order of which nothing is known, however much they have after it, and whether they
+-- have failed or not
+abbrev pub ConfirmsInput : ℕ → ModelKind → Option (List ℕ) → Option (List ℕ) → Option (List ℕ) → Bool → Bool → ℕ → Type 0
+ConfirmsInput c kind left before after write_failed is_flushed status =
+    (left' : Option (List ℕ)) × (read_failed : Bool) × ((order_left' : Option (List ℕ)) × (order_failed : Bool)
+    × Confirms c kind left left' read_failed None order_left' order_failed before after write_failed is_flushed status)

@@ -1,0 +1,104 @@
+-- Promise: what an order of a recorded history comes to, and what is said of it (this project's own)
+use Rattle.std.specs.Prelude.{◌≡◌, ℕ, ◌⊎◌, Some, None, List, [], ◌∷◌, codes, decimal}
+use Rattle.edn.specs.Refusals.{number_of, name_of, IsWhy}
+use Rattle.edn.specs.declared.refusal.Refusal.{Refusal}
+use Rattle.edn.specs.declared.refusal.Refusal.TheVariants.{NoMemory}
+use Rattle.models.specs.declared.model_kind.ModelKind.{ModelKind}
+use Rattle.processes.specs.Threads.{MayNotStart}
+use Rattle.history.specs.declared.event.Event.{Event}
+use Rattle.linspec.specs.Orders.{IsLinearizable, product}
+use Rattle.witness.specs.Orders.{IsWitness, IsUnfit, marks_in}
+use Rattle.witness.specs.declared.confirming.Confirmation.{Confirmation}
+use Rattle.witness.specs.declared.confirming.Confirmation.TheVariants.{Linearizable, NoOrder}
+use Rattle.witness.specs.declared.misfit.Misfit.{Misfit}
+use Rattle.witness.specs.declared.misfit.Misfit.TheVariants.{NoEvent, NoInvocation, Twice, Failed, TooLate, CannotTakePlace, AnotherAnswer, LeftOut}
+use Rattle.witness.specs.declared.misfit.Unfit.{Unfit}
+use Rattle.line_loop.specs.RefusalLine.{line_of, place_text, refusal_line}
+use Rattle.checks.specs.Reading.{IsRead}
+use Rattle.checks.specs.Recorded.{event_line}
+use Rattle.confirms.specs.Listing.{IsOrderText, ListsUpTo}
+use Rattle.confirms.specs.declared.found.Found.{Found}
+use Rattle.confirms.specs.declared.found.Found.TheVariants.{Shown, RefusedEvent, Refused, RefusedElement, RefusedOrder}
+
+-- what an order shows of these events: it is one of theirs, which are linearizable; or it is none, for this reason
+abbrev pub Shows : ModelKind → List Event → List ℕ → Confirmation → Type 0
+Shows kind events ids Linearizable = IsWitness kind events ids × IsLinearizable (product (λ _. kind)) (marks_in events)
+Shows kind events ids (NoOrder unfit) = ¬ IsWitness kind events ids × IsUnfit kind events ids unfit
+
+-- what is refused of the history that the bytes spell; or memory ran out
+abbrev pub IsHistoryRefused : ℕ → List ℕ → Found → Type 0
+IsHistoryRefused c bytes (RefusedEvent i why) = (events : List Event) × IsRead bytes c [] events (Some (i, why))
+IsHistoryRefused c bytes (Refused why) = IsWhy bytes why ⊎ MayNotStart c why
+IsHistoryRefused c bytes _ = ⊥
+
+-- what is refused of the order that the bytes list; or memory ran out
+abbrev pub IsOrderRefused : List ℕ → Found → Type 0
+IsOrderRefused bytes (RefusedElement i) = ListsUpTo bytes i
+IsOrderRefused bytes (RefusedOrder why) = IsWhy bytes why
+IsOrderRefused bytes (Refused why) = why ≡ NoMemory
+IsOrderRefused bytes _ = ⊥
+
+-- what is refused of the order for this; want of memory is not the order's
+abbrev pub refused_of_order : Refusal → Found
+refused_of_order NoMemory = Refused NoMemory
+refused_of_order why = RefusedOrder why
+
+-- all elements of the bytes are events, in turn those of a history of c threads
+abbrev pub IsWhole : ℕ → List ℕ → List Event → Type 0
+IsWhole c bytes events = IsRead bytes c [] events None
+
+-- what the bytes of a history and those of an order come to
+abbrev pub ComesTo : ℕ → ModelKind → List ℕ → List ℕ → Found → Type 0
+ComesTo c kind bytes order (Shown said) = (events : List Event) × IsWhole c bytes events × ((ids : List ℕ) × IsOrderText order ids × Shows kind events ids said)
+ComesTo c kind bytes order (RefusedEvent i why) = IsHistoryRefused c bytes (RefusedEvent i why)
+ComesTo c kind bytes order (Refused why) = IsHistoryRefused c bytes (Refused why)
+ComesTo c kind bytes order (RefusedElement i) = (events : List Event) × IsWhole c bytes events × IsOrderRefused order (RefusedElement i)
+ComesTo c kind bytes order (RefusedOrder why) = (events : List Event) × IsWhole c bytes events × IsOrderRefused order (RefusedOrder why)
+
+-- the word for why an operation does not fit
+abbrev pub word_of : Misfit → List ℕ
+word_of NoEvent = codes "no-event"
+word_of NoInvocation = codes "no-invocation"
+word_of Twice = codes "twice"
+word_of Failed = codes "failed"
+word_of TooLate = codes "too-late"
+word_of CannotTakePlace = codes "cannot-take-place"
+word_of AnotherAnswer = codes "another-answer"
+word_of LeftOut = codes "left-out"
+
+-- a list that can't be an order of the history's operations, whatever they found, is refused; any other is said to be none
+abbrev pub opening_of : Misfit → List ℕ
+opening_of NoEvent = codes "refused 5 BadValue order"
+opening_of NoInvocation = codes "refused 5 BadValue order"
+opening_of Twice = codes "refused 5 BadValue order"
+opening_of LeftOut = codes "refused 5 BadValue order"
+opening_of _ = codes "no order"
+
+abbrev pub status_of_misfit : Misfit → ℕ
+status_of_misfit NoEvent = 3
+status_of_misfit NoInvocation = 3
+status_of_misfit Twice = 3
+status_of_misfit LeftOut = 3
+status_of_misfit _ = 1
+
+abbrev pub unfit_line : Unfit → List ℕ
+unfit_line unfit = line_of (opening_of unfit.why ∷ codes " place " ∷ decimal unfit.place ∷ codes " event " ∷ decimal unfit.event ∷ codes " " ∷ word_of unfit.why ∷ [])
+
+-- the line of what is refused of an order
+abbrev pub order_line : Refusal → List ℕ
+order_line why = line_of (codes "refused " ∷ decimal (number_of why) ∷ codes " " ∷ name_of why ∷ place_text why ∷ codes " order" ∷ [])
+
+-- the line that says it
+abbrev pub found_text : Found → List ℕ
+found_text (Shown Linearizable) = codes "linearizable\n"
+found_text (Shown (NoOrder unfit)) = unfit_line unfit
+found_text (RefusedEvent i why) = event_line i why
+found_text (Refused why) = refusal_line why
+found_text (RefusedElement i) = line_of (codes "refused 5 BadValue order element " ∷ decimal i ∷ [])
+found_text (RefusedOrder why) = order_line why
+
+-- the exit status that it gives
+abbrev pub found_status : Found → ℕ
+found_status (Shown Linearizable) = 0
+found_status (Shown (NoOrder unfit)) = status_of_misfit unfit.why
+found_status _ = 3

@@ -1,0 +1,4 @@
+pub mod Listing
+pub mod Found
+pub mod Telling
+pub mod Confirms

@@ -1,0 +1,162 @@
+//! An order of a recorded history, from the bytes of both to the line that says what the order shows.
+ghost use Rattle.std.specs.Prelude.{◌≡◌, None, false};
+ghost use Rattle.confirms.specs.Confirms.{Confirms, ConfirmsInput};
+
+use crate::found::{Found, confirm_bytes, refused_order};
+use crate::telling::tell;
+use checks::SeenFile;
+use edn::Refusal;
+use line_loop::{Failed, Flushes, Watched, read_whole};
+use models::ModelKind;
+use onlookers::Onlooker;
+use std::alloc::Global;
+use std::fs;
+use std::fs::Files;
+use std::io::{Read, Write};
+use std::sync::Wait;
+
+/// Reads a recorded history of so many threads and an order of its operations to their ends, writes what the order shows, where
+/// each key is an object of this kind, and flushes it, and gives the exit status.
+///
+/// That is one line. `linearizable`, with 0, is written only where the order is one of the history, which is linearizable then.
+/// `no order place P event E WHY`, with 1, where it is none: the operation that event E invokes, at place P of the order, does not
+/// fit there, and of the history nothing is said. A line that begins with `refused`, with 3, where something can't be read so:
+/// of the history as `check` says it; of the order `refused 5 BadValue order place P event E WHY`, where its list can be none of
+/// the history's operations, `refused 5 BadValue order element I`, where I elements were taken and the next one is no index, and
+/// `refused NUMBER NAME order`. The status is 3 too where the writer has failed.
+///
+/// The bytes are held once, and the elements of the order. It waits for the readers and the writer. The onlooker is told on the
+/// way how many events are taken.
+pub fn confirm_text<
+    X: Wait,
+    R: Read + Failed,
+    O: Read + Failed,
+    W: Write + Failed + Flushes,
+    L: Onlooker,
+>(
+    rt: &X,
+    alloc: Global,
+    concurrency: u32,
+    kind: ModelKind,
+    reader: &mut R,
+    order: &mut O,
+    writer: &mut W,
+    onlooker: &L,
+) -> u8
+    requires reads { R.has_failed reader.old ≡ false }
+    requires orders { O.has_failed order.old ≡ false }
+    requires writes { W.has_failed writer.old ≡ false }
+    ensures { Confirms concurrency kind
+        (R.remaining reader.old) (R.remaining reader.new) (R.has_failed reader.new)
+        (O.remaining order.old) (O.remaining order.new) (O.has_failed order.new)
+        (W.contents writer.old) (W.contents writer.new)
+        (W.has_failed writer.new) (W.is_flushed writer.new) result }
+{
+    let found = match read_whole(rt, alloc, reader) {
+        Ok(bytes) => match read_whole(rt, alloc, order) {
+            Ok(listed) => confirm_bytes(
+                alloc,
+                concurrency,
+                kind,
+                bytes.as_slice(),
+                listed.as_slice(),
+                onlooker,
+            ),
+            Err(refusal) => {
+                onlooker.refused(&refusal);
+                refused_order(refusal)
+            }
+        },
+        Err(refusal) => {
+            onlooker.refused(&refusal);
+            Found::Refused(refusal)
+        }
+    };
+    tell(rt, alloc, &found, writer)
+}
+
+/// Reads a recorded history and an order of its operations from two files: [`confirm_text`] of what they have, with the same
+/// status, cost and waiting. A file that can't be opened is told as `ReadFailed`, with status 3.
+pub fn confirm_file<X: Wait + Files, W: Write + Failed + Flushes, L: Onlooker>(
+    rt: &X,
+    alloc: Global,
+    path: &str,
+    order_path: &str,
+    concurrency: u32,
+    kind: ModelKind,
+    writer: &mut W,
+    onlooker: &L,
+) -> u8
+    requires writes { W.has_failed writer.old ≡ false }
+    // What files have is not known.
+    ensures { ConfirmsInput concurrency kind None (W.contents writer.old) (W.contents writer.new)
+        (W.has_failed writer.new) (W.is_flushed writer.new) result }
+{
+    match fs::open(rt, path) {
+        Ok(file) => confirm_input(
+            rt,
+            alloc,
+            file,
+            path,
+            order_path,
+            concurrency,
+            kind,
+            writer,
+            onlooker,
+        ),
+        Err(reason) => {
+            onlooker.unread(path, &reason);
+            onlooker.refused(&Refusal::ReadFailed);
+            tell(rt, alloc, &Found::Refused(Refusal::ReadFailed), writer)
+        }
+    }
+}
+
+/// Reads a recorded history from a reader and an order of its operations from a file: [`confirm_text`] of what they have, with
+/// the same status, cost and waiting. The onlooker is told of each read, and of one that fails with the name of what is read.
+pub fn confirm_input<X: Wait + Files, R: Read + Drop, W: Write + Failed + Flushes, L: Onlooker>(
+    rt: &X,
+    alloc: Global,
+    file: R,
+    path: &str,
+    order_path: &str,
+    concurrency: u32,
+    kind: ModelKind,
+    writer: &mut W,
+    onlooker: &L,
+) -> u8
+    requires writes { W.has_failed writer.old ≡ false }
+    ensures { ConfirmsInput concurrency kind (R.remaining file)
+        (W.contents writer.old) (W.contents writer.new)
+        (W.has_failed writer.new) (W.is_flushed writer.new) result }
+{
+    match fs::open(rt, order_path) {
+        Ok(order_file) => {
+            let mut reader = Watched::new(SeenFile {
+                file,
+                path,
+                onlooker,
+            });
+            let mut order = Watched::new(SeenFile {
+                file: order_file,
+                path: order_path,
+                onlooker,
+            });
+            confirm_text(
+                rt,
+                alloc,
+                concurrency,
+                kind,
+                &mut reader,
+                &mut order,
+                writer,
+                onlooker,
+            )
+        }
+        Err(reason) => {
+            onlooker.unread(order_path, &reason);
+            onlooker.refused(&Refusal::ReadFailed);
+            tell(rt, alloc, &Found::RefusedOrder(Refusal::ReadFailed), writer)
+        }
+    }
+}

@@ -1,0 +1,131 @@
+//! What an order of a recorded history comes to.
+ghost use Rattle.std.specs.Prelude.{◌≡◌, ◌⊎◌, [], None, IfOk, IfErr};
+ghost use Rattle.edn.specs.Refusals.{IsWhy};
+ghost use Rattle.processes.specs.Threads.{MayNotStart};
+ghost use Rattle.checks.specs.Reading.{IsRead};
+ghost use Rattle.confirms.specs.Listing.{IsOrderText};
+ghost use Rattle.confirms.specs.Found.{ComesTo, Shows, IsHistoryRefused, IsOrderRefused, refused_of_order};
+
+use crate::listing::indices_of_text;
+use checks::read_events;
+use edn::Refusal;
+use history::History;
+use models::ModelKind;
+use onlookers::Onlooker;
+use std::alloc::Global;
+use witness::{Confirmation, confirm};
+
+/// What an order of a recorded history comes to.
+#[derive(Drop)]
+pub enum Found {
+    /// Both were read to their ends: what the order shows.
+    Shown(Confirmation),
+    /// So many elements of the history were taken, and the next one was refused.
+    RefusedEvent(usize, Refusal),
+    /// What is refused of the history, and no element's refusal.
+    Refused(Refusal),
+    /// So many elements of the order list indices, and the next one does not.
+    RefusedElement(usize),
+    /// What is refused of the order, and no element's refusal.
+    RefusedOrder(Refusal),
+}
+
+/// Reads a history of so many threads from bytes whose elements are events, and an order of its operations from others, and says
+/// what the order shows, where each key is an object of this kind.
+///
+/// What is refused of the history is found first. The bytes of each are read to their end. Takes the time of the bytes, and that
+/// of [`confirm`]. The onlooker is told how many events are taken, and what is refused.
+pub fn confirm_bytes<L: Onlooker>(
+    alloc: Global,
+    concurrency: u32,
+    kind: ModelKind,
+    bytes: &[u8],
+    order: &[u8],
+    onlooker: &L,
+) -> Found
+    ensures { ComesTo concurrency kind bytes.now order.now result }
+{
+    let history = match history_of(alloc, concurrency, bytes, onlooker) {
+        Ok(history) => history,
+        Err(found) => return found,
+    };
+    match order_of(alloc, order, onlooker) {
+        Ok(order) => shown(alloc, history, kind, order.as_slice()),
+        Err(found) => found,
+    }
+}
+
+// What the order shows of the history.
+fn shown(alloc: Global, history: History, kind: ModelKind, order: &[u32]) -> Found
+    ensures { ((said : Confirmation) × (result ≡ Found.Shown said)
+        × Shows kind history.events order.now said)
+        ⊎ (result ≡ Found.Refused Refusal.NoMemory) }
+{
+    match confirm(alloc, &history, kind, order) {
+        Ok(said) => Found::Shown(said),
+        Err(_) => Found::Refused(Refusal::NoMemory),
+    }
+}
+
+// The history that the bytes spell, or what is refused of it.
+fn history_of<L: Onlooker>(
+    alloc: Global,
+    concurrency: u32,
+    bytes: &[u8],
+    onlooker: &L,
+) -> Result<History, Found>
+    ensures read { IfOk result (λ history. IsRead bytes.now concurrency [] history.events None) }
+    ensures refused { IfErr result (IsHistoryRefused concurrency bytes.now) }
+{
+    match events_of(alloc, concurrency, bytes, onlooker) {
+        Ok((history, None)) => Ok(history),
+        Ok((_, Some((taken, refusal)))) => {
+            onlooker.refused(&refusal);
+            Err(Found::RefusedEvent(taken, refusal))
+        }
+        Err(refusal) => {
+            onlooker.refused_text(bytes, &refusal);
+            Err(Found::Refused(refusal))
+        }
+    }
+}
+
+// The history that is read of the bytes, and the first element that is refused.
+fn events_of<L: Onlooker>(
+    alloc: Global,
+    concurrency: u32,
+    bytes: &[u8],
+    onlooker: &L,
+) -> Result<(History, Option<(usize, Refusal)>), Refusal>
+    ensures read { IfOk result (λ read. IsRead bytes.now concurrency [] read.0.events read.1) }
+    ensures refused { IfErr result (λ why. IsWhy bytes.now why ⊎ MayNotStart concurrency why) }
+{
+    let mut history = History::new(alloc, concurrency)?;
+    let first = read_events(alloc, &mut history, bytes, onlooker)?;
+    Ok((history, first))
+}
+
+// The order that the bytes list, or what is refused of it.
+fn order_of<L: Onlooker>(alloc: Global, bytes: &[u8], onlooker: &L) -> Result<Vec<u32>, Found>
+    ensures read { IfOk result (λ order. IsOrderText bytes.now order.items) }
+    ensures refused { IfErr result (IsOrderRefused bytes.now) }
+{
+    match indices_of_text(alloc, bytes) {
+        Ok(Ok(order)) => Ok(order),
+        Ok(Err(taken)) => Err(Found::RefusedElement(taken)),
+        Err(refusal) => {
+            onlooker.refused_text(bytes, &refusal);
+            Err(refused_order(refusal))
+        }
+    }
+}
+
+/// What is refused of the order for this. Want of memory is not the order's.
+pub(crate) fn refused_order(refusal: Refusal) -> Found
+    ensures { result ≡ refused_of_order refusal }
+{
+    match refusal {
+        Refusal::NoMemory => Found::Refused(Refusal::NoMemory),
+        refusal => Found::RefusedOrder(refusal),
+    }
+}

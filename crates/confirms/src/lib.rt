@@ -1,0 +1,15 @@
+//! An order of a recorded history, from the bytes of both to the line that says what the order shows.
+//!
+//! A call takes memory only where its result can be `AllocError`, or a refusal for want of memory.
+#![tactic(auto)]
+
+mod confirming;
+mod found;
+mod laws;
+mod listing;
+mod telling;
+
+pub use confirming::{confirm_file, confirm_input, confirm_text};
+pub use found::{Found, confirm_bytes};
+pub use laws::one_answer;
+pub use listing::indices_of_text;

@@ -1,0 +1,122 @@
+//! Numbers and names that texts spell.
+ghost use Rattle.std.specs.Prelude.{◌≡◌, ◌-◌, ◌^◌, ◌<◌, ◌≤◌, IfSome, min, option_map};
+ghost use Rattle.run_plans.specs.Options.{are_digits, count_spelled, digits_spelled, kind_spelled, mode_spelled, number_spelled, number_within, switch_spelled};
+
+use models::ModelKind;
+use test_store::Mode;
+
+const MOST_WORKERS: u64 = 64;
+
+/// How many workers the text asks for: 1 to 64. `None` where it is no number, or another one. It takes no memory, and the
+/// time of the text.
+pub fn workers_in(text: &str) -> Option<u32>
+    ensures spelled { result ≡ number_within 1 64 text.now }
+    ensures limits { IfSome result (λ workers. (1 ≤ workers) × (workers ≤ 64)) }
+{
+    Some(within(text, 1, MOST_WORKERS)? as u32)
+}
+
+// Whether it has digits alone, and one at least.
+fn has_digits(text: &str) -> bool
+    ensures { result ≡ are_digits text.now }
+{
+    for byte in text.as_bytes() {
+        if !byte.is_ascii_digit() {
+            return false;
+        }
+    }
+    !text.is_empty()
+}
+
+// The number that digits alone spell; one that is greater than a u64 counts as the greatest.
+fn digits_in(text: &str) -> Option<u64>
+    ensures { result ≡ option_map (λ n. min n (2 ^ 64 - 1)) (digits_spelled text.now) }
+{
+    if !has_digits(text) {
+        return None;
+    }
+    Some(text.parse::<u64>().unwrap_or(u64::MAX))
+}
+
+// The same, where a plus may stand before the digits.
+fn number_in(text: &str) -> Option<u64>
+    ensures { result ≡ option_map (λ n. min n (2 ^ 64 - 1)) (number_spelled text.now) }
+{
+    match text.strip_prefix('+') {
+        Some(digits) => digits_in(digits),
+        None => digits_in(text),
+    }
+}
+
+// The number of an option that is from the least to the most.
+pub(crate) fn within(text: &str, least: u64, most: u64) -> Option<u64>
+    requires { most < 2 ^ 64 - 1 }
+    ensures spelled { result ≡ number_within least most text.now }
+    ensures limits { IfSome result (λ number. (least ≤ number) × (number ≤ most)) }
+{
+    let number = number_in(text)?;
+    if least <= number && number <= most {
+        Some(number)
+    } else {
+        None
+    }
+}
+
+// The number, or the greatest u32 where it is greater.
+fn clipped(number: u64) -> u32
+    ensures { result ≡ min number (2 ^ 32 - 1) }
+{
+    u32::try_from(number).unwrap_or(u32::MAX)
+}
+
+// The number, or the greatest u8 where it is greater.
+pub(crate) fn byte_of(number: u32) -> u8
+    ensures { result ≡ min number 255 }
+{
+    u8::try_from(number).unwrap_or(u8::MAX)
+}
+
+// The number of an option that tells by another fault than no number that it is out of its limits: however long its text is,
+// and with a minus too. One past the ends of 0 to 2^32 - 1 counts as that end, which is out of the limits of every such
+// option.
+pub(crate) fn count_in(text: &str) -> Option<u32>
+    ensures { result ≡ count_spelled text.now }
+{
+    match text.strip_prefix('-') {
+        Some(digits) => digits_in(digits).map(|_| 0),
+        None => Some(clipped(number_in(text)?)),
+    }
+}
+
+// The kind of this name.
+pub(crate) fn kind_in(text: &str) -> Option<ModelKind>
+    ensures { result ≡ kind_spelled text.now }
+{
+    ModelKind::of_name(text)
+}
+
+// How the replicas serve.
+pub(crate) fn mode_in(text: &str) -> Option<Mode>
+    ensures { result ≡ mode_spelled text.now }
+{
+    if text == "strict" {
+        Some(Mode::Strict)
+    } else if text == "sloppy" {
+        Some(Mode::Sloppy)
+    } else {
+        None
+    }
+}
+
+// Whether faults strike.
+pub(crate) fn switch_in(text: &str) -> Option<bool>
+    ensures { result ≡ switch_spelled text.now }
+{
+    if text == "on" {
+        Some(true)
+    } else if text == "off" {
+        Some(false)
+    } else {
+        None
+    }
+}
