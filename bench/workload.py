@@ -5,8 +5,9 @@ Operations take place at random moments, on keys drawn at random. Of the reads t
 answered: the client notes `:info`, and its thread goes on with its next process. The order in which the operations took place is
 written to the file ORDER, as `jepmon confirm` reads it.
 """
+import argparse
 import random
-import sys
+import signal
 
 # What the operations of each kind do: the state after one and the part of its ok, or None where it can't take place.
 
@@ -163,12 +164,38 @@ def lines(events, clients, seed, model="register", keys=1, lost=0.0, order=None)
                     op[2:4] = [taken[1], True]
 
 
-if __name__ == "__main__":
-    keys = int(sys.argv[5]) if len(sys.argv) > 5 else 1
-    lost = float(sys.argv[6]) if len(sys.argv) > 6 else 0.0
+def positive_number(word):
+    number = int(word)
+    if number < 1:
+        raise argparse.ArgumentTypeError(f"{number} is below 1")
+    return number
+
+
+def part_of_one(word):
+    part = float(word)
+    if not 0 <= part <= 1:
+        raise argparse.ArgumentTypeError(f"{part} is no part of 1")
+    return part
+
+
+def main():
+    signal.signal(signal.SIGPIPE, signal.SIG_DFL)
+    asked = argparse.ArgumentParser(description=__doc__.split("\n", 1)[1], formatter_class=argparse.RawDescriptionHelpFormatter)
+    asked.add_argument("events", type=positive_number)
+    asked.add_argument("clients", type=positive_number)
+    asked.add_argument("seed", type=int)
+    asked.add_argument("model", nargs="?", choices=sorted(LOADS), default="register")
+    asked.add_argument("keys", nargs="?", type=positive_number, default=1)
+    asked.add_argument("lost", nargs="?", type=part_of_one, default=0.0, help="0 to 1")
+    asked.add_argument("order", nargs="?", metavar="ORDER", help="a file, which is written")
+    given = asked.parse_args()
     order = []
-    for line in lines(int(sys.argv[1]), int(sys.argv[2]), int(sys.argv[3]), *sys.argv[4:5], keys=keys, lost=lost, order=order):
+    for line in lines(given.events, given.clients, given.seed, given.model, keys=given.keys, lost=given.lost, order=order):
         print(line)
-    if len(sys.argv) > 7:
-        with open(sys.argv[7], "w", encoding="ascii") as file:
+    if given.order:
+        with open(given.order, "w", encoding="ascii") as file:
             file.writelines(f"{index}\n" for index in order)
+
+
+if __name__ == "__main__":
+    main()

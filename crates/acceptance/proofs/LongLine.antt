@@ -1,10 +1,10 @@
 -- many writes of one process are a history
 use Rattle.std.proofs.Common.{◌≡◌, ℕ, zero, suc, ◌+◌, ◌*◌, ◌≤◌, Option, None, List, [], ◌∷◌, ◌++◌, slice_get, refl, sym, ap, ◌∙◌, subst, append_assoc, arith}
 use Rattle.std.proofs.Math.Numerals.{add-one}
-use Rattle.history.specs.declared.event.EventKind.TheVariants.{Invoke, Ok}
-use Rattle.history.specs.declared.event.Event.{Event}
-use Rattle.history.specs.Events.{op_event}
-use Rattle.history.specs.ProcessRule.{busy_after, MayComeFrom, IsHistory}
+use Rattle.events.specs.declared.event.EventKind.TheVariants.{Invoke, Ok}
+use Rattle.events.specs.declared.event.Event.{Event}
+use Rattle.events.specs.Events.{op_event}
+use Rattle.events.specs.ProcessRule.{busy_after, MayComeFrom, IsHistory}
 use Rattle.checkpoints.specs.Lent.{AreLentBy}
 use Rattle.acceptance.specs.LongLine.{write_by, writes, writes_from}
 

@@ -2,9 +2,9 @@
 use Rattle.std.proofs.Common.{◌≡◌, ℕ, ◌+◌, ◌≤◌, List, [], ◌∷◌, ◌++◌, refl, sym, subst, arith}
 use Rattle.models.specs.declared.operation.Name.{Name}
 use Rattle.models.specs.declared.operation.Part.{Part}
-use Rattle.history.specs.declared.event.EventKind.TheVariants.{Invoke, Ok, Fail, Info}
-use Rattle.history.specs.declared.event.Event.{Event}
-use Rattle.history.specs.ProcessRule.{IsHistory}
+use Rattle.events.specs.declared.event.EventKind.TheVariants.{Invoke, Ok, Fail, Info}
+use Rattle.events.specs.declared.event.Event.{Event}
+use Rattle.events.specs.ProcessRule.{IsHistory}
 use Rattle.acceptance.specs.ShortLine.{event_by, heal}
 
 module _ (i : ℕ) (name : Name) (part : Part) (events : List (ℕ × Event)) (first : Event) (invokes : first ≡ event_by Invoke name part) where

@@ -2,11 +2,11 @@
 use Rattle.std.specs.Prelude.{ℕ, zero, suc, ◌+◌, ◌*◌, pos, None, List, [], ◌∷◌}
 use Rattle.models.specs.declared.operation.Name.TheVariants.{Write}
 use Rattle.models.specs.declared.operation.Part.TheVariants.{Int}
-use Rattle.history.specs.declared.event.EventKind.{EventKind}
-use Rattle.history.specs.declared.event.EventKind.TheVariants.{Invoke, Ok}
-use Rattle.history.specs.declared.event.Process.TheVariants.{Client}
-use Rattle.history.specs.declared.event.Body.TheVariants.{Op}
-use Rattle.history.specs.declared.event.Event.{Event}
+use Rattle.events.specs.declared.event.EventKind.{EventKind}
+use Rattle.events.specs.declared.event.EventKind.TheVariants.{Invoke, Ok}
+use Rattle.events.specs.declared.event.Process.TheVariants.{Client}
+use Rattle.events.specs.declared.event.Body.TheVariants.{Op}
+use Rattle.events.specs.declared.event.Event.{Event}
 
 -- process 0 writes 1 to key 7
 abbrev pub write_by : EventKind → Event

@@ -2,12 +2,12 @@
 use Rattle.std.specs.Prelude.{None}
 use Rattle.models.specs.declared.operation.Name.{Name}
 use Rattle.models.specs.declared.operation.Part.{Part}
-use Rattle.history.specs.declared.event.EventKind.{EventKind}
-use Rattle.history.specs.declared.event.EventKind.TheVariants.{Info}
-use Rattle.history.specs.declared.event.Process.TheVariants.{Client, Nemesis}
-use Rattle.history.specs.declared.event.Body.TheVariants.{Op, Fault}
-use Rattle.history.specs.declared.event.Fault.TheVariants.{Heal}
-use Rattle.history.specs.declared.event.Event.{Event}
+use Rattle.events.specs.declared.event.EventKind.{EventKind}
+use Rattle.events.specs.declared.event.EventKind.TheVariants.{Info}
+use Rattle.events.specs.declared.event.Process.TheVariants.{Client, Nemesis}
+use Rattle.events.specs.declared.event.Body.TheVariants.{Op, Fault}
+use Rattle.events.specs.declared.event.Fault.TheVariants.{Heal}
+use Rattle.events.specs.declared.event.Event.{Event}
 
 abbrev pub event_by : EventKind → Name → Part → Event
 event_by kind name part = record {

@@ -2,12 +2,14 @@
 //! of the legal ones as its events come.
 ghost use Rattle.std.specs.Prelude.{◌<◌};
 
+use events::{Body, Event, EventKind, Process};
 use frontier::{AnyFrontier, Step};
-use history::{Body, Event, EventKind, History, Process};
+use history::History;
 use linspec::brute;
-use models::{Key, Members, ModelKind, Name, Op, Part};
+use models::{Key, ModelKind, Name, Op, Part};
 use std::alloc::{AllocError, Global};
 use std::test::Fail;
+use values::Members;
 
 const KEY: Key = 7;
 

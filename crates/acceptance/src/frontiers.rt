@@ -1,9 +1,9 @@
 //! What frontiers answer where no command shows it: each event by its own call, a blown budget twice, and the counts of steps.
 use crate::plain::part;
+use events::EventKind;
+use events::EventKind::{Fail as Failed, Invoke, Ok as Done};
 use frontier::Step::{Alive, Dead, Over};
 use frontier::{AnyFrontier, Frontier, Step};
-use history::EventKind;
-use history::EventKind::{Fail as Failed, Invoke, Ok as Done};
 use models::Name::{Enqueue, Read, Write};
 use models::{Answer, ModelKind, Name, Op, Register};
 use std::alloc::{AllocError, Global};

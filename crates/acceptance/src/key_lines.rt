@@ -4,7 +4,7 @@ ghost use Rattle.acceptance.specs.LongLine.{writes, writes_from};
 
 use crate::plain::event;
 use checkpoints::KeyLine;
-use history::{Body, Event, EventKind, Fault, Process};
+use events::{Body, Event, EventKind, Fault, Process};
 use linspec::KeyStatus;
 use models::{ModelKind, Name, Part};
 use std::alloc::{AllocError, Global};

@@ -14,3 +14,5 @@ mod key_lines;
 mod one_thread;
 #[cfg(test)]
 mod plain;
+#[cfg(test)]
+mod rewinds;

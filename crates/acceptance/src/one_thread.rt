@@ -1,9 +1,9 @@
 //! The two halves of a command on a `Core`, and the refusals of its opening.
 use crate::plain::{Said, event, plain_of, refused};
 use edn::Refusal;
+use events::EventKind;
+use events::EventKind::{Invoke, Ok as Done};
 use harness::{Command, Config, Core, Reply};
-use history::EventKind;
-use history::EventKind::{Invoke, Ok as Done};
 use models::{ModelKind, Name, Part};
 use std::test::Fail;
 

@@ -2,7 +2,7 @@
 ghost use Rattle.std.specs.Prelude.{◌≡◌, None};
 
 use edn::Refusal;
-use history::{Body, Event, EventKind, Process};
+use events::{Body, Event, EventKind, Process};
 use linspec::Verdict;
 use models::{Name, Op, Part};
 

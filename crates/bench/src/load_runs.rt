@@ -2,7 +2,8 @@
 ghost use Rattle.std.specs.Prelude.{◌≤◌};
 
 use edn::{OpenGate, Refusal};
-use history::{Body, Event, EventKind, History, Process};
+use events::{Body, Event, EventKind, Process};
+use history::History;
 use models::{Key, ModelKind, Name, Op, Part};
 use monitor::Monitor;
 use std::alloc::Global;

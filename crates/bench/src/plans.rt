@@ -1,6 +1,6 @@
 //! What a run does.
+use events::{Body, Event, EventKind, Process};
 use harness::Command;
-use history::{Body, Event, EventKind, Process};
 use models::{Name, Op, Part};
 use std::time::Duration;
 

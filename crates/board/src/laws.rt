@@ -1,7 +1,7 @@
 //! A law of the tapes' commands.
 ghost use Rattle.std.specs.Prelude.{◌≡◌};
 ghost use mathlib.Core.List.{IsPrefix};
-ghost use Rattle.history.specs.Events.{marks};
+ghost use Rattle.events.specs.Events.{marks};
 ghost use Rattle.linspec.specs.Orders.{IsLinearizable, product};
 ghost use Rattle.test_store.specs.declared.outcome.Mode.TheVariants.{Strict};
 ghost use Rattle.test_store.specs.Store.{IsCount};

@@ -3,8 +3,8 @@ ghost use Rattle.std.specs.Prelude.{◌≡◌};
 
 use crate::said::{Said, answer_of, plain_of, seen_of};
 use board::{Blank, Board, News, Seat, Tag};
+use events::{Body, Event, EventKind, Process};
 use harness::Command;
-use history::{Body, Event, EventKind, Process};
 use models::{Name, Op, Part};
 use std::marker::Brand;
 use std::process::Abort;

@@ -5,9 +5,9 @@ use Rattle.std.proofs.lemmas.List.{take_all, get_or_default, length-map, take-ap
 use Rattle.std.proofs.lemmas.List.Filters.{length-filter_both}
 use Rattle.std.specs.List.{filter}
 use Rattle.std.specs.List.Sorted.{IsNonDecreasingBy}
-use Rattle.history.specs.declared.event.Event.{Event}
-use Rattle.history.specs.Events.{op_event}
-use Rattle.history.specs.ProcessRule.{busy_after, MayComeFrom, IsHistory}
+use Rattle.events.specs.declared.event.Event.{Event}
+use Rattle.events.specs.Events.{op_event}
+use Rattle.events.specs.ProcessRule.{busy_after, MayComeFrom, IsHistory}
 use Rattle.linspec.proofs.Filters.{filter-yes, filter-no}
 use Rattle.linspec.specs.KeyHistory.{events_below}
 use Rattle.checkpoints.specs.Lent.{places_of}

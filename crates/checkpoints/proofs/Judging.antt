@@ -5,14 +5,14 @@ use Rattle.models.specs.declared.operation.Op.{Op}
 use Rattle.models.specs.declared.finding.Answer.{Answer}
 use Rattle.models.specs.declared.model_kind.ModelKind.{ModelKind}
 use Rattle.models.specs.Objects.{Object, object_of}
-use Rattle.history.specs.declared.event.EventKind.{EventKind}
-use Rattle.history.specs.declared.event.EventKind.TheVariants as kinds
-use Rattle.history.specs.declared.event.Process.TheVariants as processes
-use Rattle.history.specs.declared.event.Body.TheVariants as bodies
-use Rattle.history.specs.declared.event.Event.{Event}
-use Rattle.history.specs.Events.{OpEvent, Mark, Entry, act_by, op_event_in, op_event, mark_by_act, entry_by, entries_by, last_by, last_after, entries_of, marks}
-use Rattle.history.specs.Events.Mark.{Invoked, Returned, Failed, Crashed}
-use Rattle.history.specs.ProcessRule.{MayAct, MayCome, busy_by, busy_after, IsHistory}
+use Rattle.events.specs.declared.event.EventKind.{EventKind}
+use Rattle.events.specs.declared.event.EventKind.TheVariants as kinds
+use Rattle.events.specs.declared.event.Process.TheVariants as processes
+use Rattle.events.specs.declared.event.Body.TheVariants as bodies
+use Rattle.events.specs.declared.event.Event.{Event}
+use Rattle.events.specs.Events.{OpEvent, Mark, Entry, act_by, op_event_in, op_event, mark_by_act, entry_by, entries_by, last_by, last_after, entries_of, marks}
+use Rattle.events.specs.Events.Mark.{Invoked, Returned, Failed, Crashed}
+use Rattle.events.specs.ProcessRule.{MayAct, MayCome, busy_by, busy_after, IsHistory}
 use Rattle.linspec.specs.declared.verdict.KeyStatus.{KeyStatus}
 use Rattle.linspec.specs.declared.verdict.KeyStatus.TheVariants as status
 use Rattle.linspec.specs.MarkRule.{IsNew, MayFollow, AreWellFormed}

@@ -2,10 +2,10 @@
 use Rattle.std.proofs.Common.{◌≡◌, ◌≢◌, ℕ, ⊎_elim, cond, nat_eq, Option, Some, None, refl, sym, ap, ◌∙◌, subst}
 use Rattle.std.proofs.lemmas.Bool.{cases_eq}
 use Rattle.models.specs.declared.operation.Op.{Op}
-use Rattle.history.specs.declared.event.EventKind.{EventKind}
-use Rattle.history.specs.declared.event.EventKind.TheVariants as kinds
-use Rattle.history.specs.Events.{act_by, last_by}
-use Rattle.history.specs.ProcessRule.{MayAct, busy_by}
+use Rattle.events.specs.declared.event.EventKind.{EventKind}
+use Rattle.events.specs.declared.event.EventKind.TheVariants as kinds
+use Rattle.events.specs.Events.{act_by, last_by}
+use Rattle.events.specs.ProcessRule.{MayAct, busy_by}
 use Rattle.linspec.proofs.Histories.{cond_same, cond_other}
 use Rattle.checkpoints.specs.LiveKey.{id_by, closed_by}
 

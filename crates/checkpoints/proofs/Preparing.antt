@@ -2,16 +2,16 @@
 use Rattle.std.proofs.Common.{◌≡◌, ℕ, cond, nat_eq, List, [], ◌∷◌, ◌++◌, sym, ◌∙◌}
 use Rattle.models.specs.declared.operation.Op.{Op}
 use Rattle.models.specs.declared.model_kind.ModelKind.{ModelKind}
-use Rattle.history.specs.declared.event.Process.TheVariants as processes
-use Rattle.history.specs.declared.event.Body.TheVariants as bodies
-use Rattle.history.specs.declared.event.Event.{Event}
-use Rattle.history.specs.Events.{entries_of, marks}
-use Rattle.history.specs.ProcessRule.{IsHistory}
+use Rattle.events.specs.declared.event.Process.TheVariants as processes
+use Rattle.events.specs.declared.event.Body.TheVariants as bodies
+use Rattle.events.specs.declared.event.Event.{Event}
+use Rattle.events.specs.Events.{entries_of, marks}
+use Rattle.events.specs.ProcessRule.{IsHistory}
 use Rattle.frontier.specs.Meaning.{Keeps}
 use Rattle.frontier.specs.AnyFrontier.{AnyStandsFor, AnyWillStandFor, any_budget_of, kind_of_frontier}
 use Rattle.checkpoints.specs.declared.live_key.LiveKey.{LiveKey}
 use Rattle.checkpoints.specs.Noted.{noted_of}
-use Rattle.checkpoints.specs.LiveKey.{IsLiveKey, WillBeLive, ClosesDone, id_by, closed_by}
+use Rattle.checkpoints.specs.LiveKey.{IsLiveKey, WillBeLive, id_by, closed_by}
 use Rattle.checkpoints.specs.KeyState.{IsAlive}
 use Rattle.checkpoints.proofs.Noting.{noted_others, noted_as, noted_here}
 use Rattle.checkpoints.proofs.Judging.{knows_then, knows_still, closed_then}
@@ -38,16 +38,3 @@ module _ (kind : ModelKind) (budget : ℕ) (events : List (ℕ × Event)) (index
         (noted_others index p event.kind (noted_of live.invocations) (noted_of after.invocations) noted) (noted_here index p event.kind (noted_of live.invocations) (noted_of after.invocations) noted);
     closed = λ q is. closed_then kind budget events index event live is_live alive history p is_client op is_op q (sym closes ∙ is);
   }
-
-  -- it has the event, and what that completes is to be closed
-  pub live_then : after.closes ≡ closed_by p event.kind → AnyStandsFor after.frontier (marks (entries_of (events ++ (index, event) ∷ []))) → IsLiveKey kind budget (events ++ (index, event) ∷ []) after × ClosesDone (events ++ (index, event) ∷ []) after
-  live_then closes stands = (
-    record {
-      stands = stands;
-      kind_is = kind_stays ∙ is_live.kind_is;
-      budget_is = budget_stays ∙ is_live.budget_is;
-      knows = knows_then kind budget events index event live is_live alive history p is_client op is_op after
-          (noted_others index p event.kind (noted_of live.invocations) (noted_of after.invocations) noted) (noted_here index p event.kind (noted_of live.invocations) (noted_of after.invocations) noted);
-    },
-    λ q is. closed_then kind budget events index event live is_live alive history p is_client op is_op q (sym closes ∙ is),
-  )

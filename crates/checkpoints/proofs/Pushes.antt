@@ -1,9 +1,9 @@
 -- one more event at the end of a history: its entry, and which processes are busy
 use Rattle.std.proofs.Common.{◌≡◌, ℕ, ◌+◌, Option, None, List, [], ◌∷◌, ◌++◌, refl, sym, ap, ◌∙◌, append_assoc}
 use Rattle.std.proofs.lemmas.List.{append-nil}
-use Rattle.history.specs.declared.event.Event.{Event}
-use Rattle.history.specs.Events.{op_event, entries_by, last_after, entries_from, entries_of}
-use Rattle.history.specs.ProcessRule.{MayCome, busy_after, MayComeFrom, IsHistory}
+use Rattle.events.specs.declared.event.Event.{Event}
+use Rattle.events.specs.Events.{op_event, entries_by, last_after, entries_from, entries_of}
+use Rattle.events.specs.ProcessRule.{MayCome, busy_after, MayComeFrom, IsHistory}
 use Rattle.checkpoints.specs.LiveKey.{invocations_from, busy_from, invocation_of, busy_of}
 
 entries_from-push : (last : ℕ → ℕ) (events : List (ℕ × Event)) (x : ℕ × Event)

@@ -1,9 +1,9 @@
 -- a key that is dead or over stays so, and has no other status
 use Rattle.std.proofs.Common.{◌≡◌, ◌⊎◌, inl, inr, ℕ, [], ◌∷◌, ◌++◌, refl}
 use Rattle.models.specs.Objects.{object_of}
-use Rattle.history.specs.declared.event.Event.{Event}
-use Rattle.history.specs.Events.{entries_of}
-use Rattle.history.specs.ProcessRule.{IsHistory}
+use Rattle.events.specs.declared.event.Event.{Event}
+use Rattle.events.specs.Events.{entries_of}
+use Rattle.events.specs.ProcessRule.{IsHistory}
 use Rattle.linspec.specs.declared.verdict.KeyStatus.{KeyStatus}
 use Rattle.linspec.specs.declared.verdict.KeyStatus.TheVariants.{Alive, Dead, Over}
 use Rattle.linspec.specs.Ends.{is_no_read}

@@ -5,9 +5,9 @@ use Rattle.std.specs.declared.boxed.Box.{Box}
 use Rattle.std.specs.Global.{Global}
 use Rattle.models.specs.declared.model_kind.ModelKind.{ModelKind}
 use Rattle.models.specs.Objects.{object_of}
-use Rattle.history.specs.declared.event.Event.{Event}
-use Rattle.history.specs.Events.{entries_of}
-use Rattle.history.specs.ProcessRule.{IsHistory}
+use Rattle.events.specs.declared.event.Event.{Event}
+use Rattle.events.specs.Events.{entries_of}
+use Rattle.events.specs.ProcessRule.{IsHistory}
 use Rattle.linspec.specs.declared.verdict.KeyStatus.{KeyStatus}
 use Rattle.linspec.specs.Verdicts.{IsKeyStatus}
 use Rattle.checkpoints.specs.declared.key_state.KeyState.{KeyState}
@@ -57,15 +57,6 @@ module _ (kind : ModelKind) (budget : ℕ) (events : List (ℕ × Event)) (place
       → IsBrought kind budget (events ++ x ∷ []) (places ++ x.0 ∷ []) standing next new_saved
   pushed x standing next new_saved history stands are =
       record { history = history; places_are = all_and events places now.places_are x; stands = stands; saved_are = are }
-
-  -- an event is added, and the key goes on with it
-  pub gone_on : (x : ℕ × Event) (standing : KeyState) (new : List ℕ) (new_saved : List KeyState) → new ≡ places ++ x.0 ∷ [] → IsHistory (events ++ x ∷ []) → IsKeyState kind budget (events ++ x ∷ []) standing → AreSaved kind budget (events ++ x ∷ []) new_saved
-      → (told : List (ℕ × Event)) → told ≡ events ++ x ∷ [] → (room : ℕ) (left : Option Prepared) → left ≡ None → IsSoundLine kind budget told new standing new_saved room left
-  gone_on x standing new new_saved are history stands saved_are told told_is room left none =
-      subst (λ l. IsSoundLine kind budget l new standing new_saved room left) (sym told_is) (record {
-        now = record { history = history; places_are = are ∙ all_and events places now.places_are x; stands = stands; saved_are = saved_are };
-        next = λ q e. (let clash : None ≡ Some q = sym none ∙ e in cc);
-      })
 
   -- the first so many events are kept
   pub cut_brought : (k : ℕ) → k ≤ length places → (next : Next) → IsNext kind budget (take k events) state next → IsBrought kind budget (take k events) (take k places) state next (take (k / 64) saved)

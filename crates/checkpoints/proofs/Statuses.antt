@@ -5,8 +5,8 @@ use Rattle.std.proofs.lemmas.List.{append-nil}
 use Rattle.std.proofs.lemmas.List.Elements.{Contains-append_right}
 use Rattle.models.specs.declared.finding.Answer.{Answer}
 use Rattle.models.specs.Objects.{Object}
-use Rattle.history.specs.Events.{Mark, Entry, marks, IsFront}
-use Rattle.history.specs.Events.Mark.{Returned}
+use Rattle.events.specs.Events.{Mark, Entry, marks, IsFront}
+use Rattle.events.specs.Events.Mark.{Returned}
 use Rattle.linspec.specs.MarkRule.{AreWellFormed}
 use Rattle.linspec.specs.Orders.{IsLinearizable}
 use Rattle.linspec.specs.Ends.{End, IsEnd, HasMoreThan, IsBlownAt, IsBlownIndex, IsWithinBudget}

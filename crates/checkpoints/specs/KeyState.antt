@@ -2,14 +2,11 @@
 use Rattle.std.specs.Prelude.{ℕ, List}
 use Rattle.models.specs.declared.model_kind.ModelKind.{ModelKind}
 use Rattle.models.specs.Objects.{object_of}
-use Rattle.history.specs.declared.event.Event.{Event}
-use Rattle.history.specs.Events.{entries_of}
+use Rattle.events.specs.declared.event.Event.{Event}
+use Rattle.events.specs.Events.{entries_of}
 use Rattle.linspec.specs.declared.verdict.KeyStatus.{KeyStatus}
 use Rattle.linspec.specs.declared.verdict.KeyStatus.TheVariants as status
 use Rattle.linspec.specs.Verdicts.{IsKeyStatus}
-use Rattle.frontier.specs.declared.frontier.Step.{Step}
-use Rattle.frontier.specs.declared.frontier.Step.TheVariants as steps
-use Rattle.checkpoints.specs.declared.live_key.LiveKey.{LiveKey}
 use Rattle.checkpoints.specs.LiveKey.{IsLiveKey}
 use Rattle.checkpoints.specs.declared.key_state.KeyState.{KeyState}
 use Rattle.checkpoints.specs.declared.key_state.KeyState.TheVariants.{Alive, Dead, Over}
@@ -18,12 +15,6 @@ abbrev pub status_of : KeyState → KeyStatus
 status_of (Alive live) = status.Alive
 status_of (Dead i) = status.Dead i
 status_of (Over i) = status.Over i
-
--- how a key stands after the event of this index, by the step that it was
-abbrev pub state_by : Step → ℕ → LiveKey → KeyState
-state_by steps.Alive i live = Alive live
-state_by steps.Dead i live = Dead i
-state_by steps.Over i live = Over i
 
 -- the key is alive after the events
 abbrev pub IsAlive : ModelKind → ℕ → List (ℕ × Event) → Type 0

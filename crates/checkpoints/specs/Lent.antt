@@ -1,7 +1,7 @@
 -- Promise: the events of a line, as they are lent to it
 use Rattle.std.specs.Prelude.{◌≡◌, ℕ, Some, List, map, slice_get}
 use Rattle.std.specs.List.{All}
-use Rattle.history.specs.declared.event.Event.{Event}
+use Rattle.events.specs.declared.event.Event.{Event}
 
 -- each of these events stands in what is lent, at its index
 abbrev pub AreLentBy : List Event → List (ℕ × Event) → Type 0

@@ -1,11 +1,11 @@
 -- Invariant: what a key that is alive keeps of its events
 use Rattle.std.specs.Prelude.{◌≡◌, ℕ, Option, Some, None, List, [], ◌∷◌}
 use Rattle.models.specs.declared.model_kind.ModelKind.{ModelKind}
-use Rattle.history.specs.declared.event.EventKind.{EventKind}
-use Rattle.history.specs.declared.event.EventKind.TheVariants.{Invoke, Ok, Fail, Info}
-use Rattle.history.specs.declared.event.Event.{Event}
-use Rattle.history.specs.Events.{op_event, last_after, entries_of, marks}
-use Rattle.history.specs.ProcessRule.{busy_after}
+use Rattle.events.specs.declared.event.EventKind.{EventKind}
+use Rattle.events.specs.declared.event.EventKind.TheVariants.{Invoke, Ok, Fail, Info}
+use Rattle.events.specs.declared.event.Event.{Event}
+use Rattle.events.specs.Events.{op_event, last_after, entries_of, marks}
+use Rattle.events.specs.ProcessRule.{busy_after}
 use Rattle.frontier.specs.AnyFrontier.{AnyStandsFor, AnyWillStandFor, any_budget_of, kind_of_frontier}
 use Rattle.checkpoints.specs.Noted.{noted_of}
 use Rattle.checkpoints.specs.declared.live_key.LiveKey.{LiveKey}
@@ -47,10 +47,6 @@ pub record WillBeLive (kind : ModelKind) (budget : ℕ) (events : List (ℕ × E
   pub budget_is : any_budget_of live.frontier ≡ budget
   pub knows : KnowsOpen events live
   pub closed : (p : ℕ) → live.closes ≡ Some p → busy_of events p ≡ None
-
--- the process that is to be closed has no open operation
-abbrev pub ClosesDone : List (ℕ × Event) → LiveKey → Type 0
-ClosesDone events live = (p : ℕ) → live.closes ≡ Some p → busy_of events p ≡ None
 
 -- the operation that an event is of, where this one was open
 abbrev pub id_by : ℕ → EventKind → Option ℕ → Option ℕ

@@ -1,7 +1,7 @@
 -- Invariant: what becomes of a key by a change that is prepared
 use Rattle.std.specs.Prelude.{ℕ, List}
 use Rattle.models.specs.declared.model_kind.ModelKind.{ModelKind}
-use Rattle.history.specs.declared.event.Event.{Event}
+use Rattle.events.specs.declared.event.Event.{Event}
 use Rattle.linspec.specs.declared.verdict.KeyStatus.{KeyStatus}
 use Rattle.checkpoints.specs.LiveKey.{WillBeLive}
 use Rattle.checkpoints.specs.declared.key_state.KeyState.{KeyState}

@@ -1,8 +1,8 @@
 -- Invariant: what the line of a key keeps true of its fields
 use Rattle.std.specs.Prelude.{◌≡◌, ℕ, ◌<◌, Option, Some, None, List, [], ◌∷◌, ◌++◌, length, take}
 use Rattle.models.specs.declared.model_kind.ModelKind.{ModelKind}
-use Rattle.history.specs.declared.event.Event.{Event}
-use Rattle.history.specs.ProcessRule.{IsHistory}
+use Rattle.events.specs.declared.event.Event.{Event}
+use Rattle.events.specs.ProcessRule.{IsHistory}
 use Rattle.checkpoints.specs.declared.key_state.KeyState.{KeyState}
 use Rattle.checkpoints.specs.declared.key_line.Prepared.{Prepared}
 use Rattle.checkpoints.specs.declared.key_line.Prepared.TheVariants.{Push, Change}

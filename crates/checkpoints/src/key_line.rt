@@ -2,8 +2,8 @@
 ghost use Rattle.std.specs.Prelude.{◌≡◌, ◌≤◌, Some, None, [], ◌∷◌, ◌++◌, take, length, nat_lt};
 ghost use Rattle.std.specs.Prelude.{IsSome, IfSome, IfOk, OnOk, OnErr};
 ghost use Rattle.std.specs.Prelude.{ℕ, List, vec_capacity};
-ghost use Rattle.history.specs.declared.event.Event.{Event};
-ghost use Rattle.history.specs.ProcessRule.{IsHistory};
+ghost use Rattle.events.specs.declared.event.Event.{Event};
+ghost use Rattle.events.specs.ProcessRule.{IsHistory};
 ghost use Rattle.linspec.specs.KeyHistory.{IsStatusOf, without_events, with_pushed, cut_at, judged_by};
 ghost use Rattle.checkpoints.specs.KeyLineView.{at_rest, with_next};
 ghost use Rattle.linspec.specs.KeyHistory.{events_below, loses_at, begins_below};
@@ -12,9 +12,9 @@ ghost use Rattle.checkpoints.specs.Lent.{AreLentBy, places_of};
 
 use crate::key_state::KeyState;
 use crate::next::Next;
-use crate::saving::{Saves, go_on, gone_back, judged_anew, keep_or_renew, prepare_event};
+use crate::saving::{Saves, gone_back, judged_anew, keep_or_renew, prepare_event};
 use crate::told::Told;
-use history::Event;
+use events::Event;
 use linspec::KeyStatus;
 use models::ModelKind;
 use std::alloc::{AllocError, Global};
@@ -117,6 +117,7 @@ impl KeyLine {
     /// # Errors
     ///
     /// `AllocError` where memory was refused: then nothing is prepared, and the rest is as it was.
+    #[inline(always)]
     pub fn prepare_push(&mut self, index: u32, event: &Event) -> Result<KeyStatus, AllocError>
         requires { IsHistory (self.old.now.events ++ (index, event.now) ∷ []) }
         ensures status { IfOk result (IsStatusOf (with_pushed index event.now self.old.now)) }
@@ -231,6 +232,7 @@ impl KeyLine {
     }
 
     /// Carries out what is prepared.
+    #[inline(always)]
     pub fn commit(&mut self)
         requires { IsSome self.old.next }
         ensures { IfSome self.old.next (λ next.
@@ -284,13 +286,8 @@ impl KeyLine {
             ≡ at_rest (with_pushed index event.now self.old.now) (count_on self.old.replayed 1)) }
         ensures err { OnErr result (self.new ≡ at_rest self.old.now self.old.replayed) }
     {
-        drop_prepared(&mut self.prepared);
-        self.places.reserve(1)?;
-        let count = self.places.len();
-        go_on(&mut self.state, &mut self.saved, count, index, event)?;
-        self.places.push_reserved(index);
-        self.told = self.told.with(&index, event);
-        self.replayed = self.replayed.saturating_add(1);
+        self.prepare_push(index, event)?;
+        self.commit();
         Ok(())
     }
 

@@ -1,8 +1,8 @@
 //! How a key stands after events, and what it needs to go on.
-ghost use Rattle.std.specs.Prelude.{◌≡◌, ℕ, List, [], ◌∷◌, ◌++◌, length, IfOk, OnOk, MatchResult};
+ghost use Rattle.std.specs.Prelude.{◌≡◌, ℕ, List, [], ◌∷◌, ◌++◌, length, IfOk, OnOk};
 ghost use Rattle.models.specs.declared.model_kind.ModelKind.{ModelKind};
-ghost use Rattle.history.specs.declared.event.Event.{Event};
-ghost use Rattle.history.specs.ProcessRule.{IsHistory};
+ghost use Rattle.events.specs.declared.event.Event.{Event};
+ghost use Rattle.events.specs.ProcessRule.{IsHistory};
 ghost use Rattle.checkpoints.specs.KeyLineView.{count_on};
 ghost use Rattle.checkpoints.specs.KeyState.{IsKeyState, status_of};
 ghost use Rattle.checkpoints.specs.Lent.{AreAt};
@@ -10,8 +10,7 @@ ghost use Rattle.checkpoints.specs.Next.{IsNext};
 
 use crate::live_key::LiveKey;
 use crate::next::Next;
-use frontier::Step;
-use history::Event;
+use events::Event;
 use linspec::KeyStatus;
 use models::ModelKind;
 use std::alloc::{AllocError, Global};
@@ -46,6 +45,7 @@ impl KeyState {
 
     /// Prepares one more event, and says what becomes of the key. It stands as it stood until [`commit`](Self::commit), also on
     /// `AllocError`, and what was prepared before is dropped. The ends are not copied.
+    #[inline(always)]
     pub(crate) fn prepare(&mut self, index: u32, event: &Event) -> Result<Next, AllocError>
         ensures now { (kind : ModelKind) (budget : ℕ) (events : List (ℕ × Event))
             → IsKeyState kind budget events self.old
@@ -63,6 +63,7 @@ impl KeyState {
     }
 
     /// Carries out what becomes of the key.
+    #[inline(always)]
     pub(crate) fn commit(&mut self, next: Next)
         ensures { (kind : ModelKind) (budget : ℕ) (events : List (ℕ × Event))
             → IsNext kind budget events self.old next → IsKeyState kind budget events self.new }
@@ -78,27 +79,6 @@ impl KeyState {
             Next::Blows(index) => *self = KeyState::Over(index),
             Next::Becomes(state) => *self = Box::into_inner(state),
         }
-    }
-
-    /// One more event is prepared and carried out. On `AllocError` the key stands as it stood.
-    pub(crate) fn go_on(&mut self, index: u32, event: &Event) -> Result<(), AllocError>
-        ensures { (kind : ModelKind) (budget : ℕ) (events : List (ℕ × Event))
-            → IsKeyState kind budget events self.old
-            → IsHistory (events ++ (index, event.now) ∷ [])
-            → MatchResult result
-            (λ _. IsKeyState kind budget (events ++ (index, event.now) ∷ []) self.new)
-            (λ _. IsKeyState kind budget events self.new) }
-    {
-        let step = match self {
-            KeyState::Alive(live) => live.go_on(index, event)?,
-            KeyState::Dead(_) | KeyState::Over(_) => return Ok(()),
-        };
-        match step {
-            Step::Alive => {}
-            Step::Dead => *self = KeyState::Dead(index),
-            Step::Over => *self = KeyState::Over(index),
-        }
-        Ok(())
     }
 
     /// How the key stands with the events at these places too. Each is counted.
@@ -119,7 +99,8 @@ impl KeyState {
         let mut count = *replayed;
         for index in places {
             count = count.saturating_add(1);
-            state.go_on(*index, &lent[*index as usize])?;
+            let next = state.prepare(*index, &lent[*index as usize])?;
+            state.commit(next);
         }
         *replayed = count;
         Ok(state)

@@ -1,7 +1,7 @@
 //! Laws of what is known of a key while its events come.
 ghost use Rattle.std.specs.Prelude.{◌≡◌, ◌⊎◌, ℕ, ◌<◌, false, [], ◌∷◌, ◌++◌};
-ghost use Rattle.history.specs.declared.event.Event.{Event};
-ghost use Rattle.history.specs.ProcessRule.{IsHistory};
+ghost use Rattle.events.specs.declared.event.Event.{Event};
+ghost use Rattle.events.specs.ProcessRule.{IsHistory};
 ghost use Rattle.linspec.specs.declared.verdict.KeyStatus.{KeyStatus};
 ghost use Rattle.linspec.specs.KeyHistory.{KeyHistory, IsStatusOf, with_pushed, loses_at};
 ghost use Rattle.checkpoints.specs.KeyLineView.{replays_at};

@@ -1,18 +1,18 @@
 //! A key that is alive, with the ends of its events.
-ghost use Rattle.std.specs.Prelude.{◌≡◌, ℕ, List, [], ◌∷◌, ◌++◌, nat_eq, if◌then◌else◌, IfOk, OnOk, OnErr, MatchResult};
+ghost use Rattle.std.specs.Prelude.{◌≡◌, ℕ, List, [], ◌∷◌, ◌++◌, nat_eq, if◌then◌else◌, IfOk, OnOk, OnErr};
 ghost use Rattle.models.specs.declared.model_kind.ModelKind.{ModelKind};
-ghost use Rattle.history.specs.declared.event.Event.{Event};
-ghost use Rattle.history.specs.ProcessRule.{IsHistory};
-ghost use Rattle.checkpoints.specs.LiveKey.{IsLiveKey, WillBeLive, ClosesDone, id_by, closed_by};
-ghost use Rattle.checkpoints.specs.KeyState.{IsAlive, IsKeyState, state_by};
+ghost use Rattle.events.specs.declared.event.Event.{Event};
+ghost use Rattle.events.specs.ProcessRule.{IsHistory};
+ghost use Rattle.checkpoints.specs.LiveKey.{IsLiveKey, WillBeLive, id_by, closed_by};
+ghost use Rattle.checkpoints.specs.KeyState.{IsAlive};
 ghost use Rattle.checkpoints.specs.Next.{IsNext};
 ghost use Rattle.checkpoints.specs.Noted.{noted_of};
 ghost use Rattle.checkpoints.specs.declared.key_state.KeyState.{KeyState};
 
 use crate::invocations::Invocations;
 use crate::next::Next;
+use events::{Body, Event, EventKind, Process};
 use frontier::{AnyFrontier, Step};
-use history::{Body, Event, EventKind, Process};
 use linspec::laws::never_kills_law;
 use models::ModelKind;
 use std::alloc::{AllocError, Global};
@@ -86,52 +86,8 @@ impl LiveKey {
         }
     }
 
-    /// One more event is prepared and carried out, with nothing kept between the two, and it is said what comes of it: where that is
-    /// Dead or Over, the key is so at this event. On `AllocError` it stands as it stood.
-    pub(crate) fn go_on(&mut self, index: u32, event: &Event) -> Result<Step, AllocError>
-        ensures { (kind : ModelKind) (budget : ℕ) (events : List (ℕ × Event))
-            → IsLiveKey kind budget events self.old → IsAlive kind budget events
-            → IsHistory (events ++ (index, event.now) ∷ [])
-            → MatchResult result
-            (λ step. IsKeyState kind budget (events ++ (index, event.now) ∷ [])
-            (state_by step index self.new))
-            (λ _. IsLiveKey kind budget events self.new) }
-    {
-        never_kills_law();
-        // An event that speaks of no operation changes nothing.
-        let Process::Client(process) = event.process else {
-            return Ok(Step::Alive);
-        };
-        let Body::Op(op) = &event.body else {
-            return Ok(Step::Alive);
-        };
-        // By the process rule every completion finds an open operation.
-        let Some(id) = noted(&mut self.invocations, process, index, event.kind)? else {
-            return Ok(Step::Alive);
-        };
-        self.closes = closing(process, event.kind);
-        match self.frontier.observe(id, event.kind, op)? {
-            Step::Alive => {
-                self.close();
-                Ok(Step::Alive)
-            }
-            Step::Dead => Ok(Step::Dead),
-            Step::Over => Ok(Step::Over),
-        }
-    }
-
-    // An operation that is completed is open no more.
-    fn close(&mut self)
-        ensures { (kind : ModelKind) (budget : ℕ) (events : List (ℕ × Event))
-            → IsLiveKey kind budget events self.old → ClosesDone events self.old
-            → IsLiveKey kind budget events self.new }
-    {
-        if let Some(process) = self.closes.take() {
-            self.invocations.forget(process);
-        }
-    }
-
     /// Carries out what is prepared: the ends go on, and an operation that is completed is open no more.
+    #[inline(always)]
     pub(crate) fn commit(&mut self)
         ensures { (kind : ModelKind) (budget : ℕ) (events : List (ℕ × Event))
             → WillBeLive kind budget events self.old → IsLiveKey kind budget events self.new }

@@ -1,8 +1,8 @@
 //! States of a key that are saved as its events come, to go back to.
-ghost use Rattle.std.specs.Prelude.{◌≡◌, ◌≤◌, ◌*◌, ◌/◌, ◌%◌, ℕ, List, [], ◌∷◌, ◌++◌, take, length, IfOk, OnOk, MatchResult};
+ghost use Rattle.std.specs.Prelude.{◌≡◌, ◌≤◌, ◌*◌, ◌/◌, ◌%◌, ℕ, List, [], ◌∷◌, ◌++◌, take, length, IfOk, OnOk};
 ghost use Rattle.models.specs.declared.model_kind.ModelKind.{ModelKind};
-ghost use Rattle.history.specs.declared.event.Event.{Event};
-ghost use Rattle.history.specs.ProcessRule.{IsHistory};
+ghost use Rattle.events.specs.declared.event.Event.{Event};
+ghost use Rattle.events.specs.ProcessRule.{IsHistory};
 ghost use Rattle.checkpoints.specs.KeyLineView.{count_on};
 ghost use Rattle.checkpoints.specs.KeyState.{IsKeyState};
 ghost use Rattle.checkpoints.specs.Lent.{AreAt};
@@ -12,7 +12,7 @@ ghost use Rattle.checkpoints.specs.Saves.{saved_by};
 
 use crate::key_state::KeyState;
 use crate::next::Next;
-use history::Event;
+use events::Event;
 use models::ModelKind;
 use std::alloc::{AllocError, Global};
 
@@ -68,34 +68,6 @@ pub(crate) fn prepare_event(
     state.prepare(index, event)
 }
 
-/// One more event of a key that has so many is prepared and carried out. Where a 64th event is the last one, a copy of how the
-/// key stands after it is saved before. On `AllocError` the key stands as it stood.
-pub(crate) fn go_on(
-    state: &mut KeyState,
-    saved: &mut Vec<KeyState>,
-    events: usize,
-    index: u32,
-    event: &Event,
-) -> Result<(), AllocError>
-    ensures stands { (kind : ModelKind) (budget : ℕ) (before : List (ℕ × Event))
-        → IsKeyState kind budget before state.old
-        → IsHistory (before ++ (index, event.now) ∷ [])
-        → MatchResult result
-        (λ _. IsKeyState kind budget (before ++ (index, event.now) ∷ []) state.new)
-        (λ _. IsKeyState kind budget before state.new) }
-    ensures saved { (kind : ModelKind) (budget : ℕ) (before : List (ℕ × Event))
-        → length before ≡ events → IsKeyState kind budget before state.old
-        → AreSaved kind budget before saved.old.items
-        → AreSaved kind budget before saved.new.items }
-    ensures more { (kind : ModelKind) (budget : ℕ) (before : List (ℕ × Event))
-        → length before ≡ events → IsKeyState kind budget before state.old
-        → AreSaved kind budget before saved.old.items
-        → OnOk result (AreSaved kind budget (before ++ (index, event.now) ∷ []) saved.new.items) }
-{
-    save(saved, state, events)?;
-    state.go_on(index, event)
-}
-
 // Saves a copy of the state after so many events where the last one is a 64th one, unless that was done. All that is to be saved
 // of them is then saved, whatever event follows.
 fn save(saved: &mut Vec<KeyState>, state: &KeyState, events: usize) -> Result<(), AllocError>
@@ -140,13 +112,9 @@ pub(crate) fn judged_anew(
     let mut count = *replayed;
     for index in places {
         count = count.saturating_add(1);
-        go_on(
-            &mut state,
-            &mut saved,
-            before,
-            *index,
-            &lent[*index as usize],
-        )?;
+        let event = &lent[*index as usize];
+        let next = prepare_event(&mut state, &mut saved, before, *index, event)?;
+        state.commit(next);
         before += 1;
     }
     *replayed = count;

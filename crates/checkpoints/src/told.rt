@@ -1,9 +1,9 @@
 //! The events of a line, for proofs alone.
 ghost use Rattle.std.specs.Prelude.{◌≡◌, ℕ, List, [], ◌∷◌, ◌++◌, take};
 ghost use Rattle.std.specs.Borrow.{ftrue};
-ghost use Rattle.history.specs.declared.event.Event.{Event};
+ghost use Rattle.events.specs.declared.event.Event.{Event};
 
-use history::Event;
+use events::Event;
 use std::marker::Model;
 
 /// The events of a line with their indices, in the order in which they came. Only proofs read them: this takes no memory, and

@@ -14,7 +14,7 @@ use Rattle.edn.specs.Elements.{IsLeftBehind, count_of}
 use Rattle.edn.specs.declared.refusal.Refusal.{Refusal}
 use Rattle.edn.specs.declared.refusal.Refusal.TheVariants.{NoMemory, ReadFailed}
 use Rattle.models.specs.declared.model_kind.ModelKind.{ModelKind}
-use Rattle.history.specs.declared.event.Event.{Event}
+use Rattle.events.specs.declared.event.Event.{Event}
 use Rattle.history.specs.WellFormed.{Refuses, MayRefuse}
 use Rattle.linspec.specs.declared.verdict.Verdict.{Verdict}
 use Rattle.linspec.specs.JudgedHistory.{IsVerdictOn, opening_of, rewound}
@@ -83,7 +83,7 @@ all_taken setup opens bytes end is (RefusedEvent i why) finds = absurd finds
 all_taken setup opens bytes end is (Refused why) finds = subst (λ w. ComesTo setup bytes (Refused w)) (sym finds) (inl (opens, tt))
 
 -- what a loaded monitor judges
-pub loaded_now : (monitor : MonitorView) (c : ℕ) (kind : ModelKind) (budget : ℕ) (events : List Event) → monitor ≡ at_rest (with_events events (opening_of c kind budget)) → monitor.now ≡ with_all c kind budget events
+pub loaded_now : (monitor : MonitorView) (c : ℕ) (kind : ModelKind) (budget : ℕ) (events : List Event) → monitor ≡ at_rest (with_events events (opening_of c kind budget)) 0 → monitor.now ≡ with_all c kind budget events
 loaded_now monitor c kind budget events is = ap (λ m. m.now) is ∙ events_in_turn events (opening_of c kind budget)
 
 -- the reader has not failed, where it is not said that it has

@@ -5,8 +5,8 @@ use Rattle.edn.specs.Text.{IsText}
 use Rattle.edn.specs.Elements.{Reading as ReadingText, IsLeftBehind, count_of}
 use Rattle.edn.specs.declared.refusal.Refusal.{Refusal}
 use Rattle.edn.specs.declared.refusal.Refusal.TheVariants.{BadValue}
-use Rattle.history.specs.declared.event.Event.{Event}
-use Rattle.history.specs.Spelling.{Spells, WhyUnspelled}
+use Rattle.events.specs.declared.event.Event.{Event}
+use Rattle.events.specs.Spelling.{Spells, WhyUnspelled}
 use Rattle.history.specs.WellFormed.{IsWellFormed, Refuses}
 
 -- the element spells this event, or none for this

@@ -7,8 +7,8 @@ use Rattle.edn.specs.Elements.{count_of}
 use Rattle.edn.specs.Refusals.{number_of, name_of, IsWhy}
 use Rattle.edn.specs.declared.refusal.Refusal.{Refusal}
 use Rattle.edn.specs.declared.refusal.Refusal.TheVariants.{BadValue, NoMemory}
-use Rattle.history.specs.declared.event.Event.{Event}
-use Rattle.history.specs.Spelling.{Spells}
+use Rattle.events.specs.declared.event.Event.{Event}
+use Rattle.events.specs.Spelling.{Spells}
 use Rattle.machine.specs.Machine.{Machine, Setup, MayStep, Takes, appended, opening}
 use Rattle.harness.specs.Setups.{IsSetup, MayNotOpen}
 use Rattle.linspec.specs.JudgedHistory.{IsVerdictOn}

@@ -8,7 +8,8 @@ ghost use Rattle.edn.specs.View.{value_of};
 ghost use Rattle.checks.specs.Reading.{IsSpelled, PassesOver, PushesElement, RefusesNext, IsRead};
 
 use edn::{Edn, Elements, Refusal};
-use history::{Event, History, from_edn};
+use events::{Event, from_edn};
+use history::History;
 use onlookers::Onlooker;
 use plain_events::plain_event;
 use std::alloc::Global;

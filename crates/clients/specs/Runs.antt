@@ -3,10 +3,10 @@ use Rattle.std.specs.Prelude.{◌≡◌, ◌⊎◌, ℕ, ◌<◌, ◌≤◌, ◌
 use mathlib.Core.List.{IsPrefix}
 use Rattle.edn.specs.declared.refusal.Refusal.{Refusal}
 use Rattle.edn.specs.declared.refusal.Refusal.TheVariants.{NoSeat}
-use Rattle.history.specs.Events.{marks}
+use Rattle.events.specs.Events.{marks}
 use Rattle.linspec.specs.Orders.{Taken, IsLegalOrder, product}
 use Rattle.linspec.specs.JudgedHistory.{kind_of, entries_in}
-use Rattle.trials.specs.Trials.{AreOfTickets}
+use Rattle.machine.specs.Trials.{AreOfTickets}
 use Rattle.machine.specs.Machine.{Machine, Setup, serves_in}
 use Rattle.harness.specs.Setups.{IsSetup, MayNotOpen}
 use Rattle.board.specs.declared.tape.TapeEntry.TheVariants.{Opening, Call}

@@ -1,6 +1,6 @@
 //! Whole runs: a board is opened, clients run on its seats, and it is ended.
 ghost use Rattle.std.specs.Prelude.{◌≡◌, ◌≤◌, ◌-◌, ℕ, IfOk, IfErr, OnOk};
-ghost use Rattle.history.specs.Events.{marks};
+ghost use Rattle.events.specs.Events.{marks};
 ghost use Rattle.linspec.specs.Orders.{IsLinearizable, product};
 ghost use Rattle.linspec.specs.declared.verdict.Verdict.{Verdict};
 ghost use Rattle.test_store.specs.declared.outcome.Mode.TheVariants.{Strict};

@@ -3,9 +3,9 @@ ghost use Rattle.std.specs.Prelude.{◌≡◌};
 
 use board::Blank;
 use edn::Refusal;
+use events::{Body, Event, EventKind, Process};
 use generators::{Cycle, Gen, Item};
 use harness::{Command, Config};
-use history::{Body, Event, EventKind, Process};
 use models::{ModelKind, Name, Op, Part};
 use nemesis::Schedule;
 use std::alloc::Global;

@@ -5,7 +5,7 @@ use crate::boards::{TURNS, blank_under, read};
 use board::{Blank, Tag};
 use clients::{Watch, run_clients};
 use edn::Gate;
-use history::{Fault, Process};
+use events::{Fault, Process};
 use linspec::Verdict;
 use nemesis::Schedule;
 use std::alloc::{AllocError, Global};

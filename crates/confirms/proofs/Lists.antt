@@ -6,7 +6,7 @@ use Rattle.edn.specs.Parts.{elements_in}
 use Rattle.edn.specs.Elements.{count_of}
 use Rattle.edn.specs.View.{value_of, values_of}
 use Rattle.edn.specs.declared.value.Edn.{Edn}
-use Rattle.history.specs.Spelling.{IsNumber}
+use Rattle.events.specs.Spelling.{IsNumber}
 use Rattle.confirms.specs.Listing.{AreIndices, listed_in, Lists, ListsAll}
 
 pub indices_more : (vs : Values) (ids : List ℕ) (v : Value) (id : ℕ) → AreIndices vs ids → IsNumber (2 ^ 32) v id → AreIndices (joined vs (more v none)) (ids ++ id ∷ [])

@@ -1,17 +1,18 @@
 -- the bytes of a history and of an order have one answer
-use Rattle.std.proofs.Common.{◌≡◌, ℕ, ◌↔◌, ◌^◌, pos, List, [], ◌∷◌, ◌++◌, refl, sym, ap, ◌∙◌, subst}
+use Rattle.std.proofs.Common.{◌≡◌, ℕ, ◌≤◌, ◌↔◌, ◌^◌, pos, List, [], ◌∷◌, ◌++◌, refl, sym, ap, ◌∙◌, subst, arith}
 use Rattle.edn.specs.Value.{Value, int, Values, none, more}
 use Rattle.edn.proofs.Unique.{one_text}
 use Rattle.models.specs.declared.model_kind.ModelKind.{ModelKind}
-use Rattle.history.specs.declared.event.Event.{Event}
-use Rattle.history.specs.Spelling.{IsNumber}
-use Rattle.history.proofs.OneEvent.{spell_one}
+use Rattle.events.specs.declared.event.Event.{Event}
+use Rattle.events.specs.Spelling.{IsNumber}
+use Rattle.events.proofs.OneEvent.{spell_one}
 use Rattle.witness.specs.Orders.{IsWitness}
 use Rattle.witness.specs.declared.confirming.Confirmation.{Confirmation}
 use Rattle.witness.specs.declared.confirming.Confirmation.TheVariants.{Linearizable, NoOrder}
+use Rattle.witness.specs.declared.misfit.Unfit.{Unfit}
 use Rattle.checks.specs.Reading.{PushesAll}
 use Rattle.confirms.specs.Listing.{AreIndices, listed_in, ListsAll, IsOrderText}
-use Rattle.confirms.specs.Found.{ComesTo, IsWhole}
+use Rattle.confirms.specs.Found.{ComesTo, IsWhole, Shows}
 use Rattle.confirms.specs.declared.found.Found.TheVariants.{Shown}
 
 pushes_one : (c : ℕ) (old : List Event) (vs : Values) (events others : List Event) → PushesAll c old vs events → PushesAll c old vs others → events ≡ others
@@ -54,3 +55,18 @@ pub one_answer_law : (c : ℕ) (kind : ModelKind) (bytes order : List ℕ) (said
     → ComesTo c kind bytes order (Shown other) → (said ≡ Linearizable) ↔ (other ≡ Linearizable)
 one_answer_law c kind bytes order said other a b =
     (no_other c kind bytes order said other a b, no_other c kind bytes order other said b a)
+
+-- so there is one least place at which something does not fit
+one_place : (kind : ModelKind) (events : List Event) (ids : List ℕ) (unfit other : Unfit) → Shows kind events ids (NoOrder unfit) → Shows kind events ids (NoOrder other) → unfit.place ≡ other.place
+one_place kind events ids unfit other a b =
+    let l = a.2 other b.1 in
+    let g = b.2 unfit a.1 in
+    omega (arith, l, g)
+
+pub one_place_law : (c : ℕ) (kind : ModelKind) (bytes order : List ℕ) (unfit other : Unfit) → ComesTo c kind bytes order (Shown (NoOrder unfit))
+    → ComesTo c kind bytes order (Shown (NoOrder other)) → unfit.place ≡ other.place
+one_place_law c kind bytes order unfit other a b =
+    one_place kind b.0 b.2.0 unfit other
+    (subst (λ ids. Shows kind b.0 ids (NoOrder unfit)) (one_order order a.2.0 b.2.0 a.2.1 b.2.1)
+    (subst (λ events. Shows kind events a.2.0 (NoOrder unfit)) (one_history c bytes a.0 b.0 a.1 b.1) a.2.2))
+    b.2.2

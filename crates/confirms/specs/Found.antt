@@ -5,9 +5,9 @@ use Rattle.edn.specs.declared.refusal.Refusal.{Refusal}
 use Rattle.edn.specs.declared.refusal.Refusal.TheVariants.{NoMemory}
 use Rattle.models.specs.declared.model_kind.ModelKind.{ModelKind}
 use Rattle.processes.specs.Threads.{MayNotStart}
-use Rattle.history.specs.declared.event.Event.{Event}
+use Rattle.events.specs.declared.event.Event.{Event}
 use Rattle.linspec.specs.Orders.{IsLinearizable, product}
-use Rattle.witness.specs.Orders.{IsWitness, IsUnfit, marks_in}
+use Rattle.witness.specs.Orders.{IsWitness, IsUnfit, StandsFirst, marks_in}
 use Rattle.witness.specs.declared.confirming.Confirmation.{Confirmation}
 use Rattle.witness.specs.declared.confirming.Confirmation.TheVariants.{Linearizable, NoOrder}
 use Rattle.witness.specs.declared.misfit.Misfit.{Misfit}
@@ -20,10 +20,12 @@ use Rattle.confirms.specs.Listing.{IsOrderText, ListsUpTo}
 use Rattle.confirms.specs.declared.found.Found.{Found}
 use Rattle.confirms.specs.declared.found.Found.TheVariants.{Shown, RefusedEvent, Refused, RefusedElement, RefusedOrder}
 
--- what an order shows of these events: it is one of theirs, which are linearizable; or it is none, for this reason
+-- what an order shows of these events: it is one of theirs, which are linearizable; or it is none, for this reason, before which
+-- all fits
 abbrev pub Shows : ModelKind → List Event → List ℕ → Confirmation → Type 0
 Shows kind events ids Linearizable = IsWitness kind events ids × IsLinearizable (product (λ _. kind)) (marks_in events)
-Shows kind events ids (NoOrder unfit) = ¬ IsWitness kind events ids × IsUnfit kind events ids unfit
+Shows kind events ids (NoOrder unfit) =
+    ¬ IsWitness kind events ids × IsUnfit kind events ids unfit × StandsFirst kind events ids unfit
 
 -- what is refused of the history that the bytes spell; or memory ran out
 abbrev pub IsHistoryRefused : ℕ → List ℕ → Found → Type 0

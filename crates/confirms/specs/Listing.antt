@@ -3,7 +3,7 @@ use Rattle.std.specs.Prelude.{◌≡◌, ℕ, ◌^◌, Bool, true, false, List, 
 use Rattle.edn.specs.Value.{Value, vector, Values, none, more, joined}
 use Rattle.edn.specs.Text.{IsText}
 use Rattle.edn.specs.Elements.{count_of}
-use Rattle.history.specs.Spelling.{IsNumber}
+use Rattle.events.specs.Spelling.{IsNumber}
 
 -- the values are these indices, one after another
 abbrev pub AreIndices : Values → List ℕ → Type 0

@@ -3,7 +3,7 @@ ghost use Rattle.std.specs.Prelude.{◌≡◌, ◌^◌, ℕ, List, ◌++◌, IfO
 ghost use Rattle.edn.specs.Refusals.{IsWhy};
 ghost use Rattle.edn.specs.View.{value_of, values_of};
 ghost use Rattle.models.specs.Names.{Finds};
-ghost use Rattle.history.specs.Spelling.{IsNumber};
+ghost use Rattle.events.specs.Spelling.{IsNumber};
 ghost use Rattle.confirms.specs.Listing.{IsOrderText, ListsUpTo, ListsAll, HaltsAt, Brings, listed_in};
 
 use edn::{Edn, Refusal, read_all};

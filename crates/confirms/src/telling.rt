@@ -1,6 +1,5 @@
 //! The line that says what was found, and its exit status.
 ghost use Rattle.std.specs.Prelude.{◌≡◌, ◌≢◌, IfOk, IfSome, IfNone, string_bytes};
-ghost use Rattle.line_loop.specs.RefusalLine.{place_text};
 ghost use Rattle.confirms.specs.declared.found.Found.{Found};
 ghost use Rattle.confirms.specs.Found.{found_status, found_text, opening_of, order_line, status_of_misfit, unfit_line, word_of};
 ghost use Rattle.confirms.specs.Telling.{PutsLine};
@@ -9,7 +8,7 @@ ghost use Rattle.confirms.specs.Confirms.{IsTold, StandsFor};
 use crate::found::Found;
 use checks::{REFUSED, event_text, put_refused, put_text};
 use edn::Refusal;
-use line_loop::{Failed, Flushes, refusal_text};
+use line_loop::{Failed, Flushes, place_text, refusal_text};
 use std::alloc::{AllocError, Global};
 use std::io::Write;
 use std::sync::Wait;
@@ -118,16 +117,6 @@ fn order_text(alloc: Global, refusal: &Refusal) -> Result<String, AllocError>
     let name = refusal.name();
     let place = place_text(alloc, refusal)?;
     format!(in alloc; "refused {number} {name}{place} order\n")
-}
-
-// The place that the refusal of bytes that are no text names, after a space.
-fn place_text(alloc: Global, refusal: &Refusal) -> Result<String, AllocError>
-    ensures { IfOk result (λ text. string_bytes text ≡ place_text refusal.now) }
-{
-    match refusal {
-        Refusal::Unreadable(place) => format!(in alloc; " {place}"),
-        _ => Ok(String::new(alloc)),
-    }
 }
 
 // The exit status of what was found.

@@ -7,7 +7,7 @@ use Rattle.std.proofs.lemmas.List.Elements.{Contains-append_left, Contains-appen
 use Rattle.models.specs.declared.finding.Answer.{Answer}
 use Rattle.models.specs.declared.finding.Found.{Found}
 use Rattle.models.specs.Objects.{Object}
-use Rattle.history.specs.Events.{IsFront}
+use Rattle.events.specs.Events.{IsFront}
 use Rattle.linspec.specs.Ends.{End}
 use Rattle.linspec.proofs.Filters.{filter-no, filter-yes, from_filter}
 use Rattle.linspec.proofs.Lists.{Contains-cons_cases, Contains-head, Contains-nil, Contains-tail}

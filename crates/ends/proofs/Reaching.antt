@@ -4,8 +4,8 @@ use Rattle.std.specs.List.{Contains}
 use Rattle.std.specs.FinMap as finmap
 use Rattle.std.proofs.lemmas.Bool.{true≢false}
 use Rattle.models.specs.Objects.{Object}
-use Rattle.history.specs.Events.{Mark}
-use Rattle.history.specs.Events.Mark.{Crashed}
+use Rattle.events.specs.Events.{Mark}
+use Rattle.events.specs.Events.Mark.{Crashed}
 use Rattle.linspec.specs.Orders.{Taken}
 use Rattle.linspec.specs.Ends.{End, IsEnd}
 use Rattle.linspec.proofs.Reach.{Extends, Reaches, leaves_more}

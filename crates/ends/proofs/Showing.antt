@@ -5,14 +5,14 @@ use Rattle.std.proofs.lemmas.List.{get_or_append_left, take-append-le, take_all}
 use Rattle.std.proofs.lemmas.List.Elements.{Contains-push_cases}
 use Rattle.std.proofs.lemmas.Option.{slice_get_within, get_or_from_slice_get}
 use Rattle.models.specs.Objects.{Object}
-use Rattle.history.specs.Events.{IsFront}
+use Rattle.events.specs.Events.{IsFront}
 use Rattle.linspec.specs.Ends.{End}
 use Rattle.ends.specs.declared.pending_op.PendingOp.{PendingOp}
 use Rattle.ends.specs.declared.table.Table.{Table}
 use Rattle.ends.specs.EndSteps.{Adds, TakesLast, Next, Along, Grows}
 use Rattle.models.specs.declared.finding.Found.{Found}
 use Rattle.ends.specs.KeptEnds.{AreIncluded}
-use Rattle.ends.specs.Tables.{AreLed, AreShown, Says, Shows, ShownWith, Widens, row_led, rows_of, with_rows}
+use Rattle.ends.specs.Tables.{AreLed, AreShown, OnlyAdds, OnlyTries, Says, Shows, ShownWith, Widens, row_led, rows_of, with_rows}
 use Rattle.interned.specs.Numbers.{IsOnceIn}
 use Rattle.rows.specs.RowSets.{IsPut}
 use Rattle.ends.proofs.Adding.{IsFront-itself, IsFront-push, IsFront-trans, Adds-old, Adds-new, Adds-change, Adds-more, Adds-more_from, Adds-start}
@@ -31,6 +31,24 @@ widens_on t u v a b = record {
   states_once = λ h. b.states_once (a.states_once h);
   founds_once = λ h. b.founds_once (a.founds_once h);
 }
+
+pub adds_itself : {S : Type 0} (t : Table S) (n : ℕ) → OnlyAdds t t n n
+adds_itself t n = record { widens = widens_itself t; front = IsFront-itself (rows_of t); never_falls = omega arith }
+
+module _ {S : Type 0} {t u v : Table S} {a b c : ℕ} where
+  pub tries_on : OnlyTries t u a b → OnlyTries u v b c → OnlyTries t v a c
+  tries_on one more = record {
+    widens = widens_on t u v one.widens more.widens;
+    rows = more.rows ∙ one.rows;
+    never_falls = (let x = one.never_falls in let y = more.never_falls in omega (arith, x, y));
+  }
+
+  pub adds_on : OnlyAdds t u a b → OnlyAdds u v b c → OnlyAdds t v a c
+  adds_on one more = record {
+    widens = widens_on t u v one.widens more.widens;
+    front = IsFront-trans (rows_of t) (rows_of u) (rows_of v) one.front more.front;
+    never_falls = (let x = one.never_falls in let y = more.never_falls in omega (arith, x, y));
+  }
 
 -- a table whose states or whose found things are more
 pub widens_states : {S : Type 0} (t u : Table S) (states : List S) → Widens t u → IsFront u.states states → (IsOnceIn u.states → IsOnceIn states) → Widens t (record { states = states; founds = u.founds; rows = u.rows })

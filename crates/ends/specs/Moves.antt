@@ -9,6 +9,7 @@ use Rattle.ends.specs.declared.table.Table.{Table}
 use Rattle.ends.specs.declared.moves.Known.{Known}
 use Rattle.ends.specs.declared.moves.Like.{Like}
 use Rattle.ends.specs.declared.moves.Move.{Move}
+use Rattle.ends.specs.declared.moves.Moves.{Moves}
 use Rattle.ends.specs.declared.moves.Move.TheVariants.{Untried, Nowhere, To, ToEach}
 use Rattle.ends.specs.Tables.{told_by}
 use Rattle.interned.specs.Numbers.{IsSlot}
@@ -67,6 +68,12 @@ AreMoves {S} apply t calls known targets = (n at : ℕ) (c : PendingOp) → slic
     (known_at known (length calls) n at ≡ Untried)
     ⊎ ((s : S) × (slice_get t.states n ≡ Some s)
     × LeadsTo t c.crashed (apply c.op s) targets (known_at known (length calls) n at))
+
+-- what is known of calls in states is so as it was before, and what is known of which do the same is as it was
+pub record KeepMoves {S : Type 0} (apply : Op → S → List (S × Found)) (calls : List PendingOp) (old new : Table S)
+    (before after : Moves S) : Type 0 where
+  pub known : AreMoves apply old calls before.known before.targets.items → AreMoves apply new calls after.known after.targets.items
+  pub likes : after.likes ≡ before.likes
 
 -- a call at the other place does the same as the one at this place
 abbrev pub IsAlike : List PendingOp → ℕ → ℕ → Type 0

@@ -7,7 +7,7 @@ use Rattle.models.specs.declared.finding.Answer.{Answer}
 use Rattle.models.specs.declared.finding.Found.{Found}
 use Rattle.models.specs.declared.finding.Found.TheVariants.{Unit as Nothing}
 use Rattle.models.specs.Objects.{Object, Fits}
-use Rattle.history.specs.Events.{IsFront}
+use Rattle.events.specs.Events.{IsFront}
 use Rattle.linspec.specs.Orders.{Pairwise}
 use Rattle.linspec.specs.Ends.{End}
 use Rattle.interned.specs.Numbers.{IsOnceIn, IsSlot}
@@ -74,6 +74,18 @@ pub record Widens {S : Type 0} (old new : Table S) : Type 0 where
   pub founds : IsFront old.founds new.founds
   pub states_once : IsOnceIn old.states → IsOnceIn new.states
   pub founds_once : IsOnceIn old.founds → IsOnceIn new.founds
+
+-- calls are tried and no more: the table has what it had and its rows are the same, and the count of the steps does not fall
+pub record OnlyTries {S : Type 0} (old new : Table S) (before after : ℕ) : Type 0 where
+  pub widens : Widens old new
+  pub rows : rows_of new ≡ rows_of old
+  pub never_falls : before ≤ after
+
+-- rows are added and no more: the table has what it had and its rows stand before the new ones, and so with the count
+pub record OnlyAdds {S : Type 0} (old new : Table S) (before after : ℕ) : Type 0 where
+  pub widens : Widens old new
+  pub front : IsFront (rows_of old) (rows_of new)
+  pub never_falls : before ≤ after
 
 -- the row with these numbers of a state and at this place
 abbrev pub row_led : List ℕ → ℕ → ℕ × ℕ → List ℕ

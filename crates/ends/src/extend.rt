@@ -3,13 +3,13 @@ ghost use Rattle.std.specs.Prelude.{◌≡◌, ◌≢◌, ℕ, ◌+◌, ◌*◌,
 ghost use Rattle.std.specs.Prelude.{List, [], ◌∷◌, get_or, length, slice_get, Some, IfOk, OnOk};
 ghost use Rattle.std.specs.List.{Contains};
 ghost use Rattle.models.specs.Objects.{of_table};
-ghost use Rattle.history.specs.Events.{IsFront};
+ghost use Rattle.events.specs.Events.{IsFront};
 ghost use Rattle.linspec.specs.Ends.{End};
 ghost use Rattle.linspec.specs.Orders.{Pairwise};
-ghost use Rattle.ends.specs.Moves.{AreAlike, AreMoves, IsAlike, IsKnown, targets_of};
+ghost use Rattle.ends.specs.Moves.{AreAlike, AreMoves, IsAlike, IsKnown, KeepMoves, targets_of};
 ghost use Rattle.ends.specs.EndSteps.{Along, AreClosed, TakesLast, Next, ReachesMoreThan, is_in};
 ghost use Rattle.ends.specs.Tables.{AreShown, HasEachOnce, Shows, Widens, row_led, rows_of};
-ghost use Rattle.ends.specs.Tables.{IsAdvanced, ShownWith, ShownGrown, with_rows};
+ghost use Rattle.ends.specs.Tables.{IsAdvanced, OnlyAdds, ShownWith, ShownGrown, with_rows};
 
 use crate::after;
 use crate::moves::{self, Move, Moves};
@@ -140,10 +140,7 @@ fn grow_at<M: SeqObject>(
     requires number { number ≡ get_or row.now 0 0 }
     requires row { row.now ≡ get_or (rows_of table.old) from [] }
     requires zero_there { slice_get row.now (at + 1) ≡ Some 0 }
-    ensures moves { AreMoves M.apply_to table.old calls.now
-        moves.old.known moves.old.targets.items
-        → OnOk result (AreMoves M.apply_to table.new calls.now
-        moves.new.known moves.new.targets.items) }
+    ensures moves { OnOk result (KeepMoves M.apply_to calls.now table.old table.new moves.old moves.new) }
     ensures adds { let object = of_table M.State M.start_state M.apply_to in
         AreMoves M.apply_to table.old calls.now moves.old.known moves.old.targets.items
         → IsAlike calls.now at place → HasEachOnce calls.now
@@ -151,10 +148,7 @@ fn grow_at<M: SeqObject>(
         → slice_get calls.now at ≡ Some c → Shows table.old calls.now row.now e
         → AreShown table.old calls.now ends
         → OnOk result (ShownWith table.new calls.now ends (TakesLast object e c)) }
-    ensures likes { moves.new.likes ≡ moves.old.likes }
-    ensures widens { Widens table.old table.new }
-    ensures front { IsFront (rows_of table.old) (rows_of table.new) }
-    ensures never_falls { applied.old ≤ applied.new }
+    ensures only_adds { OnlyAdds table.old table.new applied.old applied.new }
     ensures cost { applied.new ≤ applied.old + 1 }
 {
     let to = table::led_to::<M>(alloc, table, moves, number, row, calls, at, place, applied)?;
@@ -177,10 +171,7 @@ fn grow_from<M: SeqObject>(
 ) -> Result<(), AllocError>
     requires here { from < length (rows_of table.old) }
     requires row { row.now ≡ get_or (rows_of table.old) from [] }
-    ensures moves { AreMoves M.apply_to table.old calls.now
-        moves.old.known moves.old.targets.items
-        → OnOk result (AreMoves M.apply_to table.new calls.now
-        moves.new.known moves.new.targets.items) }
+    ensures moves { OnOk result (KeepMoves M.apply_to calls.now table.old table.new moves.old moves.new) }
     ensures adds { let object = of_table M.State M.start_state M.apply_to in
         AreMoves M.apply_to table.old calls.now moves.old.known moves.old.targets.items
         → AreAlike calls.now moves.old.likes.items → HasEachOnce calls.now
@@ -188,10 +179,7 @@ fn grow_from<M: SeqObject>(
         → Shows table.old calls.now row.now e → AreShown table.old calls.now ends
         → OnOk result (ShownWith table.new calls.now ends
         (Next object (drop first calls.now) e)) }
-    ensures likes { moves.new.likes ≡ moves.old.likes }
-    ensures widens { Widens table.old table.new }
-    ensures front { IsFront (rows_of table.old) (rows_of table.new) }
-    ensures never_falls { applied.old ≤ applied.new }
+    ensures only_adds { OnlyAdds table.old table.new applied.old applied.new }
     ensures cost { applied.new ≤ applied.old + length calls.now }
 {
     let number = row.first();
@@ -274,9 +262,7 @@ fn grow<M: SeqObject>(
         HasEachOnce calls.now → (ends : List (End M.State)) → Pairwise (λ d e. d ≢ e) ends
         → AreShown table.old calls.now ends → AreClosed object (take tried calls.now) ends
         → IfOk result (λ all. all ≡ false → ReachesMoreThan object calls.now ends budget) }
-    ensures widens { Widens table.old table.new }
-    ensures front { IsFront (rows_of table.old) (rows_of table.new) }
-    ensures never_falls { applied.old ≤ applied.new }
+    ensures only_adds { OnlyAdds table.old table.new applied.old applied.new }
     ensures cost { applied.new ≤ applied.old + (budget + 1) * length calls.now }
 {
     moves::forget(alloc, moves, table::first_number(table));
@@ -324,9 +310,7 @@ fn found_rows<M: SeqObject>(
         HasEachOnce calls.now → (ends : List (End M.State)) → Pairwise (λ d e. d ≢ e) ends
         → AreShown table.old calls.now ends → AreClosed object (take tried calls.now) ends
         → IfOk result (λ all. all ≡ false → ReachesMoreThan object calls.now ends budget) }
-    ensures widens { Widens table.old table.new }
-    ensures front { IsFront (rows_of table.old) (rows_of table.new) }
-    ensures never_falls { applied.old ≤ applied.new }
+    ensures only_adds { OnlyAdds table.old table.new applied.old applied.new }
     ensures cost { applied.new ≤ applied.old + (budget + 1) * length calls.now }
 {
     if !grow::<M>(

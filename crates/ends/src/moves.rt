@@ -2,9 +2,9 @@
 ghost use Rattle.std.specs.Prelude.{◌≡◌, ◌+◌, ◌-◌, ◌*◌, ◌^◌, ◌<◌, ◌≤◌, ◌⊎◌, ℕ, List, [], ◌∷◌, ◌++◌, Some, IsTrue, length, get_or};
 ghost use Rattle.std.specs.Prelude.{slice_get};
 ghost use Rattle.std.specs.Prelude.{IfOk, OnOk, IfSome};
-ghost use Rattle.ends.specs.Moves.{AreAlike, AreAll, AreMoves, AreTo, IsAlike, IsKnown, IsStuck, IsTo, LeadsTo, known_at, targets_of};
+ghost use Rattle.ends.specs.Moves.{AreAlike, AreAll, AreTo, IsAlike, IsKnown, IsStuck, IsTo, KeepMoves, LeadsTo, known_at, targets_of};
 ghost use Rattle.ends.specs.Notes.{AreUntried};
-ghost use Rattle.ends.specs.Tables.{Widens, rows_of};
+ghost use Rattle.ends.specs.Tables.{OnlyTries, Widens, rows_of};
 
 use crate::notes::{MOST_KEPT, Notes};
 use crate::pending_op::PendingOp;
@@ -403,19 +403,13 @@ pub fn tried<M: SeqObject>(
     applied: &mut u64,
 ) -> Result<Move, AllocError>
     requires within { at < length calls.now }
-    ensures moves { AreMoves M.apply_to table.old calls.now
-        moves.old.known moves.old.targets.items
-        → OnOk result (AreMoves M.apply_to table.new calls.now
-        moves.new.known moves.new.targets.items) }
+    ensures moves { OnOk result (KeepMoves M.apply_to calls.now table.old table.new moves.old moves.new) }
     ensures does { (s : M.State) (c : PendingOp) → slice_get table.old.states number ≡ Some s
         → slice_get calls.now at ≡ Some c
         → IfOk result (λ to. AreTo table.new c.crashed (M.apply_to c.op s)
         (targets_of to moves.new.targets.items)) }
     ensures known { IfOk result (λ to. IsKnown to moves.new.targets.items) }
-    ensures likes { moves.new.likes ≡ moves.old.likes }
-    ensures widens { Widens table.old table.new }
-    ensures rows { rows_of table.new ≡ rows_of table.old }
-    ensures never_falls { applied.old ≤ applied.new }
+    ensures tries { OnlyTries table.old table.new applied.old applied.new }
     ensures cost { applied.new ≤ applied.old + 1 }
 {
     forget_many(alloc, moves);

@@ -2,14 +2,14 @@
 ghost use Rattle.std.specs.Prelude.{◌≡◌, ◌↔◌, ℕ, ◌+◌, ◌-◌, ◌^◌, ◌<◌, ◌≤◌, min, Some, slice_get, get_or, map, length};
 ghost use Rattle.std.specs.Prelude.{IfOk, OnOk, IsSome, IsSomeAnd, IsTrue, option_copied, List, [], ◌∷◌, ◌++◌};
 ghost use Rattle.models.specs.Objects.{of_table};
-ghost use Rattle.history.specs.Events.{IsFront};
+ghost use Rattle.events.specs.Events.{IsFront};
 ghost use Rattle.linspec.specs.Ends.{End};
 ghost use Rattle.ends.specs.KeptEnds.{AreIncluded, IsIncluded, end_kept};
 ghost use Rattle.ends.specs.EndSteps.{Along};
-ghost use Rattle.ends.specs.Moves.{AreMoves, IsAlike, IsKnown, targets_of};
+ghost use Rattle.ends.specs.Moves.{AreMoves, IsAlike, IsKnown, KeepMoves, targets_of};
 ghost use Rattle.interned.specs.Numbers.{IsOnceIn, IsSlot};
 ghost use Rattle.ends.specs.Tables.{AreShown, HasEachOnce, IsThat, IsToldBefore, ShownWith, told_by};
-ghost use Rattle.ends.specs.Tables.{AreLed, Shows, Widens, found_by, rows_of};
+ghost use Rattle.ends.specs.Tables.{AreLed, OnlyTries, Shows, Widens, found_by, rows_of};
 
 use crate::kept_end::{KeptEnd, found_in, has};
 use crate::moves::{self, Move, Moves};
@@ -146,10 +146,7 @@ pub fn led_to<M: SeqObject>(
     requires before { place ≤ at }
     requires number { number ≡ get_or row.now 0 0 }
     requires zero_there { slice_get row.now (at + 1) ≡ Some 0 }
-    ensures moves { AreMoves M.apply_to table.old calls.now
-        moves.old.known moves.old.targets.items
-        → OnOk result (AreMoves M.apply_to table.new calls.now
-        moves.new.known moves.new.targets.items) }
+    ensures moves { OnOk result (KeepMoves M.apply_to calls.now table.old table.new moves.old moves.new) }
     ensures next { let object = of_table M.State M.start_state M.apply_to in
         AreMoves M.apply_to table.old calls.now moves.old.known moves.old.targets.items
         → IsAlike calls.now at place → HasEachOnce calls.now
@@ -158,10 +155,7 @@ pub fn led_to<M: SeqObject>(
         → IfOk result (λ to. AreLed object table.new calls.now row.now at e c
         (targets_of to moves.new.targets.items)) }
     ensures known { IfOk result (λ to. IsKnown to moves.new.targets.items) }
-    ensures likes { moves.new.likes ≡ moves.old.likes }
-    ensures widens { Widens table.old table.new }
-    ensures rows { rows_of table.new ≡ rows_of table.old }
-    ensures never_falls { applied.old ≤ applied.new }
+    ensures tries { OnlyTries table.old table.new applied.old applied.new }
     ensures cost { applied.new ≤ applied.old + 1 }
 {
     match moves::recalled(moves, number, place, calls.len()) {

@@ -1,7 +1,7 @@
 -- A frontier may go to another thread, and threads may share one, whatever the kind of its object.
 use denote.Param.Send.{IsSend, IsSync, sendable}
 use Rattle.std.proofs.Crossing.{crosses}
-use Rattle.models.proofs.Crossing.{items_send, items_sync, multiset_send, multiset_sync, spans_send, spans_sync}
+use Rattle.values.proofs.Crossing.{items_send, items_sync, multiset_send, multiset_sync, spans_send, spans_sync}
 use Rattle.frontier.proofs.frontier.Frontier.TheSendSync as frontier
 use Rattle.frontier.specs.contracts.any_frontier.AnyFrontier as any
 

@@ -9,8 +9,8 @@ use Rattle.std.proofs.lemmas.List.Elements.{Contains-append_left}
 use Rattle.models.specs.declared.finding.Answer.{Answer}
 use Rattle.models.specs.declared.finding.Found.{Found}
 use Rattle.models.specs.Objects.{Object}
-use Rattle.history.specs.Events.{Mark}
-use Rattle.history.specs.Events.Mark.{Crashed}
+use Rattle.events.specs.Events.{Mark}
+use Rattle.events.specs.Events.Mark.{Crashed}
 use Rattle.linspec.specs.Operations.{IsOpen}
 use Rattle.linspec.specs.Ends.{End}
 use Rattle.linspec.proofs.FinLaws.{get-remove_same, get-remove_other, contains-insert_other}

@@ -1,10 +1,10 @@
 -- an ok and a fail: what is left of all ends or of the kept ones, and what the frontier stands for then
-use Rattle.std.proofs.Common.{◌≡◌, ◌≢◌, ℕ, ◌-◌, ◌≤◌, List, [], ◌∷◌, ◌++◌, map, length, take, sym, subst, arith}
+use Rattle.std.proofs.Common.{◌≡◌, ◌≢◌, ℕ, ◌+◌, ◌-◌, ◌*◌, ◌≤◌, List, [], ◌∷◌, ◌++◌, map, length, take, sym, subst, arith}
 use Rattle.std.specs.List.{filter}
 use Rattle.models.specs.declared.finding.Answer.{Answer}
 use Rattle.models.specs.Objects.{Object}
-use Rattle.history.specs.Events.{Mark}
-use Rattle.history.specs.Events.Mark.{Returned, Failed}
+use Rattle.events.specs.Events.{Mark}
+use Rattle.events.specs.Events.Mark.{Returned, Failed}
 use Rattle.linspec.specs.Operations.{IsOpen}
 use Rattle.linspec.specs.Orders.{Pairwise}
 use Rattle.linspec.specs.Ends.{End, HasMoreThan}
@@ -15,14 +15,16 @@ use Rattle.ends.specs.declared.table.Table.{Table}
 use Rattle.ends.specs.declared.kept_end.KeptEnd.{KeptEnd}
 use Rattle.ends.specs.KeptEnds.{AreIncluded, ArePending, end_kept}
 use Rattle.ends.specs.EndSteps.{Along, AreClosed, Fails, ReachesMoreThan, is_other}
-use Rattle.frontier.specs.Kept.{Lists, table_of}
+use Rattle.frontier.specs.Kept.{IsListed, Lists, StandsFor, table_of}
+use Rattle.frontier.specs.Meaning.{CostsAtMost, Keeps}
 use Rattle.ends.specs.Tables.{AreShown, HasEachOnce, IsAdvanced, IsOpenAt, ShownWith}
 use Rattle.frontier.proofs.AfterEvents.{ends_after_ok}
 use Rattle.ends.proofs.Closing.{among_front, closed_after_fail, closed_after_ok, closed_fewer, one_fewer}
+use Rattle.ends.proofs.Growing.{cost_within}
 use Rattle.ends.proofs.Showing.{included_shown}
 use Rattle.frontier.proofs.Generating.{Generates, all_found, generates_after_fail, generates_all, more_found}
 use Rattle.frontier.proofs.Including.{included_after_ok, included_all}
-use Rattle.frontier.proofs.Pending.{AreOnce, calls_after_fail, calls_after_ok, once_without, open_at}
+use Rattle.frontier.proofs.Pending.{AreOnce, calls_after_fail, calls_after_ok, no_more_calls, once_without, open_at}
 use Rattle.frontier.proofs.Standing.{generates_of, stands_by}
 use Rattle.frontier.proofs.TheEnds.{AreTheEnds}
 
@@ -110,3 +112,16 @@ module _ {M : Type 0} (o : Object) (f : Frontier M o.State) (marks : List Mark) 
 
   pub kept_ends : (items : List (KeptEnd o.State)) → (HasEachOnce calls → (ends : List (End o.State)) → AreShown (table_of f) calls ends → map end_kept items ≡ ends) → map end_kept items ≡ stands.kept
   kept_ends items h = h calls_once stands.kept its_rows
+
+-- what an ok costs, from the count of steps before it and after it
+pub ok_costs : {M : Type 0} (o : Object) (f g : Frontier M o.State) (id : ℕ) (answer : Answer) (after : ℕ) → Keeps (StandsFor o f) (IsListed o g) → g.budget ≡ f.budget → g.applied ≡ f.applied → g.applied ≤ after → after ≤ g.applied + (g.budget + 1) * length g.calls.items
+    → CostsAtMost f.budget (StandsFor o f) (Returned id answer) f.applied after
+ok_costs o f g id answer after listed budget applied rises cost = (
+  subst (λ a. a ≤ after) applied rises,
+  λ marks given n most.
+      let l = listed marks given in
+      let pending = l.lists.well_kept.pending in
+      let once = l.lists.well_kept.calls_once in
+      let within = cost_within g.applied after g.budget (length g.calls.items) n cost (no_more_calls g.calls.items marks pending once n most) in
+      subst (λ a. after ≤ a + (f.budget + 1) * n) applied (subst (λ b. after ≤ g.applied + (b + 1) * n) budget within),
+)

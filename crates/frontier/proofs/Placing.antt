@@ -3,8 +3,8 @@ use Rattle.std.proofs.Common.{◌≡◌, ◌∙◌, ◌≤◌, ℕ, ◌+◌, Opt
 use Rattle.std.specs.Prelude.{IsSome}
 use Rattle.std.specs.Global.{Box}
 use Rattle.models.specs.Objects.{Object, ReadsLeave}
-use Rattle.history.specs.Events.{Mark}
-use Rattle.history.specs.Events.Mark.{Invoked}
+use Rattle.events.specs.Events.{Mark}
+use Rattle.events.specs.Events.Mark.{Invoked}
 use Rattle.ends.specs.KeptEnds.{AreIncluded, ArePending}
 use Rattle.ends.specs.EndSteps.{AreClosed}
 use Rattle.ends.specs.Tables.{AreShown, rows_of, with_rows}

@@ -2,8 +2,8 @@
 use Rattle.std.proofs.Common.{◌≡◌, ◌∙◌, ℕ, Option, Some, None, Result, Ok, Err, OnOk, OnErr, List, [], ◌∷◌, ◌++◌, refl, sym, subst}
 use Rattle.std.specs.declared.alloc.AllocError.{AllocError}
 use Rattle.models.specs.Objects.{Object}
-use Rattle.history.specs.Events.{Mark}
-use Rattle.history.specs.Events.Mark.{Invoked}
+use Rattle.events.specs.Events.{Mark}
+use Rattle.events.specs.Events.Mark.{Invoked}
 use Rattle.linspec.specs.MarkRule.{MayFollow}
 use Rattle.frontier.specs.declared.change.Change.{Change}
 use Rattle.frontier.specs.declared.change.Change.TheVariants.{Nothing, Invoked as ToInvoked}
@@ -65,23 +65,27 @@ module _ {M : Type 0} (o : Object) (f : Frontier M o.State) (marks : List Mark) 
   idle_will idle = record { will = λ g makes. stands_like o f g (subst (λ n. Makes n f g) idle.nothing makes) marks idle.stands }
 
   -- an invocation is prepared
-  pub will_invoke : (fresh : Fresh) → f.next ≡ ToInvoked fresh → MayFollow marks (Invoked fresh.id fresh.op) → Lists o f marks → WillStandFor o f (marks ++ Invoked fresh.id fresh.op ∷ [])
-  will_invoke fresh is may l = record {
+  pub will_invoke : (fresh : Fresh) → f.next ≡ ToInvoked → f.coming ≡ Some fresh → MayFollow marks (Invoked fresh.id fresh.op) → Lists o f marks → WillStandFor o f (marks ++ Invoked fresh.id fresh.op ∷ [])
+  will_invoke fresh is coming may l = record {
     will = λ g makes.
         let made = subst (λ n. Makes n f g) is makes in record {
-          stands = subst (λ x. StandsWith o g x (marks ++ Invoked fresh.id fresh.op ∷ [])) (sym made.3)
+          stands = subst (λ x. StandsWith o g x (marks ++ Invoked fresh.id fresh.op ∷ [])) (sym (made.3 ∙ coming))
               (record { before = marks; is = refl; may = may; lists = lists_like o f g made.0 made.1 made.2 marks l });
         };
   }
 
   -- another event is
-  pub will_by : (next : Change o.State) → f.next ≡ next → f.fresh ≡ None → (table : Table o.State) (calls : List PendingOp) (tried : ℕ) → ((g : Frontier M o.State) → Makes next f g → IsOf g table calls tried f.fresh)
+  pub will_by : (next : Change) → f.next ≡ next → f.fresh ≡ None → (table : Table o.State) (calls : List PendingOp) (tried : ℕ) → ((g : Frontier M o.State) → Makes next f g → IsOf g table calls tried f.fresh)
       → ((g : Frontier M o.State) → (table_of g) ≡ table → g.calls.items ≡ calls → g.tried ≡ tried → Lists o g marks) → WillStandFor o f marks
   will_by next is none table calls tried made lists = record {
     will = λ g makes.
         let m = made g (subst (λ n. Makes n f g) is makes) in
         record { stands = subst (λ x. StandsWith o g x marks) (sym (m.3 ∙ none)) (lists g m.0 m.1 m.2) };
   }
+
+-- where more stands in the table, but no more rows
+pub listed_more : {M : Type 0} (o : Object) (f g : Frontier M o.State) (marks : List Mark) → IsOf g (table_of g) f.calls.items f.tried f.fresh → Widens (table_of f) (table_of g) → rows_of (table_of g) ≡ rows_of (table_of f) → g.next ≡ f.next → IsListed o f marks → IsListed o g marks
+listed_more o f g marks is widens rows next l = record { nothing = next ∙ l.nothing; none = is.3 ∙ l.none; lists = lists_more o f g is.1 is.2 widens rows marks l.lists }
 
 -- where what is idle stays so
 pub listed_again : {M : Type 0} (o : Object) (f g : Frontier M o.State) (marks : List Mark) → Keeps (IsIdle o f) (IsIdle o g) → g.fresh ≡ f.fresh → IsListed o f marks → IsListed o g marks
@@ -91,7 +95,7 @@ pub lists_is : {M : Type 0} (o : Object) (f : Frontier M o.State) (marks before 
 lists_is o f marks before is l = subst (Lists o f) (sym is) l
 
 -- what is prepared is carried out
-pub made_by : {M : Type 0} (o : Object) (f g : Frontier M o.State) (marks : List Mark) (next : Change o.State) → next ≡ f.next → Makes next f g → WillStandFor o f marks → StandsFor o g marks
+pub made_by : {M : Type 0} (o : Object) (f g : Frontier M o.State) (marks : List Mark) (next : Change) → next ≡ f.next → Makes next f g → WillStandFor o f marks → StandsFor o g marks
 made_by o f g marks next is made w = w.will g (subst (λ n. Makes n f g) is made)
 
 -- where the calls take the fresh one, and where they do not

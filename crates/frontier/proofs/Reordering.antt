@@ -3,7 +3,7 @@ use Rattle.std.proofs.Common.{◌≡◌, ◌≢◌, ◌↔◌, ◌≤◌, take, 
 use Rattle.std.specs.Global.{Box}
 use Rattle.std.specs.List.{Contains}
 use Rattle.models.specs.Objects.{Object}
-use Rattle.history.specs.Events.{Mark}
+use Rattle.events.specs.Events.{Mark}
 use Rattle.linspec.specs.Ends.{End}
 use Rattle.linspec.specs.Orders.{Pairwise}
 use Rattle.linspec.proofs.Lists.{Contains-nil}

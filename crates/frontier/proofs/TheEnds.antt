@@ -2,7 +2,7 @@
 use Rattle.std.proofs.Common.{◌≢◌, ◌↔◌, List}
 use Rattle.std.specs.List.{Contains}
 use Rattle.models.specs.Objects.{Object}
-use Rattle.history.specs.Events.{Mark}
+use Rattle.events.specs.Events.{Mark}
 use Rattle.linspec.specs.Orders.{Pairwise}
 use Rattle.linspec.specs.Ends.{End, IsEnd}
 

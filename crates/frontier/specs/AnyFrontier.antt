@@ -3,7 +3,7 @@ use Rattle.std.specs.Prelude.{ℕ, List}
 use Rattle.models.specs.declared.model_kind.ModelKind.{ModelKind}
 use Rattle.models.specs.declared.model_kind.ModelKind.TheVariants as kinds
 use Rattle.models.specs.Objects.{register, cas_register, mutex, fifo_queue, set_of_numbers, unordered_queue}
-use Rattle.history.specs.Events.{Mark}
+use Rattle.events.specs.Events.{Mark}
 use Rattle.frontier.specs.declared.any_frontier.AnyFrontier.{AnyFrontier}
 use Rattle.frontier.specs.declared.any_frontier.AnyFrontier.TheVariants.{Register, CasRegister, Mutex, FifoQueue, Set, UnorderedQueue}
 use Rattle.frontier.specs.Kept.{StandsFor, WillStandFor, applied_of, budget_of}

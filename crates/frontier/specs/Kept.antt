@@ -1,17 +1,18 @@
 -- Invariant: how a frontier keeps the ends of the histories of one key that it stands for. No layer above cites how:
 -- public clauses cite `StandsFor`, `WillStandFor`, `budget_of` and `applied_of` alone
-use Rattle.std.specs.Prelude.{◌≡◌, ◌≢◌, ◌↔◌, ℕ, ◌-◌, ◌≤◌, false, Option, Some, None, List, [], ◌∷◌, ◌++◌, length, take}
+use Rattle.std.specs.Prelude.{◌≡◌, ◌≢◌, ◌↔◌, ℕ, ◌≤◌, false, Option, Some, None, List, [], ◌∷◌, ◌++◌, length, take}
 use Rattle.std.specs.List.{filter}
 use Rattle.models.specs.Objects.{Object}
-use Rattle.history.specs.Events.{Mark}
-use Rattle.history.specs.Events.Mark.{Invoked}
+use Rattle.events.specs.Events.{Mark}
+use Rattle.events.specs.Events.Mark.{Invoked}
 use Rattle.linspec.specs.MarkRule.{MayFollow}
 use Rattle.linspec.specs.Ends.{End, IsEnd}
 use Rattle.ends.specs.declared.pending_op.PendingOp.{PendingOp}
 use Rattle.ends.specs.declared.table.Table.{Table}
+use Rattle.frontier.specs.declared.change.AfterCrash.{AfterCrash}
 use Rattle.frontier.specs.declared.change.Fresh.{Fresh}
 use Rattle.frontier.specs.declared.change.Change.{Change}
-use Rattle.frontier.specs.declared.change.Change.TheVariants.{Nothing, Anew, Done, Invoked as ToInvoked}
+use Rattle.frontier.specs.declared.change.Change.TheVariants.{Nothing, Crashed, Done, Invoked as ToInvoked}
 use Rattle.frontier.specs.declared.frontier.Frontier.{Frontier}
 use Rattle.frontier.specs.declared.frontier.Step.{Step}
 use Rattle.frontier.specs.declared.frontier.Step.TheVariants.{Alive, Dead, Over}
@@ -93,22 +94,19 @@ abbrev pub call_of : Fresh → PendingOp
 call_of fresh = record { id = fresh.id; op = fresh.op; crashed = false }
 
 -- the change makes the other frontier of this one
-abbrev pub Makes : {M S : Type 0} → Change S → Frontier M S → Frontier M S → Type 0
+abbrev pub Makes : {M S : Type 0} → Change → Frontier M S → Frontier M S → Type 0
 Makes Nothing f g = IsOf g (table_of f) f.calls.items f.tried f.fresh
-Makes (ToInvoked fresh) f g = IsOf g (table_of f) f.calls.items f.tried (Some fresh)
+Makes ToInvoked f g = IsOf g (table_of f) f.calls.items f.tried f.coming
 Makes (Done id tried) f g =
     IsOf g (with_rows (table_of f) (left_of f)) (filter (is_other id) f.calls.items) tried f.fresh
-Makes (Anew calls table tried) f g = IsOf g table.value calls.items tried f.fresh
+Makes {M} {S} Crashed f g =
+    (after : Box (AfterCrash S)) → f.after_crash ≡ Some after
+    → IsOf g after.value.table after.value.calls.items 0 f.fresh
 
 -- with what is prepared the frontier will stand for the history
 pub record WillStandFor {M : Type 0} (o : Object) (f : Frontier M o.State) (marks : List Mark)
     : Type 0 where
   pub will : (g : Frontier M o.State) → Makes f.next f g → StandsFor o g marks
-
--- with the rows that are left in place of its own, and without the operation among its calls, the frontier will stand for the history
-abbrev pub WillBeWithout : {M : Type 0} → ℕ → (o : Object) → Frontier M o.State → List Mark → Type 0
-WillBeWithout {M} id o f marks =
-    (g : Frontier M o.State) → Makes (Done id (length f.calls.items - 1)) f g → StandsFor o g marks
 
 -- the step where so many ends are left: Alive where there are some, else Dead
 pub record IsStepOf (ends : ℕ) (step : Step) : Type 0 where

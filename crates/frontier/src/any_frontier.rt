@@ -1,14 +1,14 @@
 //! Frontiers of any kind of object.
 ghost use Rattle.std.specs.Prelude.{◌≡◌, ◌↔◌, List, [], IfOk, MatchResult};
 ghost use Rattle.models.specs.Objects.{object_of, of_table};
-ghost use Rattle.history.specs.Events.{Mark};
+ghost use Rattle.events.specs.Events.{Mark};
 ghost use Rattle.frontier.specs.Meaning.{Answers, CostsAtMost, Keeps, TakesUnlessOver, mark_by};
 ghost use Rattle.frontier.specs.AnyFrontier.{AnyStandsFor, AnyWillStandFor, any_applied_of, any_budget_of};
 ghost use Rattle.frontier.specs.AnyFrontier.{kind_of_frontier};
 ghost use Rattle.frontier.specs.Kept.{StandsFor, applied_of, budget_of};
 
 use crate::frontier::{Frontier, Step};
-use history::EventKind;
+use events::EventKind;
 use models::{
     CasRegister, FifoQueue, ModelKind, Mutex, Op, Register, SeqObject, Set, UnorderedQueue,
     each_kind,

@@ -19,8 +19,8 @@ const SOME: usize = 32;
 // More products than these become rows, and so do those above [`SOME`] that have fewer than four rows each.
 const MOST: usize = 128;
 
-// So many calls that were not tried make many ends of few.
-const MANY_UNTRIED: usize = 4;
+// So many calls that were not tried, with the one that gets its place, make many ends of few.
+const MANY_UNTRIED: usize = 3;
 
 // So many things found, and so many states, do not ask for other numbers.
 const FEW_FOUND: usize = 24;
@@ -81,17 +81,13 @@ fn has_read(calls: &[PendingOp]) -> bool {
     false
 }
 
-/// Whether rows become products: there are 9 to 32 of them, and a read is among the calls, which may have found the state in each
-/// order of what changes it. Takes the time of the calls.
-pub fn may_be_few<S: Hash + Drop>(table: &Table<S>, calls: &[PendingOp]) -> bool {
+/// Whether rows become products before an operation gets its place: there are at most 32 of them, a read is among the calls, which
+/// may have found the state in each order of what changes it, and there are more than 8, or with the operation four calls or more were
+/// not tried, so that the next ok finds many ends of few. Takes the time of the calls.
+pub fn may_be_few<S: Hash + Drop>(table: &Table<S>, calls: &[PendingOp], tried: usize) -> bool {
     let rows = table.rows.len();
-    rows > FEW && rows <= SOME && has_read(calls)
-}
-
-/// Whether rows become products before an ok: there are at most 32 of them, a read is among the calls, and four calls or more were
-/// not tried, so that an ok finds many ends. Takes the time of the calls.
-pub fn may_grow<S: Hash + Drop>(table: &Table<S>, calls: &[PendingOp], tried: usize) -> bool {
-    table.rows.len() <= SOME && calls.len() >= tried.saturating_add(MANY_UNTRIED) && has_read(calls)
+    let grow = rows > FEW || calls.len().saturating_sub(tried) >= MANY_UNTRIED;
+    grow && rows <= SOME && has_read(calls)
 }
 
 /// The products that are left take the place of the others. Takes constant time.

@@ -13,26 +13,40 @@ pub struct Fresh {
     pub op: Op,
 }
 
-/// What a prepared event makes of a frontier. To carry it out takes no memory.
+/// The calls after a crash, and their table, where products have become rows.
 #[derive(Drop)]
-pub enum Change<S: Hash + Drop> {
+pub struct AfterCrash<S: Hash + Drop> {
+    pub calls: Vec<PendingOp>,
+    pub table: Table<S>,
+}
+
+/// What a prepared event makes of a frontier. It is small, and is copied; what is large of it stands beside it. To carry it out
+/// takes no memory.
+#[derive(Clone, Copy)]
+pub enum Change {
     /// Nothing.
     Nothing,
-    /// This operation is invoked.
-    Invoked(Fresh),
+    /// The operation that is coming is invoked.
+    Invoked,
     /// The operation with this id has returned or failed: it is among the calls no longer, the rows or products that are left
     /// take the place of the others, and so many of the calls that are left count as tried.
     Done(u32, usize),
-    /// These calls and this table take the place of the others, and so many of the calls count as tried.
-    Anew(Vec<PendingOp>, Box<Table<S>>, usize),
+    /// The calls and the table after the crash take the place of the others, and no call counts as tried.
+    Crashed,
 }
 
-/// Nothing is prepared any more.
-pub fn drop_change<S: Hash + Drop>(change: &mut Change<S>)
-    ensures { change.new ≡ Change.Nothing }
+/// Nothing is prepared any more, and what stood beside it is dropped.
+pub fn drop_prepared<S: Hash + Drop>(
+    next: &mut Change,
+    coming: &mut Option<Fresh>,
+    after_crash: &mut Option<Box<AfterCrash<S>>>,
+)
+    ensures { next.new ≡ Change.Nothing }
 {
-    if !matches!(change, Change::Nothing) {
-        *change = Change::Nothing;
+    if !matches!(next, Change::Nothing) {
+        *next = Change::Nothing;
+        *coming = None;
+        *after_crash = None;
     }
 }
 

@@ -1,28 +1,29 @@
 //! Frontiers, and what each event does to one.
 ghost use Rattle.std.specs.Prelude.{◌≡◌, ◌≢◌, ◌↔◌, ◌<◌, ◌≤◌, ◌+◌, ◌*◌, ◌++◌, ◌∷◌, ℕ, List, Some, None, [], true, false, length, take, IfOk, IsSome, OnOk, OnErr, MatchResult};
+ghost use Rattle.std.specs.Global.{Box};
 ghost use Rattle.std.specs.Vec.{vec_capacity, vec_len};
 ghost use Rattle.std.specs.List.{filter};
 ghost use Rattle.models.specs.Objects.{of_table};
-ghost use Rattle.history.specs.Events.{Mark};
-ghost use Rattle.history.specs.Events.Mark.{Invoked, Returned, Failed, Crashed};
+ghost use Rattle.events.specs.Events.{Mark};
+ghost use Rattle.events.specs.Events.Mark.{Invoked, Returned, Failed, Crashed};
 ghost use Rattle.linspec.specs.Ends.{End};
 ghost use Rattle.linspec.specs.Orders.{Pairwise};
 ghost use Rattle.ends.specs.EndSteps.{Along, AreClosed, Fails, ReachesMoreThan, is_other};
 ghost use Rattle.ends.specs.Tables.{AreShown, HasEachOnce, IsAdvanced, IsOpenAt, ShowTheSame, ShownWith, Widens, rows_of, with_rows};
-ghost use Rattle.frontier.specs.Kept.{StandsFor, WillStandFor, WillBeWithout, IsListed, IsIdle, IsStepOf};
+ghost use Rattle.frontier.specs.Kept.{StandsFor, WillStandFor, IsListed, IsIdle, IsStepOf};
 ghost use Rattle.frontier.specs.Meaning.{Answers, Keeps, Takes, TakesUnlessOver};
 ghost use Rattle.frontier.specs.Kept.{IsAlike, IsOf, applied_of, budget_of, call_of, left_of, rows_by, table_of};
 ghost use Rattle.frontier.specs.Meaning.{CostsAtMost, mark_by};
 
 use crate::as_products::{self, AsProducts};
-use crate::change::{self, Change, Fresh};
+use crate::change::{self, AfterCrash, Change, Fresh};
 use ends::{KeptEnd, PendingOp, Room, Table};
-use history::EventKind;
+use events::EventKind;
 use models::{Answer, Op, SeqObject};
 use rows::RowSet;
 use std::alloc::{AllocError, Global};
 use std::hash::Hash;
-use std::mem::{replace, swap};
+use std::mem::swap;
 
 // Two clients of a key have no more calls.
 const FEW_CALLS: usize = 2;
@@ -57,7 +58,9 @@ pub struct Frontier<M: SeqObject> {
     spare: Option<Box<Table<M::State>>>,
     room: Room<M::State>,
     as_products: Option<Box<AsProducts<M::State>>>,
-    next: Change<M::State>,
+    next: Change,
+    coming: Option<Fresh>,
+    after_crash: Option<Box<AfterCrash<M::State>>>,
 }
 
 // Alive where some end is left, else Dead.
@@ -108,6 +111,8 @@ impl<M: SeqObject> Frontier<M> {
             room: Room::for_two(alloc)?,
             as_products: None,
             next: Change::Nothing,
+            coming: None,
+            after_crash: None,
         })
     }
 
@@ -132,26 +137,15 @@ impl<M: SeqObject> Frontier<M> {
             CostsAtMost (budget_of self.old) old (mark_by id kind op.now)
             (applied_of self.old) (applied_of self.new) }
     {
-        match kind {
-            EventKind::Invoke => {
-                self.invoke(id, op.copy()?)?;
-                Ok(Step::Alive)
-            }
-            EventKind::Ok => {
-                let answer = Answer::of_part(op.part.copy()?);
-                self.ok(id, &answer)
-            }
-            EventKind::Fail => self.fail(id),
-            EventKind::Info => {
-                self.crash(id)?;
-                Ok(Step::Alive)
-            }
-        }
+        let step = self.prepare(id, kind, op)?;
+        self.commit();
+        Ok(step)
     }
 
     /// Prepares any event of an operation, and gives its answer, as [`observe`](Self::observe) does, at the same cost. The
     /// frontier stands for what it stood for until [`commit`](Self::commit). After Over nothing is prepared; after `AllocError`
     /// no commit must follow.
+    #[inline(always)]
     pub fn prepare(&mut self, id: u32, kind: EventKind, op: &Op) -> Result<Step, AllocError>
         ensures step { let object = of_table M.State M.start_state M.apply_to in
             let old = StandsFor object self.old in
@@ -185,17 +179,20 @@ impl<M: SeqObject> Frontier<M> {
     }
 
     /// Carries out what is prepared, if anything is. Takes the time of the calls and of what it drops.
+    #[inline(always)]
     pub fn commit(&mut self)
         ensures stands { let object = of_table M.State M.start_state M.apply_to in
             Keeps (WillStandFor object self.old) (StandsFor object self.new) }
         ensures budget { budget_of self.new ≡ budget_of self.old }
         ensures cost { applied_of self.new ≡ applied_of self.old }
     {
-        match replace(&mut self.next, Change::Nothing) {
+        let next = self.next;
+        self.next = Change::Nothing;
+        match next {
             Change::Nothing => {}
-            Change::Invoked(fresh) => self.fresh = Some(fresh),
+            Change::Invoked => self.fresh = self.coming.take(),
             Change::Done(id, tried) => self.take_left(id, tried),
-            Change::Anew(calls, table, tried) => self.take_anew(calls, table, tried),
+            Change::Crashed => self.take_after_crash(),
         }
     }
 
@@ -227,17 +224,21 @@ impl<M: SeqObject> Frontier<M> {
         }
     }
 
-    // These calls and this table take the place of the others, and so many of the calls count as tried.
+    // The calls and the table after the crash take the place of the others, and no call counts as tried.
     #[inline(never)]
-    fn take_anew(&mut self, calls: Vec<PendingOp>, table: Box<Table<M::State>>, tried: usize)
-        ensures is { IsOf self.new table.value calls.items tried self.old.fresh }
+    fn take_after_crash(&mut self)
+        ensures is { (after : Box (AfterCrash M.State)) → self.old.after_crash ≡ Some after
+            → IsOf self.new after.value.table after.value.calls.items 0 self.old.fresh }
         ensures budget { budget_of self.new ≡ budget_of self.old }
         ensures cost { applied_of self.new ≡ applied_of self.old }
     {
-        self.calls = calls;
-        self.table = Box::into_inner(table);
-        self.as_products = None;
-        self.tried = tried;
+        if let Some(after) = self.after_crash.take() {
+            let AfterCrash { calls, table } = Box::into_inner(after);
+            self.calls = calls;
+            self.table = table;
+            self.as_products = None;
+            self.tried = 0;
+        }
     }
 
     /// An operation is invoked, whose id (the index of its invocation) no event before it has. On `AllocError` the frontier
@@ -252,12 +253,13 @@ impl<M: SeqObject> Frontier<M> {
         ensures budget { budget_of self.new ≡ budget_of self.old }
         ensures cost { applied_of self.new ≡ applied_of self.old }
     {
-        self.list_fresh()?;
-        self.fresh = Some(Fresh { id, op });
+        self.prepare_invoke(id, op)?;
+        self.commit();
         Ok(())
     }
 
     // The first half of `invoke`: it is noted at `commit`, and gets its place in the rows with the next event.
+    #[inline(always)]
     fn prepare_invoke(&mut self, id: u32, op: Op) -> Result<(), AllocError>
         ensures now { let object = of_table M.State M.start_state M.apply_to in
             Keeps (StandsFor object self.old) (StandsFor object self.new) }
@@ -268,7 +270,8 @@ impl<M: SeqObject> Frontier<M> {
         ensures cost { applied_of self.new ≡ applied_of self.old }
     {
         self.list_fresh()?;
-        self.next = Change::Invoked(Fresh { id, op });
+        self.coming = Some(Fresh { id, op });
+        self.next = Change::Invoked;
         Ok(())
     }
 
@@ -281,7 +284,7 @@ impl<M: SeqObject> Frontier<M> {
         ensures budget { budget_of self.new ≡ budget_of self.old }
         ensures cost { applied_of self.new ≡ applied_of self.old }
     {
-        change::drop_change(&mut self.next);
+        change::drop_prepared(&mut self.next, &mut self.coming, &mut self.after_crash);
         if self.fresh.is_none() {
             return Ok(());
         }
@@ -341,8 +344,8 @@ impl<M: SeqObject> Frontier<M> {
         }
     }
 
-    // Ends whose reads double them are kept as products, while these are not many; and products are numbered anew where many of
-    // their numbers are no longer used. On `AllocError` the frontier stands for what it stood for.
+    // Ends whose reads double them, or of which an ok will find many, are kept as products, while these are not many; and products
+    // are numbered anew where many of their numbers are no longer used. On `AllocError` the frontier stands for what it stood for.
     fn choose_form(&mut self) -> Result<(), AllocError>
         ensures keeps { let object = of_table M.State M.start_state M.apply_to in
             Keeps (IsIdle object self.old) (IsIdle object self.new) }
@@ -354,7 +357,9 @@ impl<M: SeqObject> Frontier<M> {
             Some(those) if as_products::are_many(those) => self.make_rows(),
             Some(those) if as_products::is_crowded(those, &self.table) => self.renumber(),
             Some(_) => Ok(()),
-            None if as_products::may_be_few(&self.table, &self.calls) && M::has_scalar_states() => {
+            None
+                if M::has_scalar_states()
+                    && as_products::may_be_few(&self.table, &self.calls, self.tried) => {
                 self.make_products()
             }
             None => Ok(()),
@@ -478,33 +483,22 @@ impl<M: SeqObject> Frontier<M> {
             CostsAtMost (budget_of self.old) old (Returned id answer.now)
             (applied_of self.old) (applied_of self.new) }
     {
-        if self.find_left(id, answer)? {
-            let step = step_of(self.left());
-            let tried = self.calls.len().saturating_sub(1);
-            self.take_left(id, tried);
-            Ok(step)
-        } else {
-            Ok(Step::Over)
-        }
+        let step = self.prepare_ok(id, answer)?;
+        self.commit();
+        Ok(step)
     }
 
-    // Finds all ends there are just before an ok, and puts the rows that are left after it into the room. False where there are more
-    // ends than the budget. What was prepared is dropped, and the frontier stands for what it stood for.
-    fn find_left(&mut self, id: u32, answer: &Answer) -> Result<bool, AllocError>
+    // The first half of `ok`: the rows that are left are put into the room, and take the others' place at `commit`.
+    #[inline(always)]
+    fn prepare_ok(&mut self, id: u32, answer: &Answer) -> Result<Step, AllocError>
+        ensures step { let object = of_table M.State M.start_state M.apply_to in
+            let old = StandsFor object self.old in
+            IfOk result (Answers object (budget_of self.old) old (Returned id answer.now)) }
         ensures now { let object = of_table M.State M.start_state M.apply_to in
             Keeps (StandsFor object self.old) (StandsFor object self.new) }
-        ensures idle { let object = of_table M.State M.start_state M.apply_to in
-            OnOk result (Keeps (StandsFor object self.old) (IsIdle object self.new)) }
-        ensures over { let object = of_table M.State M.start_state M.apply_to in
-            let old = StandsFor object self.old in IfOk result (λ all. all ≡ false →
-            Answers object (budget_of self.old) old (Returned id answer.now) Step.Over) }
-        ensures step { let object = of_table M.State M.start_state M.apply_to in
-            let old = StandsFor object self.old in IfOk result (λ all. all ≡ true →
-            (s : Step) → IsStepOf (length (left_of self.new)) s →
-            Answers object (budget_of self.old) old (Returned id answer.now) s) }
-        ensures left { let object = of_table M.State M.start_state M.apply_to in
-            let old = StandsFor object self.old in IfOk result (λ all. all ≡ true →
-            Takes old (WillBeWithout id object self.new) (Returned id answer.now)) }
+        ensures next { let object = of_table M.State M.start_state M.apply_to in
+            let old = StandsFor object self.old in let next = WillStandFor object self.new in
+            IfOk result (TakesUnlessOver old next (Returned id answer.now)) }
         ensures budget { budget_of self.new ≡ budget_of self.old }
         ensures cost { let object = of_table M.State M.start_state M.apply_to in
             let old = StandsFor object self.old in
@@ -514,11 +508,16 @@ impl<M: SeqObject> Frontier<M> {
         self.list_fresh()?;
         self.suit_outcomes()?;
         let all = self.advance(id, answer)?;
-        Ok(all)
+        if !all {
+            return Ok(Step::Over);
+        }
+        let tried = self.calls.len().saturating_sub(1);
+        self.next = Change::Done(id, tried);
+        Ok(step_of(self.left()))
     }
 
-    // The form in which all ends are found: products become rows where an operation may have several outcomes, and else few rows
-    // become products where many calls were not tried. On `AllocError` the frontier stands for what it stood for.
+    // Products become rows where an operation may have several outcomes. On `AllocError` the frontier stands for what it stood
+    // for.
     fn suit_outcomes(&mut self) -> Result<(), AllocError>
         ensures keeps { let object = of_table M.State M.start_state M.apply_to in
             Keeps (IsListed object self.old) (IsListed object self.new) }
@@ -527,15 +526,11 @@ impl<M: SeqObject> Frontier<M> {
         ensures budget { budget_of self.new ≡ budget_of self.old }
         ensures cost { applied_of self.new ≡ applied_of self.old }
     {
-        if !M::has_scalar_states() {
-            return self.make_rows();
+        if M::has_scalar_states() {
+            Ok(())
+        } else {
+            self.make_rows()
         }
-        if self.as_products.is_none()
-            && as_products::may_grow(&self.table, &self.calls, self.tried)
-        {
-            return self.make_products();
-        }
-        Ok(())
     }
 
     // Puts what is left of all ends after the ok into the room. False where there are more ends than the budget.
@@ -604,30 +599,6 @@ impl<M: SeqObject> Frontier<M> {
         }
     }
 
-    // The first half of `ok`: the rows that are left are put into the room, and take the others' place at `commit`.
-    fn prepare_ok(&mut self, id: u32, answer: &Answer) -> Result<Step, AllocError>
-        ensures step { let object = of_table M.State M.start_state M.apply_to in
-            let old = StandsFor object self.old in
-            IfOk result (Answers object (budget_of self.old) old (Returned id answer.now)) }
-        ensures now { let object = of_table M.State M.start_state M.apply_to in
-            Keeps (StandsFor object self.old) (StandsFor object self.new) }
-        ensures next { let object = of_table M.State M.start_state M.apply_to in
-            let old = StandsFor object self.old in let next = WillStandFor object self.new in
-            IfOk result (TakesUnlessOver old next (Returned id answer.now)) }
-        ensures budget { budget_of self.new ≡ budget_of self.old }
-        ensures cost { let object = of_table M.State M.start_state M.apply_to in
-            let old = StandsFor object self.old in
-            CostsAtMost (budget_of self.old) old (Returned id answer.now)
-            (applied_of self.old) (applied_of self.new) }
-    {
-        if !self.find_left(id, answer)? {
-            return Ok(Step::Over);
-        }
-        let tried = self.calls.len().saturating_sub(1);
-        self.next = Change::Done(id, tried);
-        Ok(step_of(self.left()))
-    }
-
     /// How many steps were made so far: how often an operation was tried in a state, also in an ok that was answered Over or found
     /// no memory. It never falls, and stops at the greatest u64. Takes constant time.
     pub fn applied(&self) -> u64
@@ -655,6 +626,7 @@ impl<M: SeqObject> Frontier<M> {
     }
 
     // The first half of `fail`: the rows that are left are put into the room, and take the others' place at `commit`.
+    #[inline(never)]
     fn prepare_fail(&mut self, id: u32) -> Result<Step, AllocError>
         ensures step { let object = of_table M.State M.start_state M.apply_to in
             let old = StandsFor object self.old in
@@ -731,8 +703,9 @@ impl<M: SeqObject> Frontier<M> {
         let mut calls = ends::copy_calls(self.alloc, &self.calls)?;
         ends::crash_call(&mut calls, id, counts);
         let table = ends::of_ends::<M>(self.alloc, &after, &calls)?;
-        let boxed = Box::new(self.alloc, table)?;
-        self.next = Change::Anew(calls, boxed, 0);
+        let after_crash = Box::new(self.alloc, AfterCrash { calls, table })?;
+        self.after_crash = Some(after_crash);
+        self.next = Change::Crashed;
         Ok(())
     }
 
@@ -777,6 +750,8 @@ impl<M: SeqObject> Frontier<M> {
             room: Room::new(self.alloc),
             as_products,
             next: Change::Nothing,
+            coming: None,
+            after_crash: None,
         })
     }
 

@@ -2,7 +2,7 @@
 use Rattle.std.proofs.Common.{◌≡◌, ◌∙◌, ℕ, Bool, true, List, true≢false, sym, ap, subst}
 use Rattle.std.specs.Prelude.{Result, Ok, Err, OnErr}
 use Rattle.models.specs.declared.operation.Op.{Op}
-use Rattle.history.specs.declared.event.Fault.{Fault}
+use Rattle.events.specs.declared.event.Fault.{Fault}
 use Rattle.generators.specs.declared.item.Item.{Item}
 use Rattle.generators.specs.declared.item.Item.TheVariants.{Op as AnOp, Fault as AFault}
 use Rattle.generators.specs.declared.item.Asker.TheVariants.{Thread, Nemesis}

@@ -3,20 +3,20 @@ use Rattle.std.proofs.Common.{◌≡◌, ℕ, zero, suc, ◌<◌, Option, Some, 
 use Rattle.std.proofs.Math.ListN.{set}
 use Rattle.std.specs.declared.boxed.Box.{Box}
 use Rattle.std.specs.Global.{Global}
-use Rattle.history.specs.declared.event.Fault.{Fault}
+use Rattle.events.specs.declared.event.Fault.{Fault}
 use Rattle.nemesis.specs.Schedules.{after_first}
 use Rattle.generators.specs.Sources.{SourceView, upcoming, committed}
 use Rattle.test_store.specs.declared.outcome.Outcome.{Outcome}
 use Rattle.test_store.specs.Store.{Cluster, StoreView}
 use Rattle.test_store.specs.Store.{at_rest as store_at_rest}
-use Rattle.trials.specs.declared.ticket.Ticket.{Ticket}
-use Rattle.trials.specs.Trials.{served_as}
+use Rattle.machine.specs.declared.ticket.Ticket.{Ticket}
+use Rattle.machine.specs.Trials.{served_as}
 use Rattle.linspec.specs.JudgedHistory.{JudgedHistory}
 use Rattle.monitor.specs.Monitors.{MonitorView}
 use Rattle.monitor.specs.Monitors.{at_rest as monitor_at_rest}
 use Rattle.machine.specs.Machine.{Machine, stale_from}
-use Rattle.harness.specs.declared.inner.Change.{Change}
-use Rattle.harness.specs.declared.inner.Change.TheVariants.{Nothing, Judged, Rewind as Cut, Draw as Invoke, Serve as Serving, StrikeDue, StrikeDrawn}
+use Rattle.harness.specs.declared.change.Change.{Change}
+use Rattle.harness.specs.declared.change.Change.TheVariants.{Nothing, Judged, Rewind as Cut, Draw as Invoke, Serve as Serving, StrikeDue, StrikeDrawn}
 use Rattle.harness.specs.CoreView.{CoreView, at_rest}
 use Rattle.harness.specs.SoundCore.{machine_of, judged_as, moved_on, struck_as, served_at, with_outcome, next_of, IsSoundMachine, IsSoundCore}
 use Rattle.harness.proofs.Preparing.{seen}
@@ -34,8 +34,8 @@ brings_both (Some x) None f new k = tt
 brings_both (Some x) (Some y) f new k = k x y refl refl
 
 -- a part that commits
-pub monitor_done : (monitor monitor' : MonitorView) (h : JudgedHistory) → IfSome monitor.next (λ (next : JudgedHistory). monitor' ≡ monitor_at_rest next) → monitor.next ≡ Some h → monitor' ≡ monitor_at_rest h
-monitor_done monitor monitor' h done is = subst (λ (o : Option JudgedHistory). IfSome o (λ (next : JudgedHistory). monitor' ≡ monitor_at_rest next)) is done
+pub monitor_done : (monitor monitor' : MonitorView) (h : JudgedHistory) → IfSome monitor.next (λ (next : JudgedHistory). monitor' ≡ monitor_at_rest next monitor.again) → monitor.next ≡ Some h → monitor' ≡ monitor_at_rest h monitor.again
+monitor_done monitor monitor' h done is = subst (λ (o : Option JudgedHistory). IfSome o (λ (next : JudgedHistory). monitor' ≡ monitor_at_rest next monitor.again)) is done
 
 pub store_done : (store store' : StoreView) (s : Cluster) → IfSome store.next (λ (next : Cluster). store' ≡ store_at_rest next) → store.next ≡ Some s → store' ≡ store_at_rest s
 store_done store store' s done is = subst (λ (o : Option Cluster). IfSome o (λ (next : Cluster). store' ≡ store_at_rest next)) is done
@@ -50,23 +50,23 @@ module _ (monitor monitor' : MonitorView) (source source' : SourceView) (schedul
   to_change : (other : Change) (new : CoreView) → change ≡ other → IfSome (next_of monitor source store old other) (λ (next : Machine). new ≡ at_rest next) → Brings new
   to_change other new is h = subst (λ (x : Change). IfSome (next_of monitor source store old x) (λ (next : Machine). new ≡ at_rest next)) (sym is) h
 
-  pub judged_done : change ≡ Judged → IfSome monitor.next (λ (next : JudgedHistory). monitor' ≡ monitor_at_rest next) → Brings (seen monitor' source schedule store tickets Nothing)
+  pub judged_done : change ≡ Judged → IfSome monitor.next (λ (next : JudgedHistory). monitor' ≡ monitor_at_rest next monitor.again) → Brings (seen monitor' source schedule store tickets Nothing)
   judged_done is done = to_change Judged (seen monitor' source schedule store tickets Nothing) is
       (brings monitor.next (judged_as old) (seen monitor' source schedule store tickets Nothing)
       (λ h e. ap (λ (x : MonitorView). seen x source schedule store tickets Nothing) (monitor_done monitor monitor' h done e)))
 
-  pub rewind_done : (n : ℕ) → change ≡ Cut n → IfSome monitor.next (λ (next : JudgedHistory). monitor' ≡ monitor_at_rest next) → tickets' ≡ map (stale_from n) tickets → Brings (seen monitor' source schedule store tickets' Nothing)
+  pub rewind_done : (n : ℕ) → change ≡ Cut n → IfSome monitor.next (λ (next : JudgedHistory). monitor' ≡ monitor_at_rest next monitor.again) → tickets' ≡ map (stale_from n) tickets → Brings (seen monitor' source schedule store tickets' Nothing)
   rewind_done n is done stale = to_change (Cut n) (seen monitor' source schedule store tickets' Nothing) is
       (brings monitor.next (λ h. record old { judged = h; tickets = map (stale_from n) tickets }) (seen monitor' source schedule store tickets' Nothing)
       (λ h e. ap (λ (x : MonitorView). seen x source schedule store tickets' Nothing) (monitor_done monitor monitor' h done e)
-      ∙ ap (λ (l : List Ticket). seen (monitor_at_rest h) source schedule store l Nothing) stale))
+      ∙ ap (λ (l : List Ticket). seen (monitor_at_rest h monitor.again) source schedule store l Nothing) stale))
 
-  pub draw_done : (t : Box Ticket Global) → change ≡ Invoke t → IfSome monitor.next (λ (next : JudgedHistory). monitor' ≡ monitor_at_rest next) → source' ≡ committed source → tickets' ≡ tickets ++ t.value ∷ [] → Brings (seen monitor' source' schedule store tickets' Nothing)
+  pub draw_done : (t : Box Ticket Global) → change ≡ Invoke t → IfSome monitor.next (λ (next : JudgedHistory). monitor' ≡ monitor_at_rest next monitor.again) → source' ≡ committed source → tickets' ≡ tickets ++ t.value ∷ [] → Brings (seen monitor' source' schedule store tickets' Nothing)
   draw_done t is done moved pushed = to_change (Invoke t) (seen monitor' source' schedule store tickets' Nothing) is
       (brings monitor.next (λ h. moved_on (upcoming source) (record old { judged = h; tickets = tickets ++ t.value ∷ [] })) (seen monitor' source' schedule store tickets' Nothing)
       (λ h e. ap (λ (x : MonitorView). seen x source' schedule store tickets' Nothing) (monitor_done monitor monitor' h done e)
-      ∙ ap (λ (x : SourceView). seen (monitor_at_rest h) x schedule store tickets' Nothing) moved
-      ∙ ap (λ (l : List Ticket). seen (monitor_at_rest h) (committed source) schedule store l Nothing) pushed))
+      ∙ ap (λ (x : SourceView). seen (monitor_at_rest h monitor.again) x schedule store tickets' Nothing) moved
+      ∙ ap (λ (l : List Ticket). seen (monitor_at_rest h monitor.again) (committed source) schedule store l Nothing) pushed))
 
   pub serve_done : (number : ℕ) (outcome : Box Outcome Global) → change ≡ Serving number outcome → IfSome store.next (λ (next : Cluster). store' ≡ store_at_rest next) → tickets' ≡ with_outcome number outcome.value tickets → Brings (seen monitor source schedule store' tickets' Nothing)
   serve_done number outcome is done noted = to_change (Serving number outcome) (seen monitor source schedule store' tickets' Nothing) is
@@ -74,21 +74,21 @@ module _ (monitor monitor' : MonitorView) (source source' : SourceView) (schedul
       (λ s e. ap (λ (x : StoreView). seen monitor source schedule x tickets' Nothing) (store_done store store' s done e)
       ∙ ap (λ (l : List Ticket). seen monitor source schedule (store_at_rest s) l Nothing) noted))
 
-  pub due_done : change ≡ StrikeDue → IfSome monitor.next (λ (next : JudgedHistory). monitor' ≡ monitor_at_rest next) → IfSome store.next (λ (next : Cluster). store' ≡ store_at_rest next) → schedule' ≡ after_first schedule
+  pub due_done : change ≡ StrikeDue → IfSome monitor.next (λ (next : JudgedHistory). monitor' ≡ monitor_at_rest next monitor.again) → IfSome store.next (λ (next : Cluster). store' ≡ store_at_rest next) → schedule' ≡ after_first schedule
       → Brings (seen monitor' source schedule' store' tickets Nothing)
   due_done is done struck moved = to_change StrikeDue (seen monitor' source schedule' store' tickets Nothing) is
       (brings_both monitor.next store.next (λ h after. record (struck_as old h after) { schedule = after_first schedule }) (seen monitor' source schedule' store' tickets Nothing)
       (λ h s e f. ap (λ (x : MonitorView). seen x source schedule' store' tickets Nothing) (monitor_done monitor monitor' h done e)
-      ∙ ap (λ (x : StoreView). seen (monitor_at_rest h) source schedule' x tickets Nothing) (store_done store store' s struck f)
-      ∙ ap (λ (l : List (ℕ × Fault)). seen (monitor_at_rest h) source l (store_at_rest s) tickets Nothing) moved))
+      ∙ ap (λ (x : StoreView). seen (monitor_at_rest h monitor.again) source schedule' x tickets Nothing) (store_done store store' s struck f)
+      ∙ ap (λ (l : List (ℕ × Fault)). seen (monitor_at_rest h monitor.again) source l (store_at_rest s) tickets Nothing) moved))
 
-  pub drawn_done : change ≡ StrikeDrawn → IfSome monitor.next (λ (next : JudgedHistory). monitor' ≡ monitor_at_rest next) → IfSome store.next (λ (next : Cluster). store' ≡ store_at_rest next) → source' ≡ committed source
+  pub drawn_done : change ≡ StrikeDrawn → IfSome monitor.next (λ (next : JudgedHistory). monitor' ≡ monitor_at_rest next monitor.again) → IfSome store.next (λ (next : Cluster). store' ≡ store_at_rest next) → source' ≡ committed source
       → Brings (seen monitor' source' schedule store' tickets Nothing)
   drawn_done is done struck moved = to_change StrikeDrawn (seen monitor' source' schedule store' tickets Nothing) is
       (brings_both monitor.next store.next (λ h after. moved_on (upcoming source) (struck_as old h after)) (seen monitor' source' schedule store' tickets Nothing)
       (λ h s e f. ap (λ (x : MonitorView). seen x source' schedule store' tickets Nothing) (monitor_done monitor monitor' h done e)
-      ∙ ap (λ (x : StoreView). seen (monitor_at_rest h) source' schedule x tickets Nothing) (store_done store store' s struck f)
-      ∙ ap (λ (x : SourceView). seen (monitor_at_rest h) x schedule (store_at_rest s) tickets Nothing) moved))
+      ∙ ap (λ (x : StoreView). seen (monitor_at_rest h monitor.again) source' schedule x tickets Nothing) (store_done store store' s struck f)
+      ∙ ap (λ (x : SourceView). seen (monitor_at_rest h monitor.again) x schedule (store_at_rest s) tickets Nothing) moved))
 
 -- and it is sound
 pub sound_done : (next : Option Machine) (new : CoreView) (room : ℕ) → IsSome next → IfSome next IsSoundMachine → IfSome next (λ (n : Machine). new ≡ at_rest n) → IsSoundCore new.machine None room Nothing

@@ -3,9 +3,10 @@ use Rattle.std.proofs.Common.{◌≡◌, ℕ, zero, suc, ◌%◌, ◌^◌, ◌-�
 use Rattle.std.specs.declared.boxed.Box.{Box}
 use Rattle.std.specs.Global.{Global}
 use Rattle.models.specs.declared.operation.Op.{Op}
-use Rattle.history.specs.declared.event.Event.{Event}
-use Rattle.history.specs.declared.event.Fault.{Fault}
-use Rattle.history.specs.WellFormed.{HistoryView, HasRoom, IsPart}
+use Rattle.events.specs.declared.event.Event.{Event}
+use Rattle.events.specs.declared.event.Fault.{Fault}
+use Rattle.events.specs.Tables.{IsPart}
+use Rattle.history.specs.WellFormed.{HistoryView, HasRoom}
 use Rattle.linspec.specs.declared.verdict.Verdict.{Verdict}
 use Rattle.nemesis.specs.Schedules.{after_first}
 use Rattle.generators.specs.declared.item.Item.TheVariants.{Op as AnOp, Fault as AFault}
@@ -17,8 +18,8 @@ use Rattle.generators.specs.Generators.{Generator}
 use Rattle.generators.specs.Sources.{SourceView, upcoming}
 use Rattle.test_store.specs.declared.outcome.Outcome.{Outcome}
 use Rattle.test_store.specs.Store.{Cluster, StoreView, MayServe, MayStrike, VersionsOf, row_of, after_fault}
-use Rattle.trials.specs.declared.ticket.Ticket.{Ticket}
-use Rattle.trials.specs.Trials.{invocation, strike, fresh_ticket, IsStillOpen}
+use Rattle.machine.specs.declared.ticket.Ticket.{Ticket}
+use Rattle.machine.specs.Trials.{invocation, strike, fresh_ticket, IsStillOpen}
 use Rattle.linspec.specs.JudgedHistory.{IsVerdictOn, with_event}
 use Rattle.monitor.specs.Monitors.{MonitorView, Admits}
 use Rattle.monitor.specs.Monitors.{with_next as monitor_with_next}
@@ -29,7 +30,7 @@ use Rattle.machine.specs.Machine.{Machine, HasTicket, ThreadMayDraw, HasOperatio
 use Rattle.machine.specs.Tickets.{IsAnswered, served_of}
 use Rattle.machine.proofs.Counting.{served-le}
 use Rattle.machine.proofs.Tickets.{may_complete}
-use Rattle.harness.specs.declared.inner.Change.TheVariants.{Same, Judged, Draw as Invoke, Serve as Serving, StrikeDue, StrikeDrawn}
+use Rattle.harness.specs.declared.change.Change.TheVariants.{Same, Judged, Draw as Invoke, Serve as Serving, StrikeDue, StrikeDrawn}
 use Rattle.harness.specs.Asking.{MayGive, HasOpFor}
 use Rattle.harness.specs.CoreView.{CoreView, IsPrepared}
 use Rattle.harness.specs.SoundCore.{machine_of, judged_as, moved_on, served_at, IsSoundMachine}
@@ -152,7 +153,7 @@ module _ (monitor : MonitorView) (source : SourceView) (schedule : List (ℕ × 
       → monitor' ≡ monitor_with_next (with_event event monitor.now) monitor → IsVerdictOn (with_event event monitor.now) v
       → IsPrepared m (Finish number) (Says v, v) (seen monitor' source schedule store tickets Judged)
   finished monitor' number event v s may brought true =
-      judged monitor monitor' source schedule store tickets (with_event event monitor.now) (Finish number) v
+      judged monitor monitor' source schedule store tickets (with_event event monitor.now) monitor.again (Finish number) v
       ((may.0, may.2, (may.1, may.3, may.4, subst (Admits monitor.now) may.6 (finish_takes number event s may), ap (λ (e : Event). judged_as m (with_event e monitor.now)) may.6)), true)
       true brought
 

@@ -1,7 +1,7 @@
 -- Items that pass both tests are good, and a machine keeps its items good
 use Rattle.std.proofs.Common.{◌≡◌, ℕ, ◌%◌, ⊎_elim, Result, Ok, Err, List, [], ◌∷◌, sym, subst}
 use Rattle.edn.specs.declared.refusal.Refusal.{Refusal}
-use Rattle.history.specs.declared.event.Fault.{Fault}
+use Rattle.events.specs.declared.event.Fault.{Fault}
 use Rattle.nemesis.specs.Schedules.{after_first}
 use Rattle.generators.specs.declared.item.Item.{Item}
 use Rattle.generators.specs.declared.item.Item.TheVariants.{Op as AnOp, Fault as AFault}
@@ -15,8 +15,8 @@ use Rattle.generators.specs.Words.{word}
 use Rattle.generators.proofs.ItemsStay.{stays}
 use Rattle.test_store.specs.Store.{IsCount, MayStrike}
 use Rattle.test_store.proofs.Versions.{serve_replicas}
-use Rattle.trials.specs.declared.ticket.Ticket.{Ticket}
-use Rattle.trials.specs.Trials.{completion}
+use Rattle.machine.specs.declared.ticket.Ticket.{Ticket}
+use Rattle.machine.specs.Trials.{completion}
 use Rattle.linspec.specs.JudgedHistory.{with_kind, with_budget}
 use Rattle.machine.specs.declared.command.Command.{Command}
 use Rattle.machine.specs.declared.command.Command.TheVariants.{Append, Rewind, SetModel, SetBudget, Verdict as Ask, Draw, Serve, Finish, Nemesis}

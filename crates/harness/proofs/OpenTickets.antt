@@ -2,10 +2,10 @@
 use Rattle.std.proofs.Common.{◌≡◌, ℕ, Option, Some, None, option_map, List, sym, ap, ◌∙◌}
 use Rattle.models.specs.declared.operation.Op.{Op}
 use Rattle.processes.specs.MoveRule.{current_of}
-use Rattle.history.specs.declared.event.Event.{Event}
+use Rattle.events.specs.declared.event.Event.{Event}
 use Rattle.history.specs.WellFormed.{moves_of, open_of, open_index}
-use Rattle.trials.specs.declared.ticket.Ticket.{Ticket}
-use Rattle.trials.specs.Trials.{IsStillOpen}
+use Rattle.machine.specs.declared.ticket.Ticket.{Ticket}
+use Rattle.machine.specs.Trials.{IsStillOpen}
 use Rattle.machine.specs.Tickets.{StandsFor}
 use Rattle.machine.proofs.Tickets.{still_open}
 

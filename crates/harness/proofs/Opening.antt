@@ -5,7 +5,7 @@ use Rattle.edn.specs.declared.refusal.Refusal.TheVariants.{BadBudget, BadConcurr
 use Rattle.test_store.specs.Store.{MayNotOpenStore}
 use Rattle.monitor.specs.Monitors.{MayNotBegin}
 use Rattle.machine.specs.Machine.{Machine, Setup, opening}
-use Rattle.harness.specs.declared.inner.Change.TheVariants.{Nothing}
+use Rattle.harness.specs.declared.change.Change.TheVariants.{Nothing}
 use Rattle.harness.specs.Setups.{IsSetup, MayNotOpen}
 use Rattle.harness.specs.SoundCore.{IsSoundMachine, IsSoundCore}
 use Rattle.harness.proofs.Sound.{sound_opening}

@@ -1,7 +1,7 @@
 -- What a monitor shows of its history
 use Rattle.std.proofs.Common.{◌≡◌, ℕ, List, ap, ◌∙◌}
 use Rattle.processes.specs.MoveRule.{current_of}
-use Rattle.history.specs.declared.event.Event.{Event}
+use Rattle.events.specs.declared.event.Event.{Event}
 use Rattle.history.specs.WellFormed.{HistoryView, moves_of}
 use Rattle.monitor.specs.Monitors.{MonitorView}
 

@@ -1,7 +1,7 @@
 -- A machine is sound at the opening, and after each step
 use Rattle.std.proofs.Common.{ℕ, Result, List, [], ◌∷◌, arith}
 use Rattle.edn.specs.declared.refusal.Refusal.{Refusal}
-use Rattle.history.specs.declared.event.Fault.{Fault}
+use Rattle.events.specs.declared.event.Fault.{Fault}
 use Rattle.generators.specs.declared.item.Item.{Item}
 use Rattle.generators.specs.declared.item.Item.TheVariants.{Op as AnOp, Fault as AFault}
 use Rattle.generators.specs.Generators.{Each}

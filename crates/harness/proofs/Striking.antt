@@ -1,8 +1,8 @@
 -- Which fault strikes next, and why none does
 use Rattle.std.proofs.Common.{◌≡◌, ℕ, ◌<◌, ◌≤◌, ◌⊎◌, ⊎_elim, inl, inr, Bool, true, false, nat_le, if◌then◌else◌, Option, Some, None, List, [], ◌∷◌, length, refl, sym, ap, ◌∙◌, subst, arith}
 use Rattle.std.specs.Prelude.{Result, Ok, Err, IfOk, OnErr}
-use Rattle.history.specs.declared.event.Event.{Event}
-use Rattle.history.specs.declared.event.Fault.{Fault}
+use Rattle.events.specs.declared.event.Event.{Event}
+use Rattle.events.specs.declared.event.Fault.{Fault}
 use Rattle.history.specs.WellFormed.{HistoryView, HasRoom}
 use Rattle.nemesis.specs.Schedules.{due_at, after_first}
 use Rattle.generators.specs.declared.item.Item.TheVariants.{Fault as AFault}
@@ -11,7 +11,7 @@ use Rattle.generators.specs.declared.item.Drawn.TheVariants.{Op as Gets, Pending
 use Rattle.generators.specs.Generators.{Generator, Each}
 use Rattle.generators.specs.Sources.{SourceView}
 use Rattle.test_store.specs.Store.{StoreView, MayStrike}
-use Rattle.trials.specs.declared.ticket.Ticket.{Ticket}
+use Rattle.machine.specs.declared.ticket.Ticket.{Ticket}
 use Rattle.monitor.specs.Monitors.{MonitorView}
 use Rattle.machine.specs.declared.command.Command.TheVariants.{Nemesis}
 use Rattle.machine.specs.Machine.{Machine, HasFault, HasNoFault, first_due, idle_from}

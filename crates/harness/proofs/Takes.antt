@@ -6,14 +6,15 @@ use Rattle.std.proofs.lemmas.List.Sums.{AllPass-from_list_all}
 use Rattle.models.specs.declared.operation.Op.{Op}
 use Rattle.processes.specs.MoveRule.{current_of}
 use Rattle.processes.proofs.Pushing.{thread_of_current}
-use Rattle.history.specs.declared.event.Event.{Event}
-use Rattle.history.specs.declared.event.Fault.{Fault}
-use Rattle.history.specs.declared.event.Fault.TheVariants.{Partition, Heal, Pause, Resume, Crash, Restart, LoseReplies}
-use Rattle.history.specs.Replicas.{IsReplica}
-use Rattle.history.specs.WellFormed.{IsFault, IsPart, HasRoom, IsWellFormed, moves_of, open_of, open_index}
+use Rattle.events.specs.declared.event.Event.{Event}
+use Rattle.events.specs.declared.event.Fault.{Fault}
+use Rattle.events.specs.declared.event.Fault.TheVariants.{Partition, Heal, Pause, Resume, Crash, Restart, LoseReplies}
+use Rattle.events.specs.Replicas.{IsReplica}
+use Rattle.events.specs.Tables.{IsFault, IsPart}
+use Rattle.history.specs.WellFormed.{HasRoom, IsWellFormed, moves_of, open_of, open_index}
 use Rattle.history.proofs.Appending.{busy_is_open}
 use Rattle.test_store.specs.Store.{IsCount, MayStrike, are_below}
-use Rattle.trials.specs.Trials.{invocation, strike}
+use Rattle.machine.specs.Trials.{invocation, strike}
 
 none_is_open : (o : Option (ℕ × Op)) → option_map (λ (x : ℕ × Op). x.0) o ≡ None → is_some o ≡ false
 none_is_open None h = refl

@@ -3,7 +3,7 @@ use Rattle.std.specs.Prelude.{ℕ, Bool, List, Option, Some, None, Result, Ok, E
 use Rattle.edn.specs.declared.refusal.Refusal.{Refusal}
 use Rattle.edn.specs.declared.refusal.Refusal.TheVariants.{Idle, HistoryFull}
 use Rattle.models.specs.declared.operation.Op.{Op}
-use Rattle.history.specs.declared.event.Fault.{Fault}
+use Rattle.events.specs.declared.event.Fault.{Fault}
 use Rattle.generators.specs.declared.item.Item.TheVariants.{Op as AnOp, Fault as AFault}
 use Rattle.generators.specs.declared.item.Asker.{Asker}
 use Rattle.generators.specs.declared.item.Asker.TheVariants.{Thread, Nemesis}

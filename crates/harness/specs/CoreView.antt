@@ -1,11 +1,11 @@
 -- Promise: the one-thread object, as a caller sees it, and when a command of it may want memory (this project's own)
-use Rattle.std.specs.Prelude.{◌≡◌, ◌≤◌, Option, Some, None, IsSome, Ok, length}
+use Rattle.std.specs.Prelude.{◌≡◌, ◌≤◌, Option, Some, None, IsSome, Result, Ok, Err, length}
 use Rattle.edn.specs.declared.refusal.Refusal.{Refusal}
 use Rattle.edn.specs.declared.refusal.Refusal.TheVariants.{NoMemory}
 use Rattle.history.specs.WellFormed.{HasRoom}
 use Rattle.linspec.specs.declared.verdict.Verdict.{Verdict}
 use Rattle.linspec.specs.JudgedHistory.{IsVerdictOn, IsBudget}
-use Rattle.trials.specs.Trials.{IsStillOpen}
+use Rattle.machine.specs.Trials.{IsStillOpen}
 use Rattle.machine.specs.declared.command.Command.{Command}
 use Rattle.machine.specs.declared.command.Command.TheVariants.{Append, Rewind, SetModel, SetBudget, Verdict as Ask, Draw, Serve, Finish, Nemesis}
 use Rattle.machine.specs.declared.command.Reply.{Reply}
@@ -48,3 +48,14 @@ MayWantMemory m Nemesis = HasFault m × HasRoom m.judged.events
 abbrev pub MayDecline : Machine → Command → Refusal → Type 0
 MayDecline m command NoMemory = MayWantMemory m command
 MayDecline m command why = Refuses m command why
+
+-- the command may be answered so: it is prepared, or declined with nothing prepared
+abbrev pub MayPrepare : Machine → Command → Result (Reply × Verdict) Refusal → CoreView → Type 0
+MayPrepare old command (Ok answer) new = IsPrepared old command answer new
+MayPrepare old command (Err why) new = MayDecline old command why × (new ≡ at_rest old)
+
+-- the same at once: it is carried out, or declined, and nothing is prepared
+abbrev pub MayCarryOut : Machine → Command → Result Reply Refusal → CoreView → Type 0
+MayCarryOut old command (Ok reply) new =
+    (next : Machine) × MayStep old command (Ok reply) next × (new ≡ at_rest next)
+MayCarryOut old command (Err why) new = MayDecline old command why × (new ≡ at_rest old)

@@ -1,6 +1,6 @@
 -- Promise: which operations and faults may be handed in (this project's own)
-use Rattle.history.specs.declared.event.Fault.{Fault}
-use Rattle.history.specs.WellFormed.{IsPart}
+use Rattle.events.specs.declared.event.Fault.{Fault}
+use Rattle.events.specs.Tables.{IsPart}
 use Rattle.generators.specs.declared.item.Item.{Item}
 use Rattle.generators.specs.declared.item.Item.TheVariants.{Op as AnOp, Fault as AFault}
 use Rattle.test_store.specs.Store.{numbers_of, AreOnce, AreBelow}

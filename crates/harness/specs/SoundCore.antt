@@ -1,7 +1,7 @@
 -- Invariant: what the one-thread object keeps true of its parts
 use Rattle.std.specs.Prelude.{ℕ, ◌<◌, ◌≤◌, Option, Some, None, IfSome, option_map, option_and_then, List, [], ◌∷◌, ◌++◌, length, map, slice_get, slice_set}
-use Rattle.history.specs.declared.event.Fault.{Fault}
-use Rattle.history.specs.WellFormed.{IsPart}
+use Rattle.events.specs.declared.event.Fault.{Fault}
+use Rattle.events.specs.Tables.{IsPart}
 use Rattle.nemesis.specs.Schedules.{after_first}
 use Rattle.generators.specs.declared.item.Item.{Item}
 use Rattle.generators.specs.declared.item.Item.TheVariants.{Op as AnOp, Fault as AFault}
@@ -9,14 +9,14 @@ use Rattle.generators.specs.Generators.{Generator, AllItems, Each}
 use Rattle.generators.specs.Sources.{SourceView, upcoming}
 use Rattle.test_store.specs.declared.outcome.Outcome.{Outcome}
 use Rattle.test_store.specs.Store.{Cluster, StoreView, IsCount, MayStrike, VersionsWithin}
-use Rattle.trials.specs.declared.ticket.Ticket.{Ticket}
-use Rattle.trials.specs.Trials.{served_as}
+use Rattle.machine.specs.declared.ticket.Ticket.{Ticket}
+use Rattle.machine.specs.Trials.{served_as}
 use Rattle.linspec.specs.JudgedHistory.{JudgedHistory}
 use Rattle.monitor.specs.Monitors.{MonitorView}
 use Rattle.machine.specs.Machine.{Machine, stale_from, most_tickets}
 use Rattle.machine.specs.Tickets.{AreTickets, served_of}
-use Rattle.harness.specs.declared.inner.Change.{Change}
-use Rattle.harness.specs.declared.inner.Change.TheVariants.{Nothing, Same, Judged, Rewind, Draw, Serve, StrikeDue, StrikeDrawn}
+use Rattle.harness.specs.declared.change.Change.{Change}
+use Rattle.harness.specs.declared.change.Change.TheVariants.{Nothing, Same, Judged, Rewind, Draw, Serve, StrikeDue, StrikeDrawn}
 
 -- what the parts stand for
 abbrev pub machine_of : MonitorView → SourceView → List (ℕ × Fault) → StoreView → List Ticket → Machine

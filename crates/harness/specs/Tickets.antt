@@ -1,10 +1,10 @@
 -- Invariant: what the tests of a command have shown
 use Rattle.std.specs.Prelude.{◌≡◌, ℕ, Some, None, List}
-use Rattle.history.specs.declared.event.Event.{Event}
+use Rattle.events.specs.declared.event.Event.{Event}
 use Rattle.history.specs.WellFormed.{HistoryView, HasRoom}
 use Rattle.test_store.specs.declared.outcome.Outcome.{Outcome}
-use Rattle.trials.specs.declared.ticket.Ticket.{Ticket}
-use Rattle.trials.specs.Trials.{IsStillOpen, completion}
+use Rattle.machine.specs.declared.ticket.Ticket.{Ticket}
+use Rattle.machine.specs.Trials.{IsStillOpen, completion}
 use Rattle.machine.specs.Machine.{Machine, HasTicket}
 
 -- the machine has this history and these tickets

@@ -7,8 +7,9 @@ ghost use Rattle.machine.specs.Machine.{idle_from};
 ghost use Rattle.harness.specs.Asking.{MayGiveOp, MayGiveFault, HasOpFor, HasFaultFor, why_full};
 
 use edn::Refusal;
+use events::Fault;
 use generators::{Asker, Drawn, Item, Source};
-use history::{Fault, History};
+use history::History;
 use models::Op;
 use std::alloc::AllocError;
 

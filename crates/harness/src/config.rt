@@ -4,8 +4,8 @@ ghost use Rattle.harness.specs.Setups.{setup_of, judging, AllPass, IsSetup, MayN
 
 use crate::fitness::{Test, all_items_pass, all_scheduled_pass};
 use edn::Refusal;
+use events::MOST_REPLICAS;
 use generators::{Cycle, Gen};
-use history::MOST_REPLICAS;
 use models::ModelKind;
 use monitor::MOST_ENDS;
 use nemesis::Schedule;

@@ -1,7 +1,7 @@
 //! The one-thread object with all its commands.
 ghost use Rattle.std.specs.Prelude.{◌≡◌, ◌≢◌, ◌++◌, ◌∷◌, [], List, Result, IfOk, IfErr, IfSome, IsSome, IsOk, OnOk, OnErr, IsErrOf, Ok, Err};
 ghost use Rattle.edn.specs.declared.refusal.Refusal.{Refusal};
-ghost use Rattle.history.specs.Events.{marks};
+ghost use Rattle.events.specs.Events.{marks};
 ghost use Rattle.linspec.specs.Orders.{IsLinearizable, product};
 ghost use Rattle.test_store.specs.declared.outcome.Mode.TheVariants.{Strict};
 ghost use Rattle.test_store.specs.Store.{IsCount};
@@ -10,16 +10,22 @@ ghost use Rattle.machine.specs.declared.command.Command.{Command};
 ghost use Rattle.machine.specs.declared.command.Reply.{Reply};
 ghost use Rattle.machine.specs.Machine.{Setup, opening, MayStep, Runs, AreOfTrial};
 ghost use Rattle.harness.specs.Setups.{setup_of, IsSetup, MayNotOpen};
-ghost use Rattle.harness.specs.CoreView.{at_rest, IsPrepared, MayWantMemory};
+ghost use Rattle.harness.specs.CoreView.{at_rest, IsPrepared, MayPrepare, MayCarryOut, MayWantMemory};
 
+use crate::change::Change;
 use crate::config::Config;
-use crate::inner::Inner;
+use crate::tickets::{come_to, make_stale};
 use edn::Refusal;
+use events::Event;
+use generators::Source;
 use linspec::Verdict;
-use machine::{Command, Reply, no_false_alarm};
+use machine::{Command, Reply, Ticket, no_false_alarm};
+use models::{Key, ModelKind};
 use monitor::Monitor;
+use nemesis::Schedule;
 use std::alloc::Global;
 use std::marker::Model;
+use test_store::Store;
 
 /// The one-thread object with all its commands: a history under a live monitor, a generator of operations and faults, a
 /// schedule of faults, a replicated store in the process, and a ticket for each operation that was drawn. Linearizability is
@@ -29,20 +35,36 @@ use std::marker::Model;
 /// [`step`](Core::step) does both in one call.
 #[derive(Drop)]
 pub struct Core {
-    // In a box, so that whoever drops a core calls one function for it.
-    inner: Box<Inner>,
+    pub(crate) alloc: Global,
+    pub(crate) monitor: Monitor,
+    pub(crate) source: Source,
+    pub(crate) schedule: Schedule,
+    pub(crate) store: Store,
+    pub(crate) tickets: Vec<Ticket>,
+    pub(crate) change: Change,
 }
 
 impl Model for Core {
+    ghost use Rattle.std.specs.Prelude.{vec_capacity};
+    ghost use Rattle.harness.specs.CoreView.{CoreView};
+    ghost use Rattle.harness.specs.SoundCore.{machine_of, next_of, IsSoundCore};
     ghost use Rattle.std.specs.Coded.{codes};
     ghost use Rattle.generators.specs.Codes.{generator_code};
-    ghost use Rattle.harness.specs.CoreView.{CoreView};
 
     ghost Value = { CoreView };
 
     ghost coded = { Prim.hlevel (codes, generator_code) };
 
-    ghost view = { λ a. a.inner.value };
+    ghost view = { λ a.
+        let m = machine_of a.monitor a.source a.schedule a.store a.tickets.items in record {
+          machine = m;
+          next = next_of a.monitor a.source a.store m a.change;
+        } };
+
+    ghost invariant = { λ a.
+        let m = machine_of a.monitor a.source a.schedule a.store a.tickets.items in
+        IsSoundCore m (next_of a.monitor a.source a.store m a.change)
+        (vec_capacity a.tickets) a.change };
 }
 
 impl Core {
@@ -57,9 +79,17 @@ impl Core {
         ensures opened { IfOk result (λ core. core ≡ at_rest (opening (setup_of config))) }
         ensures refused { IfErr result (MayNotOpen (setup_of config)) }
     {
-        let inner = Inner::new(alloc, config)?;
+        config.check()?;
+        let monitor = Monitor::new(alloc, config.concurrency, config.kind, config.budget)?;
+        let store = Store::new(alloc, config.replicas, config.mode, config.kind)?;
         Ok(Core {
-            inner: Box::new(alloc, inner)?,
+            alloc,
+            monitor,
+            source: Source::new(alloc, config.generator, config.seed),
+            schedule: config.schedule,
+            store,
+            tickets: Vec::new(alloc),
+            change: Change::Nothing,
         })
     }
 
@@ -96,7 +126,17 @@ impl Core {
         ensures memory_last { IsErrOf result Refusal.NoMemory →
             MayWantMemory self.old.machine command }
     {
-        self.inner.prepare(command)
+        match command {
+            Command::Append(event) => self.prepare_append(event),
+            Command::Rewind(n) => self.prepare_rewind(n),
+            Command::SetModel(key, kind) => self.prepare_model(key, kind),
+            Command::SetBudget(key, n) => self.prepare_budget(key, n),
+            Command::Verdict => Ok(self.prepare_verdict()),
+            Command::Draw(thread) => self.prepare_draw(thread),
+            Command::Serve(number) => self.prepare_serve(number),
+            Command::Finish(number) => self.prepare_finish(number),
+            Command::Nemesis => self.prepare_nemesis(),
+        }
     }
 
     /// Carries out what is prepared. It takes no memory and cannot fail. It takes the time of what it takes away, and for a
@@ -105,7 +145,34 @@ impl Core {
         requires { IsSome self.old.next }
         ensures { IfSome self.old.next (λ next. self.new ≡ at_rest next) }
     {
-        self.inner.commit();
+        match std::mem::replace(&mut self.change, Change::Nothing) {
+            Change::Nothing => (),
+            Change::Same => (),
+            Change::Judged => self.monitor.commit(),
+            Change::Rewind(n) => {
+                self.monitor.commit();
+                make_stale(&mut self.tickets, n);
+            }
+            Change::Draw(ticket) => {
+                self.monitor.commit();
+                self.source.commit();
+                self.tickets.push_reserved(Box::into_inner(ticket));
+            }
+            Change::Serve(number, outcome) => {
+                self.store.commit();
+                come_to(&mut self.tickets[number], Box::into_inner(outcome));
+            }
+            Change::StrikeDue => {
+                self.monitor.commit();
+                self.store.commit();
+                self.schedule.advance();
+            }
+            Change::StrikeDrawn => {
+                self.monitor.commit();
+                self.store.commit();
+                self.source.commit();
+            }
+        }
     }
 
     /// Carries out a command, and gives its reply, as [`prepare`](Core::prepare) and [`commit`](Core::commit) do, in the time
@@ -132,20 +199,90 @@ impl Core {
             (marks (entries_in self.new.machine.judged)) }
     {
         no_false_alarm();
-        self.inner.step(command)
+        match command {
+            Command::Append(event) => self.append(event),
+            other => self.prepare_and_commit(other),
+        }
     }
 
     /// The verdict on the history as it stands. Takes constant time.
     pub fn verdict(&self) -> Verdict
         ensures { IsVerdictOn self.now.machine.judged result }
     {
-        self.inner.verdict()
+        self.monitor.verdict()
     }
 
     /// The monitor as it stands: its history, and its keys by first event.
     pub fn monitor(&self) -> &Monitor
         ensures { result.now.now ≡ self.now.machine.judged }
     {
-        self.inner.monitor()
+        &self.monitor
+    }
+
+    // Carries out a command, by both halves.
+    fn prepare_and_commit(&mut self, command: Command) -> Result<Reply, Refusal>
+        ensures { MayCarryOut self.old.machine command result self.new }
+    {
+        let (reply, _) = self.prepare(command)?;
+        self.commit();
+        Ok(reply)
+    }
+
+    // Appends an event, with nothing to be kept between the halves.
+    fn append(&mut self, event: Event) -> Result<Reply, Refusal>
+        ensures { MayCarryOut self.old.machine (Command.Append event) result self.new }
+    {
+        self.change = Change::Nothing;
+        let verdict = self.monitor.append(event)?;
+        Ok(Reply::Verdict(verdict))
+    }
+
+    // Prepares that an event comes next.
+    fn prepare_append(&mut self, event: Event) -> Result<(Reply, Verdict), Refusal>
+        ensures { MayPrepare self.old.machine (Command.Append event) result self.new }
+    {
+        self.change = Change::Nothing;
+        let verdict = self.monitor.prepare_append(event)?;
+        self.change = Change::Judged;
+        Ok((Reply::Verdict(verdict), verdict))
+    }
+
+    // Prepares a cut of the history, which makes tickets stale.
+    fn prepare_rewind(&mut self, n: u32) -> Result<(Reply, Verdict), Refusal>
+        ensures { MayPrepare self.old.machine (Command.Rewind n) result self.new }
+    {
+        self.change = Change::Nothing;
+        let verdict = self.monitor.prepare_rewind(n)?;
+        self.change = Change::Rewind(n);
+        Ok((Reply::Verdict(verdict), verdict))
+    }
+
+    // Prepares that a key is of this kind.
+    fn prepare_model(&mut self, key: Key, kind: ModelKind) -> Result<(Reply, Verdict), Refusal>
+        ensures { MayPrepare self.old.machine (Command.SetModel key kind) result self.new }
+    {
+        self.change = Change::Nothing;
+        let verdict = self.monitor.prepare_model(key, kind)?;
+        self.change = Change::Judged;
+        Ok((Reply::Verdict(verdict), verdict))
+    }
+
+    // Prepares that a key has this budget.
+    fn prepare_budget(&mut self, key: Key, n: u32) -> Result<(Reply, Verdict), Refusal>
+        ensures { MayPrepare self.old.machine (Command.SetBudget key n) result self.new }
+    {
+        self.change = Change::Nothing;
+        let verdict = self.monitor.prepare_budget(key, n)?;
+        self.change = Change::Judged;
+        Ok((Reply::Verdict(verdict), verdict))
+    }
+
+    // Prepares that all stays as it is.
+    fn prepare_verdict(&mut self) -> (Reply, Verdict)
+        ensures { IsPrepared self.old.machine Command.Verdict result self.new }
+    {
+        self.change = Change::Same;
+        let verdict = self.monitor.verdict();
+        (Reply::Verdict(verdict), verdict)
     }
 }

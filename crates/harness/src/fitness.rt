@@ -1,11 +1,11 @@
 //! Whether each operation and fault that may come is one that history and store take.
 ghost use Rattle.std.specs.Prelude.{◌↔◌, IsTrue};
 ghost use Rattle.generators.specs.Generators.{generator_of, generators_of, AllItems, AllItemsOf, Each};
-ghost use Rattle.history.specs.WellFormed.{IsPart};
+ghost use Rattle.events.specs.Tables.{IsPart};
 ghost use Rattle.harness.specs.Fitness.{Passes, FaultPasses};
 
+use events::Fault;
 use generators::{Gen, Item};
-use history::Fault;
 use models::{Name, Part, each_name};
 use nemesis::Schedule;
 use test_store::{names_once, names_present};

@@ -5,13 +5,14 @@
 #![tactic(auto)]
 
 mod asking;
+mod change;
 pub mod config;
 pub mod core_object;
 mod fitness;
-mod inner;
 pub mod laws;
 mod parts;
 mod tickets;
+mod trial;
 
 pub use config::Config;
 pub use core_object::Core;

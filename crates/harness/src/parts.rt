@@ -3,17 +3,17 @@ ghost use Rattle.std.specs.Prelude.{◌≡◌, ◌<◌, ◌∷◌, [], Some, IfO
 ghost use Rattle.processes.specs.MoveRule.{current_of};
 ghost use Rattle.history.specs.WellFormed.{moves_of};
 ghost use Rattle.test_store.specs.Store.{MayStrike, after_fault};
-ghost use Rattle.trials.specs.Trials.{invocation, strike, fresh_ticket};
+ghost use Rattle.machine.specs.Trials.{invocation, strike, fresh_ticket};
 ghost use Rattle.linspec.specs.JudgedHistory.{IsVerdictOn, with_event};
 ghost use Rattle.monitor.specs.Monitors.{Admits, with_next};
 
-use history::{Body, Event, EventKind, Fault, Process};
+use events::{Body, Event, EventKind, Fault, Process};
 use linspec::Verdict;
+use machine::Ticket;
 use models::Op;
 use monitor::Monitor;
 use std::alloc::AllocError;
 use test_store::Store;
-use trials::Ticket;
 
 /// Prepares to append an event that may come next, and gives the verdict that it brings. Such an event is refused for want
 /// of memory alone.

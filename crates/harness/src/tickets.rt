@@ -3,7 +3,7 @@ ghost use Rattle.std.specs.Prelude.{◌≡◌, ◌↔◌, ◌%◌, ◌<◌, ◌�
 ghost use Rattle.history.specs.WellFormed.{HasRoom};
 ghost use Rattle.test_store.specs.Store.{IsCount};
 ghost use Rattle.test_store.specs.declared.outcome.Outcome.{Outcome};
-ghost use Rattle.trials.specs.Trials.{IsStillOpen, served_as, completion, part_of};
+ghost use Rattle.machine.specs.Trials.{IsStillOpen, served_as, completion, part_of};
 ghost use Rattle.machine.specs.declared.command.Command.{Command};
 ghost use Rattle.machine.specs.Machine.{Machine, HasTicket, HasNoTicket, ThreadMayDraw, stale_from};
 ghost use Rattle.machine.specs.Tickets.{StandsFor, AreTickets};
@@ -11,11 +11,12 @@ ghost use Rattle.harness.specs.CoreView.{MayDecline};
 ghost use Rattle.harness.specs.Tickets.{IsOf, MayServe, MayFinish};
 
 use edn::Refusal;
-use history::{Body, Event, EventKind, History, MOST_EVENTS, Process};
+use events::{Body, Event, EventKind, Process};
+use history::{History, MOST_EVENTS};
+use machine::Ticket;
 use models::{Found, Op, Part};
 use std::alloc::AllocError;
 use test_store::Outcome;
-use trials::Ticket;
 
 /// The most tickets.
 const MOST_TICKETS: usize = 4_294_967_295;

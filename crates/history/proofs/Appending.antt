@@ -10,13 +10,13 @@ use Rattle.models.specs.declared.operation.Op.{Op}
 use Rattle.processes.specs.MoveRule.{Move, process_of, is_invocation, is_busy}
 use Rattle.processes.specs.MoveRule.Move.{Invokes, Completes, Crashes}
 use Rattle.processes.proofs.Pushing.{is_busy-own, is_busy-other}
-use Rattle.history.specs.declared.event.EventKind.{EventKind}
-use Rattle.history.specs.declared.event.EventKind.TheVariants.{Invoke, Ok, Fail, Info}
-use Rattle.history.specs.declared.event.Process.{Process}
-use Rattle.history.specs.declared.event.Process.TheVariants.{Client, Nemesis}
-use Rattle.history.specs.declared.event.Body.{Body}
-use Rattle.history.specs.declared.event.Body.TheVariants.{Op as AnOp, Fault as AFault}
-use Rattle.history.specs.declared.event.Event.{Event}
+use Rattle.events.specs.declared.event.EventKind.{EventKind}
+use Rattle.events.specs.declared.event.EventKind.TheVariants.{Invoke, Ok, Fail, Info}
+use Rattle.events.specs.declared.event.Process.{Process}
+use Rattle.events.specs.declared.event.Process.TheVariants.{Client, Nemesis}
+use Rattle.events.specs.declared.event.Body.{Body}
+use Rattle.events.specs.declared.event.Body.TheVariants.{Op as AnOp, Fault as AFault}
+use Rattle.events.specs.declared.event.Event.{Event}
 use Rattle.history.specs.WellFormed.{move_in, move_of, moves_of, is_of_process, last_event_from, last_event_of, invoked_in, invoked_at, open_of}
 
 option_or-none : {X : Type 0} (o : Option X) → option_or o None ≡ o

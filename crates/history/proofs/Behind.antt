@@ -2,7 +2,7 @@
 use Rattle.std.proofs.Common.{◌≡◌, ℕ, ◌+◌, Option, None, List, [], ◌∷◌, ◌++◌, length, take, sym, ap, ◌∙◌, subst, length-append, arith}
 use Rattle.std.proofs.lemmas.List.{take_all, take-append-le}
 use Rattle.processes.specs.declared.threads.Thread.{Thread}
-use Rattle.history.specs.declared.event.Event.{Event}
+use Rattle.events.specs.declared.event.Event.{Event}
 use Rattle.history.specs.declared.history.Prepared.{Prepared}
 use Rattle.history.specs.declared.history.Prepared.TheVariants.{Nothing, Push, Cut}
 use Rattle.history.specs.WellFormed.{IsWellFormed, IsHistoryOf}

@@ -7,8 +7,8 @@ use Rattle.processes.specs.MoveRule.Move.{Invokes}
 use Rattle.processes.specs.Threads.{StandAfter, Moves, Allows, Forbids}
 use Rattle.processes.proofs.Refused.{none as never}
 use Rattle.models.specs.declared.operation.Op.{Op}
-use Rattle.history.specs.declared.event.EventKind.TheVariants.{Invoke}
-use Rattle.history.specs.declared.event.Event.{Event}
+use Rattle.events.specs.declared.event.EventKind.TheVariants.{Invoke}
+use Rattle.events.specs.declared.event.Event.{Event}
 use Rattle.history.specs.WellFormed.{moves_of, FollowsRule, BreaksRule}
 use Rattle.history.specs.HistoryInvariant.{CarriesOn}
 

@@ -2,7 +2,7 @@
 use Rattle.std.proofs.Common.{◌≡◌, ℕ, ◌+◌, ◌<◌, Option, List, [], ◌∷◌, ◌++◌, length, take, drop, get_or, sym, ap, ◌∙◌, append_assoc, arith}
 use Rattle.std.proofs.lemmas.List.{take_more, drop_more, take-append-drop, length-take-le}
 use Rattle.processes.specs.declared.threads.Thread.{Thread}
-use Rattle.history.specs.declared.event.Event.{Event}
+use Rattle.events.specs.declared.event.Event.{Event}
 use Rattle.history.specs.WellFormed.{IsWellFormed, IsHistoryOf}
 use Rattle.history.specs.HistoryInvariant.{MovesOn, HasNext, IsSoundHistory}
 use Rattle.history.proofs.Kept.{next_of, committed}

@@ -8,13 +8,13 @@ use Rattle.processes.specs.MoveRule.{process_of, thread_of, is_crash_on, current
 use Rattle.processes.specs.MoveRule.Move.{Crashes}
 use Rattle.processes.proofs.Pushing.{current_of-same, current_of-crashed, thread_of_current}
 use Rattle.processes.proofs.Following.{busy_is_current}
-use Rattle.history.specs.declared.event.EventKind.{EventKind}
-use Rattle.history.specs.declared.event.EventKind.TheVariants.{Invoke, Ok, Fail, Info}
-use Rattle.history.specs.declared.event.Process.{Process}
-use Rattle.history.specs.declared.event.Process.TheVariants.{Client, Nemesis}
-use Rattle.history.specs.declared.event.Body.{Body}
-use Rattle.history.specs.declared.event.Body.TheVariants.{Op as AnOp, Fault as AFault}
-use Rattle.history.specs.declared.event.Event.{Event}
+use Rattle.events.specs.declared.event.EventKind.{EventKind}
+use Rattle.events.specs.declared.event.EventKind.TheVariants.{Invoke, Ok, Fail, Info}
+use Rattle.events.specs.declared.event.Process.{Process}
+use Rattle.events.specs.declared.event.Process.TheVariants.{Client, Nemesis}
+use Rattle.events.specs.declared.event.Body.{Body}
+use Rattle.events.specs.declared.event.Body.TheVariants.{Op as AnOp, Fault as AFault}
+use Rattle.events.specs.declared.event.Event.{Event}
 use Rattle.history.specs.WellFormed.{move_by, moves_of, invoked_at, open_of, open_index, IsWellFormed}
 use Rattle.history.specs.HistoryInvariant.{open_after, HasNext}
 use Rattle.history.proofs.Appending.{open_of-own, open_of-other, moves_of-some, moves_of-none, moves_len, busy_is_open}

@@ -8,13 +8,13 @@ use Rattle.models.specs.declared.operation.Op.{Op}
 use Rattle.processes.specs.declared.threads.Thread.{Thread}
 use Rattle.processes.specs.MoveRule.{thread_of, MayMove, FollowMoveRule}
 use Rattle.processes.specs.Threads.{StandAfter}
-use Rattle.history.specs.declared.event.EventKind.{EventKind}
-use Rattle.history.specs.declared.event.EventKind.TheVariants.{Info}
-use Rattle.history.specs.declared.event.Process.{Process}
-use Rattle.history.specs.declared.event.Process.TheVariants.{Client, Nemesis}
-use Rattle.history.specs.declared.event.Body.{Body}
-use Rattle.history.specs.declared.event.Body.TheVariants.{Op as AnOp, Fault as AFault}
-use Rattle.history.specs.declared.event.Event.{Event}
+use Rattle.events.specs.declared.event.EventKind.{EventKind}
+use Rattle.events.specs.declared.event.EventKind.TheVariants.{Info}
+use Rattle.events.specs.declared.event.Process.{Process}
+use Rattle.events.specs.declared.event.Process.TheVariants.{Client, Nemesis}
+use Rattle.events.specs.declared.event.Body.{Body}
+use Rattle.events.specs.declared.event.Body.TheVariants.{Op as AnOp, Fault as AFault}
+use Rattle.events.specs.declared.event.Event.{Event}
 use Rattle.history.specs.WellFormed.{IsConcurrency, IsWellFormed, IsHistoryOf, move_by, moves_of, open_index}
 use Rattle.history.specs.HistoryInvariant.{open_after, MovesOn, HasNext, IsSoundHistory}
 use Rattle.history.proofs.Appending.{moves_of-some, moves_of-none}

@@ -7,12 +7,5 @@ pub mod Fronts
 pub mod Behind
 pub mod OpenOperations
 pub mod Refusing
-pub mod Replicas
-pub mod Values
-pub mod AnySet
-pub mod OneEvent
 pub mod OneRefusal
-pub mod OpEvents
-pub mod KeyEvents
-pub mod ReadEach
-pub mod Written
+pub mod KeyFronts

@@ -3,18 +3,19 @@ use Rattle.std.proofs.Common.{◌≡◌, ◌⊎◌, inl, inr, ℕ, Option, Some,
 use Rattle.edn.specs.declared.refusal.Refusal.{Refusal}
 use Rattle.edn.specs.declared.refusal.Refusal.TheVariants.{NotOpen, Mismatch, BadValue, BadIndex, HistoryFull}
 use Rattle.models.specs.declared.operation.Op.{Op}
-use Rattle.history.specs.declared.event.EventKind.{EventKind}
-use Rattle.history.specs.declared.event.EventKind.TheVariants.{Invoke}
-use Rattle.history.specs.declared.event.Process.{Process}
-use Rattle.history.specs.declared.event.Process.TheVariants.{Client, Nemesis}
-use Rattle.history.specs.declared.event.Body.{Body}
-use Rattle.history.specs.declared.event.Body.TheVariants.{Op as AnOp, Fault as AFault}
-use Rattle.history.specs.declared.event.Event.{Event}
+use Rattle.events.specs.declared.event.EventKind.{EventKind}
+use Rattle.events.specs.declared.event.EventKind.TheVariants.{Invoke}
+use Rattle.events.specs.declared.event.Process.{Process}
+use Rattle.events.specs.declared.event.Process.TheVariants.{Client, Nemesis}
+use Rattle.events.specs.declared.event.Body.{Body}
+use Rattle.events.specs.declared.event.Body.TheVariants.{Op as AnOp, Fault as AFault}
+use Rattle.events.specs.declared.event.Event.{Event}
 use Rattle.processes.specs.MoveRule.{RefusesMove}
 use Rattle.processes.specs.MoveRule.Move.{Invokes}
 use Rattle.processes.proofs.Refused.{one}
 use Rattle.processes.proofs.Refused.{none as never}
-use Rattle.history.specs.WellFormed.{IsValue, IsIndex, HasRoom, moves_of, open_of, Completes, FollowsRule, BreaksRule, IfClient, IsClientAnd, IsWellFormed, Refuses}
+use Rattle.events.specs.Tables.{Completes}
+use Rattle.history.specs.WellFormed.{IsValue, IsIndex, HasRoom, moves_of, open_of, FollowsRule, BreaksRule, IfClient, IsClientAnd, IsWellFormed, Refuses}
 
 -- one test: what does not pass it is refused for x, and what passes it as the later tests say
 abbrev Test : Type 0 → Refusal → Refusal → Type 0 → Type 0

@@ -2,15 +2,15 @@
 use Rattle.std.proofs.Common.{◌≡◌, ℕ, ◌+◌, cond, nat_eq, ◌==◌, false, is_some, Option, Some, None, List, [], ◌∷◌, ◌++◌, length, option_map, refl, sym, ap, ◌∙◌, subst, append_assoc, length-append, ⊎_elim, arith}
 use Rattle.std.proofs.lemmas.Bool.{cases_eq, eq-eqb, ne_eqb}
 use Rattle.models.specs.declared.operation.Op.{Op}
-use Rattle.history.specs.declared.event.EventKind.{EventKind}
-use Rattle.history.specs.declared.event.EventKind.TheVariants.{Invoke, Ok, Fail, Info}
-use Rattle.history.specs.declared.event.Process.{Process}
-use Rattle.history.specs.declared.event.Process.TheVariants.{Client, Nemesis}
-use Rattle.history.specs.declared.event.Body.{Body}
-use Rattle.history.specs.declared.event.Body.TheVariants.{Op as AnOp, Fault as AFault}
-use Rattle.history.specs.declared.event.Event.{Event}
-use Rattle.history.specs.Events.{op_event_in, op_event, indexed_from}
-use Rattle.history.specs.ProcessRule.{MayCome, busy_after, MayComeFrom, IsHistory}
+use Rattle.events.specs.declared.event.EventKind.{EventKind}
+use Rattle.events.specs.declared.event.EventKind.TheVariants.{Invoke, Ok, Fail, Info}
+use Rattle.events.specs.declared.event.Process.{Process}
+use Rattle.events.specs.declared.event.Process.TheVariants.{Client, Nemesis}
+use Rattle.events.specs.declared.event.Body.{Body}
+use Rattle.events.specs.declared.event.Body.TheVariants.{Op as AnOp, Fault as AFault}
+use Rattle.events.specs.declared.event.Event.{Event}
+use Rattle.events.specs.Events.{op_event_in, op_event, indexed_from}
+use Rattle.events.specs.ProcessRule.{MayCome, busy_after, MayComeFrom, IsHistory}
 use Rattle.history.specs.WellFormed.{move_of, is_of_process, open_of, IsWellFormed, IsHistoryOf}
 use Rattle.history.proofs.Appending.{open_of-own, open_of-other, busy_is_open}
 

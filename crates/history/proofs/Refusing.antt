@@ -3,13 +3,13 @@ use Rattle.std.proofs.Common.{◌≡◌, ℕ, List, subst}
 use Rattle.edn.specs.declared.refusal.Refusal.{Refusal}
 use Rattle.edn.specs.declared.refusal.Refusal.TheVariants.{NoMemory}
 use Rattle.models.specs.declared.operation.Op.{Op}
-use Rattle.history.specs.declared.event.EventKind.{EventKind}
-use Rattle.history.specs.declared.event.EventKind.TheVariants.{Invoke, Ok, Fail, Info}
-use Rattle.history.specs.declared.event.Process.{Process}
-use Rattle.history.specs.declared.event.Process.TheVariants.{Client, Nemesis}
-use Rattle.history.specs.declared.event.Body.{Body}
-use Rattle.history.specs.declared.event.Body.TheVariants.{Op as AnOp, Fault as AFault}
-use Rattle.history.specs.declared.event.Event.{Event}
+use Rattle.events.specs.declared.event.EventKind.{EventKind}
+use Rattle.events.specs.declared.event.EventKind.TheVariants.{Invoke, Ok, Fail, Info}
+use Rattle.events.specs.declared.event.Process.{Process}
+use Rattle.events.specs.declared.event.Process.TheVariants.{Client, Nemesis}
+use Rattle.events.specs.declared.event.Body.{Body}
+use Rattle.events.specs.declared.event.Body.TheVariants.{Op as AnOp, Fault as AFault}
+use Rattle.events.specs.declared.event.Event.{Event}
 use Rattle.history.specs.WellFormed.{BreaksRule, IsClientAnd, Refuses, MayRefuse}
 
 -- no test answers want of memory

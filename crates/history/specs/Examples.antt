@@ -4,11 +4,11 @@ use Rattle.models.specs.declared.operation.Name.TheVariants.{Read, Write}
 use Rattle.models.specs.declared.operation.Part.{Part}
 use Rattle.models.specs.declared.operation.Part.TheVariants.{Int}
 use Rattle.models.specs.declared.operation.Op.{Op}
-use Rattle.history.specs.declared.event.EventKind.{EventKind}
-use Rattle.history.specs.declared.event.EventKind.TheVariants.{Invoke, Info}
-use Rattle.history.specs.declared.event.Process.TheVariants.{Client}
-use Rattle.history.specs.declared.event.Body.TheVariants.{Op as AnOp}
-use Rattle.history.specs.declared.event.Event.{Event}
+use Rattle.events.specs.declared.event.EventKind.{EventKind}
+use Rattle.events.specs.declared.event.EventKind.TheVariants.{Invoke, Info}
+use Rattle.events.specs.declared.event.Process.TheVariants.{Client}
+use Rattle.events.specs.declared.event.Body.TheVariants.{Op as AnOp}
+use Rattle.events.specs.declared.event.Event.{Event}
 
 abbrev pub write : ℕ → Op
 write v = record { name = Write; key = 7; part = Int (pos v) }

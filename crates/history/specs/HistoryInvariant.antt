@@ -3,11 +3,11 @@ use Rattle.std.specs.Prelude.{◌≡◌, ℕ, ◌+◌, ◌<◌, ◌≤◌, ◌^�
 use Rattle.processes.specs.declared.threads.Thread.{Thread}
 use Rattle.processes.specs.MoveRule.{Move, thread_of, MayMove}
 use Rattle.processes.specs.Threads.{StandAfter}
-use Rattle.history.specs.declared.event.EventKind.{EventKind}
-use Rattle.history.specs.declared.event.EventKind.TheVariants.{Invoke}
-use Rattle.history.specs.declared.event.Process.{Process}
-use Rattle.history.specs.declared.event.Process.TheVariants.{Client, Nemesis}
-use Rattle.history.specs.declared.event.Event.{Event}
+use Rattle.events.specs.declared.event.EventKind.{EventKind}
+use Rattle.events.specs.declared.event.EventKind.TheVariants.{Invoke}
+use Rattle.events.specs.declared.event.Process.{Process}
+use Rattle.events.specs.declared.event.Process.TheVariants.{Client, Nemesis}
+use Rattle.events.specs.declared.event.Event.{Event}
 use Rattle.history.specs.declared.history.Prepared.{Prepared}
 use Rattle.history.specs.declared.history.Prepared.TheVariants.{Nothing, Push, Cut}
 use Rattle.history.specs.WellFormed.{IsConcurrency, IsHistoryOf, move_by, moves_of, open_index}

@@ -3,26 +3,20 @@
 use Rattle.std.specs.Prelude.{◌≡◌, ℕ, ◌+◌, ◌^◌, ◌<◌, Bool, false, ◌==◌, if◌then◌else◌, Option, Some, None, IfSome, option_map, option_and_then, List, [], ◌∷◌, ◌++◌, length}
 use Rattle.std.specs.Option.{option_or}
 use Rattle.std.specs.List.{filter_map}
-use Rattle.models.specs.declared.operation.Name.{Name}
-use Rattle.models.specs.declared.operation.Name.TheVariants.{Read, Write, Cas, Acquire, Release, Enqueue, Dequeue, Add}
-use Rattle.models.specs.declared.operation.Part.{Part}
-use Rattle.models.specs.declared.operation.Part.TheVariants.{Nil, Int, Pair}
 use Rattle.models.specs.declared.operation.Op.{Op}
 use Rattle.edn.specs.declared.refusal.Refusal.{Refusal}
 use Rattle.edn.specs.declared.refusal.Refusal.TheVariants.{NotOpen, Mismatch, BadValue, BadIndex, HistoryFull, NoSuchIndex, NoMemory}
 use Rattle.processes.specs.MoveRule.{Move, process_of, current_of, MayMove, RefusesMove}
 use Rattle.processes.specs.MoveRule.{IsConcurrency as AreThreads}
 use Rattle.processes.specs.MoveRule.Move.{Invokes, Crashes}
-use Rattle.history.specs.Replicas.{IsReplica, AreGroups}
-use Rattle.history.specs.declared.event.EventKind.{EventKind}
-use Rattle.history.specs.declared.event.EventKind.TheVariants.{Invoke, Ok, Fail, Info}
-use Rattle.history.specs.declared.event.Process.{Process}
-use Rattle.history.specs.declared.event.Process.TheVariants.{Client, Nemesis}
-use Rattle.history.specs.declared.event.Fault.{Fault}
-use Rattle.history.specs.declared.event.Fault.TheVariants.{Partition, Heal, Pause, Resume, Crash, Restart, LoseReplies}
-use Rattle.history.specs.declared.event.Body.{Body}
-use Rattle.history.specs.declared.event.Body.TheVariants.{Op as AnOp, Fault as AFault}
-use Rattle.history.specs.declared.event.Event.{Event}
+use Rattle.events.specs.Tables.{IsInTables, Completes}
+use Rattle.events.specs.declared.event.EventKind.{EventKind}
+use Rattle.events.specs.declared.event.EventKind.TheVariants.{Invoke, Ok, Fail, Info}
+use Rattle.events.specs.declared.event.Process.{Process}
+use Rattle.events.specs.declared.event.Process.TheVariants.{Client, Nemesis}
+use Rattle.events.specs.declared.event.Body.{Body}
+use Rattle.events.specs.declared.event.Body.TheVariants.{Op as AnOp, Fault as AFault}
+use Rattle.events.specs.declared.event.Event.{Event}
 
 -- Processes and threads
 
@@ -72,48 +66,6 @@ open_of events p = option_and_then invoked_at (last_event_of events p)
 abbrev pub open_index : ℕ → List Event → ℕ → Option ℕ
 open_index c events thread = option_map (λ x. x.0) (open_of events (current_of c (moves_of events) thread))
 
--- The tables of values
-
--- the part of an invocation, of a fail and of an info
-abbrev pub IsPart : Name → Part → Type 0
-IsPart Read Nil = Unit {0}
-IsPart Write (Int v) = Unit {0}
-IsPart Enqueue (Int v) = Unit {0}
-IsPart Add (Int v) = Unit {0}
-IsPart Cas (Pair a b) = Unit {0}
-IsPart Acquire Nil = Unit {0}
-IsPart Release Nil = Unit {0}
-IsPart Dequeue Nil = Unit {0}
-IsPart _ _ = ⊥
-
--- the part of an ok: the answer of a read or a dequeue, and otherwise that of the invocation
-abbrev pub IsOkPart : Name → Part → Type 0
-IsOkPart Read (Pair a b) = ⊥
-IsOkPart Read _ = Unit {0}
-IsOkPart Dequeue (Int v) = Unit {0}
-IsOkPart Dequeue _ = ⊥
-IsOkPart name part = IsPart name part
-
-abbrev pub IsPartOf : EventKind → Name → Part → Type 0
-IsPartOf Ok name part = IsOkPart name part
-IsPartOf _ name part = IsPart name part
-
--- replica numbers are 0 to 6, and a partition names each at most once
-abbrev pub IsFault : Fault → Type 0
-IsFault (Partition groups) = AreGroups groups
-IsFault Heal = Unit {0}
-IsFault (Pause r) = IsReplica r
-IsFault (Resume r) = IsReplica r
-IsFault (Crash r) = IsReplica r
-IsFault (Restart r) = IsReplica r
-IsFault (LoseReplies n) = Unit {0}
-
--- a client's operation with a part of the table, or the nemesis's info of a fault
-abbrev pub IsInTables : EventKind → Process → Body → Type 0
-IsInTables kind (Client p) (AnOp op) = IsPartOf kind op.name op.part
-IsInTables Info Nemesis (AFault fault) = IsFault fault
-IsInTables _ _ _ = ⊥
-
 -- The tests of an event
 
 abbrev pub IsValue : Event → Type 0
@@ -125,16 +77,6 @@ IsIndex events index = IfSome index (λ i. i ≡ length events)
 
 abbrev pub HasRoom : List Event → Type 0
 HasRoom events = length events < 2 ^ 20
-
--- the answer of a read or a dequeue is its own; every other completion repeats the part of the invocation
-abbrev pub IsRepeat : EventKind → Name → Part → Part → Type 0
-IsRepeat Ok Read invoked answer = Unit {0}
-IsRepeat Ok Dequeue invoked answer = Unit {0}
-IsRepeat _ _ invoked part = part ≡ invoked
-
--- a completion of this kind and operation completes the invoked one
-abbrev pub Completes : EventKind → Op → Op → Type 0
-Completes kind invoked op = (op.name ≡ invoked.name) × (op.key ≡ invoked.key) × IsRepeat kind op.name invoked.part op.part
 
 -- the process rule for an event of this kind of process p: the current process of a thread invokes where it has no
 -- open operation, and a completion completes the open one

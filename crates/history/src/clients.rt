@@ -5,8 +5,8 @@ ghost use Rattle.processes.specs.Threads.{StandAfter, MayNotStart};
 ghost use Rattle.history.specs.WellFormed.{move_by, IsHistoryOf};
 ghost use Rattle.history.specs.HistoryInvariant.{open_after, CarriesOn, MovesOn, HasNext, IsSoundHistory};
 
-use crate::event::{Event, EventKind, Process};
 use edn::Refusal;
+use events::{Event, EventKind, Process};
 use processes::Threads;
 use std::alloc::{AllocError, Global};
 

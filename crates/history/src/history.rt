@@ -3,18 +3,16 @@ ghost use Rattle.std.specs.Prelude.{◌≡◌, ℕ, Some, ◌<◌, ◌≤◌, �
 ghost use Rattle.std.specs.Option.{option_copied};
 ghost use Rattle.history.specs.WellFormed.{IsConcurrency, no_events, Admits, MayNotCut, idle, with_next, with_events, IsWellFormed, MayRefuse, IsHistoryOf, moves_of, open_of, open_index, FollowsRule, BreaksRule, Refuses};
 ghost use Rattle.edn.specs.View.{value_of};
-ghost use Rattle.history.specs.declared.event.Event.{Event};
-ghost use Rattle.history.specs.Events.{indexed_from, events_of_key};
-ghost use Rattle.history.specs.Spelling.{Spells};
-ghost use Rattle.history.specs.EventMap.{map_of, with_index};
+ghost use Rattle.events.specs.declared.event.Event.{Event};
+ghost use Rattle.events.specs.Events.{indexed_from, events_of_key};
+ghost use Rattle.events.specs.Spelling.{Spells};
+ghost use Rattle.events.specs.EventMap.{map_of, with_index};
 ghost use Rattle.processes.specs.MoveRule.{current_of};
 ghost use Rattle.processes.specs.Threads.{MayNotStart};
 
-use crate::allowed::{completes, is_in_tables};
 use crate::clients::Clients;
-use crate::event::{Body, Event, EventKind, Process};
-use crate::event_map::map_of_event;
 use edn::{Edn, Refusal};
+use events::{Body, Event, EventKind, Process, completes, is_in_tables, map_of_event};
 use models::{Key, Op};
 use std::alloc::{AllocError, Global};
 use std::marker::Model;

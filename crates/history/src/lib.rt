@@ -1,26 +1,13 @@
-//! Histories of client events, in the manner of Jepsen.
+//! Histories of events: which event may follow which, by the process rule, and why another one is refused. What events are, and
+//! how a text spells them, is said in `events`, which stands below it; who has a history finds these names here too.
 //!
 //! A call takes memory only where its result can be `AllocError`, or a refusal for want of memory.
 #![tactic(auto)]
 
-mod allowed;
 mod clients;
-mod collections;
-mod elements;
-pub mod event;
-mod event_map;
-mod fault_kind;
-mod groups;
 mod history;
 mod laws;
-mod spelling;
 
-pub use allowed::is_part_of;
-pub use event::{Body, Event, EventKind, Fault, Process};
-pub use groups::{Groups, MOST_REPLICAS};
+pub use events::{Body, Event, EventKind, Fault, Process, from_edn};
 pub use history::{History, MOST_EVENTS};
-pub use laws::{
-    crashed_process_is_replaced, key_events_law, one_event, one_refusal,
-    order_of_a_set_says_nothing, process_rule_law, refusals_in_order,
-};
-pub use spelling::from_edn;
+pub use laws::{crashed_process_is_replaced, one_refusal, process_rule_law, refusals_in_order};

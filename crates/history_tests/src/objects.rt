@@ -1,10 +1,10 @@
 //! The outcomes of a dequeue without an order; and copies, comparisons and names.
 use models::{
-    Answer, FifoQueue, Found, Items, Members, ModelKind, Multiset, Name, Op, Part, SeqObject,
-    Spans, UnorderedQueue, fits,
+    Answer, FifoQueue, Found, ModelKind, Name, Op, Part, SeqObject, UnorderedQueue, fits,
 };
 use std::alloc::{AllocError, Global};
 use std::test::Fail;
+use values::{Items, Members, Multiset, Spans};
 
 fn op(name: Name, part: Part) -> Op {
     Op { name, key: 7, part }

@@ -4,7 +4,7 @@ use Rattle.std.specs.BTreeMap.{BTreeMap, get}
 use Rattle.std.specs.Ordering.{is_eq}
 use Rattle.std.specs.Cmp.Lexicographic.{pointwise_decides}
 use Rattle.std.proofs.lemmas.Bool.Decides.{Decides-int_eq}
-use Rattle.models.specs.Comparisons.{ints_eq-exact, ints_tie}
+use Rattle.values.specs.Comparisons.{ints_eq-exact, ints_tie}
 use Rattle.models.specs.declared.finding.Found.{Found}
 use Rattle.models.specs.declared.finding.Found.TheVariants.{Elements as Set}
 use Rattle.interned.specs.declared.found_key.FoundKey.{FoundKey}

@@ -2,8 +2,9 @@
 ghost use Rattle.std.specs.Prelude.{◌≡◌, IfOk};
 ghost use Rattle.interned.specs.FoundKeys.{found_of};
 
-use models::{Found, Members};
+use models::Found;
 use std::alloc::AllocError;
+use values::Members;
 
 /// What an operation found, by an order. Two are equal where the same was found.
 #[derive(PartialEq, Eq, PartialOrd, Ord, Drop)]

@@ -1,7 +1,7 @@
 //! What was found, by number.
 ghost use Rattle.std.specs.Prelude.{◌≡◌, ◌≢◌, ◌↔◌, ◌≤◌, ◌<◌, ◌++◌, ◌∷◌, [], ℕ, List, Some, None};
 ghost use Rattle.std.specs.Prelude.{length, IsTrue, slice_get, option_copied, IfOk, OnOk, OnErr, IfSome};
-ghost use Rattle.history.specs.Events.{IsFront};
+ghost use Rattle.events.specs.Events.{IsFront};
 ghost use Rattle.interned.specs.FoundKeys.{found_of};
 ghost use Rattle.interned.specs.Founds.{AreSlots};
 ghost use Rattle.interned.specs.Numbers.{IsOnceIn, IsSlot};

@@ -1,10 +1,11 @@
 //! States by number.
 ghost use Rattle.std.specs.Prelude.{◌≡◌, ◌<◌, [], length, Some, slice_get, option_copied, vec_capacity, IfOk, OnOk};
-ghost use Rattle.history.specs.Events.{IsFront};
+ghost use Rattle.events.specs.Events.{IsFront};
 ghost use Rattle.interned.specs.Index.{AreStates, hash_by};
 ghost use Rattle.interned.specs.Numbers.{IsOnceIn};
 
-use crate::index::{Index, hash_of, index_all, place_of, put_behind};
+use crate::index::{hash_of, index_hashes, place_of};
+use buckets::{Bucketed, Index, put_behind};
 use models::SeqObject;
 use std::alloc::{AllocError, Global};
 use std::hash::Hash;
@@ -17,6 +18,7 @@ const FEW: usize = 512;
 #[derive(Drop)]
 pub struct States<S: Hash + Drop> {
     items: Vec<S>,
+    hashes: Vec<u64>,
     index: Index,
 }
 
@@ -29,7 +31,7 @@ impl<S: Hash + Drop> Model for States<S> {
     ghost view = { λ a. a.items.items };
 
     ghost invariant = { λ a. AreStates S.hash_input a.items.items
-        a.index.hashes.items a.index.last.items a.index.before.items };
+        a.hashes.items a.index.last.items a.index.before.items };
 }
 
 impl<S: Hash + Drop> States<S> {
@@ -39,11 +41,8 @@ impl<S: Hash + Drop> States<S> {
     {
         States {
             items: Vec::new(alloc),
-            index: Index {
-                hashes: Vec::new(alloc),
-                last: Vec::new(alloc),
-                before: Vec::new(alloc),
-            },
+            hashes: Vec::new(alloc),
+            index: Index::new(alloc),
         }
     }
 
@@ -52,9 +51,8 @@ impl<S: Hash + Drop> States<S> {
         ensures { self.new ≡ [] }
     {
         self.items.clear();
-        self.index.hashes.clear();
-        self.index.before.clear();
-        self.index.last.clear();
+        self.hashes.clear();
+        self.index.clear();
     }
 
     /// How many there are. Takes constant time.
@@ -90,29 +88,31 @@ fn make_room<T>(list: &mut Vec<T>) -> Result<(), AllocError>
 #[inline(always)]
 fn numbered<M: SeqObject>(
     items: &mut Vec<M::State>,
+    hashes: &mut Vec<u64>,
     index: &mut Index,
     hash: u64,
     state: M::State,
 ) -> Result<usize, AllocError>
     requires hash { hash ≡ hash_by M.State.hash_input state }
     requires states { AreStates M.State.hash_input items.old.items
-        index.old.hashes.items index.old.last.items index.old.before.items }
-    requires all { length index.old.before.items ≡ length index.old.hashes.items }
-    requires few { length index.old.hashes.items < length index.old.last.items }
+        hashes.old.items index.old.last.items index.old.before.items }
+    requires all { length index.old.before.items ≡ length hashes.old.items }
+    requires few { length hashes.old.items < length index.old.last.items }
     ensures there { IfOk result (λ at. slice_get items.new.items at ≡ Some state) }
     ensures front { IsFront items.old.items items.new.items }
     ensures states { AreStates M.State.hash_input items.new.items
-        index.new.hashes.items index.new.last.items index.new.before.items }
+        hashes.new.items index.new.last.items index.new.before.items }
 {
-    if let Some(at) = place_of::<M>(items, index, hash, &state) {
+    let its = hash.bucket(index.last.len());
+    if let Some(at) = place_of::<M>(items, hashes, index, its, hash, &state) {
         return Ok(at);
     }
     make_room(items)?;
-    make_room(&mut index.hashes)?;
+    make_room(hashes)?;
     make_room(&mut index.before)?;
     let at = items.len();
     items.push_reserved(state);
-    put_behind(index, hash);
+    put_behind(hashes, index, its, hash);
     Ok(at)
 }
 
@@ -129,12 +129,18 @@ pub fn number_of<M: SeqObject>(
     ensures once { IsOnceIn states.new }
 {
     let hash = hash_of(&state);
-    if states.index.before.len() < states.index.hashes.len()
-        || states.index.last.len() <= states.index.hashes.len()
+    if states.index.before.len() < states.hashes.len()
+        || states.index.last.len() <= states.hashes.len()
     {
-        index_all(&mut states.index)?;
+        index_hashes(&states.hashes, &mut states.index)?;
     }
-    numbered::<M>(&mut states.items, &mut states.index, hash, state)
+    numbered::<M>(
+        &mut states.items,
+        &mut states.hashes,
+        &mut states.index,
+        hash,
+        state,
+    )
 }
 
 /// The same states, with the same numbers. Takes the time of a copy of each state. They are indexed when one is looked up.
@@ -148,13 +154,10 @@ pub fn copied<M: SeqObject>(
     for state in &states.items {
         items.push(M::copy(alloc, state)?)?;
     }
-    let hashes = Vec::from_slice(alloc, &states.index.hashes)?;
+    let hashes = Vec::from_slice(alloc, &states.hashes)?;
     Ok(States {
         items,
-        index: Index {
-            hashes,
-            last: Vec::new(alloc),
-            before: Vec::new(alloc),
-        },
+        hashes,
+        index: Index::new(alloc),
     })
 }

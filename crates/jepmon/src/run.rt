@@ -13,6 +13,7 @@ use onlookers::Onlooker;
 use report::report;
 use std::alloc::{AllocError, Global};
 use std::io::Write;
+use std::mem::forget;
 use std::sync::Wait;
 use std::thread::Threads;
 
@@ -38,7 +39,7 @@ pub fn run_store<
     ensures never_illegal { config.mode ≡ Strict → result ≢ 1 }
 {
     match run_trial(rt, alloc, config, watch) {
-        Ok(core) => match report_text(alloc, &core, onlooker) {
+        Ok(core) => match report_text(alloc, core, onlooker) {
             Ok((text, status)) => put_text(rt, text.as_slice(), status, writer),
             Err(_) => put_refused(rt, Err(AllocError), writer),
         },
@@ -49,8 +50,22 @@ pub fn run_store<
     }
 }
 
-// The report of what the object judges, and the status of its verdict.
+// The report of what the object judges, and the status of its verdict. A run is the last thing that its process does, so the
+// object's memory goes back with the process.
 fn report_text<L: Onlooker>(
+    alloc: Global,
+    core: Core,
+    onlooker: &L,
+) -> Result<(Vec<u8>, u8), AllocError>
+    ensures { IfOk result (λ told. IsRunText core.machine told.0.items told.1) }
+{
+    let told = told_by(alloc, &core, onlooker);
+    forget(core);
+    told
+}
+
+// The same, of an object that stays.
+fn told_by<L: Onlooker>(
     alloc: Global,
     core: &Core,
     onlooker: &L,

@@ -1,6 +1,9 @@
 //! Bytes to lines to replies, over any machine that answers lines: [`answer_lines`] reads lines from a reader, has a
 //! [`LineMachine`] answer each, and writes the reply to each before it reads further. [`read_whole`] reads all that a reader
 //! has, and [`write_text`] writes a whole text.
+//!
+//! A call takes memory only where its result can be `AllocError`, or a refusal for want of memory; a reader and a writer may take
+//! their own.
 #![tactic(auto)]
 
 mod answering;
@@ -16,7 +19,7 @@ pub use answering::answer_lines;
 pub use laws::{one_cut, one_reply_text};
 pub use line_machine::LineMachine;
 pub use reading::read_whole;
-pub use refusal_line::{append_refusal, refusal_text};
+pub use refusal_line::{append_refusal, place_text, refusal_text};
 pub use session::LINE_LIMIT;
 pub use watched::{Failed, Flushes, ReadsBeside, Watched};
 pub use writing::{flush_all, write_text};

@@ -19,8 +19,12 @@ pub fn refusal_text(alloc: Global, refusal: &Refusal) -> Result<String, AllocErr
     format!(in alloc; "refused {number} {name}{place}\n")
 }
 
-// The place that an unreadable text's refusal names, after a space.
-fn place_text(alloc: Global, refusal: &Refusal) -> Result<String, AllocError>
+/// The place that an unreadable text's refusal names, after a space; no other refusal names one. It takes constant time.
+///
+/// # Errors
+///
+/// Where memory is refused.
+pub fn place_text(alloc: Global, refusal: &Refusal) -> Result<String, AllocError>
     ensures { IfOk result (λ text. string_bytes text ≡ place_text refusal.now) }
 {
     match refusal {

@@ -39,7 +39,7 @@ impl<M: LineMachine> Model for Session<M> {
 }
 
 impl<M: LineMachine> Session<M> {
-    /// A machine, of whose input nothing was read yet. Takes no memory.
+    /// A machine, of whose input nothing was read yet.
     pub fn new(alloc: Global, machine: M) -> Session<M>
         ensures machine { result.machine ≡ machine }
         ensures held { result.held ≡ [] }

@@ -70,7 +70,7 @@ impl<T> Model for Watched<T> {
 }
 
 impl<T> Watched<T> {
-    /// Watches it from now on: nothing is written yet that is not flushed. Takes no memory.
+    /// Watches it from now on: nothing is written yet that is not flushed.
     pub fn new(inner: T) -> Watched<T>
         ensures fresh { result.has_failed ≡ false }
         ensures flushed { result.is_flushed ≡ true }
@@ -83,14 +83,14 @@ impl<T> Watched<T> {
         }
     }
 
-    /// What is watched. Takes no memory.
+    /// What is watched.
     pub fn inner(&self) -> &T
         ensures { result.now ≡ self.now.inner }
     {
         &self.inner
     }
 
-    /// Watches no longer. Takes no memory.
+    /// Watches no longer.
     pub fn into_inner(self) -> T
         ensures { result ≡ self.inner }
     {
@@ -140,7 +140,15 @@ impl<R: Read> Read for Watched<R> {
 }
 
 impl<R: Read, W: Write + Flushes> ReadsBeside<W> for Watched<R> {
-    fn read_beside(&mut self, _writer: &W, buf: &mut [u8]) -> io::Result<usize> {
+    fn read_beside(&mut self, _writer: &W, buf: &mut [u8]) -> io::Result<usize>
+        ensures bound { ReadsAtMost result buf.new }
+        ensures bytes { ReadConsumes
+            (R.remaining self.old.inner) (R.remaining self.new.inner) result buf.new }
+        ensures kept { KeepsRead None None
+            (W.contents _writer.now) (W.is_flushed _writer.now) (bytes_read result buf.new) }
+        ensures well { OnOk result (self.new.has_failed ≡ self.old.has_failed) }
+        ensures err { OnErr result (self.new.has_failed ≡ true) }
+    {
         self.read(buf)
     }
 }

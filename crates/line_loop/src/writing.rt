@@ -27,7 +27,7 @@ fn write_some<W: Write + Failed>(writer: &mut W, text: &[u8]) -> Result<usize, R
     }
 }
 
-/// Writes all of the text. After an error that leaves `failed()` false it writes again. It takes no memory itself.
+/// Writes all of the text. After an error that leaves `failed()` false it writes again.
 ///
 /// # Errors
 ///
@@ -54,7 +54,7 @@ pub fn write_text<X: Wait, W: Write + Failed>(
 }
 
 /// Flushes a writer to which something was written since it was last flushed. After an error that leaves `failed()` false it
-/// flushes again. It takes no memory itself.
+/// flushes again.
 ///
 /// # Errors
 ///

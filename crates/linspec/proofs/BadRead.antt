@@ -8,8 +8,8 @@ use Rattle.models.specs.declared.finding.Answer.TheVariants.{Number}
 use Rattle.models.specs.declared.operation.Part.TheVariants.{Nil}
 use Rattle.models.specs.Objects.{object_of, register, Fits}
 use Rattle.models.proofs.Steps.{same_outcome}
-use Rattle.history.specs.Events.{Mark, Entry, of_key, marks, IsFront}
-use Rattle.history.specs.Events.Mark.{Invoked, Returned}
+use Rattle.events.specs.Events.{Mark, Entry, of_key, marks, IsFront}
+use Rattle.events.specs.Events.Mark.{Invoked, Returned}
 use Rattle.linspec.specs.Operations.{HasReturned}
 use Rattle.linspec.specs.Orders.{Taken, Run, IsLegalOrder, product}
 use Rattle.linspec.specs.Ends.{End, Leaves, HasMoreThan, IsBlown, IsWithinBudget}

@@ -10,8 +10,8 @@ use Rattle.models.specs.declared.operation.Op.{Op}
 use Rattle.models.specs.declared.finding.Found.{Found}
 use Rattle.models.specs.declared.finding.Answer.{Answer}
 use Rattle.models.specs.Objects.{Object, Fits}
-use Rattle.history.specs.Events.{Mark}
-use Rattle.history.specs.Events.Mark.{Returned, Failed, Crashed}
+use Rattle.events.specs.Events.{Mark}
+use Rattle.events.specs.Events.Mark.{Returned, Failed, Crashed}
 use Rattle.linspec.specs.Operations.{IsOpen}
 use Rattle.linspec.specs.Orders.{Taken, Pairwise, Includes, IsLegalOrder}
 use Rattle.linspec.specs.Ends.{End, HasFound, CountsIn, HasCrashedBy, LeavesBy, IsEndBy}

@@ -5,7 +5,7 @@ use Rattle.std.proofs.lemmas.List.{length-take, take-append-drop}
 use Rattle.std.proofs.lemmas.List.Elements.{Contains-append_left, Contains-append_right, Contains-append_cases}
 use Rattle.models.specs.declared.operation.Op.{Op}
 use Rattle.models.specs.Objects.{Object}
-use Rattle.history.specs.Events.{Mark}
+use Rattle.events.specs.Events.{Mark}
 use Rattle.linspec.specs.Orders.{Pairwise}
 use Rattle.linspec.specs.Ends.{End, IsEndBy, HasMoreThanBy}
 use Rattle.linspec.proofs.Lists.{Contains-head, Contains-tail, Contains-cons_cases, Pairwise-left, cut_at}

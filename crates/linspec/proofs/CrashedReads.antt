@@ -4,7 +4,7 @@ use Rattle.std.specs.List.{Contains}
 use Rattle.models.specs.declared.model_kind.ModelKind.{ModelKind}
 use Rattle.models.specs.declared.operation.Op.{Op}
 use Rattle.models.specs.Objects.{Object}
-use Rattle.history.specs.Events.{Mark, Entry}
+use Rattle.events.specs.Events.{Mark, Entry}
 use Rattle.linspec.specs.Operations.{IsOpen}
 use Rattle.linspec.specs.Orders.{Taken, Includes, Pairwise}
 use Rattle.linspec.specs.Ends.{End, HasCrashedBy, every, is_no_read, LeavesBy, IsEndBy, HasMoreThanBy, IsBlownAtBy, IsBlownIndexBy, IsBlownBy}

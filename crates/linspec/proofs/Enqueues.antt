@@ -5,8 +5,8 @@ use Rattle.models.specs.declared.finding.Found.{Found}
 use Rattle.models.specs.declared.finding.Found.TheVariants.{Unit as Done}
 use Rattle.models.specs.Objects.{fifo_queue}
 use Rattle.models.proofs.Steps.{same_outcome}
-use Rattle.history.specs.Events.{Mark}
-use Rattle.history.specs.Events.Mark.{Invoked, Returned, Failed}
+use Rattle.events.specs.Events.{Mark}
+use Rattle.events.specs.Events.Mark.{Invoked, Returned, Failed}
 use Rattle.linspec.specs.Operations.{HasReturned, Precedes}
 use Rattle.linspec.specs.Orders.{Taken, Pairwise, Run, IsLegalOrder}
 use Rattle.linspec.specs.Ends.{End, Leaves, IsEnd, HasMoreThan}

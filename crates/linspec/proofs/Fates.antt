@@ -10,8 +10,8 @@ use Rattle.models.specs.declared.operation.Op.{Op}
 use Rattle.models.specs.declared.finding.Found.{Found}
 use Rattle.models.specs.declared.finding.Answer.{Answer}
 use Rattle.models.specs.Objects.{Object}
-use Rattle.history.specs.Events.{Mark}
-use Rattle.history.specs.Events.Mark.{Invoked, Returned, Failed, Crashed}
+use Rattle.events.specs.Events.{Mark}
+use Rattle.events.specs.Events.Mark.{Invoked, Returned, Failed, Crashed}
 use Rattle.linspec.specs.Operations.{IsInvoked, HasReturned, IsOpen}
 use Rattle.linspec.specs.Orders.{Taken, Pairwise, Includes, IsLegalOrder}
 use Rattle.linspec.specs.Ends.{End, CountsIn, HasCrashedBy, LeavesBy, every, is_no_read, Leaves}

@@ -2,7 +2,7 @@
 use Rattle.std.proofs.Common.{◌≡◌, ◌⊎◌, inl, inr, ⊎_elim, Bool, true, false, cond, List, [], ◌∷◌, ◌++◌, map, refl, sym, ap, ◌∙◌, subst}
 use Rattle.std.specs.List.{filter, Contains}
 use Rattle.std.proofs.lemmas.Bool.{cases_Bool}
-use Rattle.history.specs.Events.{IsFront}
+use Rattle.events.specs.Events.{IsFront}
 use Rattle.linspec.specs.Orders.{Pairwise}
 use Rattle.linspec.proofs.Lists.{Contains-nil, Contains-head, Contains-tail, Contains-cons_cases}
 

@@ -3,8 +3,8 @@ use Rattle.std.proofs.Common.{◌≡◌, ◌↔◌, ⊎_elim, Bool, List, [], �
 use Rattle.std.proofs.lemmas.List.{append-nil}
 use Rattle.models.specs.declared.operation.Op.{Op}
 use Rattle.models.specs.Objects.{Object}
-use Rattle.history.specs.Events.{Mark, Entry, marks, IsFront}
-use Rattle.history.specs.Events.Mark.{Invoked, Returned, Failed, Crashed}
+use Rattle.events.specs.Events.{Mark, Entry, marks, IsFront}
+use Rattle.events.specs.Events.Mark.{Invoked, Returned, Failed, Crashed}
 use Rattle.linspec.specs.MarkRule.{MayFollow, AreWellFormed}
 use Rattle.linspec.specs.Orders.{Includes, Run, IsLegalOrder, IsLinearizable}
 use Rattle.linspec.specs.Ends.{End, LeavesBy, IsEndBy, is_no_read, IsEnd}

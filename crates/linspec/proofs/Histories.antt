@@ -5,12 +5,12 @@ use Rattle.std.proofs.lemmas.Bool.{cases_eq, eq-eqb, ne_eqb}
 use Rattle.std.proofs.lemmas.List.{append-nil}
 use Rattle.std.proofs.lemmas.List.Elements.{Contains-append_right, Contains-push_cases}
 use Rattle.models.specs.declared.operation.Op.{Op}
-use Rattle.history.specs.Events.{Act, OpEvent, op_event}
-use Rattle.history.specs.Events.Act.{Invokes, Returns, Fails, Crashes}
-use Rattle.history.specs.declared.event.Event.{Event}
-use Rattle.history.specs.Events.{Mark, Entry, marks, mark_by_act, entry_by, entries_by, last_by, last_after, entries_from, entries_of}
-use Rattle.history.specs.Events.Mark.{Invoked, Returned, Failed, Crashed}
-use Rattle.history.specs.ProcessRule.{MayAct, MayCome, busy_by, busy_after, MayComeFrom, IsHistory}
+use Rattle.events.specs.Events.{Act, OpEvent, op_event}
+use Rattle.events.specs.Events.Act.{Invokes, Returns, Fails, Crashes}
+use Rattle.events.specs.declared.event.Event.{Event}
+use Rattle.events.specs.Events.{Mark, Entry, marks, mark_by_act, entry_by, entries_by, last_by, last_after, entries_from, entries_of}
+use Rattle.events.specs.Events.Mark.{Invoked, Returned, Failed, Crashed}
+use Rattle.events.specs.ProcessRule.{MayAct, MayCome, busy_by, busy_after, MayComeFrom, IsHistory}
 use Rattle.linspec.specs.MarkRule.{id_of, IsNew, MayFollow, AreWellFormed, IsKeyed}
 use Rattle.linspec.specs.Operations.{IsOpen}
 use Rattle.linspec.specs.Verdicts.{IsRising}

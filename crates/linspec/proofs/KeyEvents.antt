@@ -2,10 +2,10 @@
 use Rattle.std.proofs.Common.{◌≡◌, ◌≢◌, ℕ, ◌+◌, ⊎_elim, cond, nat_eq, Option, Some, None, List, [], ◌∷◌, ◌++◌, refl, sym, ap, ◌∙◌}
 use Rattle.std.specs.List.{filter}
 use Rattle.std.proofs.lemmas.Bool.{cases_eq, eq-eqb, ne_eqb}
-use Rattle.history.specs.declared.event.Event.{Event}
-use Rattle.history.specs.Events.{Act, OpEvent, op_event, Entry, entry_by, entries_by, last_by, last_after, mark_by_act, entries_from, entries_of, of_key, is_of_key, is_event_of, events_of_key}
-use Rattle.history.specs.Events.Act.{Invokes, Returns, Fails, Crashes}
-use Rattle.history.specs.ProcessRule.{MayAct, MayCome, busy_by, busy_after, MayComeFrom, IsHistory}
+use Rattle.events.specs.declared.event.Event.{Event}
+use Rattle.events.specs.Events.{Act, OpEvent, op_event, Entry, entry_by, entries_by, last_by, last_after, mark_by_act, entries_from, entries_of, of_key, is_of_key, is_event_of, events_of_key}
+use Rattle.events.specs.Events.Act.{Invokes, Returns, Fails, Crashes}
+use Rattle.events.specs.ProcessRule.{MayAct, MayCome, busy_by, busy_after, MayComeFrom, IsHistory}
 use Rattle.linspec.proofs.Filters.{filter-yes, filter-no}
 use Rattle.linspec.proofs.Histories.{cond_same, cond_other}
 

@@ -3,8 +3,8 @@ use Rattle.std.proofs.Common.{◌≡◌, ℕ, ◌⊎◌, inl, inr, true, nat_eq,
 use Rattle.std.specs.List.{Contains}
 use Rattle.std.proofs.lemmas.Bool.{eqb-true, eq-eqb}
 use Rattle.std.proofs.lemmas.List.Elements.{Contains-append_left, Contains-append_right, filter-append}
-use Rattle.history.specs.Events.{Mark, Entry, of_key, marks}
-use Rattle.history.specs.Events.Mark.{Invoked, Returned}
+use Rattle.events.specs.Events.{Mark, Entry, of_key, marks}
+use Rattle.events.specs.Events.Mark.{Invoked, Returned}
 use Rattle.linspec.specs.MarkRule.{id_of}
 use Rattle.linspec.specs.Operations.{Precedes}
 use Rattle.linspec.proofs.Filters.{from_filter, to_filter, to_map, from_map, map-cut, filter-cut}

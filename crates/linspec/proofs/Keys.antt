@@ -10,8 +10,8 @@ use Rattle.models.specs.declared.any_state.AnyState.{AnyState}
 use Rattle.models.specs.declared.any_state.AnyState.TheVariants.{Register as OfRegister, CasRegister as OfCasRegister, Mutex as OfMutex, FifoQueue as OfFifoQueue, Set as OfSet, UnorderedQueue as OfUnorderedQueue}
 use Rattle.models.specs.AnyState.{any}
 use Rattle.models.specs.Objects.{object_of}
-use Rattle.history.specs.Events.{Mark}
-use Rattle.history.specs.Events.Mark.{Invoked}
+use Rattle.events.specs.Events.{Mark}
+use Rattle.events.specs.Events.Mark.{Invoked}
 use Rattle.linspec.specs.Orders.{Taken, IsLinearizable, product}
 use Rattle.linspec.specs.KindsOf.{AgreeWith, HaveKinds}
 use Rattle.linspec.specs.Finishing.{MayComeNext, Finishes, CanFinish}

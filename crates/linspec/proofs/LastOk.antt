@@ -6,8 +6,8 @@ use Rattle.std.proofs.lemmas.List.Elements.{Contains-append_right}
 use Rattle.models.specs.declared.operation.Op.{Op}
 use Rattle.models.specs.declared.finding.Answer.{Answer}
 use Rattle.models.specs.Objects.{Object}
-use Rattle.history.specs.Events.{Entry, marks}
-use Rattle.history.specs.Events.Mark.{Invoked, Returned}
+use Rattle.events.specs.Events.{Entry, marks}
+use Rattle.events.specs.Events.Mark.{Invoked, Returned}
 use Rattle.linspec.specs.Orders.{IsLinearizable}
 use Rattle.linspec.specs.Ends.{HasMoreThanBy, IsBlownIndexBy, IsWithinBudgetBy}
 use Rattle.linspec.specs.Verdicts.{EveryFrontIsLinearizable}

@@ -2,8 +2,8 @@
 use Rattle.std.proofs.Common.{◌≡◌, ℕ, List, [], ◌∷◌, ◌++◌, refl, sym}
 use Rattle.models.specs.declared.operation.Op.{Op}
 use Rattle.models.specs.Objects.{Object}
-use Rattle.history.specs.Events.{Mark, marks}
-use Rattle.history.specs.Events.Mark.{Invoked, Crashed}
+use Rattle.events.specs.Events.{Mark, marks}
+use Rattle.events.specs.Events.Mark.{Invoked, Crashed}
 use Rattle.linspec.specs.Operations.{HasReturned}
 use Rattle.linspec.specs.MarkRule.{IsNew}
 use Rattle.linspec.specs.Orders.{IsLinearizable}

@@ -7,7 +7,7 @@ use Rattle.std.proofs.lemmas.List.Elements.{Contains-append_right}
 use Rattle.models.specs.declared.model_kind.ModelKind.{ModelKind}
 use Rattle.models.specs.declared.operation.Op.{Op}
 use Rattle.models.specs.Objects.{Object, object_of}
-use Rattle.history.specs.Events.{Entry, of_key}
+use Rattle.events.specs.Events.{Entry, of_key}
 use Rattle.linspec.specs.Orders.{product}
 use Rattle.linspec.specs.Ends.{IsBlownAtBy, IsBlownIndexBy, is_no_read}
 use Rattle.linspec.specs.Verdicts.{EndsShortestBadFront, EveryFrontIsLinearizable, IsKeyStatusBy, IsBlownKeyAtBy, set_aside, IsVerdictWithBy, IsVerdictBy, IsRising, IsVerdict}

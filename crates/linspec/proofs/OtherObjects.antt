@@ -6,7 +6,7 @@ use Rattle.models.specs.declared.finding.Found.TheVariants.{Unit as Done}
 use Rattle.models.specs.declared.finding.Answer.TheVariants.{Nothing, Number, Numbers}
 use Rattle.models.specs.Objects.{register, cas_register, mutex}
 use Rattle.models.proofs.Steps.{same_outcome}
-use Rattle.history.specs.Events.Mark.{Invoked, Returned}
+use Rattle.events.specs.Events.Mark.{Invoked, Returned}
 use Rattle.linspec.specs.Orders.{Taken, Includes, Run, IsLegalOrder, IsLinearizable}
 use Rattle.linspec.specs.Examples.{write, cas, acquire, key_marks, write_then_cas, acquire_while_held, mutex_held_twice}
 use Rattle.linspec.proofs.Lists.{Contains-nil, Contains-head, Contains-tail, Contains-cons_cases}

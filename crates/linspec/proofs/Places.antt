@@ -1,8 +1,8 @@
 -- where events are indexed by their places, the indices of their entries rise
 use Rattle.std.proofs.Common.{◌≡◌, ℕ, ◌+◌, ◌≤◌, ⊎_elim, Option, Some, None, List, [], ◌∷◌, ◌++◌, refl, ap, arith}
 use Rattle.std.specs.List.{Contains}
-use Rattle.history.specs.declared.event.Event.{Event}
-use Rattle.history.specs.Events.{OpEvent, op_event, Entry, entry_by, entries_by, last_after, entries_from, entries_of, indexed_from}
+use Rattle.events.specs.declared.event.Event.{Event}
+use Rattle.events.specs.Events.{OpEvent, op_event, Entry, entry_by, entries_by, last_after, entries_from, entries_of, indexed_from}
 use Rattle.linspec.specs.Verdicts.{IsRising}
 use Rattle.linspec.proofs.Lists.{Contains-nil, Contains-cons_cases}
 

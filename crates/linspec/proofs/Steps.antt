@@ -9,8 +9,8 @@ use Rattle.models.specs.AnyState.{any, outcomes_of}
 use Rattle.models.specs.Objects.{IsOneOf, object_of}
 use Rattle.models.proofs.AnyStates.{outcome_of, step_of}
 use Rattle.linspec.specs.Attempts.{Keyed, LeadTo, state_at, with_state, StepsBy, Steps, PrecedesSome}
-use Rattle.history.specs.Events.{Mark}
-use Rattle.history.specs.Events.Mark.{Failed}
+use Rattle.events.specs.Events.{Mark}
+use Rattle.events.specs.Events.Mark.{Failed}
 use Rattle.linspec.specs.Finishing.{MayStandAfter}
 use Rattle.linspec.proofs.Keys.{any_kind}
 use Rattle.linspec.proofs.Lists.{Contains-nil, Contains-head, Contains-tail, Contains-cons_cases}

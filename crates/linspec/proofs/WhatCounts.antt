@@ -8,8 +8,8 @@ use Rattle.models.specs.declared.operation.Part.TheVariants.{Nil}
 use Rattle.models.specs.declared.finding.Found.TheVariants.{Reg}
 use Rattle.models.specs.Objects.{register}
 use Rattle.models.proofs.Steps.{same_outcome}
-use Rattle.history.specs.Events.{Mark}
-use Rattle.history.specs.Events.Mark.{Invoked, Crashed}
+use Rattle.events.specs.Events.{Mark}
+use Rattle.events.specs.Events.Mark.{Invoked, Crashed}
 use Rattle.linspec.specs.Operations.{IsOpen}
 use Rattle.linspec.specs.Orders.{Taken, Run, IsLegalOrder}
 use Rattle.linspec.specs.Ends.{End, HasCrashedBy, LeavesBy, every, is_no_read, Leaves, IsEnd, HasMoreThan, IsEndWithReads, HasMoreThanWithReads}

@@ -6,8 +6,8 @@ use Rattle.models.specs.declared.operation.Name.{Name}
 use Rattle.models.specs.declared.operation.Name.TheVariants.{Read, Write, Cas, Acquire, Release, Enqueue, Dequeue, Add}
 use Rattle.models.specs.declared.operation.Op.{Op}
 use Rattle.models.specs.Objects.{Object, ReadsLeave}
-use Rattle.history.specs.Events.{Mark}
-use Rattle.history.specs.Events.Mark.{Invoked, Crashed}
+use Rattle.events.specs.Events.{Mark}
+use Rattle.events.specs.Events.Mark.{Invoked, Crashed}
 use Rattle.linspec.specs.Operations.{HasReturned, IsOpen}
 use Rattle.linspec.specs.Orders.{Taken, Includes, Run, IsLegalOrder}
 use Rattle.linspec.specs.Ends.{End, HasFound, CountsIn, HasCrashedBy, is_no_read_name, is_no_read, Leaves}

@@ -8,8 +8,8 @@ use Rattle.models.specs.declared.finding.Answer.{Answer}
 use Rattle.models.specs.declared.any_state.AnyState.{AnyState}
 use Rattle.models.specs.AnyState.{any}
 use Rattle.models.specs.Objects.{IsOneOf, object_of, Fits}
-use Rattle.history.specs.Events.{Mark}
-use Rattle.history.specs.Events.Mark.{Invoked, Returned, Failed, Crashed}
+use Rattle.events.specs.Events.{Mark}
+use Rattle.events.specs.Events.Mark.{Invoked, Returned, Failed, Crashed}
 use Rattle.linspec.specs.Operations.{Precedes}
 use Rattle.linspec.specs.Finishing.{MayStandAfter}
 

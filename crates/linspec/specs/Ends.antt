@@ -10,8 +10,8 @@ use Rattle.models.specs.declared.operation.Op.{Op}
 use Rattle.models.specs.declared.finding.Found.{Found}
 use Rattle.models.specs.declared.finding.Answer.{Answer}
 use Rattle.models.specs.Objects.{Object}
-use Rattle.history.specs.Events.{Mark, Entry, marks}
-use Rattle.history.specs.Events.Mark.{Invoked, Returned, Crashed}
+use Rattle.events.specs.Events.{Mark, Entry, marks}
+use Rattle.events.specs.Events.Mark.{Invoked, Returned, Crashed}
 use Rattle.linspec.specs.Operations.{IsOpen}
 use Rattle.linspec.specs.Orders.{Taken, Includes, IsLegalOrder, Pairwise}
 

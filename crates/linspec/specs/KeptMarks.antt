@@ -1,9 +1,9 @@
 -- Invariant: the marks of a history, as they are kept
 use Rattle.std.specs.Prelude.{ℕ, ◌+◌, nat_eq, Bool, true, false, ◌&&◌, Option, Some, None, List, [], ◌∷◌, map, drop, take}
-use Rattle.history.specs.declared.event.Event.{Event}
-use Rattle.history.specs.Events as events
-use Rattle.history.specs.Events.{Act, OpEvent, op_event, last_after, entries_by, marks}
-use Rattle.history.specs.Events.Act.{Invokes}
+use Rattle.events.specs.declared.event.Event.{Event}
+use Rattle.events.specs.Events as events
+use Rattle.events.specs.Events.{Act, OpEvent, op_event, last_after, entries_by, marks}
+use Rattle.events.specs.Events.Act.{Invokes}
 use Rattle.linspec.specs.declared.kept_marks.KeptMark.{KeptMark}
 use Rattle.linspec.specs.declared.kept_marks.KeptMark.TheVariants.{Invoked, Returned, Failed, Crashed}
 

@@ -3,8 +3,8 @@ use Rattle.std.specs.Prelude.{ℕ, Bool, List, [], ◌∷◌, ◌++◌, length, 
 use Rattle.std.specs.List.{filter}
 use Rattle.models.specs.declared.model_kind.ModelKind.{ModelKind}
 use Rattle.models.specs.Objects.{object_of}
-use Rattle.history.specs.declared.event.Event.{Event}
-use Rattle.history.specs.Events.{entries_of}
+use Rattle.events.specs.declared.event.Event.{Event}
+use Rattle.events.specs.Events.{entries_of}
 use Rattle.linspec.specs.declared.verdict.KeyStatus.{KeyStatus}
 use Rattle.linspec.specs.Verdicts.{IsKeyStatus}
 

@@ -4,8 +4,8 @@ use Rattle.std.specs.Prelude.{◌≡◌, ℕ, List, ◌++◌}
 use Rattle.std.specs.List.{Contains}
 use Rattle.models.specs.declared.operation.Op.{Op}
 use Rattle.models.specs.declared.finding.Answer.{Answer}
-use Rattle.history.specs.Events.{Mark}
-use Rattle.history.specs.Events.Mark.{Invoked, Returned, Failed, Crashed}
+use Rattle.events.specs.Events.{Mark}
+use Rattle.events.specs.Events.Mark.{Invoked, Returned, Failed, Crashed}
 
 -- the operation is invoked; it is done; it is open, which is invoked without a completion
 abbrev pub IsInvoked : List Mark → ℕ → Type 0

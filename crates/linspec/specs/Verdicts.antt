@@ -4,7 +4,7 @@ use Rattle.std.specs.List.{filter, Contains}
 use Rattle.models.specs.declared.model_kind.ModelKind.{ModelKind}
 use Rattle.models.specs.declared.operation.Op.{Op}
 use Rattle.models.specs.Objects.{Object, object_of}
-use Rattle.history.specs.Events.{Entry, marks, of_key, IsFront}
+use Rattle.events.specs.Events.{Entry, marks, of_key, IsFront}
 use Rattle.linspec.specs.Orders.{Pairwise, IsLinearizable, product}
 use Rattle.linspec.specs.Ends.{every, is_no_read, IsBlownBy, IsBlownIndexBy, IsWithinBudgetBy}
 use Rattle.linspec.specs.declared.verdict.KeyStatus.{KeyStatus}

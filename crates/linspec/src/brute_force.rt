@@ -3,7 +3,7 @@ ghost use Rattle.std.specs.Prelude.{◌≡◌, ◌↔◌, ◌⊎◌, ℕ, [], �
 ghost use Rattle.std.specs.List.{Contains};
 ghost use Rattle.models.specs.declared.model_kind.ModelKind.{ModelKind};
 ghost use Rattle.models.specs.declared.finding.Found.{Found};
-ghost use Rattle.history.specs.Events.{entries_of, indexed_from, marks};
+ghost use Rattle.events.specs.Events.{entries_of, indexed_from, marks};
 ghost use Rattle.linspec.specs.Orders.{IsLinearizable, product};
 ghost use Rattle.linspec.specs.KindsOf.{AgreeWith, HaveKinds};
 ghost use Rattle.linspec.specs.KeptMarks.{mark_of, marks_of_kept};

@@ -4,12 +4,12 @@ ghost use Rattle.std.specs.List.{Contains};
 ghost use Rattle.models.specs.declared.operation.Op.{Op};
 ghost use Rattle.models.specs.declared.finding.Answer.{Answer};
 ghost use Rattle.models.specs.Objects.{Fits};
-ghost use Rattle.history.specs.Events.{act_by, mark_by_act, op_event, entries_of, indexed_from, marks};
-ghost use Rattle.history.specs.Events.Mark.{Invoked, Returned, Failed};
+ghost use Rattle.events.specs.Events.{act_by, mark_by_act, op_event, entries_of, indexed_from, marks};
+ghost use Rattle.events.specs.Events.Mark.{Invoked, Returned, Failed};
 ghost use Rattle.linspec.specs.Operations.{HasReturned, Precedes};
 ghost use Rattle.linspec.specs.KeptMarks.{mark_of, marks_of_kept, is_invocation_by, last_invocation, option_items, marks_at};
 
-use history::{Body, Event, EventKind, Process};
+use events::{Body, Event, EventKind, Process};
 use models::{Answer, Found, Op, fits};
 use std::alloc::{AllocError, Global};
 

@@ -3,10 +3,10 @@ ghost use Rattle.std.specs.Prelude.{◌≡◌, ◌≢◌, ◌↔◌, ◌≤◌, 
 ghost use Rattle.models.specs.declared.model_kind.ModelKind.{ModelKind};
 ghost use Rattle.models.specs.declared.operation.Op.{Op};
 ghost use Rattle.models.specs.Objects.{object_of, register, cas_register, mutex, fifo_queue};
-ghost use Rattle.history.specs.declared.event.Event.{Event};
-ghost use Rattle.history.specs.Events.{Mark, Entry, IsFront, entries_of, indexed_from, marks};
-ghost use Rattle.history.specs.Events.Mark.{Invoked, Crashed};
-ghost use Rattle.history.specs.ProcessRule.{IsHistory};
+ghost use Rattle.events.specs.declared.event.Event.{Event};
+ghost use Rattle.events.specs.Events.{Mark, Entry, IsFront, entries_of, indexed_from, marks};
+ghost use Rattle.events.specs.Events.Mark.{Invoked, Crashed};
+ghost use Rattle.events.specs.ProcessRule.{IsHistory};
 ghost use Rattle.linspec.specs.MarkRule.{IsNew, IsKeyed, AreWellFormed};
 ghost use Rattle.linspec.specs.Orders.{IsLinearizable, product};
 ghost use Rattle.linspec.specs.Ends.{HasMoreThan, IsBlown, IsBlownAt, IsBlownIndex, IsWithinBudget};

@@ -5,7 +5,7 @@ use Rattle.std.proofs.lemmas.Bool.{eq-eqb}
 use Rattle.models.specs.declared.model_kind.ModelKind.{ModelKind}
 use Rattle.models.specs.declared.operation.Op.{Op}
 use Rattle.models.specs.Objects.{object_of}
-use Rattle.history.specs.Events.{Entry, of_key, marks}
+use Rattle.events.specs.Events.{Entry, of_key, marks}
 use Rattle.linspec.specs.declared.verdict.KeyStatus.{KeyStatus}
 use Rattle.linspec.specs.declared.verdict.KeyStatus.TheVariants.{Alive, Dead, Over}
 use Rattle.linspec.specs.declared.verdict.Verdict.TheVariants.{Legal}

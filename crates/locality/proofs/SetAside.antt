@@ -3,8 +3,8 @@ use Rattle.std.proofs.Common.{◌≡◌, ℕ, ⊎_elim, Bool, true, false, not, 
 use Rattle.std.specs.List.{filter, Contains}
 use Rattle.std.proofs.lemmas.Bool.{cases_Bool, cases_eq, eq-eqb, ne_eqb, true≢false}
 use Rattle.std.proofs.lemmas.List.Elements.{Contains-append_left, Contains-append_right}
-use Rattle.history.specs.Events.{Mark, Entry, of_key, marks, IsFront}
-use Rattle.history.specs.Events.Mark.{Invoked, Returned, Failed, Crashed}
+use Rattle.events.specs.Events.{Mark, Entry, of_key, marks, IsFront}
+use Rattle.events.specs.Events.Mark.{Invoked, Returned, Failed, Crashed}
 use Rattle.linspec.specs.MarkRule.{id_of, MayFollow, AreWellFormed, IsKeyed}
 use Rattle.linspec.specs.Operations.{IsOpen}
 use Rattle.linspec.proofs.Lists.{Contains-head}

@@ -3,7 +3,7 @@ use Rattle.std.proofs.Common.{◌≡◌, ℕ, zero, suc, ◌+◌, ◌<◌, ◌�
 use Rattle.std.proofs.lemmas.Option.{same_Some}
 use Rattle.std.proofs.lemmas.List.{length-map}
 use Rattle.edn.specs.declared.refusal.Refusal.{Refusal}
-use Rattle.history.specs.declared.event.Fault.{Fault}
+use Rattle.events.specs.declared.event.Fault.{Fault}
 use Rattle.generators.specs.declared.item.Item.TheVariants.{Op as AnOp}
 use Rattle.generators.specs.declared.item.Asker.TheVariants.{Thread}
 use Rattle.generators.specs.declared.item.Drawn.{Drawn}
@@ -11,10 +11,10 @@ use Rattle.generators.specs.declared.item.Drawn.TheVariants.{Op as Gets, Pending
 use Rattle.test_store.specs.declared.outcome.Outcome.{Outcome}
 use Rattle.test_store.specs.Store.{Cluster, VersionsWithin}
 use Rattle.test_store.proofs.Versions.{serve_versions, fault_versions}
-use Rattle.trials.specs.declared.ticket.Ticket.{Ticket}
-use Rattle.trials.specs.Trials as trials
-use Rattle.trials.specs.Trials.{Trial, MayMove, served_as, completion}
-use Rattle.trials.specs.Trials.Move.{Draws, Serves, Finishes, Strikes, Stays}
+use Rattle.machine.specs.declared.ticket.Ticket.{Ticket}
+use Rattle.machine.specs.Trials as trials
+use Rattle.machine.specs.Trials.{Trial, MayMove, served_as, completion}
+use Rattle.machine.specs.Trials.Move.{Draws, Serves, Finishes, Strikes, Stays}
 use Rattle.machine.specs.declared.command.Command.{Command}
 use Rattle.machine.specs.declared.command.Command.TheVariants.{Append, Rewind, SetModel, SetBudget, Verdict as Ask, Draw, Serve, Finish, Nemesis}
 use Rattle.machine.specs.declared.command.Reply.{Reply}

@@ -1,3 +1,11 @@
+pub mod Places
+pub mod Pushes
+pub mod Opens
+pub mod OfTickets
+pub mod Holding
+pub mod Verdicts
+pub mod Answering
+pub mod Worked
 pub mod Counting
 pub mod Moves
 pub mod Firsts

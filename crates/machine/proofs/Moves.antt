@@ -5,8 +5,8 @@ use Rattle.std.specs.Map.{lookup}
 use Rattle.edn.specs.declared.refusal.Refusal.{Refusal}
 use Rattle.models.specs.declared.model_kind.ModelKind.{ModelKind}
 use Rattle.models.specs.declared.operation.Op.{Op}
-use Rattle.history.specs.declared.event.Fault.{Fault}
-use Rattle.history.specs.Events.{marks}
+use Rattle.events.specs.declared.event.Fault.{Fault}
+use Rattle.events.specs.Events.{marks}
 use Rattle.history.specs.WellFormed.{IsHistoryOf}
 use Rattle.nemesis.specs.Schedules.{after_first}
 use Rattle.linspec.specs.declared.verdict.Verdict.TheVariants.{Illegal}
@@ -22,13 +22,13 @@ use Rattle.test_store.specs.declared.outcome.Mode.TheVariants.{Strict}
 use Rattle.test_store.specs.declared.outcome.Outcome.{Outcome}
 use Rattle.test_store.specs.declared.outcome.Outcome.TheVariants.{Done as WasDone, Refused, Lost}
 use Rattle.test_store.specs.Store.{IsCount}
-use Rattle.trials.specs.Trials as trials
-use Rattle.trials.specs.declared.ticket.Ticket.{Ticket}
-use Rattle.trials.specs.Trials.{Trial, Move, MayMove, Leads, took_place, serves_of, AreOfTickets, invocation, completion, strike}
-use Rattle.trials.specs.Trials.Move.{Draws, Serves, Finishes, Strikes, Stays}
-use Rattle.trials.proofs.Pushes.{keyed, well_formed}
-use Rattle.trials.proofs.Holding.{no_alarm, legal_order}
-use Rattle.trials.proofs.Verdicts.{never_illegal}
+use Rattle.machine.specs.Trials as trials
+use Rattle.machine.specs.declared.ticket.Ticket.{Ticket}
+use Rattle.machine.specs.Trials.{Trial, Move, MayMove, Leads, took_place, serves_of, AreOfTickets, invocation, completion, strike}
+use Rattle.machine.specs.Trials.Move.{Draws, Serves, Finishes, Strikes, Stays}
+use Rattle.machine.proofs.Pushes.{keyed, well_formed}
+use Rattle.machine.proofs.Holding.{no_alarm, legal_order}
+use Rattle.machine.proofs.Verdicts.{never_illegal}
 use Rattle.machine.specs.declared.command.Command.{Command}
 use Rattle.machine.specs.declared.command.Command.TheVariants.{Append, Rewind, SetModel, SetBudget, Verdict as Ask, Draw, Serve, Finish, Nemesis}
 use Rattle.machine.specs.declared.command.Reply.{Reply}

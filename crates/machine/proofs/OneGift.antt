@@ -1,7 +1,7 @@
 -- What is drawn, and which fault strikes next, is determined
 use Rattle.std.proofs.Common.{◌≡◌, ◌≢◌, ⊎_elim, Option, Some, None, sym, ◌∙◌}
 use Rattle.std.proofs.lemmas.Option.{same_Some}
-use Rattle.history.specs.declared.event.Fault.{Fault}
+use Rattle.events.specs.declared.event.Fault.{Fault}
 use Rattle.generators.specs.declared.item.Item.TheVariants.{Fault as AFault}
 use Rattle.generators.specs.declared.item.Asker.{Asker}
 use Rattle.generators.specs.declared.item.Asker.TheVariants.{Nemesis as TheNemesis}

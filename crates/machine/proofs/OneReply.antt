@@ -11,8 +11,8 @@ use Rattle.linspec.proofs.OneAnswer.{one_verdict}
 use Rattle.linspec.proofs.Places.{rising_places}
 use Rattle.test_store.specs.Store.{MayServe}
 use Rattle.test_store.proofs.OneServe.{one_serve}
-use Rattle.trials.specs.declared.ticket.Ticket.{Ticket}
-use Rattle.trials.specs.Trials.{completion}
+use Rattle.machine.specs.declared.ticket.Ticket.{Ticket}
+use Rattle.machine.specs.Trials.{completion}
 use Rattle.machine.specs.declared.command.Command.{Command}
 use Rattle.machine.specs.declared.command.Command.TheVariants.{Append, Rewind, SetModel, SetBudget, Verdict as Ask, Draw, Serve, Finish, Nemesis}
 use Rattle.machine.specs.declared.command.Reply.{Reply}

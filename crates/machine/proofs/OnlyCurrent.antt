@@ -4,18 +4,18 @@ use Rattle.std.proofs.lemmas.List.{append-nil}
 use Rattle.models.specs.declared.operation.Op.{Op}
 use Rattle.processes.specs.MoveRule.{thread_of, current_of, FollowMoveRule}
 use Rattle.processes.proofs.Following.{follow-nil, follow-push}
-use Rattle.history.specs.declared.event.EventKind.{EventKind}
-use Rattle.history.specs.declared.event.EventKind.TheVariants.{Info}
-use Rattle.history.specs.declared.event.Process.{Process}
-use Rattle.history.specs.declared.event.Process.TheVariants.{Client, Nemesis}
-use Rattle.history.specs.declared.event.Body.{Body}
-use Rattle.history.specs.declared.event.Body.TheVariants.{Op as AnOp, Fault as AFault}
-use Rattle.history.specs.declared.event.Event.{Event}
+use Rattle.events.specs.declared.event.EventKind.{EventKind}
+use Rattle.events.specs.declared.event.EventKind.TheVariants.{Info}
+use Rattle.events.specs.declared.event.Process.{Process}
+use Rattle.events.specs.declared.event.Process.TheVariants.{Client, Nemesis}
+use Rattle.events.specs.declared.event.Body.{Body}
+use Rattle.events.specs.declared.event.Body.TheVariants.{Op as AnOp, Fault as AFault}
+use Rattle.events.specs.declared.event.Event.{Event}
 use Rattle.history.specs.WellFormed.{move_by, moves_of, open_of, open_index, IsWellFormed, IsHistoryOf}
 use Rattle.history.proofs.Appending.{moves_of-some, moves_of-none}
 use Rattle.history.proofs.Keeping.{open_is_current, may_move}
-use Rattle.trials.specs.declared.ticket.Ticket.{Ticket}
-use Rattle.trials.specs.Trials.{IsStillOpen}
+use Rattle.machine.specs.declared.ticket.Ticket.{Ticket}
+use Rattle.machine.specs.Trials.{IsStillOpen}
 use Rattle.machine.specs.Tickets.{StandsFor}
 
 one_more : (c : ℕ) (events : List Event) (index : Option ℕ) (kind : EventKind) (process : Process) (body : Body) → FollowMoveRule c (moves_of events)

@@ -1,14 +1,14 @@
 -- Every step keeps the tickets
 use Rattle.std.proofs.Common.{◌≡◌, ℕ, ◌%◌, Result, Ok, Err, [], ◌∷◌, ◌∙◌, ap, sym, subst}
 use Rattle.edn.specs.declared.refusal.Refusal.{Refusal}
-use Rattle.history.specs.declared.event.Event.{Event}
-use Rattle.history.specs.declared.event.Fault.{Fault}
+use Rattle.events.specs.declared.event.Event.{Event}
+use Rattle.events.specs.declared.event.Fault.{Fault}
 use Rattle.generators.specs.declared.item.Item.TheVariants.{Op as AnOp}
 use Rattle.generators.specs.declared.item.Asker.TheVariants.{Thread}
 use Rattle.generators.specs.declared.item.Drawn.{Drawn}
 use Rattle.generators.specs.declared.item.Drawn.TheVariants.{Op as Gets, Pending, Done}
-use Rattle.trials.specs.Trials.{completion, strike}
-use Rattle.trials.specs.declared.ticket.Ticket.{Ticket}
+use Rattle.machine.specs.Trials.{completion, strike}
+use Rattle.machine.specs.declared.ticket.Ticket.{Ticket}
 use Rattle.machine.specs.declared.command.Command.{Command}
 use Rattle.machine.specs.declared.command.Command.TheVariants.{Append, Rewind, SetModel, SetBudget, Verdict as Ask, Draw, Serve, Finish, Nemesis}
 use Rattle.machine.specs.declared.command.Reply.{Reply}

@@ -9,8 +9,9 @@ use Rattle.models.specs.declared.finding.Found.{Found}
 use Rattle.models.specs.Objects.{table_of}
 use Rattle.models.specs.AnyState.{any}
 use Rattle.processes.specs.MoveRule.{current_of, is_crash_on}
-use Rattle.history.specs.declared.event.Event.{Event}
-use Rattle.history.specs.WellFormed.{IsPart, moves_of, open_of, invoked_in, HasRoom, IsWellFormed}
+use Rattle.events.specs.declared.event.Event.{Event}
+use Rattle.events.specs.Tables.{IsPart}
+use Rattle.history.specs.WellFormed.{moves_of, open_of, invoked_in, HasRoom, IsWellFormed}
 use Rattle.history.proofs.Appending.{open_of_at}
 use Rattle.test_store.specs.declared.held.Held.{Held}
 use Rattle.test_store.specs.declared.outcome.Outcome.{Outcome}
@@ -18,10 +19,10 @@ use Rattle.test_store.specs.declared.outcome.Outcome.TheVariants.{Done, Refused,
 use Rattle.test_store.specs.Store.{Cluster, MayServe, Serves}
 use Rattle.test_store.proofs.OneServe.{SomeKind, some_kind}
 use Rattle.test_store.proofs.TruthKept.{FirstStep, first_step}
-use Rattle.trials.specs.declared.ticket.Ticket.{Ticket}
-use Rattle.trials.specs.Trials.{Answers, invocation, completion, fresh_ticket, served_as, IsStillOpen}
-use Rattle.trials.proofs.Places.{get_push, get_set, get_more}
-use Rattle.trials.proofs.Answering.{answers}
+use Rattle.machine.specs.declared.ticket.Ticket.{Ticket}
+use Rattle.machine.specs.Trials.{Answers, invocation, completion, fresh_ticket, served_as, IsStillOpen}
+use Rattle.machine.proofs.Places.{get_push, get_set, get_more}
+use Rattle.machine.proofs.Answering.{answers}
 use Rattle.machine.specs.Machine.{stale_from}
 use Rattle.machine.specs.Tickets.{StandsFor, IsAnswered, AreTickets}
 

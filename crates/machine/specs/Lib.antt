@@ -1,2 +1,4 @@
+pub mod Trials
+pub mod Examples
 pub mod Machine
 pub mod Tickets

@@ -6,8 +6,8 @@ use Rattle.edn.specs.declared.refusal.Refusal.TheVariants.{Busy, WrongProcess, N
 use Rattle.models.specs.declared.operation.Op.{Op}
 use Rattle.models.specs.declared.model_kind.ModelKind.{ModelKind}
 use Rattle.processes.specs.MoveRule.{current_of}
-use Rattle.history.specs.declared.event.Fault.{Fault}
-use Rattle.history.specs.declared.event.Event.{Event}
+use Rattle.events.specs.declared.event.Fault.{Fault}
+use Rattle.events.specs.declared.event.Event.{Event}
 use Rattle.history.specs.WellFormed.{moves_of, open_index, IsWellFormed, HasRoom}
 use Rattle.history.specs.WellFormed as history
 use Rattle.nemesis.specs.Schedules.{due_at, after_first}
@@ -24,8 +24,8 @@ use Rattle.test_store.specs.declared.outcome.Outcome.{Outcome}
 use Rattle.test_store.specs.declared.outcome.Outcome.TheVariants.{Done as WasDone, Lost}
 use Rattle.test_store.specs.Store as store
 use Rattle.test_store.specs.Store.{Cluster, MayServe, after_fault}
-use Rattle.trials.specs.declared.ticket.Ticket.{Ticket}
-use Rattle.trials.specs.Trials.{invocation, completion, strike, fresh_ticket, served_as, IsStillOpen}
+use Rattle.machine.specs.declared.ticket.Ticket.{Ticket}
+use Rattle.machine.specs.Trials.{invocation, completion, strike, fresh_ticket, served_as, IsStillOpen}
 use Rattle.machine.specs.declared.command.Command.{Command}
 use Rattle.machine.specs.declared.command.Command.TheVariants.{Append, Rewind, SetModel, SetBudget, Verdict as Ask, Draw, Serve, Finish, Nemesis}
 use Rattle.machine.specs.declared.command.Reply.{Reply}

@@ -2,12 +2,12 @@
 use Rattle.std.specs.Prelude.{◌≡◌, ℕ, ◌+◌, ◌<◌, false, if◌then◌else◌, is_some, Option, Some, None, List, [], ◌∷◌, slice_get}
 use Rattle.models.specs.declared.operation.Op.{Op}
 use Rattle.processes.specs.MoveRule.{thread_of}
-use Rattle.history.specs.declared.event.Event.{Event}
-use Rattle.history.specs.WellFormed.{IsPart}
+use Rattle.events.specs.declared.event.Event.{Event}
+use Rattle.events.specs.Tables.{IsPart}
 use Rattle.test_store.specs.declared.outcome.Outcome.{Outcome}
 use Rattle.test_store.specs.declared.outcome.Outcome.TheVariants.{Done, Refused, Lost}
-use Rattle.trials.specs.declared.ticket.Ticket.{Ticket}
-use Rattle.trials.specs.Trials.{Answers, invocation}
+use Rattle.machine.specs.declared.ticket.Ticket.{Ticket}
+use Rattle.machine.specs.Trials.{Answers, invocation}
 
 -- how many of the tickets were served
 abbrev pub served_of : List Ticket → ℕ

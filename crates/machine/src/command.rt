@@ -1,5 +1,5 @@
 //! Commands of a `Core`, and its replies.
-use history::{Event, Fault};
+use events::{Event, Fault};
 use linspec::Verdict;
 use models::{Key, ModelKind};
 use test_store::Outcome;

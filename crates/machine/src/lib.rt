@@ -1,8 +1,13 @@
-//! The one-thread object with all its commands, as a relation, and laws of it: one is that it raises no false alarm.
+//! The one-thread object with all its commands, as a relation, and below it what clients and faults do to history, store and tickets:
+//! trials. Laws of both, of which one is that a strict store raises no false alarm. Types and laws alone.
 #![tactic(auto)]
 
 pub mod command;
 mod laws;
+pub mod ticket;
+mod trial_laws;
 
 pub use command::{Command, Reply};
 pub use laws::{counted_law, history_law, no_false_alarm, one_step, tickets_law};
+pub use ticket::Ticket;
+pub use trial_laws::{answers_law, no_trial_is_a_false_alarm, trials_law};

@@ -5,12 +5,12 @@ use Rattle.std.proofs.lemmas.Bool.{cases_Bool}
 use Rattle.std.proofs.lemmas.List.{length-append, length-map, take-append-drop}
 use Rattle.std.proofs.lemmas.List.Elements.{Contains-append_left}
 use Rattle.models.specs.declared.finding.Found.TheVariants.{Item}
-use Rattle.models.specs.Members.{IsAscending, put_in}
-use Rattle.models.specs.Multisets.{NeverFalls, without_one, values_of}
+use Rattle.values.specs.Members.{IsAscending, put_in}
+use Rattle.values.specs.Multisets.{NeverFalls, without_one, values_of}
 use Rattle.models.specs.Objects.{taken_from}
-use Rattle.models.proofs.PutIn.{no_member, first_member, later_member, member_cases, below_all, not_below, put_in-first, put_in-later, put_in-there}
-use Rattle.models.proofs.Bags.{Contains-values_of, IsAscending-values_of}
-use Rattle.models.proofs.Dequeues.{values_new, values_old}
+use Rattle.values.proofs.PutIn.{no_member, first_member, later_member, member_cases, below_all, not_below, put_in-first, put_in-later, put_in-there}
+use Rattle.values.proofs.Bags.{Contains-values_of, IsAscending-values_of}
+use Rattle.values.proofs.Firsts.{values_new, values_old}
 
 -- no more than the values
 length-put_in : (v : ℤ) (xs : List ℤ) → length (put_in v xs) ≤ length xs + 1

@@ -1,17 +1,9 @@
 pub mod AnyStates
-pub mod PutIn
-pub mod Bags
 pub mod Dequeues
 pub mod Unordered
 pub mod Apart
 pub mod Counting
 pub mod Steps
 pub mod Tables
-pub mod Sorting
-pub mod Sums
-pub mod InSpans
-pub mod Joining
-pub mod Rolling
 pub mod Fronts
-pub mod Past
 pub mod Crossing

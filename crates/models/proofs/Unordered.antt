@@ -17,12 +17,12 @@ use Rattle.models.specs.declared.operation.Part.TheVariants.{Nil, Int}
 use Rattle.models.specs.declared.operation.Op.{Op}
 use Rattle.models.specs.declared.finding.Found.{Found}
 use Rattle.models.specs.declared.finding.Found.TheVariants.{Unit as Done, Item}
-use Rattle.models.specs.Members.{IsAscending}
-use Rattle.models.specs.Multisets.{with_one, without_one, values_of}
+use Rattle.values.specs.Members.{IsAscending}
+use Rattle.values.specs.Multisets.{with_one, without_one, values_of}
 use Rattle.models.specs.Objects.{AreApart, IsOneOf, taken_from, unordered_apply, unordered_queue}
 use Rattle.models.specs.Runs.{Runs, enqueued, dequeued, is_enqueue_of, is_dequeue_of, times_enqueued, times_dequeued, times_in}
-use Rattle.models.proofs.PutIn.{no_member, first_member, later_member, member_cases}
-use Rattle.models.proofs.Bags.{with_one-later, with_one-here, without_one-here, without_one-later, same_int, other_int, Contains-values_of, IsAscending-values_of}
+use Rattle.values.proofs.PutIn.{no_member, first_member, later_member, member_cases}
+use Rattle.values.proofs.Bags.{with_one-later, with_one-here, without_one-here, without_one-later, same_int, other_int, Contains-values_of, IsAscending-values_of}
 use Rattle.models.proofs.Steps.{same_outcome, Runs-append}
 
 -- what a dequeue comes to

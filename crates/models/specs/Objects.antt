@@ -14,8 +14,8 @@ use Rattle.models.specs.declared.finding.Answer.{Answer}
 use Rattle.models.specs.declared.finding.Answer.TheVariants.{Nothing, Number, Numbers, Many}
 use Rattle.models.specs.declared.model_kind.ModelKind.{ModelKind}
 use Rattle.models.specs.declared.model_kind.ModelKind.TheVariants.{Register, CasRegister, Mutex, FifoQueue, Set as SetOfNumbers, UnorderedQueue}
-use Rattle.models.specs.Members.{put_in}
-use Rattle.models.specs.Multisets.{with_one, without_one, values_of}
+use Rattle.values.specs.Members.{put_in}
+use Rattle.values.specs.Multisets.{with_one, without_one, values_of}
 
 -- an object: its states, the one it starts in, and its steps. Steps s op found t: in state s the operation can take
 -- place, finds this, and leaves t

@@ -8,17 +8,15 @@ use crate::cas_register::CasRegister;
 use crate::each_kind;
 use crate::fifo_queue::FifoQueue;
 use crate::finding::Found;
-use crate::items::Items;
 use crate::model_kind::ModelKind;
-use crate::multiset::Multiset;
 use crate::mutex::Mutex;
 use crate::object::SeqObject;
 use crate::operation::Op;
 use crate::register::Register;
 use crate::set::Set;
-use crate::spans::Spans;
 use crate::unordered_queue::UnorderedQueue;
 use std::alloc::{AllocError, Global};
+use values::{Items, Multiset, Spans};
 
 /// A state of an object of some kind, where the kind is known only as the program runs.
 #[derive(Drop)]

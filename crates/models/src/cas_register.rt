@@ -1,6 +1,6 @@
 //! The register with compare and set.
 ghost use Rattle.std.specs.Prelude.{None};
-ghost use Rattle.models.specs.Comparisons.{option_eq-exact};
+ghost use Rattle.values.specs.Comparisons.{option_eq-exact};
 ghost use Rattle.models.specs.Reads.{cas_register_reads};
 
 use crate::finding::Found;

@@ -1,14 +1,14 @@
 //! The queue.
 ghost use Rattle.std.specs.Prelude.{[]};
-ghost use Rattle.models.specs.Comparisons.{ints_eq-exact};
+ghost use Rattle.values.specs.Comparisons.{ints_eq-exact};
 ghost use Rattle.models.specs.Reads.{queue_reads};
 
 use crate::finding::Found;
-use crate::items::Items;
 use crate::object::SeqObject;
 use crate::operation::{Name, Op, Part};
 use crate::outcomes::put_outcome;
 use std::alloc::{AllocError, Global};
+use values::Items;
 
 /// A queue, empty at first: an enqueue adds its value at the back, a dequeue takes the front off and finds it.
 pub struct FifoQueue;

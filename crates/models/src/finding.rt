@@ -2,9 +2,9 @@
 ghost use Rattle.std.specs.Prelude.{◌≡◌, ◌↔◌, IsTrue, IfOk};
 ghost use Rattle.models.specs.Objects.{Fits, answer_of};
 
-use crate::members::Members;
 use crate::operation::Part;
 use std::alloc::AllocError;
+use values::Members;
 
 /// What an operation finds where it takes place (a sequential specification; Herlihy and Wing 1990, section 2).
 #[derive(Drop)]

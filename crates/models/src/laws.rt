@@ -10,8 +10,7 @@ ghost use Rattle.models.specs.declared.finding.Found.TheVariants.{Unit as Done, 
 ghost use Rattle.models.specs.declared.model_kind.ModelKind.{ModelKind};
 ghost use Rattle.models.specs.declared.any_state.AnyState.{AnyState};
 ghost use Rattle.models.specs.AnyState.{any, kind_of_state};
-ghost use Rattle.models.specs.Members.{IsAscending, put_in};
-ghost use Rattle.models.specs.Multisets.{without_one};
+ghost use Rattle.values.specs.Multisets.{without_one};
 ghost use Rattle.models.specs.Objects.{IsOneOf, AreApart, cas_register_apply, mutex_apply, unordered_apply};
 ghost use Rattle.models.specs.Objects.{fifo_queue, unordered_queue, object_of, table_of};
 ghost use Rattle.models.specs.Runs.{Runs, enqueued, dequeued, times_enqueued, times_dequeued, times_in};
@@ -55,14 +54,6 @@ pub fn unordered_queue_law()
     ensures any_value { (s t : List ℤ) (found : Found) →
         IsOneOf (unordered_apply Dequeue Nil s) (t, found)
         ↔ ((v : ℤ) × Contains s v × (t ≡ without_one v s) × (found ≡ Item v)) }
-{}
-
-/// A set with a value put in has that value and its members before, and no other; and it stays ascending.
-pub fn put_in_law()
-    ensures members { (v : ℤ) (members : List ℤ) (x : ℤ) →
-        Contains (put_in v members) x ↔ ((x ≡ v) ⊎ Contains members x) }
-    ensures ascending { (v : ℤ) (members : List ℤ) →
-        IsAscending members → IsAscending (put_in v members) }
 {}
 
 /// Each state of any kind is a state of its own kind, and of no other.

@@ -5,36 +5,26 @@
 
 pub mod any_state;
 pub mod cas_register;
-mod copies;
 pub mod fifo_queue;
 pub mod finding;
-pub mod items;
 pub mod laws;
-pub mod members;
 pub mod model_kind;
-pub mod multiset;
 pub mod mutex;
 pub mod object;
 pub mod operation;
 mod outcomes;
 pub mod register;
 pub mod set;
-mod span_row;
-pub mod spans;
 pub mod unordered_queue;
 
 pub use any_state::AnyState;
 pub use cas_register::CasRegister;
 pub use fifo_queue::FifoQueue;
 pub use finding::{Answer, Found, fits};
-pub use items::Items;
-pub use members::Members;
 pub use model_kind::ModelKind;
-pub use multiset::Multiset;
 pub use mutex::Mutex;
 pub use object::SeqObject;
 pub use operation::{Key, Name, Op, Part};
 pub use register::Register;
 pub use set::Set;
-pub use spans::Spans;
 pub use unordered_queue::UnorderedQueue;

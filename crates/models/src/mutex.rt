@@ -1,6 +1,6 @@
 //! The mutex.
 ghost use Rattle.std.specs.Prelude.{false};
-ghost use Rattle.models.specs.Comparisons.{bool_eq-exact};
+ghost use Rattle.values.specs.Comparisons.{bool_eq-exact};
 ghost use Rattle.models.specs.Reads.{mutex_reads};
 
 use crate::finding::Found;

@@ -2,8 +2,8 @@
 ghost use Rattle.std.specs.Prelude.{◌≡◌, ◌↔◌, IsTrue, IfOk};
 ghost use Rattle.models.specs.Names.{text_of, Finds};
 
-use crate::members::Members;
 use std::alloc::AllocError;
+use values::Members;
 
 /// A key: each key is an object by itself.
 pub type Key = u16;

@@ -1,6 +1,6 @@
 //! The register.
 ghost use Rattle.std.specs.Prelude.{None};
-ghost use Rattle.models.specs.Comparisons.{option_eq-exact};
+ghost use Rattle.values.specs.Comparisons.{option_eq-exact};
 ghost use Rattle.models.specs.Reads.{register_reads};
 
 use crate::finding::Found;

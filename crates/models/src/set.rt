@@ -1,13 +1,13 @@
 //! The set.
 ghost use Rattle.std.specs.Prelude.{[]};
-ghost use Rattle.models.specs.Comparisons.{ints_eq-exact};
+ghost use Rattle.values.specs.Comparisons.{ints_eq-exact};
 ghost use Rattle.models.specs.Reads.{set_reads};
 
 use crate::finding::Found;
 use crate::object::SeqObject;
 use crate::operation::{Name, Op, Part};
-use crate::spans::Spans;
 use std::alloc::{AllocError, Global};
+use values::Spans;
 
 /// A set of integers, empty at first: an add puts its value in, a read finds all members.
 pub struct Set;

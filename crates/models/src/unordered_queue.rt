@@ -1,17 +1,17 @@
 //! The queue without an order.
 ghost use Rattle.std.specs.Prelude.{◌≡◌, ◌≢◌, ◌↔◌, ◌+◌, ◌<◌, ◌++◌, ℕ, ℤ, List, [], IsTrue, OnOk, OnErr, get_or, length, take};
 ghost use Rattle.models.specs.declared.finding.Found.{Found};
-ghost use Rattle.models.specs.Multisets.{values_of};
+ghost use Rattle.values.specs.Multisets.{values_of};
 ghost use Rattle.models.specs.Objects.{taken_from};
-ghost use Rattle.models.specs.Comparisons.{ints_eq-exact};
+ghost use Rattle.values.specs.Comparisons.{ints_eq-exact};
 ghost use Rattle.models.specs.Reads.{unordered_reads};
 
 use crate::finding::Found;
-use crate::multiset::Multiset;
 use crate::object::SeqObject;
 use crate::operation::{Name, Op, Part};
 use crate::outcomes::put_outcome;
 use std::alloc::{AllocError, Global};
+use values::Multiset;
 
 /// A queue without an order, empty at first: an enqueue puts one of its value in, a dequeue takes out one of any value that
 /// is in and finds it. So a dequeue has an outcome for each of the values, and they are listed by ascending value.

@@ -8,10 +8,10 @@ use Rattle.std.proofs.lemmas.List.Elements.{All-head, All-tail, Contains-append_
 use Rattle.models.specs.declared.model_kind.ModelKind.{ModelKind}
 use Rattle.models.specs.declared.operation.Op.{Op}
 use Rattle.models.specs.Objects.{Object, object_of}
-use Rattle.history.specs.declared.event.Event.{Event}
-use Rattle.history.specs.ProcessRule.{IsHistory}
+use Rattle.events.specs.declared.event.Event.{Event}
+use Rattle.events.specs.ProcessRule.{IsHistory}
 use Rattle.history.specs.WellFormed.{IsHistoryOf}
-use Rattle.history.specs.Events.{Entry, op_event, entries_by, entries_from, entries_of, last_after, indexed_from, of_key, marks, IsFront}
+use Rattle.events.specs.Events.{Entry, op_event, entries_by, entries_from, entries_of, last_after, indexed_from, of_key, marks, IsFront}
 use Rattle.linspec.specs.declared.verdict.KeyStatus.{KeyStatus}
 use Rattle.linspec.specs.declared.verdict.KeyStatus.TheVariants.{Alive, Dead, Over}
 use Rattle.linspec.specs.declared.verdict.Verdict.{Verdict}

@@ -4,8 +4,8 @@ use Rattle.std.specs.List.{filter_map, cons_option, Contains}
 use Rattle.std.proofs.lemmas.Bool.{cases_Bool, eq-eqb, ne_eqb, eqb-true, lt-ltb, le-ltb, false≢true}
 use Rattle.std.proofs.lemmas.List.{append-nil}
 use Rattle.std.proofs.lemmas.List.Elements.{filter-append, filter_map-append, Contains-append_cases}
-use Rattle.history.specs.declared.event.Event.{Event}
-use Rattle.history.specs.Events.{OpEvent, op_event, key_of, Entry, entry_by, entries_by, last_after, entries_from, indexed_from, is_of_key, is_event_of, events_of_key}
+use Rattle.events.specs.declared.event.Event.{Event}
+use Rattle.events.specs.Events.{OpEvent, op_event, key_of, Entry, entry_by, entries_by, last_after, entries_from, indexed_from, is_of_key, is_event_of, events_of_key}
 use Rattle.linspec.proofs.Lists.{Contains-nil, Contains-head, Contains-tail, Contains-cons_cases}
 use Rattle.linspec.proofs.Filters.{filter-yes, filter-no, filter-none}
 use Rattle.linspec.specs.KeyHistory.{events_below}

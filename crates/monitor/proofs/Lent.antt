@@ -2,9 +2,8 @@
 use Rattle.std.proofs.Common.{◌≡◌, ℕ, zero, suc, ◌+◌, Option, Some, None, IfSome, option_map, List, [], ◌∷◌, slice_get, sym, ap, ◌∙◌, subst, arith}
 use Rattle.std.proofs.lemmas.List.Elements.{All-filter}
 use Rattle.std.proofs.lemmas.Option.{slice_get-map}
-use Rattle.history.specs.declared.event.Event.{Event}
-use Rattle.history.specs.Events.{indexed_from, is_event_of, events_of_key}
-use Rattle.history.specs.WellFormed.{HistoryView}
+use Rattle.events.specs.declared.event.Event.{Event}
+use Rattle.events.specs.Events.{indexed_from, is_event_of, events_of_key}
 use Rattle.linspec.specs.declared.verdict.Verdict.{Verdict}
 use Rattle.linspec.specs.KeyHistory.{KeyHistory}
 use Rattle.checkpoints.specs.Lent.{AreLentBy}

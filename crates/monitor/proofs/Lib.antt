@@ -1,4 +1,5 @@
 pub mod Crossing
+pub mod Again
 pub mod Carried
 pub mod Changes
 pub mod Changing

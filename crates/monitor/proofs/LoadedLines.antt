@@ -5,8 +5,8 @@ use Rattle.std.specs.Map.{keys_of}
 use Rattle.std.proofs.lemmas.List.{take-map, take_more, length-map, length-take-le, get_or-map}
 use Rattle.std.proofs.lemmas.List.Elements.{Contains-append_right}
 use Rattle.models.specs.declared.model_kind.ModelKind.{ModelKind}
-use Rattle.history.specs.declared.event.Event.{Event}
-use Rattle.history.specs.Events.{key_of}
+use Rattle.events.specs.declared.event.Event.{Event}
+use Rattle.events.specs.Events.{key_of}
 use Rattle.history.specs.WellFormed.{IsHistoryOf}
 use Rattle.linspec.specs.declared.verdict.Verdict.{Verdict}
 use Rattle.linspec.specs.Orders.{Pairwise}

@@ -6,9 +6,9 @@ use Rattle.std.specs.Map.{keys_of}
 use Rattle.std.proofs.lemmas.Option.{same_Some, slice_get-map}
 use Rattle.indexmap.specs.Layout.{set_value_at}
 use Rattle.models.specs.declared.model_kind.ModelKind.{ModelKind}
-use Rattle.history.specs.declared.event.Event.{Event}
-use Rattle.history.specs.Events.{key_of, indexed_from, events_of_key}
-use Rattle.history.specs.ProcessRule.{IsHistory}
+use Rattle.events.specs.declared.event.Event.{Event}
+use Rattle.events.specs.Events.{key_of, indexed_from, events_of_key}
+use Rattle.events.specs.ProcessRule.{IsHistory}
 use Rattle.history.specs.WellFormed.{IsHistoryOf}
 use Rattle.linspec.specs.KeyHistory.{KeyHistory, with_pushed, without_events}
 use Rattle.parallel_recheck.specs.Pieces.{PieceView, piece_of}

@@ -4,10 +4,10 @@ use Rattle.std.specs.Map.{values_of}
 use Rattle.std.proofs.lemmas.Option.{none-some, same_Some}
 use Rattle.std.proofs.lemmas.Result.{IfOk-weaker, on_ok_weaker, on_err_weaker}
 use Rattle.indexmap.specs.Layout.{set_value_at}
-use Rattle.history.specs.declared.event.Event.{Event}
+use Rattle.events.specs.declared.event.Event.{Event}
 use Rattle.linspec.specs.declared.verdict.KeyStatus.{KeyStatus}
 use Rattle.linspec.specs.KeyHistory.{KeyHistory, IsStatusOf}
-use Rattle.checkpoints.specs.KeyLineView.{KeyLineView, at_rest, with_next}
+use Rattle.checkpoints.specs.KeyLineView.{KeyLineView, at_rest, with_next, count_on}
 use Rattle.checkpoints.specs.Lent.{AreLentBy}
 use Rattle.monitor.specs.Rows.{nows, without_next, AreRowsLentBy}
 use Rattle.monitor.proofs.Places.{read_written, same_written, map_written}
@@ -46,6 +46,10 @@ module _ (es rows : List (ℕ × KeyLineView)) (seen : es ≡ rows) (place : ℕ
     pub prepared_status : IfOk r (IsStatusOf (change line.now)) → IfOk r (λ status. IfSome (slice_get rows place) (λ row. IsStatusOf (change row.1.now) status))
     prepared_status = IfOk-weaker r (IsStatusOf (change line.now)) (λ status. IfSome (slice_get rows place) (λ row. IsStatusOf (change row.1.now) status))
         (λ status is. at_row rows place row_at.0 line (λ row. IsStatusOf (change row.1.now) status) row_at.1 is)
+
+    pub prepared_counted : (before count : ℕ) → OnOk r (count ≡ count_on before (due line.now)) → OnOk r (IfSome (slice_get rows place) (λ row. count ≡ count_on before (due row.1.now)))
+    prepared_counted before count = on_ok_weaker r
+        (λ (e : count ≡ count_on before (due line.now)). at_row rows place row_at.0 line (λ row. count ≡ count_on before (due row.1.now)) row_at.1 e)
 
     pub prepared_next : OnOk r (after ≡ with_next (change line.now) (due line.now) line) → OnOk r (IfSome (slice_get rows place) (λ row. slice_get (set_value_at es place after) place ≡ Some (row.0, with_next (change row.1.now) (due row.1.now) row.1)))
     prepared_next = on_ok_weaker r

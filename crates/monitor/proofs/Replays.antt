@@ -3,8 +3,8 @@ use Rattle.std.proofs.Common.{◌≡◌, ℕ, ◌<◌, ◌≤◌, ◌%◌, true,
 use Rattle.std.proofs.lemmas.Bool.{cond_both, le-ltb, ltb-false}
 use Rattle.std.proofs.lemmas.List.{take_all, length-take-le}
 use Rattle.models.specs.declared.model_kind.ModelKind.{ModelKind}
-use Rattle.history.specs.declared.event.Event.{Event}
-use Rattle.history.specs.Events.{indexed_from, events_of_key}
+use Rattle.events.specs.declared.event.Event.{Event}
+use Rattle.events.specs.Events.{indexed_from, events_of_key}
 use Rattle.history.specs.WellFormed.{HistoryView}
 use Rattle.linspec.specs.declared.verdict.Verdict.{Verdict}
 use Rattle.linspec.specs.KeyHistory.{KeyHistory, events_below, begins_below, loses_at}
@@ -101,8 +101,8 @@ module _ (history : HistoryView) (kinds : SettingsView ModelKind) (budgets : Set
   pub other_counted : ((n kept : ℕ) → p.change ≡ Rewind n kept → ⊥) → r ≡ 0 → r ≡ replays_by judged (brought judged history.next p) key
   other_counted none e = e ∙ none_by_change history kinds budgets p.change (prepared_ready history kinds budgets lines v prepared p p.change sound is refl).long none key
 
-  module _ (counted : r ≡ replays_by judged (brought judged history.next p) key) (view : MonitorView)
-      (seen : ◌≡◌ {A = MonitorView} (record { now = judged; next = option_map (brought judged history.next) prepared }) view) where
+  module _ (counted : r ≡ replays_by judged (brought judged history.next p) key) (again : ℕ) (view : MonitorView)
+      (seen : ◌≡◌ {A = MonitorView} (record { now = judged; next = option_map (brought judged history.next) prepared; again = again }) view) where
     pub counted_seen : IfSome view.next (λ next. r ≡ replays_by view.now next key)
     counted_seen =
         subst (λ (s : MonitorView). IfSome s.next (λ next. r ≡ replays_by s.now next key)) seen

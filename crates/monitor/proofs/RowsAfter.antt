@@ -8,8 +8,8 @@ use Rattle.std.proofs.lemmas.List.Elements.{filter-append, filter_map-append, Co
 use Rattle.indexmap.specs.IndexMap.{insert_entry}
 use Rattle.indexmap.specs.Layout.{set_value_at}
 use Rattle.models.specs.declared.model_kind.ModelKind.{ModelKind}
-use Rattle.history.specs.declared.event.Event.{Event}
-use Rattle.history.specs.Events.{key_of, indexed_from, is_event_of, events_of_key}
+use Rattle.events.specs.declared.event.Event.{Event}
+use Rattle.events.specs.Events.{key_of, indexed_from, is_event_of, events_of_key}
 use Rattle.linspec.proofs.Lists.{Contains-head}
 use Rattle.linspec.proofs.Filters.{filter-all, filter-none, from_filter, from_map}
 use Rattle.linspec.specs.KeyHistory.{KeyHistory, without_events, with_pushed, cut_at, judged_by, begins_below}

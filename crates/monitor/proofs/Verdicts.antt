@@ -4,9 +4,9 @@ use Rattle.std.specs.List.{Contains, filter_map}
 use Rattle.std.proofs.lemmas.List.{append-nil, take-append-drop}
 use Rattle.models.specs.declared.model_kind.ModelKind.{ModelKind}
 use Rattle.models.specs.Objects.{object_of}
-use Rattle.history.specs.declared.event.Event.{Event}
-use Rattle.history.specs.Events.{Entry, key_of, marks, of_key, entries_of, indexed_from, events_of_key}
-use Rattle.history.specs.ProcessRule.{IsHistory}
+use Rattle.events.specs.declared.event.Event.{Event}
+use Rattle.events.specs.Events.{Entry, key_of, marks, of_key, entries_of, indexed_from, events_of_key}
+use Rattle.events.specs.ProcessRule.{IsHistory}
 use Rattle.history.specs.WellFormed.{IsWellFormed, IsHistoryOf}
 use Rattle.linspec.specs.declared.verdict.KeyStatus.{KeyStatus}
 use Rattle.linspec.specs.declared.verdict.Verdict.{Verdict}

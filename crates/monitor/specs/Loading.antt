@@ -3,7 +3,7 @@ use Rattle.std.specs.Prelude.{ℕ, List, [], ◌∷◌, map}
 use Rattle.models.specs.declared.model_kind.ModelKind.{ModelKind}
 use Rattle.edn.specs.declared.refusal.Refusal.{Refusal}
 use Rattle.edn.specs.declared.refusal.Refusal.TheVariants.{BadBudget, NoMemory}
-use Rattle.history.specs.declared.event.Event.{Event}
+use Rattle.events.specs.declared.event.Event.{Event}
 use Rattle.linspec.specs.KeyHistory.{KeyHistory}
 use Rattle.parallel_recheck.specs.Pieces.{PieceView, piece_of}
 use Rattle.linspec.specs.JudgedHistory.{JudgedHistory, opening_of, with_event, IsBudget}

@@ -1,23 +1,39 @@
 -- Promise: a monitor, as a caller sees it, and why a call of it is refused
-use Rattle.std.specs.Prelude.{ℕ, ◌<◌, Bool, Option, Some, None, length}
+use Rattle.std.specs.Prelude.{ℕ, ◌+◌, ◌*◌, ◌<◌, ◌≤◌, Bool, Option, Some, None, length}
 use Rattle.edn.specs.declared.refusal.Refusal.{Refusal}
 use Rattle.edn.specs.declared.refusal.Refusal.TheVariants.{BadBudget, BadConcurrency, NoSuchIndex, NoMemory}
-use Rattle.history.specs.declared.event.Event.{Event}
+use Rattle.events.specs.declared.event.Event.{Event}
 use Rattle.history.specs.WellFormed.{IsConcurrency, IsWellFormed, MayRefuse}
 use Rattle.linspec.specs.KeyHistory.{loses_at}
-use Rattle.checkpoints.specs.KeyLineView.{replays_at}
+use Rattle.checkpoints.specs.KeyLineView.{replays_at, count_on}
 use Rattle.linspec.specs.JudgedHistory.{JudgedHistory, history_of_key, IsBudget}
+use Rattle.monitor.specs.Judged.{rows_of}
+use Rattle.monitor.specs.Rows.{losing, replays_in}
 
--- what it judges, and what commit will bring, where a change is prepared
+-- what it judges, what commit will bring, where a change is prepared, and how many events were judged again so far, for changes
+-- that were prepared, whatever became of them
 pub record MonitorView : Type 0 where
   pub now : JudgedHistory
   pub next : Option JudgedHistory
+  pub again : ℕ
 
-abbrev pub at_rest : JudgedHistory → MonitorView
-at_rest h = record { now = h; next = None }
+abbrev pub at_rest : JudgedHistory → ℕ → MonitorView
+at_rest h again = record { now = h; next = None; again = again }
 
 abbrev pub with_next : JudgedHistory → MonitorView → MonitorView
-with_next next monitor = record { now = monitor.now; next = Some next }
+with_next next monitor = record { now = monitor.now; next = Some next; again = monitor.again }
+
+-- so many events more were judged again
+abbrev pub with_again : ℕ → MonitorView → MonitorView
+with_again more monitor =
+    record { now = monitor.now; next = monitor.next; again = count_on monitor.again more }
+
+-- how many events of all keys a rewind to the first n judges again: of each key that loses events fewer than 64, and of others none
+abbrev pub again_by : ℕ → JudgedHistory → ℕ
+again_by n h = replays_in n (rows_of h)
+
+abbrev pub FewAgain : ℕ → MonitorView → MonitorView → Type 0
+FewAgain n old new = new.again ≤ old.again + 63 * length (losing n (rows_of old.now))
 
 -- the key loses events where the first history is cut to the second
 abbrev pub loses_by : JudgedHistory → JudgedHistory → ℕ → Bool

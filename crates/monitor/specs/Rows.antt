@@ -1,10 +1,11 @@
 -- Promise and invariant: the lines of the keys, of which public clauses cite what they have now and what a cut makes of them
-use Rattle.std.specs.Prelude.{◌≡◌, ℕ, true, false, if◌then◌else◌, Option, Some, None, IfSome, List, [], ◌∷◌, map, slice_get}
-use Rattle.history.specs.declared.event.Event.{Event}
+use Rattle.std.specs.Prelude.{◌≡◌, ℕ, true, false, if◌then◌else◌, Option, Some, None, IfSome, List, [], ◌∷◌, length, map, slice_get}
+use Rattle.std.specs.List.{filter, sum_by}
+use Rattle.events.specs.declared.event.Event.{Event}
 use Rattle.linspec.specs.declared.verdict.KeyStatus.{KeyStatus}
 use Rattle.linspec.specs.declared.verdict.Verdict.{Verdict}
 use Rattle.linspec.specs.Verdicts.{IsJoin}
-use Rattle.linspec.specs.KeyHistory.{KeyHistory, IsStatusOf, cut_at, begins_below}
+use Rattle.linspec.specs.KeyHistory.{KeyHistory, IsStatusOf, cut_at, begins_below, loses_at}
 use Rattle.checkpoints.specs.KeyLineView.{KeyLineView, at_rest, with_next, replays_at, count_on}
 use Rattle.checkpoints.specs.Lent.{AreLentBy}
 
@@ -34,6 +35,22 @@ JoinsRows rows v = (statuses : List (ℕ × KeyStatus)) × AreStatusesOf rows st
 -- what is lent has the events of each row
 abbrev pub AreRowsLentBy : List Event → List (ℕ × KeyHistory) → Type 0
 AreRowsLentBy lent rows = (place : ℕ) → IfSome (slice_get rows place) (λ row. AreLentBy lent row.1.events)
+
+-- how many events of all these keys a cut at n judges again; and those of the keys that lose events by it
+abbrev pub replays_in : ℕ → List (ℕ × KeyHistory) → ℕ
+replays_in n rows = sum_by (λ row. replays_at n row.1) rows
+
+abbrev pub losing : ℕ → List (ℕ × KeyHistory) → List (ℕ × KeyHistory)
+losing n rows = filter (λ row. loses_at n row.1) rows
+
+-- how many events the key at the place has, where there is one
+abbrev pub events_of_row : Option (ℕ × KeyHistory) → ℕ
+events_of_row None = 0
+events_of_row (Some row) = length row.1.events
+
+abbrev pub events_at : Option ℕ → List (ℕ × KeyHistory) → ℕ
+events_at None rows = 0
+events_at (Some place) rows = events_of_row (slice_get rows place)
 
 -- each line is changed so
 abbrev pub each_line : (KeyLineView → KeyLineView) → List (ℕ × KeyLineView) → List (ℕ × KeyLineView)

@@ -8,7 +8,8 @@ ghost use Rattle.linspec.specs.KeyHistory.{KeyHistory, IsStatusOf};
 ghost use Rattle.linspec.specs.JudgedHistory.{JudgedHistory, IsVerdictOn, rewound, keys_in_order, history_of_key};
 ghost use Rattle.monitor.specs.Judged.{IsJudged};
 
-use history::{key_events_law, process_rule_law};
+use events::key_events_law;
+use history::process_rule_law;
 use linspec::laws::history_law;
 use locality::laws::join_law;
 

@@ -1,8 +1,8 @@
 //! Laws that the changes of a monitor rest on.
 ghost use Rattle.std.specs.Prelude.{◌≡◌, ℕ, List, Some, ◌∷◌, ◌++◌, [], length};
-ghost use Rattle.history.specs.declared.event.Event.{Event};
-ghost use Rattle.history.specs.Events.{key_of};
-ghost use Rattle.history.specs.ProcessRule.{IsHistory};
+ghost use Rattle.events.specs.declared.event.Event.{Event};
+ghost use Rattle.events.specs.Events.{key_of};
+ghost use Rattle.events.specs.ProcessRule.{IsHistory};
 ghost use Rattle.history.specs.WellFormed.{IsHistoryOf};
 ghost use Rattle.linspec.specs.declared.verdict.Verdict.{Verdict};
 ghost use Rattle.linspec.specs.KeyHistory.{KeyHistory};
@@ -11,7 +11,8 @@ ghost use Rattle.monitor.specs.Monitors.{Admits};
 ghost use Rattle.monitor.specs.Rows.{JoinsRows};
 ghost use Rattle.monitor.specs.Judged.{IsJudged, rows_of};
 
-use history::{key_events_law, process_rule_law};
+use events::key_events_law;
+use history::process_rule_law;
 use linspec::laws::history_law;
 use locality::laws::join_law;
 

@@ -4,13 +4,14 @@ ghost use Rattle.std.specs.List.{filter};
 ghost use Rattle.std.specs.Map.{keys_of};
 ghost use Rattle.indexmap.specs.Layout.{set_value_at};
 ghost use Rattle.models.specs.declared.model_kind.ModelKind.{ModelKind};
-ghost use Rattle.history.specs.ProcessRule.{IsHistory};
+ghost use Rattle.events.specs.ProcessRule.{IsHistory};
 ghost use Rattle.linspec.specs.KeyHistory.{KeyHistory, IsStatusOf, with_pushed, judged_by, cut_at, begins_below};
 ghost use Rattle.checkpoints.specs.KeyLineView.{at_rest, with_next, replays_at, count_on};
-ghost use Rattle.monitor.specs.Rows.{nows, cut_rows, each_line, with_cut, cut_done, without_next, JoinsRows, AreRowsLentBy, AreCutAt, StandsAfter};
+ghost use Rattle.checkpoints.specs.Lent.{AreLentBy};
+ghost use Rattle.monitor.specs.Rows.{nows, cut_rows, each_line, with_cut, cut_done, without_next, replays_in, JoinsRows, AreRowsLentBy, AreCutAt, StandsAfter};
 
 use checkpoints::KeyLine;
-use history::Event;
+use events::Event;
 use indexmap::IndexMap;
 use linspec::{KeyStatus, Verdict};
 use locality::join_with;
@@ -152,8 +153,13 @@ impl Lines {
 
     /// Prepares a cut at `n` of each line that has an event before `n`. All events are lent. Gives the number of these lines,
     /// and the verdict that joins how they then stand. It takes the time of all lines, and of a cut of those that lose events.
-    /// `AllocError` where memory was refused: then no line has anything prepared.
-    pub fn prepare_cut(&mut self, n: u32, lent: &[Event]) -> Result<(usize, Verdict), AllocError>
+    /// Each event that is judged again is counted. `AllocError` where memory was refused: then no line has anything prepared.
+    pub fn prepare_cut(
+        &mut self,
+        n: u32,
+        lent: &[Event],
+        again: &mut u64,
+    ) -> Result<(usize, Verdict), AllocError>
         requires { AreRowsLentBy lent.now (nows self.old.rows) }
         ensures kept_lines { IfOk result (λ cut.
             cut.0 ≡ length (filter (λ row. begins_below n row.1) (nows self.old.rows))) }
@@ -161,11 +167,13 @@ impl Lines {
             JoinsRows (cut_rows n (filter (λ row. begins_below n row.1) (nows self.old.rows)))
             cut.1) }
         ensures next { OnOk result (self.new.rows ≡ each_line (with_cut n) self.old.rows) }
+        ensures counted { OnOk result
+            (again.new ≡ count_on again.old (replays_in n (nows self.old.rows))) }
         ensures none { OnErr result (self.new.rows ≡ each_line without_next self.new.rows) }
         ensures kept { nows self.new.rows ≡ nows self.old.rows }
         ensures room { self.old.room ≤ self.new.room }
     {
-        match self.prepare_each_cut(n, lent) {
+        match self.prepare_each_cut(n, lent, again) {
             Ok(cut) => Ok(cut),
             Err(no_memory) => {
                 self.drop_prepared();
@@ -259,7 +267,12 @@ impl Lines {
     }
 
     // Prepares a cut at `n` of each line that has an event before `n`.
-    fn prepare_each_cut(&mut self, n: u32, lent: &[Event]) -> Result<(usize, Verdict), AllocError>
+    fn prepare_each_cut(
+        &mut self,
+        n: u32,
+        lent: &[Event],
+        again: &mut u64,
+    ) -> Result<(usize, Verdict), AllocError>
         requires { AreRowsLentBy lent.now (nows self.old.rows) }
         ensures kept_lines { IfOk result (λ cut.
             cut.0 ≡ length (filter (λ row. begins_below n row.1) (nows self.old.rows))) }
@@ -267,14 +280,17 @@ impl Lines {
             JoinsRows (cut_rows n (filter (λ row. begins_below n row.1) (nows self.old.rows)))
             cut.1) }
         ensures next { OnOk result (self.new.rows ≡ each_line (with_cut n) self.old.rows) }
+        ensures counted { OnOk result
+            (again.new ≡ count_on again.old (replays_in n (nows self.old.rows))) }
         ensures kept { nows self.new.rows ≡ nows self.old.rows }
         ensures room { self.old.room ≤ self.new.room }
     {
         no_keys_law();
+        let _so_far = *again;
         let mut kept = 0;
         let mut verdict = Verdict::Legal;
         for place in 0..self.map.len() {
-            if let Some((key, status)) = self.prepare_cut_at(place, n, lent)? {
+            if let Some((key, status)) = self.prepare_cut_at(place, n, lent, again)? {
                 verdict = join_with(verdict, key, status);
                 kept += 1;
             }
@@ -288,6 +304,7 @@ impl Lines {
         place: usize,
         n: u32,
         lent: &[Event],
+        again: &mut u64,
     ) -> Result<Option<(Key, KeyStatus)>, AllocError>
         requires within { place < length self.old.rows }
         requires lent { AreRowsLentBy lent.now (nows self.old.rows) }
@@ -295,14 +312,17 @@ impl Lines {
             (λ row. StandsAfter n (row.0, row.1.now) stands)) }
         ensures next { OnOk result (IfSome (slice_get self.old.rows place) (λ row.
             self.new.rows ≡ set_value_at self.old.rows place (with_cut n row.1))) }
+        ensures counted { OnOk result (IfSome (slice_get self.old.rows place)
+            (λ row. again.new ≡ count_on again.old (replays_at n row.1.now))) }
         ensures kept { nows self.new.rows ≡ nows self.old.rows }
         ensures room { self.old.room ≤ self.new.room }
     {
+        let _so_far = *again;
         let (key, line) = self.at(place);
         if !line.begins_below(n) {
             return Ok(None);
         }
-        let status = self.prepare_line_cut(place, n, lent)?;
+        let status = self.prepare_line_cut(place, n, lent, again)?;
         Ok(Some((key, status)))
     }
 
@@ -312,6 +332,7 @@ impl Lines {
         place: usize,
         n: u32,
         lent: &[Event],
+        again: &mut u64,
     ) -> Result<KeyStatus, AllocError>
         requires within { place < length self.old.rows }
         requires lent { AreRowsLentBy lent.now (nows self.old.rows) }
@@ -320,11 +341,13 @@ impl Lines {
         ensures next { OnOk result (IfSome (slice_get self.old.rows place) (λ row.
             self.new.rows ≡ set_value_at self.old.rows place
             (with_next (cut_at n row.1.now) (replays_at n row.1.now) row.1))) }
+        ensures counted { OnOk result (IfSome (slice_get self.old.rows place)
+            (λ row. again.new ≡ count_on again.old (replays_at n row.1.now))) }
         ensures kept { nows self.new.rows ≡ nows self.old.rows }
         ensures room { self.old.room ≤ self.new.room }
     {
         match self.map.get_index_mut(place) {
-            Some(line) => line.prepare_cut(n, lent),
+            Some(line) => cut_on(line, n, lent, again),
             None => unreachable!(),
         }
     }
@@ -362,4 +385,24 @@ fn push_on(line: &mut KeyLine, index: u32, event: &Event) -> Result<KeyStatus, A
 {
     line.push(index, event)?;
     Ok(line.status())
+}
+
+// Prepares a cut at `n` of a line, and gives the status that this brings. Each event that is judged again is counted.
+fn cut_on(
+    line: &mut KeyLine,
+    n: u32,
+    lent: &[Event],
+    again: &mut u64,
+) -> Result<KeyStatus, AllocError>
+    requires { AreLentBy lent.now line.old.now.events }
+    ensures status { IfOk result (IsStatusOf (cut_at n line.old.now)) }
+    ensures prepared { OnOk result
+        (line.new ≡ with_next (cut_at n line.old.now) (replays_at n line.old.now) line.old) }
+    ensures counted { OnOk result
+        (again.new ≡ count_on again.old (replays_at n line.old.now)) }
+    ensures err { OnErr result (line.new ≡ at_rest line.old.now line.old.replayed) }
+{
+    let status = line.prepare_cut(n, lent)?;
+    *again = again.saturating_add(line.due());
+    Ok(status)
 }

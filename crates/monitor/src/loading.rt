@@ -47,7 +47,7 @@ impl Monitor {
         requires workers { (1 ≤ workers) × (workers ≤ 64) }
         ensures limits { OnOk result (IsBudget budget) }
         ensures loaded { IfOk result (λ monitor. monitor
-            ≡ at_rest (with_events history.events (opening_of history.concurrency kind budget))) }
+            ≡ at_rest (with_events history.events (opening_of history.concurrency kind budget)) 0) }
         ensures refused { IfErr result (MayNotLoad budget) }
     {
         test_budget(budget)?;

@@ -1,11 +1,11 @@
 //! The monitor.
 ghost use Rattle.std.specs.Prelude.{◌≡◌, ℕ, ◌<◌, ◌≤◌, false, Some, None, length, nat_eq, position, slice_get, IfOk, IfErr, IfSome, IsSome, OnOk, OnErr, IsErrOf};
-ghost use Rattle.history.specs.Events.{key_of};
+ghost use Rattle.events.specs.Events.{key_of};
 ghost use Rattle.history.specs.WellFormed.{IsConcurrency};
 ghost use Rattle.linspec.specs.declared.verdict.Verdict.{Verdict};
 ghost use Rattle.linspec.specs.KeyHistory.{IsStatusOf};
 ghost use Rattle.linspec.specs.JudgedHistory.{IsVerdictOn, with_event, rewound, with_kind, with_budget, IsBudget, opening_of, keys_in_order, history_of_key, kind_of, budget_of};
-ghost use Rattle.monitor.specs.Monitors.{at_rest, with_next, Admits, MayDecline, MayNotBegin, MayNotRewind, MayNotSetBudget, replays_by, loses_by};
+ghost use Rattle.monitor.specs.Monitors.{at_rest, with_next, with_again, again_by, FewAgain, Admits, MayDecline, MayNotBegin, MayNotRewind, MayNotSetBudget, replays_by, loses_by};
 ghost use Rattle.monitor.specs.Rows.{nows};
 ghost use Rattle.monitor.specs.Judged.{rows_of, IsJudged};
 ghost use Rattle.monitor.specs.Loading.{with_all};
@@ -18,7 +18,8 @@ use crate::settings::Settings;
 use checkpoints::KeyLine;
 use checkpoints::laws::settled_law;
 use edn::Refusal;
-use history::{Event, History};
+use events::Event;
+use history::History;
 use linspec::{KeyStatus, Verdict};
 use locality::join_with;
 use locality::laws::{bad_keys_law, no_keys_law};
@@ -80,6 +81,7 @@ pub struct Monitor {
     budgets: Settings<u32>,
     lines: Lines,
     verdict: Verdict,
+    again: u64,
     prepared: Option<Prepared>,
 }
 
@@ -94,6 +96,7 @@ impl Model for Monitor {
       now = judged_by_parts a.history a.kinds a.budgets;
       next = option_map
           (brought (judged_by_parts a.history a.kinds a.budgets) a.history.next) a.prepared;
+      again = a.again;
     } };
 
     ghost invariant = { λ a.
@@ -116,7 +119,7 @@ impl Monitor {
     ) -> Result<Monitor, Refusal>
         ensures limits { OnOk result (IsBudget budget × IsConcurrency concurrency) }
         ensures opened { IfOk result (λ monitor.
-            monitor ≡ at_rest (opening_of concurrency kind budget)) }
+            monitor ≡ at_rest (opening_of concurrency kind budget) 0) }
         ensures refused { IfErr result (MayNotBegin concurrency budget) }
     {
         test_budget(budget)?;
@@ -138,7 +141,7 @@ impl Monitor {
     ) -> Monitor
         requires { IsJudged (with_all history.concurrency kind budget history.events)
             (nows lines.rows) verdict }
-        ensures { result ≡ at_rest (with_all history.concurrency kind budget history.events) }
+        ensures { result ≡ at_rest (with_all history.concurrency kind budget history.events) 0 }
     {
         Monitor {
             alloc,
@@ -147,6 +150,7 @@ impl Monitor {
             budgets: Settings::new(alloc, budget),
             lines,
             verdict,
+            again: 0,
             prepared: None,
         }
     }
@@ -163,7 +167,7 @@ impl Monitor {
         ensures verdict { IfOk result (IsVerdictOn (with_event event self.old.now)) }
         ensures refused { IfErr result (MayDecline self.old.now event) }
         ensures memory_last { IsErrOf result Refusal.NoMemory → Admits self.old.now event }
-        ensures err { OnErr result (self.new ≡ at_rest self.old.now) }
+        ensures err { OnErr result (self.new ≡ at_rest self.old.now self.old.again) }
     {
         let Some(key) = event.key() else {
             return self.prepare_fault(event);
@@ -175,7 +179,7 @@ impl Monitor {
     }
 
     /// Prepares to keep the first `n` events alone, and gives the verdict that [`commit`](Self::commit) will bring. Kinds
-    /// and budgets stay. It takes the time of the first `n` events, of all keys with events, and of a cut of the line of each
+    /// and budgets stay. It judges again fewer than 64 events of each key that loses events, and none of any other. It takes the time of the first `n` events, of all keys with events, and of a cut of the line of each
     /// key that loses events (see [`KeyLine::prepare_cut`]).
     ///
     /// # Errors
@@ -183,17 +187,23 @@ impl Monitor {
     /// nothing is prepared.
     pub fn prepare_rewind(&mut self, n: u32) -> Result<Verdict, Refusal>
         ensures within { OnOk result (n ≤ length self.old.now.events) }
-        ensures prepared { OnOk result (self.new ≡ with_next (rewound n self.old.now) self.old) }
+        ensures prepared { OnOk result (self.new
+            ≡ with_next (rewound n self.old.now) (with_again (again_by n self.old.now) self.old)) }
+        ensures few { OnOk result (FewAgain n self.old self.new) }
         ensures verdict { IfOk result (IsVerdictOn (rewound n self.old.now)) }
         ensures refused { IfErr result (MayNotRewind self.old.now n) }
         ensures memory_last { IsErrOf result Refusal.NoMemory →
             n ≤ length self.old.now.events }
-        ensures err { OnErr result (self.new ≡ at_rest self.old.now) }
+        ensures err { OnErr result (self.new ≡ at_rest self.old.now self.old.again) }
     {
         clear(&mut self.prepared);
         judging_law();
         self.history.prepare_cut(n)?;
-        let (kept, verdict) = self.lines.prepare_cut(n, self.history.events())?;
+        let mut again = self.again;
+        let (kept, verdict) = self
+            .lines
+            .prepare_cut(n, self.history.events(), &mut again)?;
+        self.again = again;
         put(
             &mut self.prepared,
             Prepared {
@@ -211,10 +221,10 @@ impl Monitor {
     /// # Errors
     /// `AllocError` where a growth was refused. Then nothing is prepared.
     pub fn prepare_model(&mut self, key: Key, kind: ModelKind) -> Result<Verdict, AllocError>
-        ensures prepared { OnOk result
-            (self.new ≡ with_next (with_kind key kind self.old.now) self.old) }
+        ensures prepared { OnOk result (self.new ≡ with_next (with_kind key kind self.old.now)
+            (with_again (length (history_of_key self.old.now key).events) self.old)) }
         ensures verdict { IfOk result (IsVerdictOn (with_kind key kind self.old.now)) }
-        ensures err { OnErr result (self.new ≡ at_rest self.old.now) }
+        ensures err { OnErr result (self.new ≡ at_rest self.old.now self.old.again) }
     {
         clear(&mut self.prepared);
         judging_law();
@@ -222,7 +232,17 @@ impl Monitor {
         let place = self.lines.find(key);
         let budget = self.budgets.of(key);
         let lent = self.history.events();
-        let verdict = prepare_rebuild(&mut self.lines, self.verdict, place, kind, budget, lent)?;
+        let mut again = self.again;
+        let verdict = prepare_rebuild(
+            &mut self.lines,
+            self.verdict,
+            place,
+            kind,
+            budget,
+            lent,
+            &mut again,
+        )?;
+        self.again = again;
         put(
             &mut self.prepared,
             Prepared {
@@ -241,12 +261,12 @@ impl Monitor {
     /// Then nothing is prepared.
     pub fn prepare_budget(&mut self, key: Key, n: u32) -> Result<Verdict, Refusal>
         ensures within { OnOk result (IsBudget n) }
-        ensures prepared { OnOk result
-            (self.new ≡ with_next (with_budget key n self.old.now) self.old) }
+        ensures prepared { OnOk result (self.new ≡ with_next (with_budget key n self.old.now)
+            (with_again (length (history_of_key self.old.now key).events) self.old)) }
         ensures verdict { IfOk result (IsVerdictOn (with_budget key n self.old.now)) }
         ensures refused { IfErr result (MayNotSetBudget n) }
         ensures memory_last { IsErrOf result Refusal.NoMemory → IsBudget n }
-        ensures err { OnErr result (self.new ≡ at_rest self.old.now) }
+        ensures err { OnErr result (self.new ≡ at_rest self.old.now self.old.again) }
     {
         clear(&mut self.prepared);
         judging_law();
@@ -255,7 +275,17 @@ impl Monitor {
         let place = self.lines.find(key);
         let kind = self.kinds.of(key);
         let lent = self.history.events();
-        let verdict = prepare_rebuild(&mut self.lines, self.verdict, place, kind, n, lent)?;
+        let mut again = self.again;
+        let verdict = prepare_rebuild(
+            &mut self.lines,
+            self.verdict,
+            place,
+            kind,
+            n,
+            lent,
+            &mut again,
+        )?;
+        self.again = again;
         put(
             &mut self.prepared,
             Prepared {
@@ -269,7 +299,7 @@ impl Monitor {
     /// Carries out what is prepared. It takes no memory and cannot fail.
     pub fn commit(&mut self)
         requires { IsSome self.old.next }
-        ensures { IfSome self.old.next (λ next. self.new ≡ at_rest next) }
+        ensures { IfSome self.old.next (λ next. self.new ≡ at_rest next self.old.again) }
     {
         let Some(prepared) = self.prepared.take() else {
             unreachable!()
@@ -308,11 +338,12 @@ impl Monitor {
     /// Those of [`prepare_append`](Self::prepare_append); what is judged is then as before, and nothing is prepared.
     pub fn append(&mut self, event: Event) -> Result<Verdict, Refusal>
         ensures well_formed { OnOk result (Admits self.old.now event) }
-        ensures appended { OnOk result (self.new ≡ at_rest (with_event event self.old.now)) }
+        ensures appended { OnOk result
+            (self.new ≡ at_rest (with_event event self.old.now) self.old.again) }
         ensures verdict { IfOk result (IsVerdictOn (with_event event self.old.now)) }
         ensures refused { IfErr result (MayDecline self.old.now event) }
         ensures memory_last { IsErrOf result Refusal.NoMemory → Admits self.old.now event }
-        ensures err { OnErr result (self.new ≡ at_rest self.old.now) }
+        ensures err { OnErr result (self.new ≡ at_rest self.old.now self.old.again) }
     {
         if let Some(key) = event.key() {
             if let Some(place) = self.lines.find(key) {
@@ -331,12 +362,14 @@ impl Monitor {
     /// Those of [`prepare_rewind`](Self::prepare_rewind); what is judged is then as before, and nothing is prepared.
     pub fn rewind(&mut self, n: u32) -> Result<Verdict, Refusal>
         ensures within { OnOk result (n ≤ length self.old.now.events) }
-        ensures rewound { OnOk result (self.new ≡ at_rest (rewound n self.old.now)) }
+        ensures rewound { OnOk result (self.new
+            ≡ with_again (again_by n self.old.now) (at_rest (rewound n self.old.now) self.old.again)) }
+        ensures few { OnOk result (FewAgain n self.old self.new) }
         ensures verdict { IfOk result (IsVerdictOn (rewound n self.old.now)) }
         ensures refused { IfErr result (MayNotRewind self.old.now n) }
         ensures memory_last { IsErrOf result Refusal.NoMemory →
             n ≤ length self.old.now.events }
-        ensures err { OnErr result (self.new ≡ at_rest self.old.now) }
+        ensures err { OnErr result (self.new ≡ at_rest self.old.now self.old.again) }
     {
         let verdict = self.prepare_rewind(n)?;
         self.commit();
@@ -349,9 +382,10 @@ impl Monitor {
     /// # Errors
     /// `AllocError` where a growth was refused; what is judged is then as before, and nothing is prepared.
     pub fn set_model(&mut self, key: Key, kind: ModelKind) -> Result<Verdict, AllocError>
-        ensures set { OnOk result (self.new ≡ at_rest (with_kind key kind self.old.now)) }
+        ensures set { OnOk result (self.new ≡ with_again (length (history_of_key self.old.now key).events)
+            (at_rest (with_kind key kind self.old.now) self.old.again)) }
         ensures verdict { IfOk result (IsVerdictOn (with_kind key kind self.old.now)) }
-        ensures err { OnErr result (self.new ≡ at_rest self.old.now) }
+        ensures err { OnErr result (self.new ≡ at_rest self.old.now self.old.again) }
     {
         let verdict = self.prepare_model(key, kind)?;
         self.commit();
@@ -365,11 +399,12 @@ impl Monitor {
     /// Those of [`prepare_budget`](Self::prepare_budget); what is judged is then as before, and nothing is prepared.
     pub fn set_budget(&mut self, key: Key, n: u32) -> Result<Verdict, Refusal>
         ensures within { OnOk result (IsBudget n) }
-        ensures set { OnOk result (self.new ≡ at_rest (with_budget key n self.old.now)) }
+        ensures set { OnOk result (self.new ≡ with_again (length (history_of_key self.old.now key).events)
+            (at_rest (with_budget key n self.old.now) self.old.again)) }
         ensures verdict { IfOk result (IsVerdictOn (with_budget key n self.old.now)) }
         ensures refused { IfErr result (MayNotSetBudget n) }
         ensures memory_last { IsErrOf result Refusal.NoMemory → IsBudget n }
-        ensures err { OnErr result (self.new ≡ at_rest self.old.now) }
+        ensures err { OnErr result (self.new ≡ at_rest self.old.now self.old.again) }
     {
         let verdict = self.prepare_budget(key, n)?;
         self.commit();
@@ -455,16 +490,27 @@ impl Monitor {
         }
     }
 
+    /// How many events were judged again so far, by changes that were prepared, whether they were carried out or dropped: by a rewind
+    /// fewer than 64 of each key that loses events, and none of others; by another kind or budget all of the key. A change for which
+    /// memory was refused is not counted. It stops at the greatest `u64`.
+    pub fn judged_again(&self) -> u64
+        ensures { result ≡ self.now.again }
+    {
+        let count = self.again;
+        count
+    }
+
     // Appends an event of a key that has the line at this place, with nothing to be kept between the halves.
     fn append_next(&mut self, key: Key, place: usize, event: Event) -> Result<Verdict, Refusal>
         requires key { key_of event ≡ Some key }
         requires place { position (nat_eq key) (keys_in_order self.old.now.events) ≡ Some place }
         ensures well_formed { OnOk result (Admits self.old.now event) }
-        ensures appended { OnOk result (self.new ≡ at_rest (with_event event self.old.now)) }
+        ensures appended { OnOk result
+            (self.new ≡ at_rest (with_event event self.old.now) self.old.again) }
         ensures verdict { IfOk result (IsVerdictOn (with_event event self.old.now)) }
         ensures refused { IfErr result (MayDecline self.old.now event) }
         ensures memory_last { IsErrOf result Refusal.NoMemory → Admits self.old.now event }
-        ensures err { OnErr result (self.new ≡ at_rest self.old.now) }
+        ensures err { OnErr result (self.new ≡ at_rest self.old.now self.old.again) }
     {
         clear(&mut self.prepared);
         judging_law();
@@ -490,7 +536,7 @@ impl Monitor {
         ensures verdict { IfOk result (IsVerdictOn (with_event event self.old.now)) }
         ensures refused { IfErr result (MayDecline self.old.now event) }
         ensures memory_last { IsErrOf result Refusal.NoMemory → Admits self.old.now event }
-        ensures err { OnErr result (self.new ≡ at_rest self.old.now) }
+        ensures err { OnErr result (self.new ≡ at_rest self.old.now self.old.again) }
     {
         clear(&mut self.prepared);
         judging_law();
@@ -515,7 +561,7 @@ impl Monitor {
         ensures verdict { IfOk result (IsVerdictOn (with_event event self.old.now)) }
         ensures refused { IfErr result (MayDecline self.old.now event) }
         ensures memory_last { IsErrOf result Refusal.NoMemory → Admits self.old.now event }
-        ensures err { OnErr result (self.new ≡ at_rest self.old.now) }
+        ensures err { OnErr result (self.new ≡ at_rest self.old.now self.old.again) }
     {
         clear(&mut self.prepared);
         judging_law();
@@ -547,7 +593,7 @@ impl Monitor {
         ensures verdict { IfOk result (IsVerdictOn (with_event event self.old.now)) }
         ensures refused { IfErr result (MayDecline self.old.now event) }
         ensures memory_last { IsErrOf result Refusal.NoMemory → Admits self.old.now event }
-        ensures err { OnErr result (self.new ≡ at_rest self.old.now) }
+        ensures err { OnErr result (self.new ≡ at_rest self.old.now self.old.again) }
     {
         clear(&mut self.prepared);
         judging_law();

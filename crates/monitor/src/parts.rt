@@ -1,15 +1,16 @@
 //! The parts of a change: what is prepared, and carried out, in the history and in the lines.
-ghost use Rattle.std.specs.Prelude.{◌≡◌, ℕ, Some, ◌<◌, List, ◌++◌, ◌∷◌, [], length, IfOk, IfSome};
-ghost use Rattle.history.specs.declared.event.Event.{Event};
-ghost use Rattle.history.specs.ProcessRule.{IsHistory};
+ghost use Rattle.std.specs.Prelude.{◌≡◌, ℕ, Some, ◌<◌, List, ◌++◌, ◌∷◌, [], length, IfOk, OnOk, IfSome};
+ghost use Rattle.events.specs.declared.event.Event.{Event};
+ghost use Rattle.events.specs.ProcessRule.{IsHistory};
 ghost use Rattle.linspec.specs.KeyHistory.{KeyHistory, with_pushed, without_events};
-ghost use Rattle.checkpoints.specs.KeyLineView.{at_rest};
-ghost use Rattle.monitor.specs.Rows.{nows, JoinsRows, AreRowsLentBy};
+ghost use Rattle.checkpoints.specs.KeyLineView.{at_rest, count_on};
+ghost use Rattle.monitor.specs.Rows.{nows, events_at, JoinsRows, AreRowsLentBy};
 ghost use Rattle.monitor.specs.Judged.{AreRowsWith, IsRebuilt};
 
 use crate::lines::Lines;
 use checkpoints::KeyLine;
-use history::{Event, History};
+use events::Event;
+use history::History;
 use linspec::Verdict;
 use models::ModelKind;
 use std::alloc::{AllocError, Global};
@@ -44,7 +45,8 @@ pub(crate) fn first_line(
 }
 
 /// Prepares that the key with the line at this place, if there is one, is judged by this kind and budget. All events are lent.
-/// Gives the verdict that joins how the keys then stand, where this one joins how they stand now.
+/// Gives the verdict that joins how the keys then stand, where this one joins how they stand now. Each event that is judged again
+/// is counted.
 pub(crate) fn prepare_rebuild(
     lines: &mut Lines,
     verdict: Verdict,
@@ -52,17 +54,22 @@ pub(crate) fn prepare_rebuild(
     kind: ModelKind,
     budget: u32,
     lent: &[Event],
+    again: &mut u64,
 ) -> Result<Verdict, AllocError>
     requires lent { AreRowsLentBy lent.now (nows lines.old.rows) }
     requires within { IfSome place (λ place. place < length lines.old.rows) }
     requires joined { JoinsRows (nows lines.old.rows) verdict }
     ensures rebuilt { IfOk result (IsRebuilt kind budget place lines.old lines.new) }
+    ensures counted { OnOk result
+        (again.new ≡ count_on again.old (events_at place (nows lines.old.rows))) }
     ensures kept { nows lines.new.rows ≡ nows lines.old.rows }
 {
+    let _so_far = *again;
     let Some(place) = place else {
         return Ok(verdict);
     };
     let status = lines.prepare_rebuild(place, kind, budget, lent)?;
+    *again = again.saturating_add(lines.at(place).1.due());
     Ok(lines.joined_with(place, status))
 }
 

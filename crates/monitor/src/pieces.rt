@@ -2,13 +2,14 @@
 ghost use Rattle.std.specs.Prelude.{◌≡◌, ℕ, ◌+◌, ◌<◌, ◌^◌, [], ◌∷◌, ◌++◌, length, take, nat_eq, position, slice_get, Some, None, IsSomeAnd, IfSome, OnOk, IfOk};
 ghost use Rattle.std.specs.Map.{keys_of};
 ghost use Rattle.indexmap.specs.Layout.{set_value_at};
-ghost use Rattle.history.specs.ProcessRule.{IsHistory};
+ghost use Rattle.events.specs.ProcessRule.{IsHistory};
 ghost use Rattle.linspec.specs.KeyHistory.{with_pushed, without_events};
 ghost use Rattle.parallel_recheck.specs.Pieces.{piece_of};
 ghost use Rattle.history.specs.WellFormed.{IsHistoryOf};
 ghost use Rattle.monitor.specs.Loading.{pieces_of, rows_of_pieces};
 
-use history::{Event, key_events_law, process_rule_law};
+use events::{Event, key_events_law};
+use history::process_rule_law;
 use indexmap::IndexMap;
 use models::{Key, ModelKind};
 use parallel_recheck::KeyEvents;

@@ -7,8 +7,8 @@ use Rattle.models.specs.declared.model_kind.ModelKind.{ModelKind}
 use Rattle.models.specs.declared.model_kind.ModelKind.TheVariants.{Register, CasRegister, Mutex, FifoQueue, Set, UnorderedQueue}
 use Rattle.models.specs.Objects.{Object, object_of, ReadsLeave}
 use Rattle.models.specs.Reads.{register_reads, cas_register_reads, mutex_reads, queue_reads, set_reads, unordered_reads}
-use Rattle.history.specs.Events.{Mark, Entry, marks, IsFront}
-use Rattle.history.specs.Events.Mark.{Invoked, Failed}
+use Rattle.events.specs.Events.{Mark, Entry, marks, IsFront}
+use Rattle.events.specs.Events.Mark.{Invoked, Failed}
 use Rattle.linspec.specs.MarkRule.{id_of, AreWellFormed}
 use Rattle.linspec.specs.Orders.{IsLinearizable}
 use Rattle.linspec.specs.Verdicts.{EndsShortestBadFront}

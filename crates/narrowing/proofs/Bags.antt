@@ -6,12 +6,12 @@ use Rattle.models.specs.declared.operation.Name.TheVariants.{Enqueue, Dequeue}
 use Rattle.models.specs.declared.operation.Part.TheVariants.{Int}
 use Rattle.models.specs.declared.finding.Found.TheVariants.{Item}
 use Rattle.models.specs.declared.finding.Answer.TheVariants.{Number}
-use Rattle.models.specs.Multisets.{with_one, without_one}
+use Rattle.values.specs.Multisets.{with_one, without_one}
 use Rattle.models.specs.Objects.{Fits, unordered_queue}
 use Rattle.models.specs.Runs.{times_in}
-use Rattle.models.proofs.Bags.{same_int, other_int}
-use Rattle.history.specs.Events.{Mark}
-use Rattle.history.specs.Events.Mark.{Returned}
+use Rattle.values.proofs.Bags.{same_int, other_int}
+use Rattle.events.specs.Events.{Mark}
+use Rattle.events.specs.Events.Mark.{Returned}
 use Rattle.linspec.specs.Orders.{Taken, Run, IsLegalOrder, IsLinearizable}
 use Rattle.linspec.proofs.Lists.{Contains-head}
 use Rattle.narrowing.specs.Bags.{AreValues, is_other, bag}

@@ -10,11 +10,11 @@ use Rattle.models.specs.declared.operation.Op.{Op}
 use Rattle.models.specs.declared.finding.Found.TheVariants.{Item}
 use Rattle.models.specs.declared.finding.Answer.{Answer}
 use Rattle.models.specs.declared.finding.Answer.TheVariants.{Number}
-use Rattle.models.specs.Multisets.{with_one, without_one}
+use Rattle.values.specs.Multisets.{with_one, without_one}
 use Rattle.models.specs.Objects.{Object, Fits, unordered_queue}
 use Rattle.models.specs.Runs.{times_in}
-use Rattle.history.specs.Events.{Mark, Entry, of_key, marks}
-use Rattle.history.specs.Events.Mark.{Invoked, Returned, Failed}
+use Rattle.events.specs.Events.{Mark, Entry, of_key, marks}
+use Rattle.events.specs.Events.Mark.{Invoked, Returned, Failed}
 use Rattle.linspec.specs.MarkRule.{id_of, AreWellFormed, IsKeyed}
 use Rattle.linspec.specs.Orders.{Taken, Run, IsLegalOrder, IsLinearizable, product}
 use Rattle.linspec.proofs.Lists.{Contains-head}

@@ -11,7 +11,7 @@ use Rattle.models.specs.declared.operation.Part.TheVariants.{Int}
 use Rattle.models.specs.declared.finding.Found.{Found}
 use Rattle.models.specs.declared.finding.Found.TheVariants.{Item}
 use Rattle.models.specs.Runs.{is_enqueue_of, is_dequeue_of}
-use Rattle.models.proofs.Bags.{same_int}
+use Rattle.values.proofs.Bags.{same_int}
 use Rattle.linspec.specs.Orders.{Taken, Pairwise}
 use Rattle.linspec.proofs.Filters.{filter-yes, filter-no, from_filter, to_filter, from_map, to_map}
 

@@ -13,11 +13,11 @@ use Rattle.models.specs.declared.operation.Op.{Op}
 use Rattle.models.specs.declared.finding.Found.TheVariants.{Unit as Done, Item}
 use Rattle.models.specs.declared.finding.Answer.{Answer}
 use Rattle.models.specs.declared.finding.Answer.TheVariants.{Number}
-use Rattle.models.specs.Multisets.{with_one, without_one}
+use Rattle.values.specs.Multisets.{with_one, without_one}
 use Rattle.models.specs.Objects.{Fits, unordered_queue}
 use Rattle.models.specs.Runs.{times_in}
-use Rattle.history.specs.Events.{Mark, IsFront}
-use Rattle.history.specs.Events.Mark.{Invoked, Returned, Failed, Crashed}
+use Rattle.events.specs.Events.{Mark, IsFront}
+use Rattle.events.specs.Events.Mark.{Invoked, Returned, Failed, Crashed}
 use Rattle.linspec.specs.MarkRule.{IsNew, AreWellFormed}
 use Rattle.linspec.specs.Operations.{IsInvoked, HasReturned, IsOpen, Precedes}
 use Rattle.linspec.specs.Orders.{Taken, Includes, Pairwise, Run, IsLegalOrder, IsLinearizable}

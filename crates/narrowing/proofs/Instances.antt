@@ -11,9 +11,9 @@ use Rattle.models.specs.declared.operation.Part.TheVariants.{Nil, Int}
 use Rattle.models.specs.declared.operation.Op.{Op}
 use Rattle.models.specs.declared.finding.Answer.TheVariants.{Nothing, Number}
 use Rattle.models.specs.Objects.{register}
-use Rattle.models.proofs.Bags.{same_int}
-use Rattle.history.specs.Events.{Mark, Entry}
-use Rattle.history.specs.Events.Mark.{Invoked, Returned, Failed, Crashed}
+use Rattle.values.proofs.Bags.{same_int}
+use Rattle.events.specs.Events.{Mark, Entry}
+use Rattle.events.specs.Events.Mark.{Invoked, Returned, Failed, Crashed}
 use Rattle.linspec.specs.Operations.{Precedes}
 use Rattle.linspec.proofs.Lists.{Contains-nil, Contains-head, Contains-tail, Contains-cons_cases}
 use Rattle.linspec.proofs.Counts.{no_longer_than}

@@ -4,8 +4,8 @@ use Rattle.std.specs.List.{Contains}
 use Rattle.models.specs.declared.operation.Op.{Op}
 use Rattle.models.specs.declared.finding.Answer.{Answer}
 use Rattle.models.specs.Objects.{Object}
-use Rattle.history.specs.Events.{Mark, Entry, marks}
-use Rattle.history.specs.Events.Mark.{Invoked, Returned}
+use Rattle.events.specs.Events.{Mark, Entry, marks}
+use Rattle.events.specs.Events.Mark.{Invoked, Returned}
 use Rattle.linspec.specs.Operations.{Precedes}
 use Rattle.linspec.specs.Orders.{IsLegalOrder, IsLinearizable}
 use Rattle.linspec.specs.Verdicts.{IsRising}

@@ -5,7 +5,7 @@ use Rattle.std.proofs.lemmas.Bool.{not-true}
 use Rattle.std.proofs.lemmas.List.{append-nil}
 use Rattle.std.proofs.lemmas.List.Elements.{Contains-append_left, filter-append}
 use Rattle.models.specs.Objects.{mutex}
-use Rattle.history.specs.Events.{Mark, IsFront}
+use Rattle.events.specs.Events.{Mark, IsFront}
 use Rattle.linspec.specs.MarkRule.{AreWellFormed}
 use Rattle.linspec.specs.Operations.{Precedes}
 use Rattle.linspec.specs.Orders.{Taken, Includes, Run, IsLegalOrder, IsLinearizable}

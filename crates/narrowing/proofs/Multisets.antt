@@ -11,11 +11,11 @@ use Rattle.models.specs.declared.operation.Part.{Part}
 use Rattle.models.specs.declared.operation.Part.TheVariants.{Nil, Int}
 use Rattle.models.specs.declared.finding.Found.{Found}
 use Rattle.models.specs.declared.finding.Found.TheVariants.{Unit as Done, Item}
-use Rattle.models.specs.Multisets.{with_one, without_one}
+use Rattle.values.specs.Multisets.{with_one, without_one}
 use Rattle.models.specs.Objects.{IsOneOf, unordered_apply}
 use Rattle.models.specs.Runs.{times_in}
-use Rattle.models.proofs.PutIn.{no_member, first_member, later_member, member_cases}
-use Rattle.models.proofs.Bags.{with_one-later, with_one-here, without_one-here, without_one-later, same_int, other_int}
+use Rattle.values.proofs.PutIn.{no_member, first_member, later_member, member_cases}
+use Rattle.values.proofs.Bags.{with_one-later, with_one-here, without_one-here, without_one-later, same_int, other_int}
 use Rattle.models.proofs.Steps.{same_outcome}
 use Rattle.models.proofs.Unordered.{dequeue_is}
 

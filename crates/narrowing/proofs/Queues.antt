@@ -17,10 +17,10 @@ use Rattle.models.specs.declared.finding.Answer.{Answer}
 use Rattle.models.specs.declared.finding.Answer.TheVariants.{Nothing, Number, Numbers, Many}
 use Rattle.models.specs.Objects.{IsOneOf, Fits, queue_apply, fifo_queue}
 use Rattle.models.specs.Runs.{times_in}
-use Rattle.models.proofs.Bags.{same_int}
+use Rattle.values.proofs.Bags.{same_int}
 use Rattle.models.proofs.Steps.{same_outcome}
-use Rattle.history.specs.Events.{Mark}
-use Rattle.history.specs.Events.Mark.{Invoked, Returned, Failed}
+use Rattle.events.specs.Events.{Mark}
+use Rattle.events.specs.Events.Mark.{Invoked, Returned, Failed}
 use Rattle.linspec.specs.MarkRule.{AreWellFormed}
 use Rattle.linspec.specs.Operations.{HasReturned}
 use Rattle.linspec.specs.Orders.{Taken, Includes, Run, IsLegalOrder, IsLinearizable}

@@ -8,8 +8,8 @@ use Rattle.models.specs.declared.operation.Part.TheVariants.{Int}
 use Rattle.models.specs.declared.operation.Op.{Op}
 use Rattle.models.specs.declared.finding.Answer.TheVariants.{Number}
 use Rattle.models.specs.Objects.{unordered_queue}
-use Rattle.history.specs.Events.{Mark, IsFront}
-use Rattle.history.specs.Events.Mark.{Invoked, Returned}
+use Rattle.events.specs.Events.{Mark, IsFront}
+use Rattle.events.specs.Events.Mark.{Invoked, Returned}
 use Rattle.linspec.specs.MarkRule.{id_of, IsNew, AreWellFormed}
 use Rattle.linspec.specs.Operations.{IsInvoked, HasReturned}
 use Rattle.linspec.specs.Orders.{IsLinearizable}

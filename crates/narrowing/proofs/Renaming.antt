@@ -6,8 +6,8 @@ use Rattle.std.proofs.lemmas.List.Elements.{Contains-append_right}
 use Rattle.models.specs.declared.operation.Op.{Op}
 use Rattle.models.specs.declared.finding.Answer.{Answer}
 use Rattle.models.specs.Objects.{Object, Fits}
-use Rattle.history.specs.Events.{Mark}
-use Rattle.history.specs.Events.Mark.{Invoked, Returned, Failed, Crashed}
+use Rattle.events.specs.Events.{Mark}
+use Rattle.events.specs.Events.Mark.{Invoked, Returned, Failed, Crashed}
 use Rattle.linspec.specs.Operations.{Precedes}
 use Rattle.linspec.specs.Orders.{Taken, IsLegalOrder, IsLinearizable}
 use Rattle.linspec.proofs.Lists.{Contains-head}

@@ -8,12 +8,12 @@ use Rattle.models.specs.declared.operation.Op.{Op}
 use Rattle.models.specs.declared.finding.Found.TheVariants.{Elements}
 use Rattle.models.specs.declared.finding.Answer.{Answer}
 use Rattle.models.specs.declared.finding.Answer.TheVariants.{Nothing, Number, Numbers, Many}
-use Rattle.models.specs.Members.{IsAscending, put_in}
+use Rattle.values.specs.Members.{IsAscending, put_in}
 use Rattle.models.specs.Objects.{Fits, set_of_numbers}
-use Rattle.models.proofs.PutIn.{Contains-put_in, IsAscending-put_in}
-use Rattle.models.proofs.Sorting.{one_ascending}
-use Rattle.history.specs.Events.{Mark}
-use Rattle.history.specs.Events.Mark.{Invoked, Returned, Failed}
+use Rattle.values.proofs.PutIn.{Contains-put_in, IsAscending-put_in}
+use Rattle.values.proofs.Sorting.{one_ascending}
+use Rattle.events.specs.Events.{Mark}
+use Rattle.events.specs.Events.Mark.{Invoked, Returned, Failed}
 use Rattle.linspec.specs.Orders.{Taken, Run, IsLegalOrder, IsLinearizable}
 use Rattle.linspec.proofs.Lists.{Contains-head}
 use Rattle.linspec.proofs.Filters.{filter-yes, filter-no, from_filter, to_filter}

@@ -10,12 +10,12 @@ use Rattle.models.specs.declared.operation.Part.TheVariants.{Nil, Int}
 use Rattle.models.specs.declared.operation.Op.{Op}
 use Rattle.models.specs.declared.finding.Found.{Found}
 use Rattle.models.specs.declared.finding.Found.TheVariants.{Unit as Done, Elements}
-use Rattle.models.specs.Members.{IsAscending, put_in}
+use Rattle.values.specs.Members.{IsAscending, put_in}
 use Rattle.models.specs.Objects.{IsOneOf, set_apply, set_of_numbers}
-use Rattle.models.proofs.PutIn.{put_in-member, Contains-put_in, IsAscending-put_in}
+use Rattle.values.proofs.PutIn.{put_in-member, Contains-put_in, IsAscending-put_in}
 use Rattle.models.proofs.Steps.{same_outcome}
-use Rattle.history.specs.Events.{Mark}
-use Rattle.history.specs.Events.Mark.{Invoked}
+use Rattle.events.specs.Events.{Mark}
+use Rattle.events.specs.Events.Mark.{Invoked}
 use Rattle.linspec.specs.MarkRule.{AreWellFormed}
 use Rattle.linspec.specs.Operations.{Precedes}
 use Rattle.linspec.specs.Orders.{Taken, Includes, Pairwise, Run, IsLegalOrder, IsLinearizable}

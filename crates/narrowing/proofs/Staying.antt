@@ -8,8 +8,8 @@ use Rattle.models.specs.declared.operation.Name.{Name}
 use Rattle.models.specs.declared.operation.Name.TheVariants.{Dequeue}
 use Rattle.models.specs.declared.operation.Op.{Op}
 use Rattle.models.specs.declared.finding.Answer.TheVariants.{Number}
-use Rattle.history.specs.Events.{Mark, IsFront}
-use Rattle.history.specs.Events.Mark.{Invoked, Returned, Failed}
+use Rattle.events.specs.Events.{Mark, IsFront}
+use Rattle.events.specs.Events.Mark.{Invoked, Returned, Failed}
 use Rattle.linspec.specs.MarkRule.{id_of, IsNew, AreWellFormed}
 use Rattle.linspec.specs.Operations.{IsInvoked, HasReturned, IsOpen, Precedes}
 use Rattle.linspec.proofs.Lists.{Contains-head, Contains-tail, Contains-cons_cases}

@@ -6,8 +6,8 @@ use Rattle.models.specs.declared.operation.Name.TheVariants.{Enqueue, Dequeue}
 use Rattle.models.specs.declared.operation.Part.TheVariants.{Nil, Int}
 use Rattle.models.specs.declared.operation.Op.{Op}
 use Rattle.models.specs.declared.finding.Answer.TheVariants.{Number}
-use Rattle.history.specs.Events.{Mark}
-use Rattle.history.specs.Events.Mark.{Invoked, Returned}
+use Rattle.events.specs.Events.{Mark}
+use Rattle.events.specs.Events.Mark.{Invoked, Returned}
 use Rattle.linspec.specs.Operations.{HasReturned}
 use Rattle.narrowing.specs.LeftOut.{without}
 

@@ -5,8 +5,8 @@ use Rattle.models.specs.declared.operation.Name.TheVariants.{Dequeue}
 use Rattle.models.specs.declared.operation.Part.TheVariants.{Nil}
 use Rattle.models.specs.declared.operation.Op.{Op}
 use Rattle.models.specs.declared.finding.Answer.TheVariants.{Number}
-use Rattle.history.specs.Events.{Mark, IsFront}
-use Rattle.history.specs.Events.Mark.{Invoked, Returned}
+use Rattle.events.specs.Events.{Mark, IsFront}
+use Rattle.events.specs.Events.Mark.{Invoked, Returned}
 use Rattle.linspec.specs.Operations.{HasReturned}
 use Rattle.narrowing.specs.Queues.{Enqueues, AreEnqueuesIn, AreDequeuesOf}
 

@@ -6,8 +6,8 @@ use Rattle.models.specs.declared.operation.Op.{Op}
 use Rattle.models.specs.declared.finding.Found.{Found}
 use Rattle.models.specs.declared.model_kind.ModelKind.{ModelKind}
 use Rattle.models.specs.Objects.{object_of}
-use Rattle.history.specs.Events.{Mark, Entry, marks}
-use Rattle.history.specs.Events.Mark.{Invoked, Failed}
+use Rattle.events.specs.Events.{Mark, Entry, marks}
+use Rattle.events.specs.Events.Mark.{Invoked, Failed}
 use Rattle.linspec.specs.Operations.{IsInvoked, HasReturned}
 use Rattle.linspec.specs.MarkRule.{id_of}
 

@@ -6,8 +6,8 @@ use Rattle.models.specs.declared.operation.Part.TheVariants.{Nil, Pair}
 use Rattle.models.specs.declared.operation.Op.{Op}
 use Rattle.models.specs.declared.finding.Answer.{Answer}
 use Rattle.models.specs.declared.finding.Answer.TheVariants.{Number, Numbers}
-use Rattle.history.specs.Events.{Mark}
-use Rattle.history.specs.Events.Mark.{Invoked, Returned}
+use Rattle.events.specs.Events.{Mark}
+use Rattle.events.specs.Events.Mark.{Invoked, Returned}
 use Rattle.narrowing.specs.Changed.{changed}
 
 -- some reads of the history, each with the value that it has answered

@@ -1,7 +1,7 @@
 -- Promise: a history whose operations have other names
 use Rattle.std.specs.Prelude.{◌≡◌, ℕ, List, map}
-use Rattle.history.specs.Events.{Mark}
-use Rattle.history.specs.Events.Mark.{Invoked, Returned, Failed, Crashed}
+use Rattle.events.specs.Events.{Mark}
+use Rattle.events.specs.Events.Mark.{Invoked, Returned, Failed, Crashed}
 
 -- no two numbers get the same name
 abbrev pub IsOneToOne : (ℕ → ℕ) → Type 0

@@ -4,7 +4,7 @@ ghost use Rattle.models.specs.declared.model_kind.ModelKind.{ModelKind};
 ghost use Rattle.models.specs.declared.operation.Name.{Name};
 ghost use Rattle.models.specs.declared.operation.Name.TheVariants.{Acquire, Release};
 ghost use Rattle.models.specs.Objects.{object_of, register, cas_register, mutex, fifo_queue, set_of_numbers, unordered_queue};
-ghost use Rattle.history.specs.Events.{Mark, Entry, marks, IsFront};
+ghost use Rattle.events.specs.Events.{Mark, Entry, marks, IsFront};
 ghost use Rattle.linspec.specs.MarkRule.{AreWellFormed};
 ghost use Rattle.linspec.specs.Orders.{IsLinearizable, product};
 ghost use Rattle.linspec.specs.Verdicts.{IsRising, EndsShortestBadFront};

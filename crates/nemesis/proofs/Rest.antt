@@ -1,6 +1,6 @@
 -- The faults behind the first one
 use Rattle.std.proofs.Common.{◌≡◌, ℕ, zero, suc, ◌+◌, List, [], ◌∷◌, drop, refl, add-one}
-use Rattle.history.specs.declared.event.Fault.{Fault}
+use Rattle.events.specs.declared.event.Fault.{Fault}
 use Rattle.nemesis.specs.Schedules.{after_first}
 
 drop_one : (xs : List (ℕ × Fault)) (n : ℕ) → drop (suc n) xs ≡ after_first (drop n xs)

@@ -1,6 +1,6 @@
 -- Promise: schedules of faults (this project's own)
 use Rattle.std.specs.Prelude.{ℕ, ◌≤◌, nat_le, List, [], ◌∷◌, Option, Some, None, if◌then◌else◌}
-use Rattle.history.specs.declared.event.Fault.{Fault}
+use Rattle.events.specs.declared.event.Fault.{Fault}
 
 -- each fault is due no earlier than the one before it
 abbrev pub NeverFalls : List (ℕ × Fault) → Type 0

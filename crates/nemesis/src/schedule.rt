@@ -3,7 +3,7 @@ ghost use Rattle.std.specs.Prelude.{◌≡◌};
 ghost use Rattle.std.specs.Option.{option_copied};
 ghost use Rattle.nemesis.specs.Schedules.{NeverFalls, due_at, after_first};
 
-use history::Fault;
+use events::Fault;
 use std::marker::Model;
 
 /// Faults that are to come, in order, each with the length of the history from which it is due. A clause sees them as
@@ -16,7 +16,7 @@ pub struct Schedule {
 
 impl Model for Schedule {
     ghost use Rattle.std.specs.Prelude.{List, ℕ, ◌≤◌, drop, vec_len};
-    ghost use Rattle.history.specs.declared.event.Fault.{Fault};
+    ghost use Rattle.events.specs.declared.event.Fault.{Fault};
 
     ghost Value = { List (ℕ × Fault) };
 

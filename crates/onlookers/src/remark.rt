@@ -1,6 +1,6 @@
 //! What may be said beside a verdict.
 
-use history::{Body, Event};
+use events::{Body, Event};
 use linspec::Verdict;
 use models::{Key, ModelKind, Name, each_kind};
 use monitor::Monitor;

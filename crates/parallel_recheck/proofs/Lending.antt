@@ -1,7 +1,7 @@
 -- events that are lent, the first of them
 use Rattle.std.proofs.Common.{◌≡◌, ℕ, ◌+◌, ◌<◌, List, [], ◌∷◌, ◌++◌, length, take, slice_index_or, Bor, sym, ap, ◌∙◌}
 use Rattle.std.proofs.lemmas.List.{take-map, map_more, length-map}
-use Rattle.history.specs.declared.event.Event.{Event}
+use Rattle.events.specs.declared.event.Event.{Event}
 use Rattle.parallel_recheck.specs.Pieces.{lent}
 
 abbrev pub one_of : ℕ × Bor Event → ℕ × Event

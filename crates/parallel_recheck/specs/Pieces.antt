@@ -1,7 +1,7 @@
 -- Promise: the lines of many keys, each from the events of its piece
 use Rattle.std.specs.Prelude.{ℕ, List, map, length}
 use Rattle.std.specs.Borrow.{Bor}
-use Rattle.history.specs.declared.event.Event.{Event}
+use Rattle.events.specs.declared.event.Event.{Event}
 use Rattle.linspec.specs.KeyHistory.{KeyHistory}
 use Rattle.checkpoints.specs.KeyLineView.{KeyLineView, at_rest, count_on}
 

@@ -1,11 +1,11 @@
 //! The events of one key.
 ghost use Rattle.std.specs.Prelude.{◌≡◌, ◌∷◌, ◌++◌, [], IfOk, OnOk, OnErr};
-ghost use Rattle.history.specs.ProcessRule.{IsHistory};
+ghost use Rattle.events.specs.ProcessRule.{IsHistory};
 ghost use Rattle.linspec.specs.KeyHistory.{with_pushed, without_events};
 ghost use Rattle.parallel_recheck.specs.Pieces.{piece_of, line_of};
 
 use checkpoints::KeyLine;
-use history::Event;
+use events::Event;
 use models::{Key, ModelKind};
 use std::alloc::{AllocError, Global};
 use std::marker::Model;
@@ -21,7 +21,7 @@ pub struct KeyEvents<'a> {
 }
 
 impl<'a> Model for KeyEvents<'a> {
-    ghost use Rattle.history.specs.ProcessRule.{IsHistory};
+    ghost use Rattle.events.specs.ProcessRule.{IsHistory};
     ghost use Rattle.parallel_recheck.specs.Pieces.{PieceView, lent};
 
     ghost Value = { PieceView };

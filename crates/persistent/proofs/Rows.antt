@@ -1,5 +1,5 @@
 -- rows, one behind the other
-use Rattle.std.proofs.Common.{◌≡◌, ℕ, zero, suc, ◌+◌, ◌-◌, ◌<◌, ◌≤◌, ℤ, ◌<ℤ◌, ◌≤ℤ◌, List, [], ◌∷◌, ◌++◌, get_or, length, take, drop, sym, ap, subst, ◌∙◌, append_assoc, add-one, arith}
+use Rattle.std.proofs.Common.{◌≡◌, ℕ, zero, suc, ◌+◌, ◌-◌, ◌<◌, ◌≤◌, ℤ, ◌<ℤ◌, ◌≤ℤ◌, List, [], ◌∷◌, ◌++◌, get_or, length, take, drop, refl, sym, ap, subst, ◌∙◌, append_assoc, add-one, arith}
 use Rattle.std.specs.List.{insert, remove}
 use Rattle.std.proofs.Math.Seq.{take-append-add, drop-append-add, drop-append_seam, take-append_seam}
 use Rattle.std.proofs.lemmas.Int.{ints}
@@ -101,3 +101,23 @@ left_same l r m s long e =
 pub right_same : {T : Type 0} (l r m s : List T) → length l ≡ length m → l ++ r ≡ m ++ s → r ≡ s
 right_same l r m s long e =
     sym (drop-append_seam l r) ∙ ap (drop (length l)) e ∙ ap (λ n. drop n (m ++ s)) long ∙ drop-append_seam m s
+
+-- one of them in place of two
+pub one_for_two : {T : Type 0} (s : List T) (at : ℕ) (value : T) → at + 2 ≤ length s
+    → take at (remove s at) ++ value ∷ drop (at + 1) (remove s at) ≡ take at s ++ value ∷ drop (at + 2) s
+one_for_two s at value fits =
+    let one : at + 1 ≡ suc at = omega arith in
+    let two : suc (suc at) ≡ at + 2 = omega arith in
+    ap (λ n. take at (remove s at) ++ value ∷ drop n (remove s at)) one ∙ two_less s at value fits ∙ ap (λ n. take at s ++ value ∷ drop n s) two
+  where
+    two_less : {T : Type 0} (s : List T) (at : ℕ) (value : T) → at + 2 ≤ length s → take at (remove s at) ++ value ∷ drop (suc at) (remove s at) ≡ take at s ++ value ∷ drop (suc (suc at)) s
+    two_less [] at value fits = absurd (omega arith)
+    two_less (x ∷ []) at value fits = absurd (omega arith)
+    two_less (x ∷ y ∷ s) zero value fits = refl
+    two_less (x ∷ y ∷ s) (suc at) value fits = ap (λ l. x ∷ l) (two_less (y ∷ s) at value (omega arith))
+
+-- all but one of them
+pub one_left_out : {T : Type 0} (s : List T) (at : ℕ) → at < length s → take at s ++ drop (suc at) s ≡ remove s at
+one_left_out [] at within = absurd (omega arith)
+one_left_out (x ∷ s) zero within = refl
+one_left_out (x ∷ s) (suc at) within = ap (λ l. x ∷ l) (one_left_out s at (omega arith))

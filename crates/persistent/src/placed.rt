@@ -1,8 +1,6 @@
 //! What rows are made of.
 ghost use Rattle.std.specs.Prelude.{◌≡◌, ◌↔◌, IsTrue, ℤ};
 
-use crate::alike;
-
 /// Values that lie in rows: each has a place among the integers, by which a row is searched that has them in order.
 pub trait Placed: Copy {
     ghost place: { Self → ℤ };
@@ -11,9 +9,9 @@ pub trait Placed: Copy {
     fn place(&self) -> i64
         ensures { result ≡ place self.now };
 
-    /// Whether the values are the same in the same order.
-    fn are_same(xs: &[Self], ys: &[Self]) -> bool
-        ensures { IsTrue result ↔ (xs.now ≡ ys.now) };
+    /// Whether both are one value. Takes constant time.
+    fn is_same(&self, other: &Self) -> bool
+        ensures { IsTrue result ↔ (self.now ≡ other.now) };
 }
 
 /// An integer is its own place.
@@ -24,7 +22,7 @@ impl Placed for i64 {
         *self
     }
 
-    fn are_same(xs: &[i64], ys: &[i64]) -> bool {
-        alike::are_same(xs, ys)
+    fn is_same(&self, other: &i64) -> bool {
+        *self == *other
     }
 }

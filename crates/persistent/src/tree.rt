@@ -3,18 +3,17 @@ ghost use Rattle.std.specs.Prelude.{◌≡◌, ◌↔◌, ◌+◌, ◌<◌, ◌�
 ghost use Rattle.std.specs.Prelude.{[], ◌∷◌, ◌++◌, ◌-◌, get_or, length, take, drop, ◌<ℤ◌, ◌≤ℤ◌};
 ghost use Rattle.std.specs.List.{insert, remove};
 
+use crate::alike::are_same;
+use crate::lists::{list_around, list_of};
 use crate::placed::Placed;
 use std::alloc::{AllocError, Global};
 use std::marker::Model;
 use std::sync::Arc;
 
-// As long as a row has no more values than this, they lie in one piece of memory.
-const FLAT: usize = 128;
+// So many values lie in one piece of memory at most, once a change has come there.
+const MOST: usize = 64;
 
-// Of a longer row so many lie in one piece at most, once a change has come there.
-const FEW: usize = 64;
-
-/// Values in a row, each by its place. A change gives another tree, which shares with this one all but what is on the way to the
+/// Many values in a row, each by its place. A change gives another tree, which shares with this one all but what is on the way to the
 /// place: that grows with the logarithm of how many values there are. A copy shares all.
 #[cycle(tree)]
 #[derive(Drop)]
@@ -60,8 +59,8 @@ impl<T: Copy> Model for Tree<T> {
     ghost size_decreases = { λ a h. depth_le-length _ a.node h };
 }
 
-// A place in front of which stands a value whose place is below this one, if any does, and at which stands none below it.
-fn place_in<T: Placed>(values: &[T], value: i64) -> usize
+/// A place in front of which stands a value whose place is below this one, if any does, and at which stands none below it.
+pub fn place_in<T: Placed>(values: &[T], value: i64) -> usize
     ensures within { result ≤ length values.now }
     ensures before { (k : ℕ) (d : T) → result ≡ k + 1 → T.place (get_or values.now k d) <ℤ value }
     ensures there { (d : T) → result < length values.now → value ≤ℤ T.place (get_or values.now result d) }
@@ -79,8 +78,8 @@ fn place_in<T: Placed>(values: &[T], value: i64) -> usize
     from
 }
 
-// The row of these values.
-fn leaf_of<T: Copy>(alloc: Global, few: Vec<T>) -> Result<Tree<T>, AllocError>
+/// The row of these values.
+pub fn leaf_of<T: Copy>(alloc: Global, few: Vec<T>) -> Result<Tree<T>, AllocError>
     ensures { IfOk result (λ tree. tree ≡ few.items) }
 {
     let few = Arc::new(alloc, few)?;
@@ -93,10 +92,7 @@ fn leaf_of<T: Copy>(alloc: Global, few: Vec<T>) -> Result<Tree<T>, AllocError>
 fn leaf<T: Copy>(alloc: Global, first: &[T], second: &[T]) -> Result<Tree<T>, AllocError>
     ensures { IfOk result (λ tree. tree ≡ first.now ++ second.now) }
 {
-    let mut few = Vec::with_capacity(alloc, first.len().saturating_add(second.len()))?;
-    few.extend_from_slice(first)?;
-    few.extend_from_slice(second)?;
-    leaf_of(alloc, few)
+    leaf_of(alloc, list_of(alloc, first, second)?)
 }
 
 // The same, with one value between both parts.
@@ -108,12 +104,7 @@ fn leaf_around<T: Copy>(
 ) -> Result<Tree<T>, AllocError>
     ensures { IfOk result (λ tree. tree ≡ first.now ++ value ∷ second.now) }
 {
-    let many = first.len().saturating_add(second.len());
-    let mut few = Vec::with_capacity(alloc, many.saturating_add(1))?;
-    few.extend_from_slice(first)?;
-    few.push(value)?;
-    few.extend_from_slice(second)?;
-    leaf_of(alloc, few)
+    leaf_of(alloc, list_around(alloc, first, value, second)?)
 }
 
 // The row of these values with one more at this place.
@@ -342,26 +333,11 @@ impl<T: Copy> Tree<T> {
         requires { at ≤ length self.now }
         ensures { IfOk result (λ tree. tree ≡ insert self.now at value) }
     {
-        let most = if self.len() < FLAT { FLAT } else { FEW };
-        self.with_in(alloc, at, value, most)
-    }
-
-    // The same, where a leaf with so many integers or more is parted.
-    fn with_in(
-        &self,
-        alloc: Global,
-        at: usize,
-        value: T,
-        most: usize,
-    ) -> Result<Tree<T>, AllocError>
-        requires { at ≤ length self.now }
-        ensures { IfOk result (λ tree. tree ≡ insert self.now at value) }
-    {
         match &self.node {
             Node::Empty => leaf_with(alloc, &[], at, value),
             Node::Leaf(from, few) => {
                 let values = behind(few, *from);
-                if values.len() < most {
+                if values.len() < MOST {
                     return leaf_with(alloc, values, at, value);
                 }
                 if at < values.len() {
@@ -372,10 +348,10 @@ impl<T: Copy> Tree<T> {
             Node::Fork(pair) => {
                 let many = pair.left.len();
                 if at < many {
-                    let left = pair.left.with_in(alloc, at, value, most)?;
+                    let left = pair.left.with(alloc, at, value)?;
                     return balanced(alloc, left, pair.right.copy()?);
                 }
-                let right = pair.right.with_in(alloc, at - many, value, most)?;
+                let right = pair.right.with(alloc, at - many, value)?;
                 balanced(alloc, pair.left.copy()?, right)
             }
         }
@@ -426,6 +402,29 @@ impl<T: Copy> Tree<T> {
                 fork(alloc, pair.left.copy()?, right)
             }
         }
+    }
+
+    /// The values with this one in place of those from one place up to another, which are two at most. Takes time and memory as above.
+    pub fn spliced(
+        &self,
+        alloc: Global,
+        from: usize,
+        to: usize,
+        value: T,
+    ) -> Result<Tree<T>, AllocError>
+        requires order { from ≤ to }
+        requires few { to ≤ from + 2 }
+        requires within { to ≤ length self.now }
+        ensures { IfOk result (λ tree. tree ≡ take from self.now ++ value ∷ drop to self.now) }
+    {
+        if from == to {
+            return self.with(alloc, from, value);
+        }
+        if from + 1 == to {
+            return self.replaced(alloc, from, value);
+        }
+        let fewer = self.without(alloc, from)?;
+        fewer.replaced(alloc, from, value)
     }
 
     /// The values from this place on, as far as they lie in one piece of memory. Takes the time of the way there.
@@ -520,7 +519,7 @@ impl<T: Placed> Tree<T> {
             let ours = self.part_at(at);
             let theirs = other.part_at(at);
             let many = ours.len().min(theirs.len());
-            if !T::are_same(&ours[..many], &theirs[..many]) {
+            if !are_same(&ours[..many], &theirs[..many]) {
                 return false;
             }
             at += many;

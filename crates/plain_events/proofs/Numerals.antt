@@ -4,7 +4,7 @@ use Rattle.std.specs.Str.Parse.{digits_value}
 use Rattle.edn.specs.Value.{int}
 use Rattle.edn.specs.Bytes.IsAtom.{plain, minus}
 use Rattle.edn.proofs.Digits.{DigitsSoFar}
-use Rattle.history.specs.EventMap.{number}
+use Rattle.events.specs.EventMap.{number}
 use Rattle.plain_events.specs.Fronts.{IsAtomAt, BeginsNumeral, IsNumeralAt}
 use Rattle.plain_events.proofs.Elements.{atom_at, word_behind}
 

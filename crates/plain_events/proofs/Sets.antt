@@ -13,9 +13,9 @@ use Rattle.edn.specs.Text.Reads.{in_hash_braces}
 use Rattle.edn.specs.Text.ReadsAll.{no_more}
 use Rattle.edn.proofs.Beginnings.{gap_shorter, reads_shorter}
 use Rattle.models.specs.declared.operation.Part.TheVariants.{Set}
-use Rattle.models.specs.Members.{IsAscending, put_in}
-use Rattle.models.proofs.PutIn.{no_member, first_member, later_member, not_below, is_lower}
-use Rattle.history.specs.Spelling.{with_first, each_in, ascending}
+use Rattle.values.specs.Members.{IsAscending, put_in}
+use Rattle.values.proofs.PutIn.{no_member, first_member, later_member, not_below, is_lower}
+use Rattle.events.specs.Spelling.{with_first, each_in, ascending}
 use Rattle.plain_events.specs.Fronts.{IsByteAt, IsAtomAt, AreIntegersAt, IsSetAt, IsPartAt}
 use Rattle.plain_events.proofs.Elements.{all_after, element_then}
 

@@ -10,13 +10,13 @@ use Rattle.models.specs.declared.operation.Part.{Part}
 use Rattle.models.specs.declared.operation.Part.TheVariants.{Nil, Int, Pair}
 use Rattle.models.specs.declared.operation.Op.{Op}
 use Rattle.models.specs.Names.{text_of}
-use Rattle.history.specs.declared.event.EventKind.{EventKind}
-use Rattle.history.specs.declared.event.Process.TheVariants.{Client}
-use Rattle.history.specs.declared.event.Body.TheVariants.{Op as AnOp}
-use Rattle.history.specs.declared.event.Event.{Event}
-use Rattle.history.specs.EventMap.{number}
-use Rattle.history.specs.Spelling.{text_of_kind, SpellsKeyed, Spells}
-use Rattle.history.specs.WellFormed.{IsPartOf}
+use Rattle.events.specs.declared.event.EventKind.{EventKind}
+use Rattle.events.specs.declared.event.Process.TheVariants.{Client}
+use Rattle.events.specs.declared.event.Body.TheVariants.{Op as AnOp}
+use Rattle.events.specs.declared.event.Event.{Event}
+use Rattle.events.specs.EventMap.{number}
+use Rattle.events.specs.Spelling.{text_of_kind, SpellsKeyed, Spells}
+use Rattle.events.specs.Tables.{IsPartOf}
 use Rattle.plain_events.specs.Plain.{BeginsWith, IsLineOf}
 use Rattle.plain_events.specs.Fronts.{IsWordAt, IsByteAt, IsAtomAt, IsPairAt, IsIndexAt, AreTwoAt, IsPartAt, IsValueAt, IsEventBy, AreUsualAt, IsMapBehind}
 use Rattle.plain_events.specs.Keys.{followed_by, ArePairsAt}

@@ -9,12 +9,12 @@ use Rattle.models.specs.declared.operation.Name.{Name}
 use Rattle.models.specs.declared.operation.Part.{Part}
 use Rattle.models.specs.declared.operation.Op.{Op}
 use Rattle.models.specs.Names.{text_of}
-use Rattle.history.specs.EventMap.{number}
-use Rattle.history.specs.declared.event.EventKind.{EventKind}
-use Rattle.history.specs.declared.event.Process.TheVariants.{Client}
-use Rattle.history.specs.declared.event.Body.TheVariants.{Op as AnOp}
-use Rattle.history.specs.declared.event.Event.{Event}
-use Rattle.history.specs.Spelling.{IsNumber, text_of_kind, SpellsIndex, SpellsKind, SpellsName, SpellsKeyed, SpellsOp, Spells}
+use Rattle.events.specs.EventMap.{number}
+use Rattle.events.specs.declared.event.EventKind.{EventKind}
+use Rattle.events.specs.declared.event.Process.TheVariants.{Client}
+use Rattle.events.specs.declared.event.Body.TheVariants.{Op as AnOp}
+use Rattle.events.specs.declared.event.Event.{Event}
+use Rattle.events.specs.Spelling.{IsNumber, text_of_kind, SpellsIndex, SpellsKind, SpellsName, SpellsKeyed, SpellsOp, Spells}
 use Rattle.plain_events.specs.declared.found.Found.{Found}
 use Rattle.plain_events.specs.Fronts.{IsIndexAt, AreUsualAt, IsMapBehind, IsEventBy}
 use Rattle.plain_events.specs.Keys.{mark_of, IsFurther, IsNewKeyAt, push, ArePairsAt}

@@ -5,9 +5,9 @@ use Rattle.edn.specs.Value.{Value, Pairs, in_text, keys, AreDistinct}
 use Rattle.edn.specs.Parts.{value_at}
 use Rattle.edn.specs.Text.{ReadsAll}
 use Rattle.models.specs.declared.operation.Op.{Op}
-use Rattle.history.specs.declared.event.EventKind.{EventKind}
-use Rattle.history.specs.declared.event.Event.{Event}
-use Rattle.history.specs.Spelling.{IsNumber, SpellsKind, SpellsName, SpellsKeyed}
+use Rattle.events.specs.declared.event.EventKind.{EventKind}
+use Rattle.events.specs.declared.event.Event.{Event}
+use Rattle.events.specs.Spelling.{IsNumber, SpellsKind, SpellsName, SpellsKeyed}
 use Rattle.plain_events.specs.declared.found.Found.{Found}
 use Rattle.plain_events.specs.Fronts.{IsPairAt, IsEventBy}
 use Rattle.plain_events.specs.Keys.{mark_of, IsFurther, push, ArePairsAt}

@@ -6,16 +6,16 @@ use Rattle.edn.specs.Bytes.{MayFollowAtom, IsNumeral}
 use Rattle.edn.specs.Text.{SkipsGap, Reads, ReadsAll}
 use Rattle.edn.specs.View.{list_of}
 use Rattle.models.specs.declared.operation.Part.{Part}
-use Rattle.models.specs.Members.{IsAscending}
-use Rattle.history.specs.EventMap.{number}
+use Rattle.values.specs.Members.{IsAscending}
+use Rattle.events.specs.EventMap.{number}
 use Rattle.models.specs.declared.operation.Op.{Op}
 use Rattle.models.specs.Names.{text_of}
-use Rattle.history.specs.declared.event.EventKind.{EventKind}
-use Rattle.history.specs.declared.event.Process.TheVariants.{Client}
-use Rattle.history.specs.declared.event.Body.TheVariants.{Op as AnOp}
-use Rattle.history.specs.declared.event.Event.{Event}
-use Rattle.history.specs.WellFormed.{IsPartOf}
-use Rattle.history.specs.Spelling.{text_of_kind, SpellsPart, SpellsKeyed, Spells}
+use Rattle.events.specs.declared.event.EventKind.{EventKind}
+use Rattle.events.specs.declared.event.Process.TheVariants.{Client}
+use Rattle.events.specs.declared.event.Body.TheVariants.{Op as AnOp}
+use Rattle.events.specs.declared.event.Event.{Event}
+use Rattle.events.specs.Tables.{IsPartOf}
+use Rattle.events.specs.Spelling.{text_of_kind, SpellsPart, SpellsKeyed, Spells}
 
 -- the text begins with these bytes, behind which an atom may end, and rest follows them and a gap
 pub record IsWordAt (text bytes rest : List ℕ) : Type 0 where

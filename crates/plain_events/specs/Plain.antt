@@ -3,8 +3,8 @@ use Rattle.std.specs.Prelude.{ℕ, List}
 use Rattle.edn.specs.Value.{Value, none, more}
 use Rattle.edn.specs.Text.{IsText}
 use Rattle.edn.specs.Elements.{IsNextAt}
-use Rattle.history.specs.declared.event.Event.{Event}
-use Rattle.history.specs.Spelling.{Spells}
+use Rattle.events.specs.declared.event.Event.{Event}
+use Rattle.events.specs.Spelling.{Spells}
 
 -- behind a gap an element stands that spells the event, and rest follows it
 abbrev pub BeginsWith : List ℕ → Event → List ℕ → Type 0

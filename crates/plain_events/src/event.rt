@@ -1,8 +1,8 @@
 //! Events that are spelled plainly.
 ghost use Rattle.std.specs.Prelude.{ℕ, List, ◌<◌, ◌^◌, codes, IfSome};
 ghost use Rattle.edn.specs.Value.{keyword, Pairs};
-ghost use Rattle.history.specs.Spelling.{text_of_kind};
-ghost use Rattle.history.specs.EventMap.{number};
+ghost use Rattle.events.specs.Spelling.{text_of_kind};
+ghost use Rattle.events.specs.EventMap.{number};
 ghost use Rattle.plain_events.specs.Plain.{BeginsWith, IsLineOf};
 ghost use Rattle.plain_events.specs.Fronts.{IsAtomAt, IsPairAt, IsIndexAt, AreUsualAt, IsMapBehind};
 ghost use Rattle.plain_events.specs.Keys.{ArePairsAt};
@@ -12,7 +12,7 @@ use crate::found::Found;
 use crate::numbers::number;
 use crate::operation::{name_pair, value_pair};
 use crate::word::{past_byte, past_bytes, past_keyword, past_white};
-use history::{Body, Event, EventKind, Process, is_part_of};
+use events::{Body, Event, EventKind, Process, is_part_of};
 use models::Op;
 use std::alloc::Global;
 

@@ -1,7 +1,7 @@
 //! What is found at the keys of an event, in any order.
 ghost use Rattle.std.specs.Prelude.{◌≡◌, ◌^◌, codes, IfSome};
 ghost use Rattle.edn.specs.Value.{Value, no_pairs};
-ghost use Rattle.history.specs.Spelling.{IsNumber, SpellsKind, SpellsName, SpellsKeyed};
+ghost use Rattle.events.specs.Spelling.{IsNumber, SpellsKind, SpellsName, SpellsKeyed};
 ghost use Rattle.plain_events.specs.Fronts.{IsEventBy};
 ghost use Rattle.plain_events.specs.Found.{Say, IsFoundOf, Adds, AddsPairAt, IsEventOf};
 
@@ -9,7 +9,7 @@ use crate::event::{index_pair, kind_pair, process_pair};
 use crate::keys::{Marks, past_further_key};
 use crate::operation::{name_pair, value_pair};
 use crate::passed::past_value;
-use history::{Body, Event, EventKind, Process, is_part_of};
+use events::{Body, Event, EventKind, Process, is_part_of};
 use models::{Key, Name, Op, Part};
 use std::alloc::Global;
 

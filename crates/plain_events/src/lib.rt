@@ -4,10 +4,10 @@
 //! `:index`, which may be left out; and at most 16 others, by which no event is read. The operation's part is nil, an integer,
 //! a vector of two or a set, its members in ascending order. What stands at other keys is passed over: an atom, a string, a
 //! vector, or a map whose keys are keywords, at most 16. White space alone stands between. Integers have no plus, and are
-//! below 9,223,372,036,854,775,800 in size. The order in which [`History::to_edn`](history::History::to_edn) writes is read
+//! below 9,223,372,036,854,775,800 in size. The order in which [`map_of_event`](events::map_of_event) writes is read
 //! fastest.
 //!
-//! Whatever else a text has is read by `edn::read_all` and `history::from_edn`. The calls here say only what was read, and
+//! Whatever else a text has is read by `edn::read_all` and `events::from_edn`. The calls here say only what was read, and
 //! where they answer `None` they say nothing, also where there is no memory for the members of a set.
 #![tactic(auto)]
 

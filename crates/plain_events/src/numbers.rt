@@ -3,7 +3,7 @@ ghost use Rattle.std.specs.Prelude.{◌≡◌, ◌<◌, ◌≤◌, ◌^◌, pos,
 ghost use Rattle.edn.specs.Value.{int};
 ghost use Rattle.edn.specs.Bytes.{is_digit};
 ghost use Rattle.edn.specs.Longest.{TakesDigit};
-ghost use Rattle.history.specs.EventMap.{number};
+ghost use Rattle.events.specs.EventMap.{number};
 ghost use Rattle.plain_events.specs.Fronts.{IsAtomAt, BeginsNumeral, IsNumeralAt};
 
 use crate::word::past_end;

@@ -2,7 +2,7 @@
 ghost use Rattle.std.specs.Prelude.{◌<◌, ◌^◌, codes, IfSome};
 ghost use Rattle.edn.specs.Value.{keyword};
 ghost use Rattle.models.specs.Names.{text_of};
-ghost use Rattle.history.specs.EventMap.{number};
+ghost use Rattle.events.specs.EventMap.{number};
 ghost use Rattle.plain_events.specs.Fronts.{IsAtomAt, IsPairAt, AreTwoAt, IsPartAt, IsValueAt};
 
 use crate::numbers::{integer, number};

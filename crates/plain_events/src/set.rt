@@ -1,12 +1,12 @@
 //! Sets of integers that are written in ascending order.
 ghost use Rattle.std.specs.Prelude.{IfSome};
-ghost use Rattle.models.specs.Members.{IsAscending};
+ghost use Rattle.values.specs.Members.{IsAscending};
 ghost use Rattle.plain_events.specs.Fronts.{AreIntegersAt, IsSetAt};
 
 use crate::numbers::integer;
 use crate::word::{past_byte, past_bytes, past_white};
-use models::Members;
 use std::alloc::Global;
+use values::Members;
 
 // The integers at the front, each greater than the one before it, and what follows them.
 #[inline(never)]

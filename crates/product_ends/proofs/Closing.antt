@@ -1,8 +1,10 @@
 -- products that calls lead from to no others
-use Rattle.std.proofs.Common.{◌≡◌, ⊎_elim, ℕ, ◌+◌, ◌<◌, ◌≤◌, Some, List, [], ◌∷◌, length, slice_get, sym, ◌∙◌, subst, arith}
+use Rattle.std.proofs.Common.{◌≡◌, ⊎_elim, ℕ, Bool, true, ◌+◌, ◌<◌, ◌≤◌, Some, List, [], ◌∷◌, length, slice_get, sym, ◌∙◌, subst, arith}
 use Rattle.std.specs.List.{Contains}
 use Rattle.std.proofs.lemmas.Bool.{cases_eq}
 use Rattle.std.proofs.lemmas.Option.{slice_get_within}
+use Rattle.models.specs.declared.operation.Op.{Op}
+use Rattle.models.specs.declared.finding.Found.{Found}
 use Rattle.models.specs.Objects.{Object}
 use Rattle.linspec.specs.Ends.{End}
 use Rattle.ends.specs.declared.pending_op.PendingOp.{PendingOp}
@@ -12,18 +14,31 @@ use Rattle.ends.specs.Tables.{Shows, Widens}
 use Rattle.ends.proofs.Reaching.{closed_has}
 use Rattle.ends.proofs.Rows.{one_end}
 use Rattle.interned.proofs.Lists.{place_of}
+use Rattle.product_ends.specs.declared.deeds.Deeds.{Deeds}
 use Rattle.products.specs.Products.{IsIn, IsInAt, IsInOne, Product}
 use Rattle.products.proofs.Sets.{are_in_long}
-use Rattle.product_ends.specs.Growing.{AreClosedTo, Gains, HoldReached, Leads}
+use Rattle.product_ends.specs.Growing.{AreClosedTo, AreGrown, Gains, HoldReached, Leads}
+use Rattle.product_ends.proofs.Counting.{paid_then}
 use Rattle.product_ends.proofs.Led.{leads_still}
 
 -- products that got rows
-pub gains_then : (from : ℕ) (old mid new : List Product) → Gains from old mid → Gains from mid new → Gains from old new
-gains_then from old mid new a b = record {
-  front = λ at lt within. let more = a.long in b.front at lt (omega (arith, within, more)) ∙ a.front at lt within;
+gains_then : (from next : ℕ) (old mid new : List Product) → from ≤ next → Gains from old mid → Gains next mid new → Gains from old new
+gains_then from next old mid new le a b = record {
+  front = λ at lt within. let longer = a.long in b.front at (omega (arith, lt, le)) (omega (arith, within, longer)) ∙ a.front at lt within;
   long = (let x = a.long in let y = b.long in omega (arith, x, y));
   kept = λ row is. b.kept row (a.kept row is);
 }
+
+-- products that were put with others, and then more
+module _ {S : Type 0} {apply : Op → S → List (S × Found)} {t u : Table S} {calls : List PendingOp} {d e : Deeds S} {from next budget : ℕ} {old mid new : List Product} {a b c : ℕ} {all told : Bool} where
+  pub grown_on : AreGrown apply t calls d from budget old mid a b true → AreGrown apply u calls e next budget mid new b c all → all ≡ told → from ≤ next → AreGrown apply u calls e from budget old new a c told
+  grown_on one more same le = record {
+    known = more.known;
+    gains = gains_then from next old mid new le one.gains more.gains;
+    paid = paid_then (length calls) a b c old mid new one.paid more.paid;
+    within = λ is. more.within (same ∙ is);
+    over = λ is. more.over (same ∙ is);
+  }
 
 module _ (from : ℕ) (old new : List Product) (gains : Gains from old new) (at : ℕ) (before : at < from) (within : at < length old) (row : List ℕ) where
   pub stood : IsInAt new at row → IsInAt old at row

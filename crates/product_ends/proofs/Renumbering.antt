@@ -4,7 +4,7 @@ use Rattle.std.proofs.lemmas.Bool.{cases_eq}
 use Rattle.std.proofs.lemmas.List.{get_or_append_left}
 use Rattle.std.proofs.lemmas.Option.{get_or_from_slice_get, same_Some, slice_get_within}
 use Rattle.models.specs.declared.finding.Found.{Found}
-use Rattle.history.specs.Events.{IsFront}
+use Rattle.events.specs.Events.{IsFront}
 use Rattle.linspec.specs.Ends.{End}
 use Rattle.interned.specs.Numbers.{IsOnceIn, IsSlot}
 use Rattle.interned.proofs.Lists.{get_front, get_last}

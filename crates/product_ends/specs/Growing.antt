@@ -1,5 +1,5 @@
 -- Invariant: products whose rows say ends that are reached
-use Rattle.std.specs.Prelude.{◌≡◌, ◌<◌, ◌≤◌, ◌+◌, ◌*◌, ℕ, List, Some, length, slice_get, get_or}
+use Rattle.std.specs.Prelude.{◌≡◌, ◌<◌, ◌≤◌, ◌+◌, ◌*◌, ℕ, Bool, true, false, List, Some, length, slice_get, get_or}
 use Rattle.models.specs.declared.operation.Op.{Op}
 use Rattle.models.specs.declared.finding.Found.{Found}
 use Rattle.models.specs.Objects.{Object}
@@ -46,6 +46,16 @@ pub record Gains (from : ℕ) (old new : List Product) : Type 0 where
 -- the steps that were made are no more than so many for each row that was added
 abbrev pub IsPaid : ℕ → ℕ → List Product → ℕ → List Product → Type 0
 IsPaid steps before old after new = after + steps * length (rows_in old) ≤ before + steps * length (rows_in new)
+
+-- products were put with others: none of those is lost, what calls do is known for all, the steps are paid, and it is told whether
+-- their rows are no more than the budget
+pub record AreGrown {S : Type 0} (apply : Op → S → List (S × Found)) (t : Table S) (calls : List PendingOp) (d : Deeds S)
+    (from budget : ℕ) (old new : List Product) (before after : ℕ) (all : Bool) : Type 0 where
+  pub known : AreKnown apply t calls d new
+  pub gains : Gains from old new
+  pub paid : IsPaid (length calls) before old after new
+  pub within : all ≡ true → length (rows_in new) ≤ budget
+  pub over : all ≡ false → budget < length (rows_in new)
 
 -- the row says an end, and what the call leads to from it is said by rows of the products
 abbrev pub Leads : (o : Object) → Table o.State → List PendingOp → List Product → PendingOp → List ℕ → Type 0

@@ -1,7 +1,7 @@
 //! Rows as products, and products as rows.
 ghost use Rattle.std.specs.Prelude.{◌≡◌, ◌≢◌, ◌↔◌, ◌<◌, ◌+◌, ◌∷◌, ◌++◌, true, ℕ, List, [], IfOk, IfSome, OnOk, length, get_or};
 ghost use Rattle.std.specs.List.{Contains};
-ghost use Rattle.history.specs.Events.{IsFront};
+ghost use Rattle.events.specs.Events.{IsFront};
 ghost use Rattle.interned.specs.Numbers.{IsOnceIn};
 ghost use Rattle.linspec.specs.Ends.{End};
 ghost use Rattle.linspec.specs.Orders.{Pairwise};

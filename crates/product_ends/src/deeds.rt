@@ -2,7 +2,7 @@
 ghost use Rattle.std.specs.Prelude.{◌≡◌, ◌<◌, ◌≤◌, ◌+◌, ◌^◌, ◌⊎◌, ℕ, List, [], IfOk, IfSome, IsSome, OnOk, Some, length, get_or, slice_get, slice_range};
 ghost use Rattle.models.specs.declared.finding.Found.{Found};
 ghost use Rattle.models.specs.declared.operation.Op.{Op};
-ghost use Rattle.ends.specs.Tables.{Widens, rows_of};
+ghost use Rattle.ends.specs.Tables.{OnlyTries};
 ghost use Rattle.product_ends.specs.Deeds.{AreDeeds, AreStays, AreWithin, IsDeed, IsOrderWith, IsStay, IsTried, order_in};
 
 use ends::{PendingOp, Table, step, told_by};
@@ -105,9 +105,7 @@ fn tried<M: SeqObject>(
     requires single { (op : Op) (s : M.State) → length (M.apply_to op s) ≤ 1 }
     ensures deed { IfOk result (λ deed. (s : M.State) × (slice_get table.new.states number ≡ Some s)
         × IsDeed table.new call.now (M.apply_to call.now.op s) deed) }
-    ensures widens { Widens table.old table.new }
-    ensures rows { rows_of table.new ≡ rows_of table.old }
-    ensures never_falls { applied.old ≤ applied.new }
+    ensures tries { OnlyTries table.old table.new applied.old applied.new }
     ensures cost { applied.new ≤ applied.old + 1 }
 {
     let Some(state) = table.states.get(number) else {
@@ -170,9 +168,7 @@ pub fn try_each<M: SeqObject>(
     ensures known { OnOk result (IsTried deeds.new number) }
     ensures kept { (n : ℕ) → IsTried deeds.old n → OnOk result (IsTried deeds.new n) }
     ensures others { (n : ℕ) → OnOk result (IsTried deeds.new n → (n ≡ number) ⊎ IsTried deeds.old n) }
-    ensures widens { Widens table.old table.new }
-    ensures rows { rows_of table.new ≡ rows_of table.old }
-    ensures never_falls { applied.old ≤ applied.new }
+    ensures tries { OnlyTries table.old table.new applied.old applied.new }
     ensures cost { applied.new ≤ applied.old + length calls.now }
 {
     let before = deeds.deeds.len();

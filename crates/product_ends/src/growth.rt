@@ -1,5 +1,5 @@
 //! The ends that calls lead to from others, as products.
-ghost use Rattle.std.specs.Prelude.{◌≡◌, ◌≢◌, ◌<◌, ◌≤◌, ◌+◌, ◌-◌, ◌*◌, ◌^◌, ◌⊎◌, ℕ, List, [], IfOk, OnOk, true, false, Some, length, slice_get, slice_set, take};
+ghost use Rattle.std.specs.Prelude.{◌≡◌, ◌≢◌, ◌<◌, ◌≤◌, ◌+◌, ◌-◌, ◌*◌, ◌^◌, ◌⊎◌, ℕ, List, [], IfOk, IsSome, OnOk, true, false, Some, length, slice_get, slice_set, take};
 ghost use Rattle.models.specs.Objects.{of_table};
 ghost use Rattle.models.specs.declared.operation.Op.{Op};
 ghost use Rattle.linspec.specs.Ends.{End};
@@ -7,10 +7,10 @@ ghost use Rattle.linspec.specs.Orders.{Pairwise};
 ghost use Rattle.std.specs.List.{filter};
 ghost use Rattle.ends.specs.declared.pending_op.PendingOp.{PendingOp};
 ghost use Rattle.ends.specs.EndSteps.{Along, AreClosed, Fails, IsReached, ReachesMoreThan, is_other};
-ghost use Rattle.ends.specs.Tables.{AreShown, HasEachOnce, IsAdvanced, IsOpenAt, ShownWith, Shows, Widens, rows_of, with_rows};
+ghost use Rattle.ends.specs.Tables.{AreShown, HasEachOnce, IsAdvanced, IsOpenAt, OnlyTries, ShownWith, Shows, Widens, rows_of, with_rows};
 ghost use Rattle.products.specs.Products.{AreApart, AreIn, IsIn, IsInOne, rows_in};
 ghost use Rattle.product_ends.specs.Deeds.{AreDeeds, AreStays, AreWithin, IsTried};
-ghost use Rattle.product_ends.specs.Growing.{AreClosedTo, AreKnown, Gains, HoldReached, IsPaid, LeadsFrom, SayReached};
+ghost use Rattle.product_ends.specs.Growing.{AreClosedTo, AreGrown, AreKnown, HoldReached, LeadsFrom, SayReached};
 ghost use Rattle.product_ends.specs.Widening.{AreWidened, IsWidened};
 
 use crate::after;
@@ -57,7 +57,9 @@ impl<S> Room<S> {
 }
 
 // Makes the memory to work in, where there is none yet.
-fn make<S: Drop>(alloc: Global, work: &mut Option<Box<Work<S>>>) -> Result<(), AllocError> {
+fn make<S: Drop>(alloc: Global, work: &mut Option<Box<Work<S>>>) -> Result<(), AllocError>
+    ensures { OnOk result (IsSome work.new) }
+{
     if work.is_none() {
         let none = Work {
             deeds: Deeds::new(alloc),
@@ -176,9 +178,7 @@ fn ready<M: SeqObject>(
     ensures none { IfOk result (λ some. some ≡ false → (row : List ℕ) → ¬ AreIn (slice_set sets.now place word) row) }
     ensures fresh { (applied.new ≡ applied.old)
         ⊎ ((¬ IsTried deeds.old number) × ((row : List ℕ) × AreIn (slice_set sets.now place word) row)) }
-    ensures widens { Widens table.old table.new }
-    ensures rows { rows_of table.new ≡ rows_of table.old }
-    ensures never_falls { applied.old ≤ applied.new }
+    ensures tries { OnlyTries table.old table.new applied.old applied.new }
     ensures cost { applied.new ≤ applied.old + length calls.now }
 {
     if deeds_in(deeds, number, calls.len()).is_some() {
@@ -209,8 +209,8 @@ fn put_widened<M: SeqObject>(
     requires long { length room.old.source.items ≡ room.old.all.0 }
     requires known { AreKnown M.apply_to table.old calls.now room.old.deeds room.old.all.1 }
     requires few { length (rows_in room.old.all.1) ≤ budget }
-    ensures known { OnOk result (AreKnown M.apply_to table.new calls.now room.new.deeds room.new.all.1) }
-    ensures gains { OnOk result (Gains from room.old.all.1 room.new.all.1) }
+    ensures grown { IfOk result (AreGrown M.apply_to table.new calls.now room.new.deeds from budget
+        room.old.all.1 room.new.all.1 applied.old applied.new) }
     ensures puts { OnOk result ((row : List ℕ) → IsIn (number, slice_set room.old.source.items place word) row
         → IsInOne room.new.all.1 row) }
     ensures reached { let object = of_table M.State M.start_state M.apply_to in
@@ -218,14 +218,9 @@ fn put_widened<M: SeqObject>(
         → HoldReached object table.old calls.now start room.old.all.1
         → SayReached object table.old calls.now start (number, slice_set room.old.source.items place word)
         → OnOk result (HoldReached object table.new calls.now start room.new.all.1) }
-    ensures within { IfOk result (λ all. all ≡ true → length (rows_in room.new.all.1) ≤ budget) }
-    ensures over { IfOk result (λ all. all ≡ false → budget < length (rows_in room.new.all.1)) }
     ensures source { room.new.source.items ≡ room.old.source.items }
     ensures places { room.new.all.0 ≡ room.old.all.0 }
-    ensures widens { Widens table.old table.new }
-    ensures rows { rows_of table.new ≡ rows_of table.old }
-    ensures paid { OnOk result (IsPaid (length calls.now) applied.old room.old.all.1 applied.new room.new.all.1) }
-    ensures never_falls { applied.old ≤ applied.new }
+    ensures tries { OnlyTries table.old table.new applied.old applied.new }
     ensures cost { applied.new ≤ applied.old + length calls.now }
 {
     if !ready::<M>(
@@ -242,7 +237,7 @@ fn put_widened<M: SeqObject>(
         return Ok(true);
     }
     let Some(stays) = stays_in(&room.deeds, number, calls.len()) else {
-        return Err(AllocError);
+        unreachable!()
     };
     widen(&room.source, place, word, stays, &mut room.next)?;
     room.all.put(from, number, &room.next, &mut room.stack)?;
@@ -269,8 +264,8 @@ fn grow_at<M: SeqObject>(
     requires known { AreKnown M.apply_to table.old calls.now room.old.deeds room.old.all.1 }
     requires few { length (rows_in room.old.all.1) ≤ budget }
     requires there { (row : List ℕ) → IsIn (number, room.old.source.items) row → IsInOne room.old.all.1 row }
-    ensures known { OnOk result (AreKnown M.apply_to table.new calls.now room.new.deeds room.new.all.1) }
-    ensures gains { OnOk result (Gains from room.old.all.1 room.new.all.1) }
+    ensures grown { IfOk result (AreGrown M.apply_to table.new calls.now room.new.deeds from budget
+        room.old.all.1 room.new.all.1 applied.old applied.new) }
     ensures reached { let object = of_table M.State M.start_state M.apply_to in
         HasEachOnce calls.now → (start : List (End M.State))
         → HoldReached object table.old calls.now start room.old.all.1
@@ -280,14 +275,9 @@ fn grow_at<M: SeqObject>(
         → HoldReached object table.old calls.now start room.old.all.1
         → (c : PendingOp) → slice_get calls.now at ≡ Some c
         → OnOk result (LeadsFrom object table.new calls.now room.new.all.1 (number, room.old.source.items) c) }
-    ensures within { IfOk result (λ all. all ≡ true → length (rows_in room.new.all.1) ≤ budget) }
-    ensures over { IfOk result (λ all. all ≡ false → budget < length (rows_in room.new.all.1)) }
     ensures source { room.new.source.items ≡ room.old.source.items }
     ensures places { room.new.all.0 ≡ room.old.all.0 }
-    ensures widens { Widens table.old table.new }
-    ensures rows { rows_of table.new ≡ rows_of table.old }
-    ensures paid { OnOk result (IsPaid (length calls.now) applied.old room.old.all.1 applied.new room.new.all.1) }
-    ensures never_falls { applied.old ≤ applied.new }
+    ensures tries { OnlyTries table.old table.new applied.old applied.new }
     ensures cost { applied.new ≤ applied.old + length calls.now }
 {
     let own = room.source[at];
@@ -295,7 +285,8 @@ fn grow_at<M: SeqObject>(
         return Ok(true);
     }
     let Some(deeds) = deeds_in(&room.deeds, number, calls.len()) else {
-        return Err(AllocError);
+        // The calls were tried if the product has a row. If it has none, nothing is led to from it.
+        return Ok(true);
     };
     match deeds[at] {
         Deed::To(to, found) if to != number || common(found, own) != found => {
@@ -323,8 +314,8 @@ fn grow_from<M: SeqObject>(
     requires before { from < 2 ^ 64 - 1 }
     requires known { AreKnown M.apply_to table.old calls.now room.old.deeds room.old.all.1 }
     requires few { length (rows_in room.old.all.1) ≤ budget }
-    ensures known { OnOk result (AreKnown M.apply_to table.new calls.now room.new.deeds room.new.all.1) }
-    ensures gains { OnOk result (Gains (from + 1) room.old.all.1 room.new.all.1) }
+    ensures grown { IfOk result (AreGrown M.apply_to table.new calls.now room.new.deeds (from + 1) budget
+        room.old.all.1 room.new.all.1 applied.old applied.new) }
     ensures reached { let object = of_table M.State M.start_state M.apply_to in
         HasEachOnce calls.now → (start : List (End M.State))
         → HoldReached object table.old calls.now start room.old.all.1
@@ -334,12 +325,7 @@ fn grow_from<M: SeqObject>(
         → HoldReached object table.old calls.now start room.old.all.1
         → AreClosedTo object table.old calls.now room.old.all.1 from
         → IfOk result (λ all. all ≡ true → AreClosedTo object table.new calls.now room.new.all.1 (from + 1)) }
-    ensures within { IfOk result (λ all. all ≡ true → length (rows_in room.new.all.1) ≤ budget) }
-    ensures over { IfOk result (λ all. all ≡ false → budget < length (rows_in room.new.all.1)) }
-    ensures widens { Widens table.old table.new }
-    ensures rows { rows_of table.new ≡ rows_of table.old }
-    ensures paid { OnOk result (IsPaid (length calls.now) applied.old room.old.all.1 applied.new room.new.all.1) }
-    ensures never_falls { applied.old ≤ applied.new }
+    ensures tries { OnlyTries table.old table.new applied.old applied.new }
     ensures cost { applied.new + length calls.now * length (rows_in room.old.all.1)
         ≤ applied.old + length calls.now * (budget + 1) }
 {
@@ -374,19 +360,14 @@ fn begin<M: SeqObject>(
     applied: &mut u64,
 ) -> Result<bool, AllocError>
     requires single { (op : Op) (s : M.State) → length (M.apply_to op s) ≤ 1 }
-    ensures known { OnOk result (AreKnown M.apply_to table.new calls.now room.new.deeds room.new.all.1) }
+    ensures grown { IfOk result (AreGrown M.apply_to table.new calls.now room.new.deeds 0 budget
+        [] room.new.all.1 applied.old applied.new) }
     ensures reached { let object = of_table M.State M.start_state M.apply_to in
         HasEachOnce calls.now → (ends : List (End M.State))
         → AreShown (with_rows table.old (rows_in kept.now.1)) calls.now ends
         → OnOk result (HoldReached object table.new calls.now ends room.new.all.1) }
     ensures all { IfOk result (λ all. all ≡ true → (row : List ℕ) → IsInOne kept.now.1 row → IsInOne room.new.all.1 row) }
-    ensures within { IfOk result (λ all. all ≡ true → length (rows_in room.new.all.1) ≤ budget) }
-    ensures over { IfOk result (λ all. all ≡ false → budget < length (rows_in room.new.all.1)) }
-    ensures widens { Widens table.old table.new }
-    ensures rows { rows_of table.new ≡ rows_of table.old }
-    ensures paid { IfOk result (λ all. all ≡ true
-        → applied.new ≤ applied.old + length calls.now * length (rows_in room.new.all.1)) }
-    ensures never_falls { applied.old ≤ applied.new }
+    ensures tries { OnlyTries table.old table.new applied.old applied.new }
     ensures cost { applied.new ≤ applied.old + length calls.now * (budget + 1) }
 {
     forget(&mut room.deeds);
@@ -429,9 +410,7 @@ fn grow<M: SeqObject>(
         → (row : List ℕ) × IsInOne room.new.all.1 row × Shows table.new calls.now row e) }
     ensures within { IfOk result (λ all. all ≡ true → length (rows_in room.new.all.1) ≤ budget) }
     ensures over { IfOk result (λ all. all ≡ false → budget < length (rows_in room.new.all.1)) }
-    ensures widens { Widens table.old table.new }
-    ensures rows { rows_of table.new ≡ rows_of table.old }
-    ensures never_falls { applied.old ≤ applied.new }
+    ensures tries { OnlyTries table.old table.new applied.old applied.new }
     ensures cost { applied.new ≤ applied.old + length calls.now * (budget + 1) }
 {
     if !begin::<M>(alloc, table, kept, room, calls, budget, applied)? {
@@ -527,7 +506,7 @@ pub fn advance<M: SeqObject>(
 {
     make(alloc, &mut room.work)?;
     let Some(work) = &mut room.work else {
-        return Err(AllocError);
+        unreachable!()
     };
     let work = &mut **work;
     if tried >= calls.len() {
@@ -568,7 +547,7 @@ pub fn failed<S: Hash + Drop>(
 {
     make(alloc, &mut room.work)?;
     let Some(work) = &mut room.work else {
-        return Err(AllocError);
+        unreachable!()
     };
     let work = &mut **work;
     after::failed(

@@ -321,15 +321,15 @@ piece_within place sets others piece is k number h = elim (cases_order k place) 
   ]
 ]
 
--- the rows of a piece stand behind the product that it leaves
-pub piece_apart : (place first from at end : ℕ) (sets piece : List ℕ) (old middle : List Product)
+-- the rows of a piece stand before the product that it leaves
+pub piece_apart : (place first from begin at : ℕ) (sets piece : List ℕ) (old middle : List Product)
     → Brings (IsLeftFrom (place + 1) first sets (sets_at old at)) sets from old middle → IsAlike (place + 1) at (sets_at old at) middle
     → IsPiece place sets (sets_at middle at) piece → place < length sets → length (sets_at old at) ≡ length sets
     → slice_get old at ≡ Some (first, sets_at old at)
-    → ((i : ℕ) (row : List ℕ) → IsIn (first, sets) row → IsInAt old i row → (at ≤ i) × (i < end))
-    → (i : ℕ) (row : List ℕ) → IsIn (first, piece) row → IsInAt middle i row → (at + 1 ≤ i) × (i < end)
-piece_apart place first from at end sets piece old middle brings alike is within long there apart i [] h stands = absurd h
-piece_apart place first from at end sets piece old middle brings alike is within long there apart i (number ∷ row) h stands =
+    → ((i : ℕ) (row : List ℕ) → IsIn (first, sets) row → IsInAt old i row → (begin ≤ i) × (i ≤ at))
+    → (i : ℕ) (row : List ℕ) → IsIn (first, piece) row → IsInAt middle i row → (begin ≤ i) × (i < at)
+piece_apart place first from begin at sets piece old middle brings alike is within long there apart i [] h stands = absurd h
+piece_apart place first from begin at sets piece old middle brings alike is within long there apart i (number ∷ row) h stands =
     let others = sets_at old at in
     let leaves = piece_leaves place sets others piece row (piece_alike place at sets others piece middle alike is) within h.1 in
     elim (brings.only i (number ∷ row) stands) [
@@ -340,7 +340,7 @@ piece_apart place first from at end sets piece old middle brings alike is within
                 let product = same_Some was.0 (first, others) (sym was.1 ∙ ap (slice_get old) same ∙ there) in
                 let inside : IsIn (first, others) (number ∷ row) = subst (λ (p : Product). IsIn p (number ∷ row)) product was.2 in
                 absurd (leaves_out place sets others row (omega (arith, long, within)) leaves inside.1)
-            | inr other ↦ (omega (arith, span, other), span.1)
+            | inr other ↦ (span.0, omega (arith, span, other))
           ]
       | inr more ↦
           let same = leaves_once place more.1.0 sets others row leaves more.1.3 in
@@ -438,14 +438,13 @@ other_first first at sets products one is other (number ∷ row) h stands =
 
 -- no row of the product is in one more
 pub passed : (at end first : ℕ) (sets : List ℕ) (products : List Product)
-    → ((i : ℕ) (row : List ℕ) → IsIn (first, sets) row → IsInAt products i row → (at ≤ i) × (i < end))
+    → ((i : ℕ) (row : List ℕ) → at + 1 ≤ i → i < end → IsIn (first, sets) row → ¬ IsInAt products i row)
     → ((row : List ℕ) → IsIn (first, sets) row → ¬ IsInAt products at row)
-    → (i : ℕ) (row : List ℕ) → IsIn (first, sets) row → IsInAt products i row → (at + 1 ≤ i) × (i < end)
-passed at end first sets products before here i row h stands =
-    let span = before i row h stands in
+    → (i : ℕ) (row : List ℕ) → at ≤ i → i < end → IsIn (first, sets) row → ¬ IsInAt products i row
+passed at end first sets products before here i row upto lower h stands =
     elim (cases_eq i at) [
-      | inl same ↦ absurd (here row h (subst (λ k. IsInAt products k row) same stands))
-      | inr other ↦ (omega (arith, span, other), span.1)
+      | inl same ↦ here row h (subst (λ k. IsInAt products k row) same stands)
+      | inr other ↦ before i row (omega (arith, upto, other)) lower h stands
     ]
 
 -- what is left at the place, by the sets that were read

@@ -3,7 +3,7 @@
 ghost use Rattle.std.specs.Prelude.{◌≡◌, ◌↔◌, ◌⊎◌, ◌<◌, ◌+◌, ◌-◌, ◌^◌, ℕ, List, IfSome, get_or, length, min, set};
 ghost use Rattle.products.specs.Products.{AreIn, Has, rows_of_sets};
 
-use crate::number_set::{common, joined, size};
+use crate::number_set::{HIGH, common, joined, size};
 
 /// How the rows of a product lie to those of another one with the same first number.
 #[derive(Clone, Copy)]
@@ -19,6 +19,29 @@ pub enum Lies {
 /// How the product of these sets lies to that of the others.
 #[inline(always)]
 pub fn lies_to(sets: &[u64], others: &[u64]) -> Lies
+    requires long { length sets.now ≡ length others.now }
+    ensures apart { result ≡ Lies.Apart → (row : List ℕ) → AreIn sets.now row → ¬ AreIn others.now row }
+    ensures inside { result ≡ Lies.Inside → (row : List ℕ) → AreIn sets.now row → AreIn others.now row }
+{
+    for place in 0..sets.len() {
+        if sets[place] >= HIGH || others[place] >= HIGH {
+            return lies_alone(sets, others);
+        }
+        if common(sets[place], others[place]) == 0 {
+            return Lies::Apart;
+        }
+    }
+    for at in 0..sets.len() {
+        if common(sets[at], others[at]) != sets[at] {
+            return Lies::Across;
+        }
+    }
+    Lies::Inside
+}
+
+// The same, where a set of them has a number alone.
+#[inline(never)]
+fn lies_alone(sets: &[u64], others: &[u64]) -> Lies
     requires long { length sets.now ≡ length others.now }
     ensures apart { result ≡ Lies.Apart → (row : List ℕ) → AreIn sets.now row → ¬ AreIn others.now row }
     ensures inside { result ≡ Lies.Inside → (row : List ℕ) → AreIn sets.now row → AreIn others.now row }

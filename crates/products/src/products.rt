@@ -1,5 +1,5 @@
 //! Products of which no two have a row in common.
-ghost use Rattle.std.specs.Prelude.{◌≡◌, ◌↔◌, ◌⊎◌, ◌<◌, ◌≤◌, ◌+◌, ◌-◌, ◌^◌, ◌++◌, ◌∷◌, [], ℕ, List, Some, IfOk, IfSome, OnErr, OnOk, length, min, map, drop, take, slice_get, slice_index, slice_set};
+ghost use Rattle.std.specs.Prelude.{◌≡◌, ◌↔◌, ◌⊎◌, ◌<◌, ◌≤◌, ◌+◌, ◌-◌, ◌^◌, ◌++◌, ◌∷◌, [], ℕ, List, Some, None, true, IfOk, IfSome, OnErr, OnOk, length, min, map, drop, take, slice_get, slice_index, slice_set};
 ghost use Rattle.products.specs.Products.{AreApart, AreIn, Has, HasWith, HavePlaces, IsIn, IsInAt, IsInOne, IsPiece, Product, Puts, rows_in, rows_of_sets};
 
 use crate::appending::append;
@@ -121,7 +121,9 @@ impl Products {
         ensures places { self.new.0 ≡ self.old.0 }
         ensures puts { OnOk result (Puts (first, sets.now) from self.old.1 self.new.1) }
     {
-        for at in from..self.firsts.len() {
+        let mut at = self.firsts.len();
+        while at > from {
+            at -= 1;
             if self.firsts[at] == first {
                 if let Some((place, set)) = joined_at(sets, self.sets(at)) {
                     self.replace(at, place, set, sets);
@@ -167,7 +169,7 @@ impl Products {
     /// Puts the rows of the product with the others: products from this place on may get some of them, and more products may be
     /// put behind all; those before the place stay as they are. The stack is memory to work in. `AllocError` where there is no
     /// memory for it: then some of the rows may be there. Compares it with all products. Where it has rows of one of them and
-    /// others besides, it is cut into at most one piece for each set, and each piece is compared with those behind and may be cut
+    /// others besides, it is cut into at most one piece for each set, and each piece is compared with those before and may be cut
     /// again. Where a piece, or the product itself, differs from one of those that may get rows in one set alone, that one gets its
     /// rows; else it is put behind all.
     pub fn put(
@@ -185,6 +187,36 @@ impl Products {
         stack.clear();
         append(stack, sets)?;
         self.put_rest(0, len, from, first, stack, 0)
+    }
+
+    // The last product from the first place up to the last one that shares a row with the product, or may do so, and whether it is told
+    // to have all its rows.
+    #[inline(never)]
+    fn meeting(&self, begin: usize, end: usize, first: usize, sets: &[u64]) -> Option<(usize, bool)>
+        requires within { end ≤ length self.now.1 }
+        requires long { length sets.now ≡ self.now.0 }
+        ensures none { result ≡ None → (at : ℕ) (row : List ℕ) → begin ≤ at → at < end
+            → IsIn (first, sets.now) row → ¬ IsInAt self.now.1 at row }
+        ensures span { IfSome result (λ met. (begin ≤ met.0) × (met.0 < end)) }
+        ensures same { IfSome result (λ met. (product : Product) → slice_get self.now.1 met.0 ≡ Some product
+            → product.0 ≡ first) }
+        ensures apart { IfSome result (λ met. (at : ℕ) (row : List ℕ) → met.0 < at → at < end
+            → IsIn (first, sets.now) row → ¬ IsInAt self.now.1 at row) }
+        ensures inside { IfSome result (λ met. met.1 ≡ true → (row : List ℕ) → IsIn (first, sets.now) row
+            → IsInOne self.now.1 row) }
+    {
+        let mut at = end;
+        while at > begin {
+            at -= 1;
+            if self.firsts[at] == first {
+                match lies_to(sets, self.sets(at)) {
+                    Lies::Apart => {}
+                    Lies::Inside => return Some((at, true)),
+                    Lies::Across => return Some((at, false)),
+                }
+            }
+        }
+        None
     }
 
     // Puts the rows of the product on top of the stack that are in none of the products from the first to the last place.
@@ -208,36 +240,31 @@ impl Products {
         ensures stack { OnOk result (stack.new.items ≡ stack.old.items) }
         ensures puts { OnOk result (Puts (first, drop start stack.old.items) from self.old.1 self.new.1) }
     {
-        for at in begin..end {
-            if self.firsts[at] == first {
-                match lies_to(&stack[start..], self.sets(at)) {
-                    Lies::Apart => {}
-                    Lies::Inside => return Ok(()),
-                    Lies::Across => return self.put_pieces(at, end, from, first, stack, start),
-                }
-            }
+        match self.meeting(begin, end, first, &stack[start..]) {
+            None => self.join_from(from, first, &stack[start..]),
+            Some((_, true)) => Ok(()),
+            Some((at, false)) => self.put_pieces(begin, at, from, first, stack, start),
         }
-        self.join_from(from, first, &stack[start..])
     }
 
-    // The same, of the product on top of the stack without the rows that the one at this place has: for each set those whose number
-    // there is outside the other's, and whose numbers before it are not.
+    // The same, of the product on top of the stack without the rows that the one at this place has, which may share others with those
+    // before it alone: for each set those whose number there is outside the other's, and whose numbers before it are not.
     #[cycle(putting)]
     fn put_pieces(
         &mut self,
+        begin: usize,
         at: usize,
-        end: usize,
         from: usize,
         first: usize,
         stack: &mut Vec<u64>,
         start: usize,
     ) -> Result<(), AllocError>
-        requires before { at < end }
-        requires within { end ≤ length self.old.1 }
+        requires upto { begin ≤ at }
+        requires within { at < length self.old.1 }
         requires top { start + self.old.0 ≡ length stack.old.items }
         requires same { (product : Product) → slice_get self.old.1 at ≡ Some product → product.0 ≡ first }
         requires apart { (i : ℕ) (row : List ℕ) → IsIn (first, drop start stack.old.items) row
-            → IsInAt self.old.1 i row → (at ≤ i) × (i < end) }
+            → IsInAt self.old.1 i row → (begin ≤ i) × (i ≤ at) }
         ensures places { self.new.0 ≡ self.old.0 }
         ensures stack { OnOk result (stack.new.items ≡ stack.old.items) }
         ensures puts { OnOk result (Puts (first, drop start stack.old.items) from self.old.1 self.new.1) }
@@ -248,7 +275,7 @@ impl Products {
             if left != 0 {
                 let top = stack.len();
                 push_piece(stack, start, self.sets(at), place, left)?;
-                self.put_rest(at + 1, end, from, first, stack, top)?;
+                self.put_rest(begin, at, from, first, stack, top)?;
                 stack.truncate(top);
             }
         }

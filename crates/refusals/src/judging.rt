@@ -3,7 +3,7 @@
 use crate::following::Subject;
 use crate::said::{Said, Seen, said_of};
 use edn::Refusal;
-use history::{Body, Event, EventKind, Process};
+use events::{Body, Event, EventKind, Process};
 use models::{Key, ModelKind, Name, Op, Part};
 use monitor::Monitor;
 use report::report;

@@ -2,7 +2,8 @@
 
 use crate::said::{Said, said_of};
 use edn::{OpenGate, Refusal};
-use history::{Body, Event, EventKind, History, Process};
+use events::{Body, Event, EventKind, Process};
+use history::History;
 use models::{Key, ModelKind, Name, Op, Part};
 use monitor::Monitor;
 use std::alloc::Global;

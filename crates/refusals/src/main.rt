@@ -4,20 +4,20 @@
 #![tactic(auto)]
 
 mod board_calls;
-mod events;
 mod following;
 mod judging;
 mod loading;
+mod recorded;
 mod said;
 mod texts;
 mod trial;
 
 use board_calls::print_board_calls;
 use edn::Refusal;
-use events::Recorded;
 use following::{print_answer, print_opened};
 use judging::Judged;
 use loading::load;
+use recorded::Recorded;
 use std::alloc::{AllocError, Global};
 use std::env::Args;
 use std::rt::Env;

@@ -4,10 +4,9 @@ use Rattle.std.specs.List.{AllZip, Contains, each_same}
 use Rattle.std.proofs.lemmas.List.{get_or-take, length-take, map_push, take-append-drop}
 use Rattle.std.proofs.lemmas.Grind.{get_or_default_zero}
 use Rattle.std.proofs.lemmas.List.Elements.{Contains-append_left, Contains-push_cases}
-use Rattle.rows.specs.Index.{AreApart}
 use Rattle.rows.specs.Lists.{items_of}
 use Rattle.rows.specs.RowSets.{IsPut}
-use Rattle.rows.specs.Words.{ArePacked, IsWordOf, digits, rows_in, value}
+use Rattle.rows.specs.Words.{AreApart, ArePacked, IsWordOf, digits, rows_in, value}
 use Rattle.std.specs.Vec.{vec_len}
 use Rattle.std.proofs.Math.Nat.{mod-add-div, mul-div_cancel_left, mul-zero, zero-mod, zero-mul}
 use Rattle.std.proofs.lemmas.Nat.{div-add-mod', mod_below, pow_pos}

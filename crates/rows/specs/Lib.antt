@@ -1,4 +1,3 @@
-pub mod Index
 pub mod Lists
 pub mod RowSets
 pub mod Words

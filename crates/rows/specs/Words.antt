@@ -1,5 +1,5 @@
 -- Invariant: rows of numbers as words
-use Rattle.std.specs.Prelude.{◌≡◌, ℕ, zero, suc, ◌+◌, ◌*◌, ◌^◌, ◌/◌, ◌%◌, ◌≤◌, ◌<◌, ◌-◌, Bool, true, false, List, [], ◌∷◌, map, length}
+use Rattle.std.specs.Prelude.{◌≡◌, ℕ, zero, suc, ◌+◌, ◌*◌, ◌^◌, ◌/◌, ◌%◌, ◌≤◌, ◌<◌, ◌-◌, Bool, true, false, List, [], ◌∷◌, map, length, get_or}
 use Rattle.std.specs.List.{Contains}
 
 -- so many digits of the word, the lowest first
@@ -43,3 +43,7 @@ pub record IsHalf (bits long largest : ℕ) : Type 0 where
 pub record IsWhole (bits long : ℕ) : Type 0 where
   pub few : bits ≤ 32
   pub room : bits * long ≤ 128
+
+-- no word stands twice
+abbrev pub AreApart : List ℕ → Type 0
+AreApart words = (i j : ℕ) → i < j → j < length words → get_or words i 0 ≡ get_or words j 0 → ⊥

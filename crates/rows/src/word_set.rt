@@ -1,10 +1,11 @@
 //! Words, none twice.
 ghost use Rattle.std.specs.Prelude.{◌≡◌, [], take, length, slice_get, IfOk, OnOk, OnErr};
 ghost use Rattle.std.specs.List.{Contains};
-ghost use Rattle.rows.specs.Index.{AreApart};
 ghost use Rattle.rows.specs.RowSets.{IsPut};
+ghost use Rattle.rows.specs.Words.{AreApart};
 
-use crate::index::{Index, index_words, put_indexed};
+use crate::index::put_indexed;
+use buckets::{Index, index_all};
 use std::alloc::{AllocError, Global};
 use std::marker::Model;
 
@@ -23,16 +24,16 @@ pub struct WordSet {
 }
 
 impl Model for WordSet {
-    ghost use Rattle.std.specs.Prelude.{List, ℕ, length};
-    ghost use Rattle.rows.specs.Index.{AreApart, IsIndex, bucket};
+    ghost use Rattle.std.specs.Prelude.{List, ℕ};
+    ghost use Rattle.buckets.specs.Index.{Indexes, word_bucket};
+    ghost use Rattle.rows.specs.Words.{AreApart};
 
     ghost Value = { List ℕ };
 
     ghost view = { λ s. s.words.items };
 
     ghost invariant = { λ s. AreApart s.words.items
-        × IsIndex (bucket (length s.index.last.items)) s.words.items
-        s.index.last.items s.index.before.items };
+        × Indexes word_bucket s.words.items s.index.last.items s.index.before.items };
 }
 
 impl WordSet {
@@ -42,10 +43,7 @@ impl WordSet {
     {
         WordSet {
             words: Vec::new(alloc),
-            index: Index {
-                last: Vec::new(alloc),
-                before: Vec::new(alloc),
-            },
+            index: Index::new(alloc),
         }
     }
 
@@ -74,8 +72,7 @@ impl WordSet {
         ensures { self.new ≡ [] }
     {
         self.words.clear();
-        self.index.last.clear();
-        self.index.before.clear();
+        self.index.clear();
     }
 
     /// Leaves so many words, the first ones. Where words go that are indexed, all are indexed anew when one is put.
@@ -83,8 +80,7 @@ impl WordSet {
         ensures { self.new ≡ take len self.old }
     {
         if len < self.index.before.len() {
-            self.index.last.clear();
-            self.index.before.clear();
+            self.index.clear();
         }
         self.words.truncate(len);
     }
@@ -97,7 +93,7 @@ impl WordSet {
         ensures err { OnErr result (self.new ≡ self.old) }
     {
         let len = self.words.len();
-        if self.index.before.len() == len && len < self.index.last.len() && len < MANY {
+        if self.index.before.len() == len && len < self.index.last.len() {
             return put_indexed(&mut self.words, &mut self.index, word);
         }
         self.put_anew(word)
@@ -112,7 +108,8 @@ impl WordSet {
         if self.words.len() < FEW || self.words.len() >= MANY {
             return self.put_looked_through(word);
         }
-        index_words(&self.words, &mut self.index)?;
+        let wanted = 2 * self.words.len() + 64;
+        index_all(&self.words, wanted, &mut self.index)?;
         put_indexed(&mut self.words, &mut self.index, word)
     }
 
@@ -136,10 +133,7 @@ impl WordSet {
         words.extend_from_slice(&self.words)?;
         Ok(WordSet {
             words,
-            index: Index {
-                last: Vec::new(alloc),
-                before: Vec::new(alloc),
-            },
+            index: Index::new(alloc),
         })
     }
 }

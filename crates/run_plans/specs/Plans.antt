@@ -6,8 +6,8 @@ use Rattle.models.specs.declared.operation.Part.{Part}
 use Rattle.models.specs.declared.operation.Part.TheVariants.{Nil, Int, Pair}
 use Rattle.models.specs.declared.model_kind.ModelKind.{ModelKind}
 use Rattle.models.specs.declared.model_kind.ModelKind.TheVariants.{Register, CasRegister, Mutex, FifoQueue, UnorderedQueue, Set}
-use Rattle.history.specs.declared.event.Fault.{Fault}
-use Rattle.history.specs.declared.event.Fault.TheVariants.{Partition, Heal, LoseReplies, Crash, Restart}
+use Rattle.events.specs.declared.event.Fault.{Fault}
+use Rattle.events.specs.declared.event.Fault.TheVariants.{Partition, Heal, LoseReplies, Crash, Restart}
 use Rattle.generators.specs.declared.item.Item.TheVariants.{Op}
 use Rattle.generators.specs.Generators.{Generator, ops, mix, limit, these}
 use Rattle.machine.specs.Machine.{Setup}

@@ -7,8 +7,8 @@ ghost use Rattle.run_plans.specs.Options.{default_run, default_setup, judging_sp
 use crate::plan::RunPlan;
 use crate::spelling::{byte_of, count_in, kind_in, mode_in, switch_in, within};
 use edn::Refusal;
+use events::MOST_REPLICAS;
 use harness::Config;
-use history::MOST_REPLICAS;
 use monitor::MOST_ENDS;
 use processes::MOST_THREADS;
 use std::alloc::Global;

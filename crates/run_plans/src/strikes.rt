@@ -2,7 +2,7 @@
 ghost use Rattle.std.specs.Prelude.{◌≡◌, IfOk};
 ghost use Rattle.run_plans.specs.Plans.{faults};
 
-use history::{Fault, Groups};
+use events::{Fault, Groups};
 use nemesis::Schedule;
 use std::alloc::{AllocError, Global};
 

@@ -15,43 +15,18 @@ use Rattle.edn.specs.declared.refusal.Refusal.TheVariants.{BadValue, BadBudget, 
 use Rattle.models.specs.declared.model_kind.ModelKind.{ModelKind}
 use Rattle.models.specs.declared.model_kind.ModelKind.TheVariants.{Register, CasRegister, Mutex, FifoQueue, Set, UnorderedQueue}
 use Rattle.models.specs.Names.{name_of, Finds}
-use Rattle.history.specs.declared.event.Event.{Event}
-use Rattle.history.specs.Spelling.{Spells, WhyUnspelled}
+use Rattle.events.specs.declared.event.Event.{Event}
+use Rattle.events.specs.Spelling.{Spells, WhyUnspelled}
 use Rattle.machine.specs.declared.command.Command.{Command}
-use Rattle.machine.specs.declared.command.Command.TheVariants.{Append, Rewind, SetBudget, Draw, Serve, Finish, Nemesis}
-use Rattle.scripts.specs.Command.{verdict_by, rewind_to, rewind_by, kind_named, kind_in, key_in, model_of, model_by, budget_for, budget_by, command_named, command_headed, vector_command, Appends, ElementAsks, AskFor, Asks}
+use Rattle.machine.specs.declared.command.Command.TheVariants.{Append, Rewind, SetBudget, Verdict, Draw, Serve, Finish, Nemesis}
+use Rattle.scripts.specs.Command.{rewind_to, kind_named, kind_in, key_in, model_of, budget_of, command_named, vector_command, Appends, ElementAsks, AskFor, Asks}
 
--- arguments that are too few or too many
-pub no_verdict : (es : List Edn) → 1 ≤ length es → verdict_by (values_of es) ≡ Err BadValue
-no_verdict [] h = absurd (omega arith)
-no_verdict (e ∷ es) h = refl
-
-pub no_rewind : (es : List Edn) → 2 ≤ length es → rewind_by (values_of es) ≡ Err BadValue
-no_rewind [] h = absurd (omega arith)
-no_rewind (e ∷ []) h = absurd (omega arith)
-no_rewind (e ∷ f ∷ es) h = refl
-
-pub few_for_model : (es : List Edn) → length es < 2 → model_by (values_of es) ≡ Err BadValue
-few_for_model [] h = refl
-few_for_model (e ∷ []) h = refl
-few_for_model (e ∷ f ∷ es) h = absurd (omega arith)
-
-pub many_for_model : (es : List Edn) → 3 ≤ length es → model_by (values_of es) ≡ Err BadValue
-many_for_model [] h = absurd (omega arith)
-many_for_model (e ∷ []) h = absurd (omega arith)
-many_for_model (e ∷ f ∷ []) h = absurd (omega arith)
-many_for_model (e ∷ f ∷ g ∷ es) h = refl
-
-pub few_for_budget : (es : List Edn) → length es < 2 → budget_by (values_of es) ≡ Err BadValue
-few_for_budget [] h = refl
-few_for_budget (e ∷ []) h = refl
-few_for_budget (e ∷ f ∷ es) h = absurd (omega arith)
-
-pub many_for_budget : (es : List Edn) → 3 ≤ length es → budget_by (values_of es) ≡ Err BadValue
-many_for_budget [] h = absurd (omega arith)
-many_for_budget (e ∷ []) h = absurd (omega arith)
-many_for_budget (e ∷ f ∷ []) h = absurd (omega arith)
-many_for_budget (e ∷ f ∷ g ∷ es) h = refl
+-- no command takes three arguments
+pub takes_three_never : (name : List ℕ) (es : List Edn) → 3 ≤ length es → command_named name (values_of es) ≡ Err BadValue
+takes_three_never name [] h = absurd (omega arith)
+takes_three_never name (e ∷ []) h = absurd (omega arith)
+takes_three_never name (e ∷ f ∷ []) h = absurd (omega arith)
+takes_three_never name (e ∷ f ∷ g ∷ es) h = refl
 
 pub two_are_refused : (es : List Edn) → 2 ≤ length es → AskFor (values_of es) (Err BadValue)
 two_are_refused [] h = absurd (omega arith)
@@ -122,57 +97,32 @@ either : (b : Bool) (x y : Result Command Refusal) → MayAsk x → MayAsk y →
 either true x y p q = p
 either false x y p q = q
 
-may_ask_verdict : (vs : Values) → MayAsk (verdict_by vs)
-may_ask_verdict none = tt
-may_ask_verdict (more v vs) = tt
-
 may_ask_rewind_to : (v : Value) → MayAsk (rewind_to v)
 may_ask_rewind_to (int (pos n)) = either (nat_lt n (2 ^ 32)) (Ok (Rewind n)) (Err NoSuchIndex) tt tt
 may_ask_rewind_to (int _) = tt
 may_ask_rewind_to _ = tt
-
-may_ask_rewind : (vs : Values) → MayAsk (rewind_by vs)
-may_ask_rewind none = tt
-may_ask_rewind (more v none) = may_ask_rewind_to v
-may_ask_rewind (more v (more w vs)) = tt
 
 may_ask_model_of : (key : Option ℕ) (kind : Option ModelKind) → MayAsk (model_of key kind)
 may_ask_model_of (Some key) (Some kind) = tt
 may_ask_model_of None kind = tt
 may_ask_model_of (Some key) None = tt
 
-may_ask_model : (vs : Values) → MayAsk (model_by vs)
-may_ask_model none = tt
-may_ask_model (more k none) = tt
-may_ask_model (more k (more m none)) = may_ask_model_of (key_in k) (kind_in m)
-may_ask_model (more k (more m (more v vs))) = tt
-
-may_ask_budget_for : (key : Option ℕ) (v : Value) → MayAsk (budget_for key v)
-may_ask_budget_for None v = tt
-may_ask_budget_for (Some key) (int (pos n)) = either (nat_lt n (2 ^ 32)) (Ok (SetBudget key n)) (Err BadBudget) tt tt
-may_ask_budget_for (Some key) (int _) = tt
-may_ask_budget_for (Some key) _ = tt
-
-may_ask_budget : (vs : Values) → MayAsk (budget_by vs)
-may_ask_budget none = tt
-may_ask_budget (more k none) = tt
-may_ask_budget (more k (more n none)) = may_ask_budget_for (key_in k) n
-may_ask_budget (more k (more n (more v vs))) = tt
+may_ask_budget_of : (key : Option ℕ) (v : Value) → MayAsk (budget_of key v)
+may_ask_budget_of (Some key) (int (pos n)) = either (nat_lt n (2 ^ 32)) (Ok (SetBudget key n)) (Err BadBudget) tt tt
+may_ask_budget_of (Some key) (int _) = tt
+may_ask_budget_of _ _ = tt
 
 may_ask_named : (name : List ℕ) (vs : Values) → MayAsk (command_named name vs)
-may_ask_named name vs =
-    either (bytes_eq name (codes "verdict")) (verdict_by vs) (if bytes_eq name (codes "rewind") then rewind_by vs else if bytes_eq name (codes "model") then model_by vs else if bytes_eq name (codes "budget") then budget_by vs else Err BadValue) (may_ask_verdict vs)
-    (either (bytes_eq name (codes "rewind")) (rewind_by vs) (if bytes_eq name (codes "model") then model_by vs else if bytes_eq name (codes "budget") then budget_by vs else Err BadValue) (may_ask_rewind vs)
-    (either (bytes_eq name (codes "model")) (model_by vs) (if bytes_eq name (codes "budget") then budget_by vs else Err BadValue) (may_ask_model vs)
-    (either (bytes_eq name (codes "budget")) (budget_by vs) (Err BadValue) (may_ask_budget vs) tt)))
-
-may_ask_headed : (v : Value) (vs : Values) → MayAsk (command_headed v vs)
-may_ask_headed (keyword name) vs = may_ask_named name vs
-may_ask_headed _ vs = tt
+may_ask_named name none = either (bytes_eq name (codes "verdict")) (Ok Verdict) (Err BadValue) tt tt
+may_ask_named name (more n none) = either (bytes_eq name (codes "rewind")) (rewind_to n) (Err BadValue) (may_ask_rewind_to n) tt
+may_ask_named name (more k (more v none)) =
+    either (bytes_eq name (codes "model")) (model_of (key_in k) (kind_in v)) (if bytes_eq name (codes "budget") then budget_of (key_in k) v else Err BadValue) (may_ask_model_of (key_in k) (kind_in v))
+    (either (bytes_eq name (codes "budget")) (budget_of (key_in k) v) (Err BadValue) (may_ask_budget_of (key_in k) v) tt)
+may_ask_named name (more k (more v (more w vs))) = tt
 
 may_ask : (vs : Values) → MayAsk (vector_command vs)
-may_ask none = tt
-may_ask (more v vs) = may_ask_headed v vs
+may_ask (more (keyword name) vs) = may_ask_named name vs
+may_ask _ = tt
 
 append_may_ask : (v : Value) (asked : Result Command Refusal) → Appends v asked → MayAsk asked
 append_may_ask v (Ok (Append event)) h = tt

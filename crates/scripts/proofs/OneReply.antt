@@ -8,8 +8,8 @@ use Rattle.edn.specs.Text.{IsText, IsLongestFront}
 use Rattle.edn.specs.declared.refusal.Refusal.{Refusal}
 use Rattle.edn.specs.declared.refusal.Refusal.TheVariants.{BadValue, Unreadable}
 use Rattle.edn.proofs.Unique.{one_text}
-use Rattle.history.specs.declared.event.Event.{Event}
-use Rattle.history.proofs.OneEvent.{spell_one}
+use Rattle.events.specs.declared.event.Event.{Event}
+use Rattle.events.proofs.OneEvent.{spell_one}
 use Rattle.machine.specs.Machine.{Machine, MayStep}
 use Rattle.machine.specs.declared.command.Command.{Command}
 use Rattle.machine.specs.declared.command.Command.TheVariants.{Append}

@@ -8,25 +8,16 @@ use Rattle.edn.specs.declared.refusal.Refusal.TheVariants.{BadValue, BadBudget, 
 use Rattle.models.specs.declared.model_kind.ModelKind.{ModelKind}
 use Rattle.models.specs.declared.model_kind.ModelKind.TheVariants.{Register, CasRegister, Mutex, FifoQueue, Set, UnorderedQueue}
 use Rattle.models.specs.Names.{name_of}
-use Rattle.history.specs.Spelling.{Spells, number_in}
-use Rattle.history.specs.declared.event.Event.{Event}
+use Rattle.events.specs.Spelling.{Spells, number_in}
+use Rattle.events.specs.declared.event.Event.{Event}
 use Rattle.machine.specs.declared.command.Command.{Command}
 use Rattle.machine.specs.declared.command.Command.TheVariants.{Append, Rewind, SetModel, SetBudget, Verdict}
-
--- [:verdict]
-abbrev pub verdict_by : Values → Result Command Refusal
-verdict_by none = Ok Verdict
-verdict_by _ = Err BadValue
 
 -- [:rewind n], where n is an integer. No history has an index below 0, or one of more than 32 bits
 abbrev pub rewind_to : Value → Result Command Refusal
 rewind_to (int (pos n)) = if nat_lt n (2 ^ 32) then Ok (Rewind n) else Err NoSuchIndex
 rewind_to (int z) = Err NoSuchIndex
 rewind_to _ = Err BadValue
-
-abbrev pub rewind_by : Values → Result Command Refusal
-rewind_by (more n none) = rewind_to n
-rewind_by _ = Err BadValue
 
 -- a key is an integer of 0 to 65,535
 abbrev pub key_in : Value → Option ℕ
@@ -52,40 +43,25 @@ abbrev pub model_of : Option ℕ → Option ModelKind → Result Command Refusal
 model_of (Some key) (Some kind) = Ok (SetModel key kind)
 model_of _ _ = Err BadValue
 
-abbrev pub model_by : Values → Result Command Refusal
-model_by (more k (more m none)) = model_of (key_in k) (kind_in m)
-model_by _ = Err BadValue
-
 -- [:budget k n], where k is a key, and n an integer. No budget is below 0, or of more than 32 bits
-abbrev pub budget_of : ℕ → Value → Result Command Refusal
-budget_of key (int (pos n)) = if nat_lt n (2 ^ 32) then Ok (SetBudget key n) else Err BadBudget
-budget_of key (int z) = Err BadBudget
-budget_of key _ = Err BadValue
+abbrev pub budget_of : Option ℕ → Value → Result Command Refusal
+budget_of (Some key) (int (pos n)) = if nat_lt n (2 ^ 32) then Ok (SetBudget key n) else Err BadBudget
+budget_of (Some key) (int z) = Err BadBudget
+budget_of _ _ = Err BadValue
 
-abbrev pub budget_for : Option ℕ → Value → Result Command Refusal
-budget_for (Some key) n = budget_of key n
-budget_for None n = Err BadValue
-
-abbrev pub budget_by : Values → Result Command Refusal
-budget_by (more k (more n none)) = budget_for (key_in k) n
-budget_by _ = Err BadValue
-
--- a vector is a command by the keyword in front
+-- a vector is a command by the keyword in front, with as many arguments as that one takes; [:verdict] has none
 abbrev pub command_named : List ℕ → Values → Result Command Refusal
-command_named name arguments =
-    if bytes_eq name (codes "verdict") then verdict_by arguments
-    else if bytes_eq name (codes "rewind") then rewind_by arguments
-    else if bytes_eq name (codes "model") then model_by arguments
-    else if bytes_eq name (codes "budget") then budget_by arguments
+command_named name none = if bytes_eq name (codes "verdict") then Ok Verdict else Err BadValue
+command_named name (more n none) = if bytes_eq name (codes "rewind") then rewind_to n else Err BadValue
+command_named name (more k (more v none)) =
+    if bytes_eq name (codes "model") then model_of (key_in k) (kind_in v)
+    else if bytes_eq name (codes "budget") then budget_of (key_in k) v
     else Err BadValue
-
-abbrev pub command_headed : Value → Values → Result Command Refusal
-command_headed (keyword name) arguments = command_named name arguments
-command_headed _ arguments = Err BadValue
+command_named name _ = Err BadValue
 
 abbrev pub vector_command : Values → Result Command Refusal
-vector_command none = Err BadValue
-vector_command (more head arguments) = command_headed head arguments
+vector_command (more (keyword name) arguments) = command_named name arguments
+vector_command _ = Err BadValue
 
 -- an element appends the event that it spells
 abbrev pub Appends : Value → Result Command Refusal → Type 0

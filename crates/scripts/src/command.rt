@@ -1,7 +1,7 @@
 //! What a line asks for.
 ghost use Rattle.std.specs.Prelude.{◌≡◌, ◌≢◌, Err};
 ghost use Rattle.edn.specs.View.{value_of, values_of};
-ghost use Rattle.scripts.specs.Command.{verdict_by, rewind_by, rewind_to, model_by, model_of, budget_by, budget_of, key_in, kind_in, command_named, command_headed, vector_command, ElementAsks, AskFor, Asks};
+ghost use Rattle.scripts.specs.Command.{rewind_to, model_of, budget_of, key_in, kind_in, command_named, vector_command, ElementAsks, AskFor, Asks};
 
 use edn::{Edn, Refusal};
 use harness::Command;
@@ -14,7 +14,7 @@ use std::alloc::Global;
 /// gives it the budget n.
 ///
 /// An event that is spelled plainly takes the time of one pass over the line, and memory for the members of a set alone.
-/// Any other line costs what [`read_all`](edn::read_all) and [`from_edn`](history::from_edn) cost.
+/// Any other line costs what [`read_all`](edn::read_all) and [`from_edn`](events::from_edn) cost.
 ///
 /// # Errors
 ///
@@ -48,7 +48,7 @@ fn command_of(alloc: Global, element: &Edn) -> Result<Command, Refusal>
 {
     match element.as_slice() {
         Some(items) => vector_command(items),
-        None => Ok(Command::Append(history::from_edn(alloc, element)?)),
+        None => Ok(Command::Append(events::from_edn(alloc, element)?)),
     }
 }
 
@@ -58,17 +58,8 @@ fn vector_command(items: &[Edn]) -> Result<Command, Refusal>
 {
     match items {
         [] => Err(Refusal::BadValue),
-        [head, arguments @ ..] => command_headed(head, arguments),
-    }
-}
-
-// The command with this first element and these arguments.
-fn command_headed(head: &Edn, arguments: &[Edn]) -> Result<Command, Refusal>
-    ensures { result ≡ command_headed (value_of head.now) (values_of arguments.now) }
-{
-    match head {
-        Edn::Keyword(name) => command_named(name.as_str(), arguments),
-        _ => Err(Refusal::BadValue),
+        [Edn::Keyword(name), arguments @ ..] => command_named(name.as_str(), arguments),
+        [_, ..] => Err(Refusal::BadValue),
     }
 }
 
@@ -76,35 +67,21 @@ fn command_headed(head: &Edn, arguments: &[Edn]) -> Result<Command, Refusal>
 fn command_named(name: &str, arguments: &[Edn]) -> Result<Command, Refusal>
     ensures { result ≡ command_named name.now (values_of arguments.now) }
 {
-    if name == "verdict" {
-        verdict(arguments)
-    } else if name == "rewind" {
-        rewind(arguments)
-    } else if name == "model" {
-        set_model(arguments)
-    } else if name == "budget" {
-        set_budget(arguments)
-    } else {
-        Err(Refusal::BadValue)
-    }
-}
-
-fn verdict(arguments: &[Edn]) -> Result<Command, Refusal>
-    ensures { result ≡ verdict_by (values_of arguments.now) }
-{
     match arguments {
-        [] => Ok(Command::Verdict),
-        [_, ..] => Err(Refusal::BadValue),
-    }
-}
-
-fn rewind(arguments: &[Edn]) -> Result<Command, Refusal>
-    ensures { result ≡ rewind_by (values_of arguments.now) }
-{
-    match arguments {
-        [] => Err(Refusal::BadValue),
-        [n] => rewind_to(n),
-        [_, _, ..] => Err(Refusal::BadValue),
+        [] => match name {
+            "verdict" => Ok(Command::Verdict),
+            _ => Err(Refusal::BadValue),
+        },
+        [n] => match name {
+            "rewind" => rewind_to(n),
+            _ => Err(Refusal::BadValue),
+        },
+        [key, value] => match name {
+            "model" => model_of(key_of(key), kind_of(value)),
+            "budget" => budget_of(key_of(key), value),
+            _ => Err(Refusal::BadValue),
+        },
+        [_, _, _, ..] => Err(Refusal::BadValue),
     }
 }
 
@@ -120,16 +97,6 @@ fn rewind_to(n: &Edn) -> Result<Command, Refusal>
     }
 }
 
-fn set_model(arguments: &[Edn]) -> Result<Command, Refusal>
-    ensures { result ≡ model_by (values_of arguments.now) }
-{
-    match arguments {
-        [] | [_] => Err(Refusal::BadValue),
-        [key, kind] => model_of(key_of(key), kind_of(kind)),
-        [_, _, _, ..] => Err(Refusal::BadValue),
-    }
-}
-
 fn model_of(key: Option<Key>, kind: Option<ModelKind>) -> Result<Command, Refusal>
     ensures { result ≡ model_of key kind }
 {
@@ -139,24 +106,11 @@ fn model_of(key: Option<Key>, kind: Option<ModelKind>) -> Result<Command, Refusa
     }
 }
 
-fn set_budget(arguments: &[Edn]) -> Result<Command, Refusal>
-    ensures { result ≡ budget_by (values_of arguments.now) }
-{
-    match arguments {
-        [] | [_] => Err(Refusal::BadValue),
-        [key, n] => match key_of(key) {
-            Some(key) => budget_of(key, n),
-            None => Err(Refusal::BadValue),
-        },
-        [_, _, _, ..] => Err(Refusal::BadValue),
-    }
-}
-
-fn budget_of(key: Key, n: &Edn) -> Result<Command, Refusal>
+fn budget_of(key: Option<Key>, n: &Edn) -> Result<Command, Refusal>
     ensures { result ≡ budget_of key (value_of n.now) }
 {
-    match n {
-        Edn::Int(n) => match u32::try_from(*n) {
+    match (key, n) {
+        (Some(key), Edn::Int(n)) => match u32::try_from(*n) {
             Ok(n) => Ok(Command::SetBudget(key, n)),
             Err(_) => Err(Refusal::BadBudget),
         },

@@ -2,7 +2,7 @@
 ghost use Rattle.test_store.specs.Store.{VersionsWithin};
 
 use edn::Refusal;
-use history::Fault;
+use events::Fault;
 use models::{Found, ModelKind, Name, Op, Part};
 use std::alloc::{AllocError, Global};
 use std::process::Abort;

@@ -1,6 +1,6 @@
 //! Draws by hand.
+use events::Fault;
 use generators::{Asker, Cycle, Drawn, Gen, Item, Source};
-use history::Fault;
 use models::{Name, Op, Part};
 use rand_chacha::ChaCha8Rng;
 use rand_core::{Rng, SeedableRng};

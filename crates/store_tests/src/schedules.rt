@@ -1,5 +1,5 @@
 //! A schedule by hand.
-use history::Fault;
+use events::Fault;
 use nemesis::Schedule;
 use std::alloc::{AllocError, Global};
 use std::panic::Expect;

@@ -2,7 +2,7 @@
 
 use crate::counted::{Counted, Said, Step, told};
 use edn::Refusal;
-use history::{Fault, Groups};
+use events::{Fault, Groups};
 use models::{Found, ModelKind, Name};
 use std::alloc::{AllocError, Global};
 use std::panic::Expect;

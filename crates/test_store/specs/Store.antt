@@ -11,8 +11,8 @@ use Rattle.models.specs.declared.any_state.AnyState.{AnyState}
 use Rattle.models.specs.declared.model_kind.ModelKind.{ModelKind}
 use Rattle.models.specs.Objects.{object_of}
 use Rattle.models.specs.AnyState.{any, outcomes_of}
-use Rattle.history.specs.declared.event.Fault.{Fault}
-use Rattle.history.specs.declared.event.Fault.TheVariants.{Partition, Heal, Pause, Resume, Crash, Restart, LoseReplies}
+use Rattle.events.specs.declared.event.Fault.{Fault}
+use Rattle.events.specs.declared.event.Fault.TheVariants.{Partition, Heal, Pause, Resume, Crash, Restart, LoseReplies}
 use Rattle.test_store.specs.declared.held.Held.{Held}
 use Rattle.test_store.specs.declared.links.Links.{Links}
 use Rattle.test_store.specs.declared.outcome.Mode.{Mode}

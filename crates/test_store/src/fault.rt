@@ -6,7 +6,7 @@ ghost use Rattle.test_store.specs.Marked.{HasMarked};
 ghost use Rattle.edn.specs.declared.refusal.Refusal.{Refusal};
 
 use edn::Refusal;
-use history::{Fault, Groups};
+use events::{Fault, Groups};
 
 /// Tests whether a fault names replicas of a store with so many, each once.
 ///

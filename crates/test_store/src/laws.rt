@@ -2,7 +2,7 @@
 ghost use Rattle.std.specs.Prelude.{◌≡◌, ℕ, ◌+◌};
 ghost use Rattle.models.specs.declared.operation.Op.{Op};
 ghost use Rattle.models.specs.declared.model_kind.ModelKind.{ModelKind};
-ghost use Rattle.history.specs.declared.event.Fault.{Fault};
+ghost use Rattle.events.specs.declared.event.Fault.{Fault};
 ghost use Rattle.test_store.specs.declared.outcome.Mode.{Mode};
 ghost use Rattle.test_store.specs.declared.outcome.Mode.TheVariants.{Strict};
 ghost use Rattle.test_store.specs.declared.outcome.Outcome.{Outcome};
@@ -11,8 +11,8 @@ ghost use Rattle.test_store.specs.Truth.{start_truth, IsTrueOf, KeepsTruth, Leav
 
 /// In strict mode the store holds one true state of each key, as one copy would: at first the start states; a serve that is
 /// done or lost steps it as the operation does, and one that is refused leaves it, and so does each fault.
-/// [`Store::serve`](crate::Store::serve) and [`Store::fault`](crate::Store::fault) cite it, and `no_false_alarm` of
-/// `trials` rests on it.
+/// [`Store::serve`](crate::Store::serve) and [`Store::fault`](crate::Store::fault) cite it, and the law
+/// `no_trial_is_a_false_alarm` of `machine` rests on it.
 pub fn strict_law()
     ensures opening { (n : ℕ) (kind : ModelKind) → IsCount n
         → IsTrueOf kind (opening n Strict kind) (start_truth kind) }

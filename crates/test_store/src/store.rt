@@ -14,7 +14,7 @@ use crate::links::{Links, alone, count};
 use crate::outcome::{Mode, Outcome};
 use crate::rows::Rows;
 use edn::Refusal;
-use history::{Fault, MOST_REPLICAS};
+use events::{Fault, MOST_REPLICAS};
 use models::{AnyState, Found, Key, ModelKind, Op};
 use std::alloc::{AllocError, Global};
 use std::marker::Model;

@@ -1,8 +1,8 @@
 //! What a core answers, as plain data.
 use crate::setups::{Ask, command_of};
 use edn::Refusal;
+use events::{EventKind, Fault, Process};
 use harness::{Command, Core, Reply};
-use history::{EventKind, Fault, Process};
 use linspec::Verdict;
 use models::Found;
 use test_store::Outcome;

@@ -6,9 +6,9 @@ use crate::setups::Ask::{
 };
 use crate::setups::{Plain, calm, faulty};
 use edn::Refusal;
-use history::EventKind::{Fail as Failed, Info, Invoke, Ok as Done};
-use history::Process::Client;
-use history::{EventKind, Process};
+use events::EventKind::{Fail as Failed, Info, Invoke, Ok as Done};
+use events::Process::Client;
+use events::{EventKind, Process};
 use std::alloc::Global;
 use std::test::Fail;
 use test_store::Mode;

@@ -3,9 +3,9 @@
 use crate::answers::{Said, verdict_said};
 use crate::setups::{Plain, config, fault_of};
 use edn::Refusal;
+use events::{EventKind, Process};
 use generators::{Cycle, Gen, Item};
 use harness::{Command, Core, Reply};
-use history::{EventKind, Process};
 use linspec::Verdict;
 use models::{Key, Name, Op, Part};
 use rand_chacha::ChaCha8Rng;

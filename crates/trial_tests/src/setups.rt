@@ -1,8 +1,8 @@
 //! How the cores of the rows are opened, and what they are asked, as plain data.
 use edn::Refusal;
+use events::{Body, Event, EventKind, Fault, Groups, Process};
 use generators::{Cycle, Gen, Item};
 use harness::{Command, Config, Core};
-use history::{Body, Event, EventKind, Fault, Groups, Process};
 use models::{ModelKind, Name, Op, Part};
 use nemesis::Schedule;
 use std::alloc::{AllocError, Global};

@@ -5,10 +5,10 @@ use Rattle.std.specs.List.{Contains}
 use Rattle.std.proofs.lemmas.Bool.{cases_Bool, cases_order}
 use Rattle.std.proofs.lemmas.Bool.Decides.{Decides-int_eq}
 use Rattle.std.proofs.lemmas.List.Sums.{sum_by-cons}
-use Rattle.models.specs.Multisets.{with_one, without_one}
+use Rattle.values.specs.Multisets.{with_one, without_one}
 use Rattle.models.specs.Runs.{times_in}
-use Rattle.models.proofs.PutIn.{no_member, first_member, later_member, member_cases}
-use Rattle.models.proofs.Bags.{with_one-later, with_one-here, without_one-here, without_one-later, same_int, other_int}
+use Rattle.values.proofs.PutIn.{no_member, first_member, later_member, member_cases}
+use Rattle.values.proofs.Bags.{with_one-later, with_one-here, without_one-here, without_one-later, same_int, other_int}
 
 -- one where both are the same, else none
 abbrev pub one_if : ℤ → ℤ → ℕ

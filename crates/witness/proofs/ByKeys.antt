@@ -1,5 +1,5 @@
 -- operations by their keys
-use Rattle.std.proofs.Common.{◌≡◌, ◌≢◌, ℕ, ◌+◌, ◌-◌, ◌<◌, ◌≤◌, ◌⊎◌, inl, inr, ⊎_elim, Bool, true, false, not, ◌&&◌, cond, nat_eq, nat_lt, Option, Some, None, List, [], ◌∷◌, ◌++◌, length, take, drop, get_or, refl, sym, ap, ◌∙◌, subst, arith}
+use Rattle.std.proofs.Common.{◌≡◌, ◌≢◌, ℕ, ◌+◌, ◌-◌, ◌<◌, ◌≤◌, ◌⊎◌, inl, inr, ⊎_elim, Bool, true, false, not, ◌&&◌, cond, nat_eq, nat_lt, Option, Some, None, IfSome, List, [], ◌∷◌, ◌++◌, length, take, drop, get_or, refl, sym, ap, ◌∙◌, subst, arith}
 use mathlib.Core.Path.{fun_ext}
 use Rattle.std.specs.declared.cmp.Ordering.TheVariants.{Less, Equal, Greater}
 use Rattle.std.specs.Ordering.{nat_cmp, is_lt}
@@ -8,14 +8,14 @@ use Rattle.std.specs.List.Sorted.{ties, IsStableByKey, IsNonDecreasingBy}
 use Rattle.std.proofs.lemmas.Bool.{cases_Bool, cases_order, eq-eqb, ne_eqb, eqb-true, lt-ltb, ltb-true}
 use Rattle.std.proofs.lemmas.List.{append-nil, get_or_default, get_or-take, get_or-drop, length-take-le, length-take, length-drop, take-append-drop}
 use Rattle.std.proofs.lemmas.List.Elements.{filter-append, Contains-append_left, Contains-append_right}
-use Rattle.history.specs.declared.event.Event.{Event}
+use Rattle.events.specs.declared.event.Event.{Event}
 use Rattle.models.specs.declared.model_kind.ModelKind.{ModelKind}
 use Rattle.linspec.proofs.Filters.{filter-all, filter-none, from_filter, to_filter}
 use Rattle.linspec.proofs.Lists.{Contains-head}
 use Rattle.witness.specs.declared.fates.Fate.{Fate}
 use Rattle.witness.specs.declared.misfit.Unfit.{Unfit}
 use Rattle.witness.specs.declared.placing.Stand.{Stand}
-use Rattle.witness.specs.KeyOrders.{ids_of, on_key, AreByKeys, AreThere, KeyFits, KeyUnfit, Judges, FindsUpTo, FindsAll}
+use Rattle.witness.specs.KeyOrders.{ids_of, on_key, AreByKeys, AreThere, KeyFits, KeyUnfit, Judges, FitsBefore, FindsUpTo, FindsAll}
 
 -- keys that tie are the same
 lt_is : (a b : ℕ) → is_lt (nat_cmp a b) ≡ nat_lt a b
@@ -116,53 +116,94 @@ run_there events stands sorted n m by there s h =
     let in_sorted : Contains sorted s = subst (λ l. Contains l s) (take-append-drop n sorted) (Contains-append_right (take n sorted) (drop n sorted) s later) in
     there s (from_filter (λ (x : Stand). nat_eq x.key s.key) stands s (subst (λ l. Contains l s) (by.same s.key) (to_filter (λ (x : Stand). nat_eq x.key s.key) sorted s in_sorted (eq-eqb s.key s.key refl)))).0
 
-module _ (kind : ModelKind) (events : List Event) (fates : List Fate) (found : Option Unfit) (sorted : List Stand) where
-  fits_below : (k start end : ℕ) → ((i : ℕ) (d : Stand) → start ≤ i → i < end → (get_or sorted i d).key ≡ k) → ((i : ℕ) (d : Stand) → i < start → KeyFits kind events fates (ids_of (on_key (get_or sorted i d).key sorted)))
-      → KeyFits kind events fates (ids_of (on_key k sorted)) → (i : ℕ) (d : Stand) → i < end → KeyFits kind events fates (ids_of (on_key (get_or sorted i d).key sorted))
-  fits_below k start end same before now i d l =
-      ⊎_elim
-      (λ (e : i ≡ start). subst (λ j. KeyFits kind events fates (ids_of (on_key j sorted))) (sym (same i d (omega (arith, e)) l)) now)
-      (λ h. ⊎_elim
-      (λ (g : i < start). before i d g)
-      (λ (g : start < i). subst (λ j. KeyFits kind events fates (ids_of (on_key j sorted))) (sym (same i d (omega (arith, g)) l)) now)
-      h)
-      (cases_order i start)
+-- what holds of the keys before a place, and of the key that stands behind it, holds of the keys before its end
+below : (P : ℕ → Type 0) (sorted : List Stand) (k start end : ℕ) → ((i : ℕ) (d : Stand) → start ≤ i → i < end → (get_or sorted i d).key ≡ k) → ((i : ℕ) (d : Stand) → i < start → P (get_or sorted i d).key)
+    → P k → (i : ℕ) (d : Stand) → i < end → P (get_or sorted i d).key
+below P sorted k start end same before now i d l =
+    ⊎_elim
+    (λ (e : i ≡ start). subst P (sym (same i d (omega (arith, e)) l)) now)
+    (λ h. ⊎_elim
+    (λ (g : i < start). before i d g)
+    (λ (g : start < i). subst P (sym (same i d (omega (arith, g)) l)) now)
+    h)
+    (cases_order i start)
 
-  pub found_more : (k start end : ℕ) (run : List Stand) (first unfit next : Option Unfit) → ((i : ℕ) (d : Stand) → start ≤ i → i < end → (get_or sorted i d).key ≡ k) → run ≡ on_key k sorted
-      → FindsUpTo kind events fates found sorted start first → Judges kind events fates run unfit → (next ≡ first) ⊎ (next ≡ unfit) → (next ≡ None → (first ≡ None) × (unfit ≡ None)) → FindsUpTo kind events fates found sorted end next
-  found_more k start end run first unfit None same is so_far now one none =
-      let n = none refl in
-      let f = subst (FindsUpTo kind events fates found sorted start) n.0 so_far in
-      let j = subst (Judges kind events fates run) n.1 now in
-      (f.0, fits_below k start end same f.1 (subst (λ l. KeyFits kind events fates (ids_of l)) is j))
-  found_more k start end run first unfit (Some u) same is so_far now one none =
-      ⊎_elim
-      (λ e. subst (FindsUpTo kind events fates found sorted start) (sym e) so_far)
-      (λ e. inr (k, subst (λ l. KeyUnfit kind events fates l u) is (subst (Judges kind events fates run) (sym e) now)))
-      one
+-- and of all keys, where it holds of a key without operations
+of_each : (P : List Stand → Type 0) (sorted : List Stand) (n : ℕ) → length sorted ≤ n → P [] → ((i : ℕ) (d : Stand) → i < n → P (on_key (get_or sorted i d).key sorted)) → (key : ℕ) → P (on_key key sorted)
+of_each P sorted n all empty each key = by_case (on_key key sorted) refl
+  where
+    by_case : (l : List Stand) → on_key key sorted ≡ l → P l
+    by_case [] e = empty
+    by_case (s ∷ l) e =
+        let there = from_filter (λ (x : Stand). nat_eq x.key key) sorted s (subst (λ xs. Contains xs s) (sym e) (Contains-head s l)) in
+        let i : Contains sorted s = there.0 in
+        let within : i.0 < n = let g = i.1 in omega (arith, all, g) in
+        let is : (get_or sorted i.0 s).key ≡ key = ap (λ (x : Stand). x.key) i.2 ∙ eqb-true s.key key there.1 in
+        subst P e (subst (λ j. P (on_key j sorted)) is (each i.0 s within))
 
-  pub found_none : FindsUpTo kind events fates found sorted 0 found
-  found_none = at_first found refl
-    where
-      at_first : (o : Option Unfit) → found ≡ o → FindsUpTo kind events fates found sorted 0 o
-      at_first None e = (e, λ i d l. absurd (omega (arith, l)))
-      at_first (Some u) e = inl e
+-- what is no later than one is no later than what that one is no later than
+no_later : (o : Option Unfit) (a b : ℕ) → a ≤ b → IfSome o (λ (other : Unfit). b ≤ other.place) → IfSome o (λ (other : Unfit). a ≤ other.place)
+no_later None a b le h = tt
+no_later (Some other) a b le h = omega (arith, le, h)
+
+module _ (kind : ModelKind) (events : List Event) (fates : List Fate) where
+  fits_before : (stands : List Stand) (a b : ℕ) → a ≤ b → FitsBefore kind events fates stands b → FitsBefore kind events fates stands a
+  fits_before stands a b le f = record { first = f.first; judged = f.judged; later = no_later f.first a b le f.later }
 
   nothing_fits : KeyFits kind events fates []
   nothing_fits = record { in_time = tt; can_run = record { calls = []; are = tt; can_run = tt } }
 
-  pub found_all : (n : ℕ) (stands : List Stand) (first : Option Unfit) → length sorted ≤ n → AreByKeys stands sorted → FindsUpTo kind events fates found sorted n first → FindsAll kind events fates found stands first
-  found_all n stands None all by f = (f.0, λ key. subst (λ l. KeyFits kind events fates (ids_of l)) (by.same key) (of_key key (on_key key sorted) refl))
-    where
-      of_key : (key : ℕ) (l : List Stand) → on_key key sorted ≡ l → KeyFits kind events fates (ids_of l)
-      of_key key [] e = nothing_fits
-      of_key key (s ∷ l) e =
-          let there = from_filter (λ (x : Stand). nat_eq x.key key) sorted s (subst (λ xs. Contains xs s) (sym e) (Contains-head s l)) in
-          let i : Contains sorted s = there.0 in
-          let in' : i.0 < n = let g = i.1 in omega (arith, all, g) in
-          let is : (get_or sorted i.0 s).key ≡ key = ap (λ (x : Stand). x.key) i.2 ∙ eqb-true s.key key there.1 in
-          subst (λ xs. KeyFits kind events fates (ids_of xs)) e (subst (λ j. KeyFits kind events fates (ids_of (on_key j sorted))) is (f.1 i.0 s in'))
-  found_all n stands (Some u) all by f = ⊎_elim inl (λ k. inr (k.0, subst (λ l. KeyUnfit kind events fates l u) (by.same k.0) k.1)) f
+  module _ (found : Option Unfit) (sorted : List Stand) where
+    -- what was found is no later than that of a key which is no later than it
+    found_later : (start : ℕ) (first : Option Unfit) (u : Unfit) → FindsUpTo kind events fates found sorted start first → IfSome first (λ (other : Unfit). u.place ≤ other.place) → IfSome found (λ (other : Unfit). u.place ≤ other.place)
+    found_later start None u so_far le = subst (λ o. IfSome o (λ (other : Unfit). u.place ≤ other.place)) (sym so_far.0) tt
+    found_later start (Some v) u so_far le = no_later found u.place v.place le so_far.0.later
+
+    before_later : (start : ℕ) (first : Option Unfit) (u : Unfit) → FindsUpTo kind events fates found sorted start first → IfSome first (λ (other : Unfit). u.place ≤ other.place)
+        → (i : ℕ) (d : Stand) → i < start → FitsBefore kind events fates (on_key (get_or sorted i d).key sorted) u.place
+    before_later start None u so_far le i d l = record { first = None; judged = so_far.1 i d l; later = tt }
+    before_later start (Some v) u so_far le i d l = fits_before (on_key (get_or sorted i d).key sorted) u.place v.place le (so_far.1 i d l)
+
+    pub found_more : (k start end : ℕ) (run : List Stand) (first unfit next : Option Unfit) → ((i : ℕ) (d : Stand) → start ≤ i → i < end → (get_or sorted i d).key ≡ k) → run ≡ on_key k sorted
+        → FindsUpTo kind events fates found sorted start first → Judges kind events fates run unfit → (next ≡ first) ⊎ (next ≡ unfit) → (next ≡ None → (first ≡ None) × (unfit ≡ None))
+        → IfSome next (λ (u : Unfit). IfSome first (λ (other : Unfit). u.place ≤ other.place) × IfSome unfit (λ (other : Unfit). u.place ≤ other.place)) → FindsUpTo kind events fates found sorted end next
+    found_more k start end run first unfit None same is so_far now one none least =
+        let n = none refl in
+        let f = subst (FindsUpTo kind events fates found sorted start) n.0 so_far in
+        let j = subst (Judges kind events fates run) n.1 now in
+        (f.0, below (λ key. KeyFits kind events fates (ids_of (on_key key sorted))) sorted k start end same f.1 (subst (λ l. KeyFits kind events fates (ids_of l)) is j))
+    found_more k start end run first unfit (Some u) same is so_far now one none least = (
+      record {
+        one = ⊎_elim
+            (λ e. (let f = subst (FindsUpTo kind events fates found sorted start) (sym e) so_far in f.0.one))
+            (λ e. inr (k, subst (λ l. KeyUnfit kind events fates l u) is (subst (Judges kind events fates run) (sym e) now)))
+            one;
+        later = found_later start first u so_far least.0;
+      },
+      below (λ key. FitsBefore kind events fates (on_key key sorted) u.place) sorted k start end same (before_later start first u so_far least.0)
+          (record { first = unfit; judged = subst (λ l. Judges kind events fates l unfit) is now; later = least.1 }),
+    )
+
+    pub found_none : FindsUpTo kind events fates found sorted 0 found
+    found_none = at_first found refl
+      where
+        at_first : (o : Option Unfit) → found ≡ o → FindsUpTo kind events fates found sorted 0 o
+        at_first None e = (e, λ i d l. absurd (omega (arith, l)))
+        at_first (Some u) e = (
+          record { one = inl e; later = (let P : Option Unfit → Type 0 = λ o. IfSome o (λ (other : Unfit). u.place ≤ other.place) in subst P (sym e) (omega arith)) },
+          λ i d l. absurd (omega (arith, l)),
+        )
+
+    pub found_all : (n : ℕ) (stands : List Stand) (first : Option Unfit) → length sorted ≤ n → AreByKeys stands sorted → FindsUpTo kind events fates found sorted n first → FindsAll kind events fates found stands first
+    found_all n stands None all by f = (f.0, λ key. subst (λ l. KeyFits kind events fates (ids_of l)) (by.same key) (of_each (λ l. KeyFits kind events fates (ids_of l)) sorted n all nothing_fits f.1 key))
+    found_all n stands (Some u) all by f = (
+      record {
+        one = ⊎_elim inl (λ k. inr (k.0, subst (λ l. KeyUnfit kind events fates l u) (by.same k.0) k.1)) f.0.one;
+        later = f.0.later;
+      },
+      λ key. subst (λ l. FitsBefore kind events fates l u.place) (by.same key)
+          (of_each (λ l. FitsBefore kind events fates l u.place) sorted n all (record { first = None; judged = nothing_fits; later = tt }) f.1 key),
+    )
 
 -- the invariant of the keys that are done
 pub record AreApart (sorted : List Stand) (start : ℕ) : Type 0 where

@@ -3,9 +3,9 @@ use Rattle.std.proofs.Common.{◌≡◌, ℕ, zero, suc, ◌+◌, ◌<◌, cond,
 use Rattle.std.proofs.lemmas.Bool.{cases_eq, eq-eqb, ne_eqb}
 use Rattle.std.proofs.lemmas.List.{take_more, length-take-le}
 use Rattle.models.specs.declared.operation.Op.{Op}
-use Rattle.history.specs.declared.event.Event.{Event}
-use Rattle.history.specs.Events.{Act, OpEvent, op_event, act_by, Entry, mark_by_act, entries_by, last_by, last_after, entries_of, indexed_from}
-use Rattle.history.specs.Events.Act.{Invokes, Returns, Fails, Crashes}
+use Rattle.events.specs.declared.event.Event.{Event}
+use Rattle.events.specs.Events.{Act, OpEvent, op_event, act_by, Entry, mark_by_act, entries_by, last_by, last_after, entries_of, indexed_from}
+use Rattle.events.specs.Events.Act.{Invokes, Returns, Fails, Crashes}
 use Rattle.linspec.specs.MarkRule.{id_of}
 use Rattle.linspec.specs.KeptMarks.{last_invocation}
 use Rattle.linspec.proofs.EventMarks.{entries_from-push, last_invocation_from-push}

@@ -1,6 +1,6 @@
 -- calls of an object in which each has one outcome at most, in turn
 use Rattle.std.proofs.Common.{◌≡◌, ℕ, ◌+◌, ◌<◌, Ok, Err, List, [], ◌∷◌, ◌++◌, length, take, drop, get_or, refl, sym, ap, ◌∙◌, subst, append_assoc, add-one, drop-cons, arith}
-use Rattle.std.proofs.lemmas.List.{take-append-drop, length-take-le}
+use Rattle.std.proofs.lemmas.List.{append-nil, take-append-drop, length-take-le}
 use Rattle.models.specs.declared.model_kind.ModelKind.{ModelKind}
 use Rattle.models.specs.declared.any_state.AnyState.{AnyState}
 use Rattle.models.specs.AnyState.{any}
@@ -56,5 +56,6 @@ halt_at kind calls at c state why fits is after takes = record {
   after = drop (at + 1) calls;
   cut = cut_at calls at c fits is;
   place = length-take-le at calls (omega arith);
+  can_run = subst (λ l. CanRun (object_of kind) l (object_of kind).start) (append-nil (take at calls)) ((after.ahead []).1 tt);
   halts = halts kind (take at calls) c state why after (takes after.left after.is);
 }

@@ -5,8 +5,8 @@ use Rattle.std.proofs.lemmas.Bool.{cases_eq, eq-eqb, ne_eqb}
 use Rattle.std.proofs.lemmas.List.{append-nil}
 use Rattle.std.proofs.lemmas.List.Elements.{Contains-append_left, Contains-push, Contains-push_cases}
 use Rattle.models.specs.declared.finding.Answer.{Answer}
-use Rattle.history.specs.Events.{Mark, Entry, marks}
-use Rattle.history.specs.Events.Mark.{Invoked, Returned, Failed, Crashed}
+use Rattle.events.specs.Events.{Mark, Entry, marks}
+use Rattle.events.specs.Events.Mark.{Invoked, Returned, Failed, Crashed}
 use Rattle.linspec.specs.Operations.{IsInvoked, HasReturned}
 use Rattle.linspec.specs.MarkRule.{id_of, IsNew, MayFollow, AreWellFormed}
 use Rattle.linspec.proofs.Lists.{Contains-nil}

@@ -4,10 +4,10 @@ use Rattle.std.specs.List.{Contains}
 use Rattle.std.proofs.lemmas.Bool.{cases_order}
 use Rattle.std.proofs.lemmas.List.{take_more, map-append, get_or_default, length-append, take-append-drop}
 use Rattle.std.proofs.lemmas.List.Elements.{Contains-append_left, Contains-push, Contains-push_cases}
-use Rattle.history.specs.declared.event.Event.{Event}
+use Rattle.events.specs.declared.event.Event.{Event}
 use Rattle.models.specs.declared.model_kind.ModelKind.{ModelKind}
 use Rattle.models.specs.Objects.{object_of}
-use Rattle.linspec.proofs.Lists.{Contains-nil, Contains-cons_cases, Pairwise-append}
+use Rattle.linspec.proofs.Lists.{Contains-nil, Contains-cons_cases, Pairwise-append, Pairwise-left}
 use Rattle.witness.specs.declared.calls.Call.{Call}
 use Rattle.witness.specs.declared.fates.Fate.{Fate}
 use Rattle.witness.specs.declared.misfit.Misfit.{Misfit}
@@ -16,7 +16,7 @@ use Rattle.witness.specs.declared.misfit.Unfit.{Unfit}
 use Rattle.witness.specs.declared.placing.Stand.{Stand}
 use Rattle.witness.specs.Calls.{HaltsBehind, IsHalt}
 use Rattle.witness.specs.Fates.{fate_at}
-use Rattle.witness.specs.KeyOrders.{ids_of, IsBefore, AreInTime, IsCallBy, AreCallsBy, IsUnfitFor, KeyUnfit}
+use Rattle.witness.specs.KeyOrders.{ids_of, IsBefore, AreInTime, IsCallBy, AreCallsBy, KeyFits, IsUnfitFor, KeyUnfit}
 use Rattle.witness.proofs.InTurn.{cut_at}
 
 pub ids_more : (stands : List Stand) (at : ℕ) (s : Stand) → at < length stands → s ≡ get_or stands at s → ids_of (take (at + 1) stands) ≡ ids_of (take at stands) ++ s.id ∷ []
@@ -76,6 +76,12 @@ pub there : {X : Type 0} (front rest : List X) (x d : X) → get_or (front ++ x 
 there [] rest x d = refl
 there (y ∷ front) rest x d = there front rest x d
 
+-- the first of operations that are in time
+in_time_front : (fates : List Fate) (front rest stands : List Stand) → front ++ rest ≡ stands → AreInTime fates (ids_of stands) → AreInTime fates (ids_of front)
+in_time_front fates front rest stands cut in_time =
+    Pairwise-left (λ x y. ¬ IsBefore fates y x) (ids_of front) (ids_of rest)
+    (subst (AreInTime fates) (map-append (λ (s : Stand). s.id) front rest) (subst (λ l. AreInTime fates (ids_of l)) (sym cut) in_time))
+
 -- a halt of the calls is one of the operations
 halts_for : (kind : ModelKind) (events : List Event) (fates : List Fate) (before : List ℕ) (id : ℕ) (calls : List Call) (c : Call) (why : Misfit) → AreCallsBy events fates before calls → IsCallBy events fates id c
     → HaltsBehind (object_of kind) calls c why → IsUnfitFor kind events fates before id why
@@ -98,9 +104,9 @@ module _ (kind : ModelKind) (events : List Event) (fates : List Fate) (stands : 
       let p = h.place in
       omega (arith, whole, parts, l, p)
 
-  pub halt_unfit : (calls : List Call) (at : ℕ) (why : Misfit) (u : Unfit) → AreCallsBy events fates (ids_of stands) calls → IsHalt (object_of kind) calls at why
+  pub halt_unfit : (calls : List Call) (at : ℕ) (why : Misfit) (u : Unfit) → AreInTime fates (ids_of stands) → AreCallsBy events fates (ids_of stands) calls → IsHalt (object_of kind) calls at why
       → ((d : Stand) → (u.place ≡ (get_or stands at d).place) × (u.event ≡ (get_or stands at d).id) × (u.why ≡ why)) → KeyUnfit kind events fates stands u
-  halt_unfit calls at why u are h by =
+  halt_unfit calls at why u in_time are h by =
       let k = cut_calls events fates stands h.before h.call h.after (subst (AreCallsBy events fates (ids_of stands)) (sym h.cut) are) in
       let at_is : length k.front ≡ at = k.long ∙ h.place in
       let here : get_or stands at k.here ≡ k.here = ap (λ l. get_or l at k.here) (sym k.cut) ∙ ap (λ n. get_or (k.front ++ k.here ∷ k.rest) n k.here) (sym at_is) ∙ there k.front k.rest k.here k.here in
@@ -112,6 +118,10 @@ module _ (kind : ModelKind) (events : List Event) (fates : List Fate) (stands : 
         cut = k.cut;
         place_is = b.0 ∙ ap (λ (s : Stand). s.place) here;
         event_is = b.1 ∙ ap (λ (s : Stand). s.id) here;
+        fits = record {
+          in_time = in_time_front fates k.front (k.here ∷ k.rest) stands k.cut in_time;
+          can_run = record { calls = h.before; are = k.are; can_run = h.can_run };
+        };
         unfit_for = subst (IsUnfitFor kind events fates (ids_of k.front) k.here.id) (sym b.2) (halts_for kind events fates (ids_of k.front) k.here.id h.before h.call why k.are k.is h.halts);
       }
 
@@ -124,23 +134,25 @@ module _ (kind : ModelKind) (events : List Event) (fates : List Fate) (stands : 
     cut = sym (append_assoc k.before (k.here ∷ k.after) (drop n stands)) ∙ ap (λ l. l ++ drop n stands) k.cut ∙ take-append-drop n stands;
     place_is = k.place_is;
     event_is = k.event_is;
+    fits = k.fits;
     unfit_for = k.unfit_for;
   }
 
   -- one that is too late
-  pub late_unfit : (at : ℕ) (s : Stand) (u : Unfit) → at < length stands → ((d : Stand) → (other : ℕ) × Contains (ids_of (take at stands)) other × IsBefore fates (get_or stands at d).id other)
+  pub late_unfit : (at : ℕ) (s : Stand) (u : Unfit) → at < length stands → KeyFits kind events fates (ids_of (take at stands)) → ((d : Stand) → (other : ℕ) × Contains (ids_of (take at stands)) other × IsBefore fates (get_or stands at d).id other)
       → ((d : Stand) → (u.place ≡ (get_or stands at d).place) × (u.event ≡ (get_or stands at d).id) × (u.why ≡ TooLate)) → KeyUnfit kind events fates stands u
-  late_unfit at s u fits late by =
+  late_unfit at s u within fits late by =
       let here = get_or stands at s in
-      let same : here ≡ get_or stands at here = get_or_default stands at s here fits in
+      let same : here ≡ get_or stands at here = get_or_default stands at s here within in
       let o = late s in
       let b = by s in
       record {
         before = take at stands;
         here = here;
         after = drop (at + 1) stands;
-        cut = cut_at stands at here fits same;
+        cut = cut_at stands at here within same;
         place_is = b.0;
         event_is = b.1;
+        fits = fits;
         unfit_for = subst (IsUnfitFor kind events fates (ids_of (take at stands)) here.id) (sym b.2) (o.0, o.1, o.2);
       }

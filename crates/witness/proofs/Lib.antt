@@ -12,6 +12,8 @@ pub mod Sound
 pub mod Late
 pub mod ByKeys
 pub mod Placings
+pub mod Cuts
 pub mod Witnesses
 pub mod Reasons
 pub mod Refuting
+pub mod Firsts

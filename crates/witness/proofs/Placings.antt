@@ -1,11 +1,11 @@
 -- operations that are placed, one more
-use Rattle.std.proofs.Common.{◌≡◌, ◌≢◌, ◌↔◌, ℕ, ◌+◌, ◌<◌, ◌≤◌, ⊎_elim, Bool, true, false, Option, Some, None, MatchOption, List, [], ◌∷◌, ◌++◌, length, take, drop, get_or, set, slice_get, sym, ap, ◌∙◌, subst, append_assoc, arith, get_or-set_same, get_or-set_other}
+use Rattle.std.proofs.Common.{◌≡◌, ◌≢◌, ◌↔◌, ℕ, ◌+◌, ◌<◌, ◌≤◌, ⊎_elim, Bool, true, false, Option, Some, None, MatchOption, List, [], ◌∷◌, ◌++◌, length, take, drop, get_or, set, slice_get, refl, sym, ap, ◌∙◌, subst, arith, get_or-set_same, get_or-set_other}
 use Rattle.std.specs.List.{Contains}
 use Rattle.std.proofs.lemmas.Bool.{cases_eq, true≢false}
 use Rattle.std.proofs.lemmas.Option.{slice_get-get_or}
-use Rattle.std.proofs.lemmas.List.{take_more, take_all, take-append-drop, length-take-le, get_or_default, length-set}
+use Rattle.std.proofs.lemmas.List.{take_more, take_all, take-append-drop, length-take-le, length-set}
 use Rattle.std.proofs.lemmas.List.Elements.{Contains-append_left, Contains-push, Contains-push_cases}
-use Rattle.history.specs.declared.event.Event.{Event}
+use Rattle.events.specs.declared.event.Event.{Event}
 use Rattle.linspec.specs.Orders.{Pairwise}
 use Rattle.linspec.proofs.Lists.{Contains-nil, Contains-cons_cases, Pairwise-append}
 use Rattle.witness.specs.declared.fates.Fate.{Fate}
@@ -13,10 +13,8 @@ use Rattle.witness.specs.declared.misfit.Misfit.{Misfit}
 use Rattle.witness.specs.declared.misfit.Misfit.TheVariants.{NoEvent, NoInvocation, Twice, Failed, TooLate, CannotTakePlace, AnotherAnswer, LeftOut}
 use Rattle.witness.specs.declared.misfit.Unfit.{Unfit}
 use Rattle.witness.specs.declared.placing.Stand.{Stand}
-use Rattle.witness.specs.Orders.{StandsBehind}
 use Rattle.witness.specs.Fates.{fate_at}
 use Rattle.witness.specs.Placing.{MayStand, MustStand, key_at, stands_from, IsBarred, StopsFor, Stops, AreAll, ArePlaced}
-use Rattle.witness.proofs.InTurn.{cut_at}
 
 pub stands_push : (events : List Event) (n : ℕ) (ids : List ℕ) (id : ℕ) → stands_from events n (ids ++ id ∷ []) ≡ stands_from events n ids ++ record { key = key_at (slice_get events id); place = n + length ids; id = id } ∷ []
 stands_push events n [] id = ap (λ p. record { key = key_at (slice_get events id); place = p; id = id } ∷ []) (let t : n ≡ n + 0 = omega arith in t)
@@ -76,14 +74,11 @@ module _ (events : List Event) (fates : List Fate) (order : List ℕ) (place : �
   barred AnotherAnswer b = b
   barred LeftOut b = b
 
-  behind : StandsBehind order ids id
-  behind = (drop (place + 1) order, append_assoc ids (id ∷ []) (drop (place + 1) order) ∙ cut_at order place id fits (get_or_default order place 0 id fits))
-
   stops : (why : Misfit) → IsBarred fates (Contains ids) id why → StopsFor fates order ids place id why
-  stops NoEvent b = (slice_get-get_or order place 0 fits, behind, b)
-  stops NoInvocation b = (slice_get-get_or order place 0 fits, behind, b)
-  stops Failed b = (slice_get-get_or order place 0 fits, behind, b)
-  stops Twice b = (slice_get-get_or order place 0 fits, behind, b)
+  stops NoEvent b = (refl, slice_get-get_or order place 0 fits, b)
+  stops NoInvocation b = (refl, slice_get-get_or order place 0 fits, b)
+  stops Failed b = (refl, slice_get-get_or order place 0 fits, b)
+  stops Twice b = (refl, slice_get-get_or order place 0 fits, b)
   stops TooLate b = absurd b
   stops CannotTakePlace b = absurd b
   stops AnotherAnswer b = absurd b
@@ -111,7 +106,7 @@ module _ (events : List Event) (fates : List Fate) (order : List ℕ) (place : �
       (λ unfit. (unfit.place ≡ length order) × (unfit.why ≡ LeftOut) × MustStand (fate_at fates unfit.event) × (get_or taken unfit.event false ≡ false))
       → MatchOption stop (AreAll fates order (take place order)) (Stops fates order (take place order))
   at_end None m = record { all = whole; each = λ id k. (in_order id).0 (m id k) }
-  at_end (Some u) m = subst (StopsFor fates order (take place order) u.place u.event) (sym m.1) (m.0, m.2, λ c. true≢false (sym ((in_order u.event).1 c) ∙ m.3))
+  at_end (Some u) m = subst (StopsFor fates order (take place order) u.place u.event) (sym m.1) (whole, m.0, m.2, λ c. true≢false (sym ((in_order u.event).1 c) ∙ m.3))
 
   pub all_placed : (stop : Option Unfit) → MatchOption stop ((id : ℕ) → MustStand (fate_at fates id) → get_or taken id false ≡ true)
       (λ unfit. (unfit.place ≡ length order) × (unfit.why ≡ LeftOut) × MustStand (fate_at fates unfit.event) × (get_or taken unfit.event false ≡ false))

@@ -9,7 +9,7 @@ use Rattle.models.specs.declared.finding.Found.{Found}
 use Rattle.models.specs.declared.finding.Found.TheVariants.{Unit as Done, Item}
 use Rattle.models.specs.declared.finding.Answer.{Answer}
 use Rattle.models.specs.declared.finding.Answer.TheVariants.{Nothing, Number, Numbers, Many}
-use Rattle.models.specs.Multisets.{with_one, without_one}
+use Rattle.values.specs.Multisets.{with_one, without_one}
 use Rattle.models.specs.Objects.{IsOneOf, Fits, unordered_apply, unordered_queue}
 use Rattle.models.specs.Runs.{times_in}
 use Rattle.models.proofs.Steps.{same_outcome}

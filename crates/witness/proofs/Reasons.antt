@@ -1,20 +1,21 @@
 -- the reason why an order is no witness
-use Rattle.std.proofs.Common.{◌≡◌, ◌≢◌, ℕ, zero, suc, ◌+◌, ⊎_elim, nat_eq, Option, Some, None, MatchOption, List, [], ◌∷◌, ◌++◌, slice_get, sym, ap, ◌∙◌, subst, append_assoc, arith}
+use Rattle.std.proofs.Common.{◌≡◌, ◌≢◌, ℕ, zero, suc, ◌+◌, ⊎_elim, true, nat_eq, Option, Some, None, MatchOption, List, [], ◌∷◌, ◌++◌, take, drop, slice_get, sym, ap, ◌∙◌, subst, arith}
 use Rattle.std.specs.List.{Contains}
-use Rattle.std.proofs.lemmas.List.{map-append}
+use Rattle.std.proofs.lemmas.List.{map-append, take-append-le}
 use Rattle.std.proofs.lemmas.Option.{slice_get_within, get_or_from_slice_get}
-use Rattle.std.proofs.lemmas.List.Elements.{Contains-append_left, Contains-append_right, filter-append}
+use Rattle.std.proofs.lemmas.List.Elements.{Contains-append_left, Contains-append_right}
 use Rattle.models.specs.declared.model_kind.ModelKind.{ModelKind}
-use Rattle.history.specs.declared.event.Event.{Event}
+use Rattle.events.specs.declared.event.Event.{Event}
 use Rattle.linspec.proofs.Lists.{Contains-nil, Contains-head, Contains-cons_cases}
 use Rattle.linspec.specs.Orders.{Pairwise}
-use Rattle.linspec.proofs.Filters.{from_filter, from_map}
+use Rattle.linspec.proofs.Filters.{from_filter, from_map, Pairwise-filter}
+use Rattle.witness.proofs.Cuts.{key_cut, one_cut}
 use Rattle.witness.specs.declared.fates.Fate.{Fate}
 use Rattle.witness.specs.declared.misfit.Misfit.{Misfit}
 use Rattle.witness.specs.declared.misfit.Misfit.TheVariants.{NoEvent, NoInvocation, Twice, Failed, TooLate, CannotTakePlace, AnotherAnswer, LeftOut}
 use Rattle.witness.specs.declared.misfit.Unfit.{Unfit}
 use Rattle.witness.specs.declared.placing.Stand.{Stand}
-use Rattle.witness.specs.Orders.{is_of, among, StandsBehind, IsMisfit, IsUnfit, IsWitness}
+use Rattle.witness.specs.Orders.{marks_in, is_of, among, AreCalls, before_on_key, IsMisfit, IsUnfit, IsWitness}
 use Rattle.witness.specs.Fates.{fate_at, AreFates}
 use Rattle.witness.specs.Placing.{MayStand, key_at, stands_from, StopsFor, Stops, AreAll, ArePlaced}
 use Rattle.witness.specs.KeyOrders.{ids_of, on_key, AreThere, KeyFits, IsUnfitFor, FindsAll}
@@ -42,7 +43,7 @@ module _ (events : List Event) (sound : IsSound events) (fates : List Fate) (are
   abbrev ids : List ℕ
   ids = placed.ids
 
-  standing : (s : Stand) → Contains stands s → (k : ℕ) × (s.place ≡ 0 + k) × (slice_get ids k ≡ Some s.id)
+  pub standing : (s : Stand) → Contains stands s → (k : ℕ) × (s.place ≡ 0 + k) × (slice_get ids k ≡ Some s.id)
   standing s h = stand_of events 0 ids s (subst (λ l. Contains l s) placed.are h)
 
   pub there : AreThere events stands
@@ -51,7 +52,7 @@ module _ (events : List Event) (sound : IsSound events) (fates : List Fate) (are
       let t = is_there events sound s.id (may events sound fates are s.id (placed.may s.id (get_in ids k.0 s.id k.2))).0 in
       (t.op, t.op_is)
 
-  of_key : (key : ℕ) → ids_of (on_key key stands) ≡ among events key ids
+  pub of_key : (key : ℕ) → ids_of (on_key key stands) ≡ among events key ids
   of_key key =
       ap (λ l. ids_of (on_key key l)) placed.are
       ∙ ids_on_key events key 0 ids (λ id h. is_of_there events sound fates are id key (is_there events sound id (may events sound fates are id (placed.may id h)).0))
@@ -69,14 +70,14 @@ module _ (events : List Event) (sound : IsSound events) (fates : List Fate) (are
 
   -- one can't stand there
   stop_reason : (kind : ModelKind) (place id : ℕ) (why : Misfit) → StopsFor fates order ids place id why → IsMisfit kind events order place id why
-  stop_reason kind place id NoEvent s = (s.0, (let l = are.long in let b = s.2 in omega (arith, l, b)))
-  stop_reason kind place id NoInvocation s = (s.0, not_invoked events sound fates are id s.2)
-  stop_reason kind place id Twice s = (s.0, (ids, s.1, s.2))
-  stop_reason kind place id Failed s = (s.0, has_failed events sound fates are id s.2)
+  stop_reason kind place id NoEvent s = (s.1, (let l = are.long in let b = s.2 in omega (arith, l, b)))
+  stop_reason kind place id NoInvocation s = (s.1, not_invoked events sound fates are id s.2)
+  stop_reason kind place id Twice s = (s.1, subst (λ l. Contains l id) s.0 s.2)
+  stop_reason kind place id Failed s = (s.1, has_failed events sound fates are id s.2)
   stop_reason kind place id TooLate s = absurd s.2
   stop_reason kind place id CannotTakePlace s = absurd s.2
   stop_reason kind place id AnotherAnswer s = absurd s.2
-  stop_reason kind place id LeftOut s = (s.0, (returned events sound fates are id s.1).1, s.2)
+  stop_reason kind place id LeftOut s = (s.1, (returned events sound fates are id s.2).1, s.3)
 
   -- one of a key does not fit
   module _ (kind : ModelKind) (key : ℕ) (before : List Stand) (here : Stand) (after : List Stand) (cut : before ++ here ∷ after ≡ on_key key stands) where
@@ -94,34 +95,37 @@ module _ (events : List Event) (sound : IsSound events) (fates : List Fate) (are
     here_in : Contains (before ++ here ∷ after) here
     here_in = Contains-append_right before (here ∷ after) here (Contains-head here after)
 
-    at_place : slice_get order here.place ≡ Some here.id
-    at_place =
+    at_own : slice_get placed.ids here.place ≡ Some here.id
+    at_own =
         let k = standing here (in_stands here here_in) in
-        let p : here.place ≡ k.0 = let q = k.1 in omega (arith, q) in
-        let front = placed.front in
-        subst (λ n. slice_get order n ≡ Some here.id) (sym p) (subst (λ l. slice_get l k.0 ≡ Some here.id) front.1 (get_front ids front.0 k.0 here.id k.2))
+        subst (λ n. slice_get ids n ≡ Some here.id) (let q = k.1 in let t : k.0 ≡ here.place = omega (arith, q) in t) k.2
 
-    stands_behind : StandsBehind (among events key order) (ids_of before) here.id
-    stands_behind =
+    at_place : slice_get order here.place ≡ Some here.id
+    at_place = let front = placed.front in subst (λ l. slice_get l here.place ≡ Some here.id) front.1 (get_front ids front.0 here.place here.id at_own)
+
+    mapped : ids_of before ++ here.id ∷ ids_of after ≡ among events key placed.ids
+    mapped = sym (map-append (λ (x : Stand). x.id) before (here ∷ after)) ∙ ap ids_of cut ∙ of_key key
+
+    on_its_key : is_of key (slice_get events here.id) ≡ true
+    on_its_key = (from_filter (λ i. is_of key (slice_get events i)) ids here.id (subst (λ l. Contains l here.id) mapped (Contains-append_right (ids_of before) (here.id ∷ ids_of after) here.id (Contains-head here.id (ids_of after))))).1
+
+    before_is : ids_of before ≡ before_on_key events key order here.place
+    before_is =
         let front = placed.front in
-        let mapped : ids_of before ++ here.id ∷ ids_of after ≡ among events key ids = sym (map-append (λ (x : Stand). x.id) before (here ∷ after)) ∙ ap ids_of cut ∙ of_key key in
-        let whole : among events key ids ++ among events key front.0 ≡ among events key order = sym (filter-append (λ i. is_of key (slice_get events i)) ids front.0) ∙ ap (among events key) front.1 in (
-          ids_of after ++ among events key front.0,
-          append_assoc (ids_of before) (here.id ∷ []) (ids_of after ++ among events key front.0)
-              ∙ sym (append_assoc (ids_of before) (here.id ∷ ids_of after) (among events key front.0))
-              ∙ ap (λ l. l ++ among events key front.0) mapped
-              ∙ whole,
-        )
+        let fits = slice_get_within ids here.place here.id at_own in
+        let once : Pairwise (λ x y. x ≢ y) (ids_of before ++ here.id ∷ ids_of after) = subst (Pairwise (λ x y. x ≢ y)) (sym mapped) (Pairwise-filter (λ i. is_of key (slice_get events i)) (λ x y. x ≢ y) ids placed.once) in
+        one_cut (ids_of before) (ids_of after) (among events key (take here.place ids)) (among events key (drop (here.place + 1) ids)) here.id once
+        (mapped ∙ sym (key_cut events key ids here.place here.id at_own on_its_key))
+        ∙ ap (among events key) (sym (take-append-le here.place ids front.0 (omega (arith, fits))) ∙ ap (take here.place) front.1)
 
     key_reason : (why : Misfit) → IsUnfitFor kind events fates (ids_of before) here.id why → IsMisfit kind events order here.place here.id why
     key_reason TooLate w = (
       at_place,
       record {
         key = key;
-        before = ids_of before;
-        stands = stands_behind;
+        of_key = on_its_key;
         other = w.0;
-        earlier = w.1;
+        earlier = subst (λ l. Contains l w.0) before_is w.1;
         precedes = to_precedes events sound fates are here.id w.0 w.2 (may events sound fates are w.0 (may_before w.0 w.1)).0;
       },
     )
@@ -129,11 +133,10 @@ module _ (events : List Event) (sound : IsSound events) (fates : List Fate) (are
       at_place,
       record {
         key = key;
-        before = ids_of before;
-        stands = stands_behind;
+        of_key = on_its_key;
         calls = w.calls;
         call = w.call;
-        are = are_calls events sound fates are (ids_of before) w.calls may_before w.are;
+        are = subst (λ l. AreCalls (marks_in events) l w.calls) before_is (are_calls events sound fates are (ids_of before) w.calls may_before w.are);
         is = is_call events sound fates are here.id w.call (may_here here here_in) w.is;
         halts = w.halts;
       },
@@ -142,11 +145,10 @@ module _ (events : List Event) (sound : IsSound events) (fates : List Fate) (are
       at_place,
       record {
         key = key;
-        before = ids_of before;
-        stands = stands_behind;
+        of_key = on_its_key;
         calls = w.calls;
         call = w.call;
-        are = are_calls events sound fates are (ids_of before) w.calls may_before w.are;
+        are = subst (λ l. AreCalls (marks_in events) l w.calls) before_is (are_calls events sound fates are (ids_of before) w.calls may_before w.are);
         is = is_call events sound fates are here.id w.call (may_here here here_in) w.is;
         halts = w.halts;
       },
@@ -165,4 +167,4 @@ module _ (events : List Event) (sound : IsSound events) (fates : List Fate) (are
       let w = k.1 in
       let m : IsMisfit kind events order w.here.place w.here.id u.why = key_reason kind k.0 w.before w.here w.after w.cut u.why w.unfit_for in
       subst (λ p. IsMisfit kind events order p u.event u.why) (sym w.place_is) (subst (λ i. IsMisfit kind events order w.here.place i u.why) (sym w.event_is) m))
-      f
+      f.0.one

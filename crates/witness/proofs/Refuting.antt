@@ -1,16 +1,16 @@
 -- an order that has such a reason is no witness
-use Rattle.std.proofs.Common.{◌≡◌, ◌≢◌, ℕ, ◌≤◌, true, Option, Some, None, List, [], ◌∷◌, ◌++◌, length, map, slice_get, refl, sym, ap, ◌∙◌, subst, append_assoc}
+use Rattle.std.proofs.Common.{◌≡◌, ◌≢◌, ℕ, ◌+◌, ◌≤◌, true, Option, Some, None, List, [], ◌∷◌, ◌++◌, length, map, take, drop, slice_get, refl, sym, ap, ◌∙◌, subst, append_assoc}
 use Rattle.std.specs.List.{Contains}
 use Rattle.std.proofs.lemmas.Bool.{eqb-true, eq-eqb}
 use Rattle.std.proofs.lemmas.Option.{slice_get_past}
-use Rattle.std.proofs.lemmas.List.Elements.{Contains-append_left, Contains-append_right, filter-append}
+use Rattle.std.proofs.lemmas.List.Elements.{Contains-append_left, Contains-append_right}
 use Rattle.models.specs.declared.model_kind.ModelKind.{ModelKind}
 use Rattle.models.specs.declared.finding.Found.{Found}
 use Rattle.models.specs.declared.finding.Answer.{Answer}
 use Rattle.models.specs.Objects.{Object, object_of, Fits}
-use Rattle.history.specs.declared.event.Event.{Event}
-use Rattle.history.specs.Events.{Mark, marks}
-use Rattle.history.specs.Events.Mark.{Invoked, Returned, Failed}
+use Rattle.events.specs.declared.event.Event.{Event}
+use Rattle.events.specs.Events.{Mark, marks}
+use Rattle.events.specs.Events.Mark.{Invoked, Returned, Failed}
 use Rattle.linspec.specs.Operations.{HasReturned, Precedes}
 use Rattle.linspec.specs.Orders.{Taken, Pairwise, Includes, Run, IsLinearizable, product}
 use Rattle.linspec.proofs.Lists.{Contains-head, Contains-tail, Pairwise-across}
@@ -21,10 +21,11 @@ use Rattle.witness.specs.declared.calls.Call.{Call}
 use Rattle.witness.specs.declared.fates.Fate.{Fate}
 use Rattle.witness.specs.declared.misfit.Misfit.{Misfit}
 use Rattle.witness.specs.declared.misfit.Misfit.TheVariants.{NoEvent, NoInvocation, Twice, Failed as ThatFailed, TooLate, CannotTakePlace, AnotherAnswer, LeftOut}
-use Rattle.witness.specs.Calls.{FitsIf, CanRun, unanswered, HaltsBehind}
-use Rattle.witness.specs.Orders.{marks_in, marks_of_key, is_of, among, IsWitness, HasAnswer, IsCall, AreCalls, StandsBehind, IsTooLate, HaltsThere, IsMisfit}
+use Rattle.witness.specs.Calls.{FitsIf, CanRun}
+use Rattle.witness.specs.Orders.{marks_in, marks_of_key, is_of, among, IsWitness, HasAnswer, IsCall, AreCalls, before_on_key, IsTooLate, HaltsThere, IsMisfit}
 use Rattle.witness.specs.Fates.{op_at, AreFates}
-use Rattle.witness.proofs.Runs.{CanRun-change}
+use Rattle.witness.proofs.Runs.{no_halt}
+use Rattle.witness.proofs.Cuts.{key_cut}
 use Rattle.witness.proofs.Sound.{entries, IsSound, IsThere, is_there, one_op, to_key, in_whole, key_precedes, must, returned}
 use Rattle.witness.proofs.Reasons.{get_in}
 
@@ -95,14 +96,13 @@ module _ (events : List Event) (sound : IsSound events) where
     in_time : (key : ℕ) → Pairwise (λ a b. ¬ Precedes (marks_of_key events key) b a) (among events key order)
     in_time key = let o = w.each key in subst (Pairwise (λ a b. ¬ Precedes (marks_of_key events key) b a)) o.ids_are (map-Pairwise (λ (x : Taken). x.id) (λ a b. ¬ Precedes (marks_of_key events key) b a) o.order o.legal.in_time)
 
-    not_twice : (id : ℕ) (before : List ℕ) → StandsBehind order before id → Contains before id → ⊥
-    not_twice id before behind h =
-        let cut : before ++ id ∷ behind.0 ≡ order = sym (append_assoc before (id ∷ []) behind.0) ∙ behind.1 in
-        let s = there id (subst (λ l. Contains l id) cut (Contains-append_left before (id ∷ behind.0) id h)) in
-        let parts : among events s.entry.key before ++ among events s.entry.key (id ∷ behind.0) ≡ among events s.entry.key order = sym (filter-append (λ i. is_of s.entry.key (slice_get events i)) before (id ∷ behind.0)) ∙ ap (among events s.entry.key) cut in
-        Pairwise-across (λ a b. a ≢ b) (among events s.entry.key before) (among events s.entry.key (id ∷ behind.0)) (subst (Pairwise (λ a b. a ≢ b)) (sym parts) (once s.entry.key)) id id
-        (to_filter (λ i. is_of s.entry.key (slice_get events i)) before id h (is_mine id s))
-        (to_filter (λ i. is_of s.entry.key (slice_get events i)) (id ∷ behind.0) id (Contains-head id behind.0) (is_mine id s)) refl
+    not_twice : (place id : ℕ) → slice_get order place ≡ Some id → Contains (take place order) id → ⊥
+    not_twice place id at h =
+        let s = there id (get_in order place id at) in
+        let cut = key_cut events s.entry.key order place id at (is_mine id s) in
+        Pairwise-across (λ a b. a ≢ b) (among events s.entry.key (take place order)) (id ∷ among events s.entry.key (drop (place + 1) order)) (subst (Pairwise (λ a b. a ≢ b)) (sym cut) (once s.entry.key)) id id
+        (to_filter (λ i. is_of s.entry.key (slice_get events i)) (take place order) id h (is_mine id s))
+        (Contains-head id (among events s.entry.key (drop (place + 1) order))) refl
 
     not_failed : (id : ℕ) → Contains order id → ¬ Contains (marks_in events) (Failed id)
     not_failed id h f =
@@ -110,44 +110,34 @@ module _ (events : List Event) (sound : IsSound events) where
         let x = taken s.entry.key id (mine id h s) in
         (w.each s.entry.key).legal.none_failed x.0 x.1 (subst (λ i. Contains (marks_of_key events s.entry.key) (Failed i)) (sym x.2) (to_key events sound id s (Failed id) f refl))
 
-    not_late : (id : ℕ) → IsTooLate events order id → ⊥
-    not_late id t =
-        let behind = t.stands in
-        let cut : t.before ++ id ∷ behind.0 ≡ among events t.key order = sym (append_assoc t.before (id ∷ []) behind.0) ∙ behind.1 in
-        let r = on_its_key t.key id (subst (λ l. Contains l id) cut (Contains-append_right t.before (id ∷ behind.0) id (Contains-head id behind.0))) in
-        let e = on_its_key t.key t.other (subst (λ l. Contains l t.other) cut (Contains-append_left t.before (id ∷ behind.0) t.other t.earlier)) in
-        Pairwise-across (λ a b. ¬ Precedes (marks_of_key events t.key) b a) t.before (id ∷ behind.0) (subst (Pairwise (λ a b. ¬ Precedes (marks_of_key events t.key) b a)) (sym cut) (in_time t.key))
-        t.other id t.earlier (Contains-head id behind.0) (key_precedes events sound t.key id t.other r.0 e.0 r.1 e.1 t.precedes)
+    not_late : (place id : ℕ) → slice_get order place ≡ Some id → IsTooLate events order place id → ⊥
+    not_late place id at t =
+        let before = before_on_key events t.key order place in
+        let after = among events t.key (drop (place + 1) order) in
+        let cut : before ++ id ∷ after ≡ among events t.key order = key_cut events t.key order place id at t.of_key in
+        let r = on_its_key t.key id (subst (λ l. Contains l id) cut (Contains-append_right before (id ∷ after) id (Contains-head id after))) in
+        let e = on_its_key t.key t.other (subst (λ l. Contains l t.other) cut (Contains-append_left before (id ∷ after) t.other t.earlier)) in
+        Pairwise-across (λ a b. ¬ Precedes (marks_of_key events t.key) b a) before (id ∷ after) (subst (Pairwise (λ a b. ¬ Precedes (marks_of_key events t.key) b a)) (sym cut) (in_time t.key))
+        t.other id t.earlier (Contains-head id after) (key_precedes events sound t.key id t.other r.0 e.0 r.1 e.1 t.precedes)
 
-    runs : (id : ℕ) (why : Misfit) (h : HaltsThere kind events order id why) → CanRun (object_of kind) (h.calls ++ h.call ∷ []) (object_of kind).start
-    runs id why h =
+    runs : (place id : ℕ) (why : Misfit) → slice_get order place ≡ Some id → (h : HaltsThere kind events order place id why) → CanRun (object_of kind) (h.calls ++ h.call ∷ []) (object_of kind).start
+    runs place id why at h =
         let o : Object = object_of kind in
         let k = w.each h.key in
-        let behind = h.stands in
-        let c = map-cut (λ (x : Taken). x.id) k.order (h.before ++ id ∷ []) behind.0 (behind.1 ∙ sym k.ids_are) in
+        let before = before_on_key events h.key order place in
+        let after = among events h.key (drop (place + 1) order) in
+        let cut : (before ++ id ∷ []) ++ after ≡ among events h.key order = append_assoc before (id ∷ []) after ∙ key_cut events h.key order place id at h.of_key in
+        let c = map-cut (λ (x : Taken). x.id) k.order (before ++ id ∷ []) after (cut ∙ sym k.ids_are) in
         let r = Run-cut o o.start k.state c.0 c.1 (subst (λ l. Run o o.start l k.state) c.2 k.legal.run) in
         let inside : (x : Taken) → Contains c.0 x → Contains k.order x = λ x i. subst (λ l. Contains l x) (sym c.2) (Contains-append_left c.0 c.1 x i) in
-        calls_run o c.0 (h.calls ++ h.call ∷ []) o.start r.0 (subst (λ l. AreCalls (marks_in events) l (h.calls ++ h.call ∷ [])) c.3 (calls_push (marks_in events) h.before h.calls id h.call h.are h.is)) r.1
+        calls_run o c.0 (h.calls ++ h.call ∷ []) o.start r.0 (subst (λ l. AreCalls (marks_in events) l (h.calls ++ h.call ∷ [])) c.3 (calls_push (marks_in events) before h.calls id h.call h.are h.is)) r.1
         (λ x i. in_whole events sound h.key (Invoked x.id x.op) (k.legal.invoked x (inside x i)))
         (λ x a i f.
         let s = on_its_key h.key x.id (subst (λ l. Contains l x.id) k.ids_are (to_map (λ (y : Taken). y.id) k.order x (inside x i))) in
         k.legal.fits x a (inside x i) (subst (λ j. Contains (marks_of_key events j) (Returned x.id a)) s.1 (to_key events sound x.id s.0 (Returned x.id a) f refl)))
 
-    no_halt : (id : ℕ) (why : Misfit) (h : HaltsThere kind events order id why) → ⊥
-    no_halt id why h = by_why why h.halts
-      where
-        o : Object
-        o = object_of kind
-
-        by_why : (why : Misfit) → HaltsBehind (object_of kind) h.calls h.call why → ⊥
-        by_why CannotTakePlace f = f (CanRun-change (object_of kind) h.calls (h.call ∷ []) (unanswered h.call ∷ []) (object_of kind).start (λ t r. (r.0, r.1, r.2, tt, tt)) (runs id why h))
-        by_why AnotherAnswer f = f (runs id why h)
-        by_why NoEvent f = f
-        by_why NoInvocation f = f
-        by_why Twice f = f
-        by_why ThatFailed f = f
-        by_why TooLate f = f
-        by_why LeftOut f = f
+    halts_nowhere : (place id : ℕ) (why : Misfit) → slice_get order place ≡ Some id → HaltsThere kind events order place id why → ⊥
+    halts_nowhere place id why at h = no_halt (object_of kind) h.calls h.call why (runs place id why at h) h.halts
 
     module _ (fates : List Fate) (are : AreFates events fates) where
       not_left : (id : ℕ) → HasReturned (marks_in events) id → Contains order id
@@ -167,9 +157,9 @@ module _ (events : List Event) (sound : IsSound events) where
       pub refuted : (place id : ℕ) (why : Misfit) → IsMisfit kind events order place id why → ⊥
       refuted place id NoEvent m = no_event id (get_in order place id m.0) m.1
       refuted place id NoInvocation m = m.1 (w.invoked id (get_in order place id m.0))
-      refuted place id Twice m = let t = m.1 in not_twice id t.0 t.1 t.2
+      refuted place id Twice m = not_twice place id m.0 m.1
       refuted place id ThatFailed m = not_failed id (get_in order place id m.0) m.1
-      refuted place id TooLate m = not_late id m.1
-      refuted place id CannotTakePlace m = no_halt id CannotTakePlace m.1
-      refuted place id AnotherAnswer m = no_halt id AnotherAnswer m.1
+      refuted place id TooLate m = not_late place id m.0 m.1
+      refuted place id CannotTakePlace m = halts_nowhere place id CannotTakePlace m.0 m.1
+      refuted place id AnotherAnswer m = halts_nowhere place id AnotherAnswer m.0 m.1
       refuted place id LeftOut m = m.2 (not_left id m.1)

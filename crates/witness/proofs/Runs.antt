@@ -4,7 +4,9 @@ use Rattle.models.specs.declared.finding.Found.TheVariants.{Unit as Done}
 use Rattle.models.specs.declared.finding.Answer.{Answer}
 use Rattle.models.specs.Objects.{Object}
 use Rattle.witness.specs.declared.calls.Call.{Call}
-use Rattle.witness.specs.Calls.{FitsIf, CanRun}
+use Rattle.witness.specs.declared.misfit.Misfit.{Misfit}
+use Rattle.witness.specs.declared.misfit.Misfit.TheVariants.{NoEvent, NoInvocation, Twice, Failed, TooLate, CannotTakePlace, AnotherAnswer, LeftOut}
+use Rattle.witness.specs.Calls.{FitsIf, CanRun, unanswered, HaltsBehind}
 
 -- the last of them can run from some state
 pub CanRun-right : (o : Object) (xs ys : List Call) (s : o.State) → CanRun o (xs ++ ys) s → (t : o.State) × CanRun o ys t
@@ -25,3 +27,14 @@ fits_done (Some answer) = tt
 pub CanRun-change : (o : Object) (xs ys zs : List Call) (s : o.State) → ((t : o.State) → CanRun o ys t → CanRun o zs t) → CanRun o (xs ++ ys) s → CanRun o (xs ++ zs) s
 CanRun-change o [] ys zs s to h = to s h
 CanRun-change o (x ∷ xs) ys zs s to h = (h.0, h.1, h.2, h.3, CanRun-change o xs ys zs h.1 to h.4)
+
+-- where the call can take place it does not halt
+pub no_halt : (o : Object) (calls : List Call) (c : Call) (why : Misfit) → CanRun o (calls ++ c ∷ []) o.start → ¬ HaltsBehind o calls c why
+no_halt o calls c CannotTakePlace runs h = h (CanRun-change o calls (c ∷ []) (unanswered c ∷ []) o.start (λ t r. (r.0, r.1, r.2, tt, tt)) runs)
+no_halt o calls c AnotherAnswer runs h = h runs
+no_halt o calls c NoEvent runs h = h
+no_halt o calls c NoInvocation runs h = h
+no_halt o calls c Twice runs h = h
+no_halt o calls c Failed runs h = h
+no_halt o calls c TooLate runs h = h
+no_halt o calls c LeftOut runs h = h

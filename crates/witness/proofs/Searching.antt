@@ -4,8 +4,8 @@ use Rattle.std.specs.List.{Contains}
 use Rattle.std.proofs.lemmas.Bool.{cases_order}
 use Rattle.std.proofs.lemmas.Int.{ints}
 use Rattle.std.proofs.lemmas.List.{get_or_default}
-use Rattle.models.specs.Multisets.{NeverFalls}
-use Rattle.models.proofs.Dequeues.{never_falls_to}
+use Rattle.values.specs.Multisets.{NeverFalls}
+use Rattle.values.proofs.Firsts.{never_falls_to}
 
 module _ (xs : List ℤ) (is : NeverFalls xs) (v : ℤ) where
   rises : (i j : ℕ) → i ≤ j → j < length xs → get_or xs i (pos 0) ≤ℤ get_or xs j (pos 0)

@@ -4,9 +4,9 @@ use Rattle.std.specs.List.{Contains}
 use Rattle.std.proofs.lemmas.Option.{slice_get_within}
 use Rattle.models.specs.declared.operation.Op.{Op}
 use Rattle.models.specs.declared.finding.Answer.{Answer}
-use Rattle.history.specs.declared.event.Event.{Event}
-use Rattle.history.specs.Events.{Mark, Entry, marks, entries_of, indexed_from}
-use Rattle.history.specs.Events.Mark.{Invoked, Returned, Failed}
+use Rattle.events.specs.declared.event.Event.{Event}
+use Rattle.events.specs.Events.{Mark, Entry, marks, entries_of, indexed_from}
+use Rattle.events.specs.Events.Mark.{Invoked, Returned, Failed}
 use Rattle.history.specs.WellFormed.{IsHistoryOf}
 use Rattle.history.proofs.ProcessRule.{is_history}
 use Rattle.linspec.specs.Operations.{IsInvoked, HasReturned, Precedes}

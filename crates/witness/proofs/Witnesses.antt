@@ -7,9 +7,9 @@ use Rattle.models.specs.declared.operation.Op.{Op}
 use Rattle.models.specs.declared.finding.Answer.{Answer}
 use Rattle.models.specs.declared.finding.Found.{Found}
 use Rattle.models.specs.Objects.{Object, object_of, Fits}
-use Rattle.history.specs.declared.event.Event.{Event}
-use Rattle.history.specs.Events.{Mark, Entry}
-use Rattle.history.specs.Events.Mark.{Invoked, Returned, Failed}
+use Rattle.events.specs.declared.event.Event.{Event}
+use Rattle.events.specs.Events.{Mark, Entry}
+use Rattle.events.specs.Events.Mark.{Invoked, Returned, Failed}
 use Rattle.linspec.specs.Operations.{HasReturned, Precedes}
 use Rattle.linspec.specs.MarkRule.{id_of}
 use Rattle.linspec.specs.Orders.{Taken, Pairwise, Run}

@@ -27,11 +27,12 @@ HaltsBehind o before c CannotTakePlace = ¬ CanRun o (before ++ unanswered c ∷
 HaltsBehind o before c AnotherAnswer = ¬ CanRun o (before ++ c ∷ []) o.start
 HaltsBehind o before c _ = ⊥
 
--- the calls halt at this place for this
+-- the calls can take place up to this place, and halt there for this
 pub record IsHalt (o : Object) (calls : List Call) (at : ℕ) (why : Misfit) : Type 0 where
   pub before : List Call
   pub call : Call
   pub after : List Call
   pub cut : before ++ call ∷ after ≡ calls
   pub place : length before ≡ at
+  pub can_run : CanRun o before o.start
   pub halts : HaltsBehind o before call why

@@ -5,13 +5,13 @@ use Rattle.std.specs.BTreeMap.{BTreeMap, get}
 use Rattle.models.specs.declared.operation.Op.{Op}
 use Rattle.models.specs.declared.finding.Answer.{Answer}
 use Rattle.models.specs.Objects.{answer_of}
-use Rattle.history.specs.declared.event.Event.{Event}
-use Rattle.history.specs.declared.event.Process.{Process}
-use Rattle.history.specs.declared.event.Process.TheVariants.{Client}
-use Rattle.history.specs.declared.event.Body.{Body}
-use Rattle.history.specs.declared.event.Body.TheVariants.{Op as AnOp}
-use Rattle.history.specs.Events.{Mark, Entry, OpEvent, entry_by, entries_of, indexed_from}
-use Rattle.history.specs.Events.Mark.{Invoked, Returned, Failed, Crashed}
+use Rattle.events.specs.declared.event.Event.{Event}
+use Rattle.events.specs.declared.event.Process.{Process}
+use Rattle.events.specs.declared.event.Process.TheVariants.{Client}
+use Rattle.events.specs.declared.event.Body.{Body}
+use Rattle.events.specs.declared.event.Body.TheVariants.{Op as AnOp}
+use Rattle.events.specs.Events.{Mark, Entry, OpEvent, entry_by, entries_of, indexed_from}
+use Rattle.events.specs.Events.Mark.{Invoked, Returned, Failed, Crashed}
 use Rattle.linspec.specs.MarkRule.{id_of}
 use Rattle.witness.specs.declared.fates.Fate.{Fate}
 use Rattle.witness.specs.declared.fates.Fate.TheVariants.{NoOperation, Pending, Returned as ReturnedAt, Failed as HasFailed}

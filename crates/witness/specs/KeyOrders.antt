@@ -1,11 +1,11 @@
 -- Invariant: the operations of one key that stand in an order
-use Rattle.std.specs.Prelude.{◌≡◌, ℕ, ◌<◌, ◌≤◌, ◌⊎◌, nat_eq, Option, Some, None, MatchOption, List, [], ◌∷◌, ◌++◌, length, map, slice_get, slice_index_or}
+use Rattle.std.specs.Prelude.{◌≡◌, ℕ, ◌<◌, ◌≤◌, ◌⊎◌, nat_eq, Option, Some, None, MatchOption, IfSome, List, [], ◌∷◌, ◌++◌, length, map, slice_get, slice_index_or}
 use Rattle.std.specs.List.{filter, Contains}
 use Rattle.models.specs.declared.model_kind.ModelKind.{ModelKind}
 use Rattle.models.specs.declared.operation.Op.{Op}
 use Rattle.models.specs.declared.finding.Answer.{Answer}
 use Rattle.models.specs.Objects.{object_of}
-use Rattle.history.specs.declared.event.Event.{Event}
+use Rattle.events.specs.declared.event.Event.{Event}
 use Rattle.linspec.specs.Orders.{Pairwise}
 use Rattle.witness.specs.declared.calls.Call.{Call}
 use Rattle.witness.specs.declared.misfit.Misfit.{Misfit}
@@ -70,6 +70,7 @@ abbrev pub IsUnfitFor : ModelKind → List Event → List Fate → List ℕ → 
 IsUnfitFor kind events fates before id TooLate = (other : ℕ) × Contains before other × IsBefore fates id other
 IsUnfitFor kind events fates before id why = HaltsBy kind events fates before id why
 
+-- the first of the operations of a key that does not fit
 pub record KeyUnfit (kind : ModelKind) (events : List Event) (fates : List Fate) (stands : List Stand) (unfit : Unfit) : Type 0 where
   pub before : List Stand
   pub here : Stand
@@ -77,6 +78,7 @@ pub record KeyUnfit (kind : ModelKind) (events : List Event) (fates : List Fate)
   pub cut : before ++ here ∷ after ≡ stands
   pub place_is : unfit.place ≡ here.place
   pub event_is : unfit.event ≡ here.id
+  pub fits : KeyFits kind events fates (ids_of before)
   pub unfit_for : IsUnfitFor kind events fates (ids_of before) here.id unfit.why
 
 -- whether the operations of a key fit
@@ -92,16 +94,29 @@ pub record AreByKeys (stands sorted : List Stand) : Type 0 where
   pub same : (key : ℕ) → on_key key sorted ≡ on_key key stands
   pub rising : (i j : ℕ) (d : Stand) → i ≤ j → j < length sorted → (slice_index_or sorted i d).key ≤ (slice_index_or sorted j d).key
 
+-- of the operations of a key none that does not fit stands before the place
+pub record FitsBefore (kind : ModelKind) (events : List Event) (fates : List Fate) (stands : List Stand) (place : ℕ) : Type 0 where
+  pub first : Option Unfit
+  pub judged : Judges kind events fates stands first
+  pub later : IfSome first (λ unfit. place ≤ unfit.place)
+
+-- it was found before, or of a key; what was found before does not stand before it
+pub record FirstFound (kind : ModelKind) (events : List Event) (fates : List Fate) (found : Option Unfit) (stands : List Stand) (unfit : Unfit) : Type 0 where
+  pub one : (found ≡ Some unfit) ⊎ ((key : ℕ) × KeyUnfit kind events fates (on_key key stands) unfit)
+  pub later : IfSome found (λ other. unfit.place ≤ other.place)
+
 -- what is found of the first so many, which stand by their keys, beside what was found before
 abbrev pub FindsUpTo : ModelKind → List Event → List Fate → Option Unfit → List Stand → ℕ → Option Unfit → Type 0
 FindsUpTo kind events fates found sorted n first =
     MatchOption first
     ((found ≡ None) × ((i : ℕ) (d : Stand) → i < n → KeyFits kind events fates (ids_of (on_key (slice_index_or sorted i d).key sorted))))
-    (λ unfit. (found ≡ Some unfit) ⊎ ((key : ℕ) × KeyUnfit kind events fates (on_key key sorted) unfit))
+    (λ unfit. FirstFound kind events fates found sorted unfit
+    × ((i : ℕ) (d : Stand) → i < n → FitsBefore kind events fates (on_key (slice_index_or sorted i d).key sorted) unfit.place))
 
 -- what is found of all
 abbrev pub FindsAll : ModelKind → List Event → List Fate → Option Unfit → List Stand → Option Unfit → Type 0
 FindsAll kind events fates found stands first =
     MatchOption first
     ((found ≡ None) × ((key : ℕ) → KeyFits kind events fates (ids_of (on_key key stands))))
-    (λ unfit. (found ≡ Some unfit) ⊎ ((key : ℕ) × KeyUnfit kind events fates (on_key key stands) unfit))
+    (λ unfit. FirstFound kind events fates found stands unfit
+    × ((key : ℕ) → FitsBefore kind events fates (on_key key stands) unfit.place))

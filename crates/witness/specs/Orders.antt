@@ -1,12 +1,12 @@
 -- Promise: an order of a history's operations, which shows that it is linearizable (Herlihy and Wing 1990, section 2)
-use Rattle.std.specs.Prelude.{◌≡◌, ℕ, ◌≤◌, Bool, false, Option, Some, None, List, [], ◌∷◌, ◌++◌, length, map, slice_get}
+use Rattle.std.specs.Prelude.{◌≡◌, ℕ, ◌≤◌, Bool, true, false, Option, Some, None, List, [], ◌∷◌, length, map, slice_get, take}
 use Rattle.std.specs.List.{filter, Contains}
 use Rattle.models.specs.declared.model_kind.ModelKind.{ModelKind}
 use Rattle.models.specs.declared.finding.Answer.{Answer}
 use Rattle.models.specs.Objects.{Object, object_of}
-use Rattle.history.specs.declared.event.Event.{Event}
-use Rattle.history.specs.Events.{Mark, marks, entries_of, indexed_from, of_key, is_event_of, IsFront}
-use Rattle.history.specs.Events.Mark.{Invoked, Returned, Failed}
+use Rattle.events.specs.declared.event.Event.{Event}
+use Rattle.events.specs.Events.{Mark, marks, entries_of, indexed_from, of_key, is_event_of}
+use Rattle.events.specs.Events.Mark.{Invoked, Returned, Failed}
 use Rattle.linspec.specs.Operations.{IsInvoked, HasReturned, Precedes}
 use Rattle.linspec.specs.Orders.{Taken, IsLegalOrder}
 use Rattle.witness.specs.declared.calls.Call.{Call}
@@ -59,27 +59,25 @@ AreCalls marks [] [] = Unit {0}
 AreCalls marks (id ∷ ids) (c ∷ calls) = IsCall marks id c × AreCalls marks ids calls
 AreCalls marks _ _ = ⊥
 
--- the operation stands in the order behind these
-abbrev pub StandsBehind : List ℕ → List ℕ → ℕ → Type 0
-StandsBehind order before id = IsFront (before ++ id ∷ []) order
+-- the operations of the key that stand before the place in the order
+abbrev pub before_on_key : List Event → ℕ → List ℕ → ℕ → List ℕ
+before_on_key events key order place = among events key (take place order)
 
 -- it has returned before an operation of its key is invoked that stands before it
-pub record IsTooLate (events : List Event) (order : List ℕ) (id : ℕ) : Type 0 where
+pub record IsTooLate (events : List Event) (order : List ℕ) (place id : ℕ) : Type 0 where
   pub key : ℕ
-  pub before : List ℕ
-  pub stands : StandsBehind (among events key order) before id
+  pub of_key : is_of key (slice_get events id) ≡ true
   pub other : ℕ
-  pub earlier : Contains before other
+  pub earlier : Contains (before_on_key events key order place) other
   pub precedes : Precedes (marks_in events) id other
 
 -- behind those of its key that stand before it, the operation can't take place, or only with another answer
-pub record HaltsThere (kind : ModelKind) (events : List Event) (order : List ℕ) (id : ℕ) (why : Misfit) : Type 0 where
+pub record HaltsThere (kind : ModelKind) (events : List Event) (order : List ℕ) (place id : ℕ) (why : Misfit) : Type 0 where
   pub key : ℕ
-  pub before : List ℕ
-  pub stands : StandsBehind (among events key order) before id
+  pub of_key : is_of key (slice_get events id) ≡ true
   pub calls : List Call
   pub call : Call
-  pub are : AreCalls (marks_in events) before calls
+  pub are : AreCalls (marks_in events) (before_on_key events key order place) calls
   pub is : IsCall (marks_in events) id call
   pub halts : HaltsBehind (object_of kind) calls call why
 
@@ -88,16 +86,25 @@ pub record HaltsThere (kind : ModelKind) (events : List Event) (order : List ℕ
 abbrev pub IsMisfit : ModelKind → List Event → List ℕ → ℕ → ℕ → Misfit → Type 0
 IsMisfit kind events order place id NoEvent = (slice_get order place ≡ Some id) × (length events ≤ id)
 IsMisfit kind events order place id NoInvocation = (slice_get order place ≡ Some id) × ¬ IsInvoked (marks_in events) id
-IsMisfit kind events order place id Twice = (slice_get order place ≡ Some id) × ((before : List ℕ) × StandsBehind order before id × Contains before id)
+IsMisfit kind events order place id Twice = (slice_get order place ≡ Some id) × Contains (take place order) id
 IsMisfit kind events order place id HasFailed = (slice_get order place ≡ Some id) × Contains (marks_in events) (Failed id)
-IsMisfit kind events order place id TooLate = (slice_get order place ≡ Some id) × IsTooLate events order id
+IsMisfit kind events order place id TooLate = (slice_get order place ≡ Some id) × IsTooLate events order place id
 IsMisfit kind events order place id LeftOut = (place ≡ length order) × HasReturned (marks_in events) id × ¬ Contains order id
-IsMisfit kind events order place id why = (slice_get order place ≡ Some id) × HaltsThere kind events order id why
+IsMisfit kind events order place id why = (slice_get order place ≡ Some id) × HaltsThere kind events order place id why
 
 abbrev pub IsUnfit : ModelKind → List Event → List ℕ → Unfit → Type 0
 IsUnfit kind events order unfit = IsMisfit kind events order unfit.place unfit.event unfit.why
+
+-- nothing that does not fit stands before it
+abbrev pub StandsFirst : ModelKind → List Event → List ℕ → Unfit → Type 0
+StandsFirst kind events order unfit = (other : Unfit) → IsUnfit kind events order other → unfit.place ≤ other.place
 
 -- where it is said that the order is none, the reason is so
 abbrev pub HasReason : ModelKind → List Event → List ℕ → Confirmation → Type 0
 HasReason kind events order Linearizable = Unit {0}
 HasReason kind events order (NoOrder unfit) = IsUnfit kind events order unfit
+
+-- and what is told stands first
+abbrev pub TellsFirst : ModelKind → List Event → List ℕ → Confirmation → Type 0
+TellsFirst kind events order Linearizable = Unit {0}
+TellsFirst kind events order (NoOrder unfit) = StandsFirst kind events order unfit

@@ -1,8 +1,8 @@
 -- Invariant: the operations that stand in an order, by what became of them
-use Rattle.std.specs.Prelude.{◌≡◌, ◌≢◌, ℕ, ◌+◌, ◌≤◌, Option, Some, MatchOption, unwrap_or, option_and_then, List, [], ◌∷◌, length, slice_get}
+use Rattle.std.specs.Prelude.{◌≡◌, ◌≢◌, ℕ, ◌+◌, ◌≤◌, Option, Some, MatchOption, unwrap_or, option_and_then, List, [], ◌∷◌, length, slice_get, take}
 use Rattle.std.specs.List.{Contains}
-use Rattle.history.specs.declared.event.Event.{Event}
-use Rattle.history.specs.Events.{key_of, IsFront}
+use Rattle.events.specs.declared.event.Event.{Event}
+use Rattle.events.specs.Events.{key_of, IsFront}
 use Rattle.linspec.specs.Orders.{Pairwise}
 use Rattle.witness.specs.declared.misfit.Misfit.{Misfit}
 use Rattle.witness.specs.declared.misfit.Misfit.TheVariants.{NoEvent, NoInvocation, Twice, Failed as ThatFailed, LeftOut}
@@ -10,7 +10,6 @@ use Rattle.witness.specs.declared.misfit.Unfit.{Unfit}
 use Rattle.witness.specs.declared.fates.Fate.{Fate}
 use Rattle.witness.specs.declared.fates.Fate.TheVariants.{NoOperation, Pending, Returned, Failed}
 use Rattle.witness.specs.declared.placing.Stand.{Stand}
-use Rattle.witness.specs.Orders.{StandsBehind}
 use Rattle.witness.specs.Fates.{fate_at}
 
 -- the operation may stand in an order; it must
@@ -43,10 +42,10 @@ IsBarred fates Taken id ThatFailed = fate_at fates id ≡ Failed
 IsBarred fates Taken id Twice = Taken id
 IsBarred fates Taken id _ = ⊥
 
--- why no more than these operations of the order are placed
+-- why no more than these first operations of the order are placed
 abbrev pub StopsFor : List Fate → List ℕ → List ℕ → ℕ → ℕ → Misfit → Type 0
-StopsFor fates order ids place id LeftOut = (place ≡ length order) × MustStand (fate_at fates id) × ¬ Contains order id
-StopsFor fates order ids place id why = (slice_get order place ≡ Some id) × StandsBehind order ids id × IsBarred fates (Contains ids) id why
+StopsFor fates order ids place id LeftOut = (ids ≡ order) × (place ≡ length order) × MustStand (fate_at fates id) × ¬ Contains order id
+StopsFor fates order ids place id why = (ids ≡ take place order) × (slice_get order place ≡ Some id) × IsBarred fates (Contains ids) id why
 
 abbrev pub Stops : List Fate → List ℕ → List ℕ → Unfit → Type 0
 Stops fates order ids stop = StopsFor fates order ids stop.place stop.event stop.why

@@ -8,7 +8,7 @@ ghost use Rattle.witness.specs.KeyOrders.{AreCallsBy, AreThere, IsCallBy, answer
 use crate::calls::Call;
 use crate::fates::Fate;
 use crate::placing::Stand;
-use history::{Body, Event, Process};
+use events::{Body, Event, Process};
 use models::{Answer, Op};
 use std::alloc::{AllocError, Global};
 

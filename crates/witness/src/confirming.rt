@@ -2,7 +2,7 @@
 ghost use Rattle.std.specs.Prelude.{◌≡◌, ◌↔◌, IfOk};
 ghost use Rattle.linspec.specs.Orders.{IsLinearizable, product};
 ghost use Rattle.witness.specs.declared.confirming.Confirmation.{Confirmation};
-ghost use Rattle.witness.specs.Orders.{HasReason, IsWitness, marks_in};
+ghost use Rattle.witness.specs.Orders.{HasReason, IsWitness, TellsFirst, marks_in};
 
 use crate::fates::fates_of;
 use crate::keys::first_unfit;
@@ -27,8 +27,8 @@ pub enum Confirmation {
 /// One that has returned must be in the order, one that has failed must not, and one that has not completed, or has crashed, may be
 /// left out, which says that it did not take place.
 ///
-/// Else it says what does not fit first, of those things that can be found of the order up to there. It tries no other order, and
-/// says nothing of the history then.
+/// Else it says what does not fit, at the first place at which something does not. It tries no other order, and says nothing of the
+/// history then.
 ///
 /// Takes the time of the events and of the order, each with a logarithm: of the keys, of the processes, of the state. A read of a set
 /// takes that of the members besides. Of a queue without an order a dequeue takes its value out wherever it is in; and one that
@@ -44,6 +44,7 @@ pub fn confirm(
     ensures confirmed { IfOk result (λ said. (said ≡ Confirmation.Linearizable)
         ↔ IsWitness kind history.now.events order.now) }
     ensures reason { IfOk result (HasReason kind history.now.events order.now) }
+    ensures first { IfOk result (TellsFirst kind history.now.events order.now) }
 {
     let _many = history.len();
     let events = history.events();

@@ -1,10 +1,10 @@
 //! What became of the operations of a history.
 ghost use Rattle.std.specs.Prelude.{◌≡◌, ℕ, ◌+◌, ◌<◌, length, option_map, IfOk, OnOk};
 ghost use Rattle.models.specs.declared.operation.Op.{Op};
-ghost use Rattle.history.specs.Events.{act_by, last_after, last_by, mark_by_act, op_event, OpEvent};
+ghost use Rattle.events.specs.Events.{act_by, last_after, last_by, mark_by_act, op_event, OpEvent};
 ghost use Rattle.witness.specs.Fates.{AreFates, fate_at, fate_by, fate_with, last_in};
 
-use history::{Body, Event, EventKind, Process};
+use events::{Body, Event, EventKind, Process};
 use std::alloc::{AllocError, Global};
 use std::collections::BTreeMap;
 

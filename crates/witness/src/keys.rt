@@ -1,5 +1,5 @@
 //! The operations of each key that stand in an order.
-ghost use Rattle.std.specs.Prelude.{◌≡◌, ℕ, ◌+◌, ◌<◌, ◌≤◌, ◌↔◌, ◌≢◌, ◌⊎◌, Some, None, MatchOption, length, slice_get, slice_index_or, take, IfOk, OnOk, IsTrue};
+ghost use Rattle.std.specs.Prelude.{◌≡◌, ℕ, ◌+◌, ◌<◌, ◌≤◌, ◌↔◌, ◌≢◌, ◌⊎◌, Some, None, MatchOption, length, slice_get, slice_index_or, take, IfOk, IfSome, OnOk, IsTrue};
 ghost use Rattle.std.specs.List.{Contains};
 ghost use Rattle.models.specs.declared.operation.Op.{Op};
 ghost use Rattle.witness.specs.declared.misfit.Unfit.{Unfit};
@@ -12,7 +12,7 @@ use crate::fates::Fate;
 use crate::misfit::{Misfit, Unfit};
 use crate::placing::Stand;
 use crate::running::first_halt;
-use history::Event;
+use events::Event;
 use models::ModelKind;
 use std::alloc::{AllocError, Global};
 
@@ -30,6 +30,7 @@ fn is_before(fates: &[Fate], id: usize, invocation: usize) -> bool
 // returned then before the latest invocation.
 fn first_late(fates: &[Fate], stands: &[Stand]) -> Option<usize>
     ensures { MatchOption result (AreInTime fates.now (ids_of stands.now)) (λ at. (at < length stands.now)
+        × AreInTime fates.now (ids_of (take at stands.now))
         × ((d : Stand) → (other : ℕ) × Contains (ids_of (take at stands.now)) other
         × IsBefore fates.now (slice_index_or stands.now at d).id other)) }
 {
@@ -57,7 +58,7 @@ fn unfit_at(stands: &[Stand], at: usize, why: Misfit) -> Unfit
     }
 }
 
-// Where the operations of one key halt, if they do, one after another.
+// Where the operations of one key, which are in time, halt first, if they do, one after another.
 fn halted(
     alloc: Global,
     events: &[Event],
@@ -65,7 +66,8 @@ fn halted(
     kind: ModelKind,
     stands: &[Stand],
 ) -> Result<Option<Unfit>, AllocError>
-    requires { AreThere events.now stands.now }
+    requires there { AreThere events.now stands.now }
+    requires in_time { AreInTime fates.now (ids_of stands.now) }
     ensures { IfOk result (λ found. MatchOption found
         (CanRunBy kind events.now fates.now (ids_of stands.now)) (KeyUnfit kind events.now fates.now stands.now)) }
 {
@@ -76,7 +78,7 @@ fn halted(
     }
 }
 
-// What does not fit of the operations of one key, if something does not.
+// What does not fit first of the operations of one key, if something does not.
 fn key_unfit(
     alloc: Global,
     events: &[Event],
@@ -100,6 +102,8 @@ fn key_unfit(
 fn earlier(a: Option<Unfit>, b: Option<Unfit>) -> Option<Unfit>
     ensures one { (result ≡ a) ⊎ (result ≡ b) }
     ensures none { result ≡ None → (a ≡ None) × (b ≡ None) }
+    ensures first { IfSome result (λ unfit. IfSome a (λ other. unfit.place ≤ other.place)
+        × IfSome b (λ other. unfit.place ≤ other.place)) }
 {
     match (a, b) {
         (Some(x), Some(y)) => { if y.place < x.place { b } else { a } }

@@ -6,8 +6,9 @@ ghost use Rattle.models.specs.declared.operation.Part.{Part};
 ghost use Rattle.witness.specs.declared.calls.Call.{Call};
 ghost use Rattle.witness.specs.Needs.{AreNeeds, AreBefore};
 
-use models::{Answer, Multiset, Name, Op, Part};
+use models::{Answer, Name, Op, Part};
 use std::alloc::{AllocError, Global};
+use values::Multiset;
 
 /// At least these values, and so many more.
 #[derive(Drop)]

@@ -6,7 +6,7 @@ ghost use Rattle.witness.specs.Placing.{ArePlaced, IsBarred, MayStand, MustStand
 
 use crate::fates::Fate;
 use crate::misfit::{Misfit, Unfit};
-use history::Event;
+use events::Event;
 use models::Key;
 use std::alloc::{AllocError, Global};
 

@@ -63,6 +63,7 @@ fn can_stand(alloc: Global, before: &[Call], op: &Op) -> Result<bool, AllocError
 fn first_unfit(alloc: Global, calls: &[Call]) -> Result<usize, AllocError>
     requires { ¬ CanRun unordered_queue calls.now [] }
     ensures within { IfOk result (λ at. at < length calls.now) }
+    ensures can_run { IfOk result (λ at. CanRun unordered_queue (take at calls.now) []) }
     ensures halts { IfOk result (λ at. ¬ CanRun unordered_queue (take (at + 1) calls.now) []) }
 {
     let mut low = 0;
@@ -81,6 +82,7 @@ fn first_unfit(alloc: Global, calls: &[Call]) -> Result<usize, AllocError>
 // Why the call at this place can't take place behind the ones before it.
 fn why_unfit(alloc: Global, calls: &[Call], at: usize) -> Result<Misfit, AllocError>
     requires within { at < length calls.now }
+    requires can_run { CanRun unordered_queue (take at calls.now) [] }
     requires halts { ¬ CanRun unordered_queue (take (at + 1) calls.now) [] }
     ensures { IfOk result (IsHalt unordered_queue calls.now at) }
 {

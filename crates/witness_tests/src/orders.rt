@@ -1,6 +1,7 @@
 //! Orders that are one of their history, and orders that are none.
 use edn::read_all;
-use history::{History, from_edn};
+use events::from_edn;
+use history::History;
 use models::ModelKind;
 use models::ModelKind::{CasRegister, FifoQueue, Mutex, Register, Set, UnorderedQueue};
 use std::alloc::Global;

@@ -3,7 +3,7 @@
 #![tactic(auto)]
 
 #[cfg(test)]
-mod events;
+mod client_events;
 #[cfg(test)]
 mod gates;
 #[cfg(test)]

@@ -1,9 +1,10 @@
 //! Histories that are loaded by several workers.
 
-use crate::events::event;
+use crate::client_events::event;
 use crate::gates::Meeting;
 use edn::{Gate, Refusal};
-use history::{EventKind, History};
+use events::EventKind;
+use history::History;
 use linspec::Verdict;
 use models::{ModelKind, Name, Part};
 use monitor::Monitor;

@@ -1,12 +1,12 @@
 //! Pieces that are judged by several workers.
 ghost use Rattle.std.specs.Prelude.{◌+◌, ◌<◌, ◌≤◌, ◌∷◌, []};
-ghost use Rattle.history.specs.ProcessRule.{IsHistory};
+ghost use Rattle.events.specs.ProcessRule.{IsHistory};
 
-use crate::events::event;
+use crate::client_events::event;
 use crate::gates::{Gathering, Meeting};
 use checkpoints::KeyLine;
 use edn::{Gate, OpenGate};
-use history::{Event, EventKind};
+use events::{Event, EventKind};
 use linspec::KeyStatus;
 use models::{Key, ModelKind, Name, Part};
 use parallel_recheck::{KeyEvents, recheck};

@@ -1,5 +1,5 @@
 use Rattle.std.proofs.Common.{◌+◌, ◌*◌, [], ◌∷◌, ◌++◌, refl, sym, ap, ◌∙◌, subst}
-use Rattle.history.specs.ProcessRule.{IsHistory}
+use Rattle.events.specs.ProcessRule.{IsHistory}
 use Rattle.checkpoints.specs.KeyLineView.{KeyLineView}
 use Rattle.acceptance.proofs.LongLine.{may_push_first, may_push_second, both_pushed}
 use Rattle.acceptance.proofs.key_lines.written.Goals as goal

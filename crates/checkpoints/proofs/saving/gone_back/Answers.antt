@@ -1,6 +1,6 @@
 use Rattle.std.proofs.Common.{◌≡◌, ◌*◌, ◌/◌, ◌++◌, IfOk, take, sym, subst, ap, ◌∙◌, arith}
 use Rattle.std.specs.List.{between}
-use Rattle.history.specs.ProcessRule.{IsHistory}
+use Rattle.events.specs.ProcessRule.{IsHistory}
 use Rattle.checkpoints.specs.KeyState.{IsKeyState}
 use Rattle.checkpoints.proofs.Cutting.{IsHistory-take}
 use Rattle.checkpoints.proofs.Lending.{AreAt-between}

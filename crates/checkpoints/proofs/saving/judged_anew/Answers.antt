@@ -1,8 +1,9 @@
 use Rattle.std.proofs.Common.{◌≡◌, ◌+◌, [], length, take, refl, sym, ap, ◌∙◌, subst, arith}
 use Rattle.std.proofs.lemmas.List.{take_all, length-take-le}
-use Rattle.history.specs.ProcessRule.{IsHistory}
+use Rattle.events.specs.ProcessRule.{IsHistory}
 use Rattle.checkpoints.specs.KeyLineView.{count_on}
 use Rattle.checkpoints.specs.KeyState.{IsKeyState}
+use Rattle.checkpoints.specs.Next.{IsNext}
 use Rattle.checkpoints.specs.Saved.{AreSaved}
 use Rattle.checkpoints.proofs.Counts.{count_on_none, count_on_more}
 use Rattle.checkpoints.proofs.Cutting.{IsHistory-take, length-places}
@@ -28,13 +29,14 @@ loop-index-preserved c =
       at = omega (arith, c.loop-index.invariant.at);
       stands = λ events history at.
           (let one = one_more_lent c.args.lent.now c.args.places.now events at i _ 0 (omega arith) refl _ c.index-lent-index.is in
-          subst (λ l. IsKeyState c.args.kind c.args.budget l c.go_on.new.state) (sym one)
-          (c.in_ok-go_on.ensures.stands c.args.kind c.args.budget (take i events) (c.loop-index.invariant.stands events history at) (subst IsHistory one (IsHistory-take (i + 1) events history))));
+          c.commit.ensures c.args.kind c.args.budget (take (i + 1) events)
+          (subst (λ l. IsNext c.args.kind c.args.budget l c.prepare_event.new.state c.in_ok-next.next) (sym one)
+          (c.in_ok-next.ensures.next c.args.kind c.args.budget (take i events) (c.loop-index.invariant.stands events history at) (subst IsHistory one (IsHistory-take (i + 1) events history)))));
       saved = λ events history at.
           (let one = one_more_lent c.args.lent.now c.args.places.now events at i _ 0 (omega arith) refl _ c.index-lent-index.is in
           let many : length c.args.places.now ≡ length events = ap length at.places_are ∙ length-places events in
-          subst (λ l. AreSaved c.args.kind c.args.budget l c.go_on.new.saved.items) (sym one)
-          (c.in_ok-go_on.ensures.more c.args.kind c.args.budget (take i events) (length-take-le i events (omega arith) ∙ sym c.loop-index.invariant.at) (c.loop-index.invariant.stands events history at) (c.loop-index.invariant.saved events history at)));
+          subst (λ l. AreSaved c.args.kind c.args.budget l c.prepare_event.new.saved.items) (sym one)
+          (c.in_ok-next.ensures.more c.args.kind c.args.budget (take i events) (length-take-le i events (omega arith) ∙ sym c.loop-index.invariant.at) (c.loop-index.invariant.stands events history at) (c.loop-index.invariant.saved events history at)));
       counted = c.saturating_add-count.ensures ∙ ap (λ n. count_on n 1) c.loop-index.invariant.counted ∙ count_on_more c.args.replayed.now i;
     }
 

@@ -1,6 +1,6 @@
 use Rattle.std.proofs.Common.{inr, subst, Result}
 use Rattle.edn.specs.declared.refusal.Refusal.{Refusal}
-use Rattle.history.specs.declared.event.Event.{Event}
+use Rattle.events.specs.declared.event.Event.{Event}
 use Rattle.checks.specs.Reading.{IsSpelled}
 use Rattle.checks.proofs.Recording.{declined, if_err_so}
 use Rattle.checks.proofs.reading.push_spelled.Goals as goal

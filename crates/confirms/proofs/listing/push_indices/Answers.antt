@@ -2,7 +2,7 @@ use Rattle.std.proofs.Common.{◌^◌, ◌++◌, ◌∷◌, [], take, sym, ap, �
 use Rattle.std.proofs.lemmas.List.{append_assoc}
 use Rattle.edn.specs.View.{value_of, values_of}
 use Rattle.edn.proofs.Matching.{seen_more}
-use Rattle.history.specs.Spelling.{IsNumber}
+use Rattle.events.specs.Spelling.{IsNumber}
 use Rattle.models.specs.Names.{Finds}
 use Rattle.confirms.specs.Listing.{AreIndices}
 use Rattle.confirms.proofs.Lists.{indices_more, no_indices, element_at}

@@ -11,7 +11,7 @@ use Rattle.ends.specs.Tables.{rows_of}
 use Rattle.ends.proofs.Growing.{Grows-itself, cost_more}
 use Rattle.ends.proofs.Closing.{all_tried}
 use Rattle.ends.proofs.Moving.{moves_none}
-use Rattle.ends.proofs.Showing.{all_done, done_on, end_at, grows_on, none_more, widens_itself, widens_on}
+use Rattle.ends.proofs.Showing.{adds_itself, adds_on, all_done, done_on, end_at, grows_on, none_more}
 use Rattle.ends.proofs.Beyond.{beyond_found, beyond_from}
 use Rattle.interned.proofs.Lists.{has_place, some_at}
 use Rattle.ends.proofs.Adding.{IsFront-itself, IsFront-trans}
@@ -23,10 +23,8 @@ loop-at-init g c =
     record {
       moves = moves_none g.M.SeqObject.apply_to c.args.calls.now c.args.table.now c.note_likes.new.moves.known c.note_likes.new.moves.targets.items (subst (λ (k : Known). AreUntried k.list) (sym c.in_ok-note_likes.ensures.known) c.forget.ensures.known);
       alike = c.in_ok-note_likes.ensures.likes;
-      widens = widens_itself c.args.table.now;
-      front = IsFront-itself (rows_of c.args.table.now);
+      only_adds = adds_itself c.args.table.now c.args.applied.now;
       grown = λ once ends shown closed. (ends, shown, Grows-itself o c.args.calls.now ends, (λ e f h n. absurd (Contains-nil e h)), IsFront-itself ends);
-      never_falls = omega arith;
       cost = omega arith;
     }
 
@@ -34,10 +32,9 @@ pub loop-at-preserved : goal.loop-at-preserved
 loop-at-preserved g c =
     let o = of_table g.row.M-State.Denot g.M.SeqObject.start_state g.M.SeqObject.apply_to in
     record {
-      moves = c.in_ok-grow_from.ensures.moves c.loop-at.invariant.moves;
-      alike = subst (λ (v : Vec Like Global). AreAlike c.args.calls.now v.items) (sym c.in_ok-grow_from.ensures.likes) c.loop-at.invariant.alike;
-      widens = widens_on c.args.table.now c.loop-at.table c.grow_from.new.table c.loop-at.invariant.widens c.in_ok-grow_from.ensures.widens;
-      front = IsFront-trans (rows_of c.args.table.now) (rows_of c.loop-at.table) (rows_of c.grow_from.new.table) c.loop-at.invariant.front c.in_ok-grow_from.ensures.front;
+      moves = c.in_ok-grow_from.ensures.moves.known c.loop-at.invariant.moves;
+      alike = subst (λ (v : Vec Like Global). AreAlike c.args.calls.now v.items) (sym c.in_ok-grow_from.ensures.moves.likes) c.loop-at.invariant.alike;
+      only_adds = adds_on c.loop-at.invariant.only_adds c.in_ok-grow_from.ensures.only_adds;
       grown = λ once ends shown closed.
           let s = c.loop-at.invariant.grown once ends shown closed in
           let p = end_at c.args.calls.now c.loop-at.table s.0 s.1 c.loop-at.at c.look.new.row c.in_ok-look.ensures in
@@ -45,7 +42,6 @@ loop-at-preserved g c =
           let v = c.in_ok-grow_from.ensures.adds c.loop-at.invariant.moves c.loop-at.invariant.alike once p.0 s.0 p.2 s.1 in
           let w = all_tried o c.args.calls.now ends s.0 c.args.tried c.first_for-first.result c.loop-at.at p.0 p.1 s.4 closed (λ lt. c.first_for-first.ensures.old (omega (arith, long, lt))) (λ le. c.first_for-first.ensures.new (omega (arith, long, le))) c.grow_from.new.table v in
           (w.more, w.shown, grows_on o c.args.calls.now ends s.0 c.loop-at.at p.0 p.1 c.grow_from.new.table w s.2, done_on o c.args.calls.now ends s.0 c.loop-at.at p.0 p.1 c.grow_from.new.table w s.3, IsFront-trans ends s.0 w.more s.4 w.front);
-      never_falls = (let a = c.loop-at.invariant.never_falls in let b = c.in_ok-grow_from.ensures.never_falls in omega (arith, a, b));
       cost = cost_more c.args.applied.now c.loop-at.applied c.grow_from.new.applied c.loop-at.at (length c.args.calls.now) c.loop-at.invariant.cost c.in_ok-grow_from.ensures.cost;
     }
 
@@ -60,8 +56,7 @@ loop-at-preserved-then-first-calls g c =
     record {
       moves = i.moves;
       alike = i.alike;
-      widens = i.widens;
-      front = i.front;
+      only_adds = i.only_adds;
       grown = λ once ends shown closed.
           let s = i.grown once ends shown closed in
           let p = end_at calls t s.0 s.1 at row.0 row.1 in
@@ -69,7 +64,6 @@ loop-at-preserved-then-first-calls g c =
           let w = all_tried o calls ends s.0 c.args.tried c.first_for-first.result at p.0 p.1 s.4 closed (λ lt. c.first_for-first.ensures.old (omega (arith, long, lt))) (λ le. c.first_for-first.ensures.new (omega (arith, long, le))) t
           (none_more o calls t c.first_for-first.result p.0 s.0 (omega arith) s.1) in
           (w.more, w.shown, grows_on o calls ends s.0 at p.0 p.1 t w s.2, done_on o calls ends s.0 at p.0 p.1 t w s.3, IsFront-trans ends s.0 w.more s.4 w.front);
-      never_falls = i.never_falls;
       cost = cost_more c.args.applied.now c.loop-at.applied c.loop-at.applied at (length calls) i.cost (omega arith);
     }
 
@@ -95,8 +89,8 @@ returns-clause-grows g c once ends shown closed =
       closed = λ is. all_done o c.args.calls.now s.0 c.loop-at.at (let all : length (rows_of c.loop-at.table) ≤ c.args.budget = search rules in omega (arith, long, all)) s.3;
     }
 
-pub returns-in_err-grow_from-clause-widens : goal.returns-in_err-grow_from-clause-widens
-returns-in_err-grow_from-clause-widens g c = widens_on c.args.table.now c.loop-at.table c.grow_from.new.table c.loop-at.invariant.widens c.in_err-grow_from.ensures.widens
+pub returns-in_err-grow_from-clause-only_adds : goal.returns-in_err-grow_from-clause-only_adds
+returns-in_err-grow_from-clause-only_adds g c = adds_on c.loop-at.invariant.only_adds c.in_err-grow_from.ensures.only_adds
 
 pub returns-then-len-budget-clause-over : goal.returns-then-len-budget-clause-over
 returns-then-len-budget-clause-over g c once ends each_once shown closed _ =

@@ -1,10 +1,10 @@
 use Rattle.std.proofs.Common.{◌≤◌, ◌+◌, ◌*◌, List, length, take}
 use Rattle.models.specs.Objects.{of_table}
-use Rattle.history.specs.Events.{IsFront}
+use Rattle.events.specs.Events.{IsFront}
 use Rattle.linspec.specs.Ends.{End}
 use Rattle.ends.specs.EndSteps.{AreClosed, Grows}
 use Rattle.ends.specs.Moves.{AreAlike, AreMoves}
-use Rattle.ends.specs.Tables.{AreShown, HasEachOnce, Widens, rows_of}
+use Rattle.ends.specs.Tables.{AreShown, HasEachOnce, OnlyAdds}
 use Rattle.ends.proofs.Showing.{AreDone}
 use Rattle.ends.proofs.extend.grow.Given as goal
 
@@ -13,12 +13,10 @@ invariant-loop-at g l =
     record {
       moves : AreMoves g.M.SeqObject.apply_to l.table l.calls l.moves.known l.moves.targets.items;
       alike : AreAlike l.calls l.moves.likes.items;
-      widens : Widens l.initial.table l.table;
-      front : IsFront (rows_of l.initial.table) (rows_of l.table);
+      only_adds : OnlyAdds l.initial.table l.table l.initial.applied l.applied;
       grown : HasEachOnce l.calls → (ends : List (End g.row.M-State.Denot)) → AreShown l.initial.table l.calls ends → AreClosed (of_table g.row.M-State.Denot g.M.SeqObject.start_state g.M.SeqObject.apply_to) (take l.tried l.calls) ends
           → (more : List (End g.row.M-State.Denot)) × AreShown l.table l.calls more × Grows (of_table g.row.M-State.Denot g.M.SeqObject.start_state g.M.SeqObject.apply_to) l.calls ends more
           × AreDone (of_table g.row.M-State.Denot g.M.SeqObject.start_state g.M.SeqObject.apply_to) l.calls more l.at
           × IsFront ends more;
-      never_falls : l.initial.applied ≤ l.applied;
       cost : l.applied ≤ l.initial.applied + l.at * length l.calls;
     }

@@ -35,6 +35,6 @@ returns-in-None-clause-next g c known alike once call e here shows =
     (λ to. AreTo c.tried.new.table d.0.crashed (g.M.SeqObject.apply_to d.0.op e.state) (targets_of to c.tried.new.moves.targets.items))
     (λ to. AreLed (of_table g.row.M-State.Denot g.M.SeqObject.start_state g.M.SeqObject.apply_to) c.tried.new.table c.args.calls.now row c.args.at e call (targets_of to c.tried.new.moves.targets.items))
     (λ to are. are_led g.row.M-State.Denot g.M.SeqObject.start_state g.M.SeqObject.apply_to e call out c.tried.new.table c.args.calls.now row c.args.at (targets_of to c.tried.new.moves.targets.items) once here
-    (shows_more c.args.calls.now c.args.table.now c.tried.new.table row e c.tried.ensures.widens shows)
+    (shows_more c.args.calls.now c.args.table.now c.tried.new.table row e c.tried.ensures.tries.widens shows)
     (alike_to c.tried.new.table g.M.SeqObject.apply_to call d.0 e.state (targets_of to c.tried.new.moves.targets.items) d.2 d.3 are))
     (c.tried.ensures.does e.state d.0 (ap (slice_get c.args.table.now.states) c.requires.number ∙ shows.state) d.1)

@@ -1,6 +1,6 @@
 use Rattle.std.proofs.Common.{ℕ, ◌+◌, drop, refl, sym, subst, true≢false}
 use Rattle.std.proofs.lemmas.List.{drop_all}
-use Rattle.history.specs.declared.event.Fault.{Fault}
+use Rattle.events.specs.declared.event.Fault.{Fault}
 use Rattle.generators.specs.Generators.{Each}
 use Rattle.harness.specs.Fitness.{FaultPasses}
 use Rattle.harness.proofs.Walking.{comes_on, comes_not, drop_at, each_at}

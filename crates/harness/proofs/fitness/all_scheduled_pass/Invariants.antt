@@ -1,5 +1,5 @@
 use Rattle.std.proofs.Common.{ℕ, drop}
-use Rattle.history.specs.declared.event.Fault.{Fault}
+use Rattle.events.specs.declared.event.Fault.{Fault}
 use Rattle.generators.specs.Generators.{Each}
 use Rattle.harness.specs.Fitness.{FaultPasses}
 use Rattle.harness.proofs.Walking.{Comes}

@@ -1,9 +1,9 @@
 use Rattle.std.proofs.Common.{◌≡◌, ℕ, sym, ◌∙◌, subst}
 use Rattle.processes.specs.MoveRule.{current_of}
 use Rattle.models.specs.declared.operation.Op.{Op}
-use Rattle.history.specs.declared.event.Event.{Event}
+use Rattle.events.specs.declared.event.Event.{Event}
 use Rattle.history.specs.WellFormed.{moves_of}
-use Rattle.trials.specs.Trials.{invocation}
+use Rattle.machine.specs.Trials.{invocation}
 use Rattle.linspec.specs.JudgedHistory.{IsVerdictOn, with_event}
 use Rattle.monitor.specs.Monitors.{Admits}
 use Rattle.harness.proofs.Showing.{current_by}

@@ -2,7 +2,7 @@ use Rattle.std.proofs.Common.{◌≤◌, ◌<◌, ◌++◌, List, length, map, d
 use Rattle.std.proofs.Math.ListN.{set}
 use Rattle.std.proofs.lemmas.List.{drop_all, take_all, append-nil}
 use Rattle.std.proofs.lemmas.List.Edits.{map_over_more}
-use Rattle.trials.specs.declared.ticket.Ticket.{Ticket}
+use Rattle.machine.specs.declared.ticket.Ticket.{Ticket}
 use Rattle.machine.specs.Machine.{stale_from}
 use Rattle.harness.proofs.tickets.make_stale.Goals as goal
 

@@ -29,11 +29,11 @@ returns-in-Ok-report_text-clause-told g c = (
   c.put_text.ensures,
 )
 
-pub returns-in-Ok-clause-told : goal.returns-in-Ok-clause-told
-returns-in-Ok-clause-told g c = (refusal_line NoMemory, 3, inr (NoMemory, inl c.in-Ok.ensures.limits, inl refl, refl), c.put_refused.ensures)
+pub returns-in-Err-report_text-clause-told : goal.returns-in-Err-report_text-clause-told
+returns-in-Err-report_text-clause-told g c = (refusal_line NoMemory, 3, inr (NoMemory, inl c.in-Ok.ensures.limits, inl refl, refl), c.put_refused.ensures)
 
-pub returns-clause-told : goal.returns-clause-told
-returns-clause-told g c =
+pub returns-in-Err-clause-told : goal.returns-in-Err-clause-told
+returns-in-Err-clause-told g c =
     says_why (g.W.Write.contents c.args.writer.now) (g.W.Write.contents c.put_refused-in-Err.new.writer) (g.W.Failed.has_failed c.put_refused-in-Err.new.writer) (g.W.Flushes.is_flushed c.put_refused-in-Err.new.writer) c.put_refused-in-Err.result (setup_of c.args.config)
     c.in-Err.refusal c.in-Err.ensures.refused
     c.refusal_text.result c.refusal_text.ensures c.put_refused-in-Err.ensures

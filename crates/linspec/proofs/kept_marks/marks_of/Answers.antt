@@ -1,5 +1,5 @@
 use Rattle.std.proofs.Common.{◌≡◌, ap, sym, ◌∙◌, get_or}
-use Rattle.history.specs.declared.event.Event.{Event}
+use Rattle.events.specs.declared.event.Event.{Event}
 use Rattle.linspec.specs.KeptMarks.{marks_of_kept, option_items}
 use Rattle.linspec.proofs.EventMarks.{element_at, marks-none, marks-one}
 use Rattle.linspec.proofs.kept_marks.marks_of.Goals as goal

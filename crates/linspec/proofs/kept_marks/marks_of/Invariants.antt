@@ -1,5 +1,5 @@
 use Rattle.std.proofs.Common.{◌≡◌, take}
-use Rattle.history.specs.Events.{entries_of, indexed_from, marks}
+use Rattle.events.specs.Events.{entries_of, indexed_from, marks}
 use Rattle.linspec.specs.KeptMarks.{marks_of_kept}
 use Rattle.linspec.proofs.kept_marks.marks_of.Given as goal
 

@@ -1,4 +1,4 @@
-use Rattle.trials.proofs.Pushes.{no_history}
+use Rattle.machine.proofs.Pushes.{no_history}
 use Rattle.machine.proofs.HistoryKept.{history_step}
 use Rattle.machine.proofs.laws.history_law.Goals as goal
 

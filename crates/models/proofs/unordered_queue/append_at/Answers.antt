@@ -2,7 +2,7 @@
 use Rattle.std.proofs.Common.{rules, ◌≡◌, ◌++◌, ◌∷◌, [], ℤ, pos, get_or, take, remove, sym, ◌∙◌, ap, subst, append_assoc, FitsSigned, to_z, of_z, w64, OnOk}
 use Rattle.std.proofs.lemmas.Int.{to_z-of_z}
 use Rattle.models.specs.declared.finding.Found.TheVariants.{Item}
-use Rattle.models.specs.Multisets.{values_of}
+use Rattle.values.specs.Multisets.{values_of}
 use Rattle.models.specs.Objects.{taken_from}
 use Rattle.models.proofs.Dequeues.{taken_new}
 use Rattle.models.proofs.unordered_queue.append_at.Goals as goal

@@ -1,5 +1,5 @@
 use Rattle.std.proofs.Common.{◌∙◌, take}
-use Rattle.models.specs.Multisets.{values_of}
+use Rattle.values.specs.Multisets.{values_of}
 use Rattle.models.specs.Objects.{taken_from}
 use Rattle.models.proofs.unordered_queue.append_each.Goals as goal
 

@@ -1,5 +1,5 @@
 use Rattle.models.specs.Objects.{object_of}
-use Rattle.history.specs.Events.{marks}
+use Rattle.events.specs.Events.{marks}
 use Rattle.linspec.specs.Orders.{product}
 use Rattle.narrowing.proofs.Intervals.{IsLinearizable-stricter, narrower_asks_for_more}
 use Rattle.narrowing.proofs.laws.narrower_intervals_law.Goals as goal

@@ -1,7 +1,7 @@
 use Rattle.std.proofs.Common.{codes}
 use Rattle.edn.specs.Value.{keyword}
-use Rattle.history.specs.declared.event.EventKind.{EventKind}
-use Rattle.history.specs.Spelling.{text_of_kind}
+use Rattle.events.specs.declared.event.EventKind.{EventKind}
+use Rattle.events.specs.Spelling.{text_of_kind}
 use Rattle.plain_events.proofs.Words.{pair_from}
 use Rattle.plain_events.proofs.event.kind_pair.Goals as goal
 

@@ -1,5 +1,5 @@
 use Rattle.std.proofs.Common.{codes, ℕ}
-use Rattle.history.specs.EventMap.{number}
+use Rattle.events.specs.EventMap.{number}
 use Rattle.plain_events.proofs.Words.{pair_from}
 use Rattle.plain_events.proofs.event.process_pair.Goals as goal
 

@@ -1,6 +1,6 @@
 -- So far the sets before this one are written.
 use Rattle.interned.specs.Numbers.{IsOnceIn}
-use Rattle.history.specs.Events.{IsFront}
+use Rattle.events.specs.Events.{IsFront}
 use Rattle.product_ends.specs.Conversion.{AreRenumbered}
 use Rattle.product_ends.proofs.conversion.renumber_sets.Given as goal
 

@@ -4,7 +4,7 @@ use Rattle.std.proofs.lemmas.Result.{IfOk-weaker}
 use Rattle.std.specs.Option.{IfSome}
 use Rattle.std.proofs.lemmas.Option.{IfSome_then}
 use Rattle.interned.specs.Numbers.{IsOnceIn}
-use Rattle.history.specs.Events.{IsFront}
+use Rattle.events.specs.Events.{IsFront}
 use Rattle.ends.proofs.Adding.{IsFront-itself, IsFront-trans}
 use Rattle.product_ends.specs.Conversion.{IsSameFound}
 use Rattle.product_ends.specs.Deeds.{IsAlone}

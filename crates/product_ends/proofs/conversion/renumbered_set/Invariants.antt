@@ -1,6 +1,6 @@
 -- So far the other set has what the numbers below this one stand for.
 use Rattle.interned.specs.Numbers.{IsOnceIn}
-use Rattle.history.specs.Events.{IsFront}
+use Rattle.events.specs.Events.{IsFront}
 use Rattle.product_ends.proofs.Renumbering.{IsRenumberedTo}
 use Rattle.product_ends.proofs.conversion.renumbered_set.Given as goal
 

@@ -1,25 +1,25 @@
-use Rattle.std.proofs.Common.{◌≡◌, ◌+◌, ℕ, List, [], ◌∷◌, ◌++◌, Some, length, slice_get, refl, sym, ap, ◌∙◌, subst, arith}
+use Rattle.std.proofs.Common.{◌≡◌, ◌+◌, ℕ, List, [], ◌∷◌, ◌++◌, Some, length, slice_get, refl, sym, ap, subst, arith}
 use Rattle.std.proofs.lemmas.List.{length-append}
 use Rattle.std.proofs.lemmas.Option.{slice_get_read}
 use Rattle.std.proofs.lemmas.Result.{on_ok_weaker}
 use Rattle.std.specs.Global.{Vec}
-use Rattle.history.specs.Events.{IsFront}
+use Rattle.events.specs.Events.{IsFront}
 use Rattle.ends.proofs.Adding.{IsFront-push, IsFront-trans}
-use Rattle.ends.proofs.Showing.{widens_on}
+use Rattle.ends.proofs.Showing.{tries_on}
 use Rattle.product_ends.specs.declared.deeds.Deed.{Deed}
 use Rattle.product_ends.specs.declared.deeds.Deeds.{Deeds}
 use Rattle.product_ends.specs.Deeds.{AreStaysTo, AreTriedTo, IsOrderWith}
 use Rattle.product_ends.proofs.Trying.{deeds_with, stays_more, stays_with, tried_more, within_with}
 use Rattle.product_ends.proofs.deeds.try_each.Goals as goal
 
-pub returns-in_err-deed-clause-widens : goal.returns-in_err-deed-clause-widens
-returns-in_err-deed-clause-widens g c = widens_on c.args.table.now c.loop-call.table c.tried.new.table c.loop-call.invariant.widens c.tried.ensures.widens
+pub returns-in_err-deed-clause-tries : goal.returns-in_err-deed-clause-tries
+returns-in_err-deed-clause-tries g c = tries_on c.loop-call.invariant.tries c.tried.ensures.tries
 
-pub returns-in_err-push-clause-widens : goal.returns-in_err-push-clause-widens
-returns-in_err-push-clause-widens g c = widens_on c.args.table.now c.loop-call.table c.tried.new.table c.loop-call.invariant.widens c.tried.ensures.widens
+pub returns-in_err-push-clause-tries : goal.returns-in_err-push-clause-tries
+returns-in_err-push-clause-tries g c = tries_on c.loop-call.invariant.tries c.tried.ensures.tries
 
-pub returns-in_err-push-2-clause-widens : goal.returns-in_err-push-2-clause-widens
-returns-in_err-push-2-clause-widens g c = widens_on c.args.table.now c.loop-call.table c.tried.new.table c.loop-call.invariant.widens c.tried.ensures.widens
+pub returns-in_err-push-2-clause-tries : goal.returns-in_err-push-2-clause-tries
+returns-in_err-push-2-clause-tries g c = tries_on c.loop-call.invariant.tries c.tried.ensures.tries
 
 pub loop-call-preserved : goal.loop-call-preserved
 loop-call-preserved g c =
@@ -41,7 +41,7 @@ loop-call-preserved g c =
       long = omega arith;
       front = IsFront-trans old mid c.push.new.self.items i.front (subst (IsFront mid) (sym pushed) (IsFront-push mid c.in_ok-deed.deed));
       tried = subst (λ l. AreTriedTo g.M.SeqObject.apply_to c.tried.new.table calls c.args.number l (length old) (n + 1)) (sym pushed)
-          (tried_more g.M.SeqObject.apply_to calls c.loop-call.table c.tried.new.table c.args.number (length old) n mid c.call-item.result c.in_ok-deed.deed c.tried.ensures.widens i.long here c.in_ok-deed.ensures.deed i.tried);
+          (tried_more g.M.SeqObject.apply_to calls c.loop-call.table c.tried.new.table c.args.number (length old) n mid c.call-item.result c.in_ok-deed.deed c.tried.ensures.tries.widens i.long here c.in_ok-deed.ensures.deed i.tried);
       as_many = omega arith;
       stays_front = IsFront-trans c.args.deeds.now.stays.items stays c.push-in-loop-call.new.self.items i.stays_front (subst (IsFront stays) (sym stays_pushed) (IsFront-push stays c.stay.result));
       stays = λ same.
@@ -50,9 +50,7 @@ loop-call-preserved g c =
           subst (λ l. AreStaysTo c.args.number c.push.new.self.items l (length old) (n + 1)) (sym stays_pushed)
           (subst (λ l. AreStaysTo c.args.number l (stays ++ c.stay.result ∷ []) (length old) (n + 1)) (sym pushed)
           (stays_more c.args.number (length old) n c.stay.result mid stays c.in_ok-deed.deed long (omega (arith, as_many, same)) c.stay.ensures (i.stays same)));
-      widens = widens_on c.args.table.now c.loop-call.table c.tried.new.table i.widens c.tried.ensures.widens;
-      rows = c.tried.ensures.rows ∙ i.rows;
-      never_falls = (let a = i.never_falls in let b = c.tried.ensures.never_falls in omega (arith, a, b));
+      tries = tries_on i.tries c.tried.ensures.tries;
       cost = (let cost = c.tried.ensures.cost in omega arith);
     }
 
@@ -71,7 +69,7 @@ returns-clause-deeds g c are within =
     let end : c.loop-call.call-index ≡ length calls = omega arith in
     let before : c.len-before.result ≡ length old.deeds.items = omega arith in
     on_ok_weaker c.tell.result
-    (λ h. deeds_with apply calls c.args.table.now c.loop-call.table old new c.args.number i.widens i.front
+    (λ h. deeds_with apply calls c.args.table.now c.loop-call.table old new c.args.number i.tries.widens i.front
     (subst (λ k. IsOrderWith old.order.items new.order.items c.args.number k) before (subst (λ l. IsOrderWith l new.order.items c.args.number c.len-before.result) (ap (λ (v : Vec ℕ). v.items) i.order) h))
     (subst (AreTriedTo apply c.loop-call.table calls c.args.number new.deeds.items (length old.deeds.items)) end i.tried) within are)
     c.tell.ensures

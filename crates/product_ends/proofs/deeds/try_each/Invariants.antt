@@ -1,6 +1,6 @@
 use Rattle.std.proofs.Common.{◌≡◌, ◌+◌, ◌≤◌, length}
-use Rattle.history.specs.Events.{IsFront}
-use Rattle.ends.specs.Tables.{Widens, rows_of}
+use Rattle.events.specs.Events.{IsFront}
+use Rattle.ends.specs.Tables.{OnlyTries}
 use Rattle.product_ends.specs.Deeds.{AreStaysTo, AreTriedTo}
 use Rattle.product_ends.proofs.deeds.try_each.Given as goal
 
@@ -14,8 +14,6 @@ invariant-loop-call g l = record {
   stays : length l.fn.deeds.stays.items ≡ length l.fn.deeds.deeds.items
       → AreStaysTo l.number l.deeds.deeds.items l.deeds.stays.items (length l.fn.deeds.deeds.items) l.call-index;
   tried : AreTriedTo g.M.SeqObject.apply_to l.table l.calls l.number l.deeds.deeds.items (length l.fn.deeds.deeds.items) l.call-index;
-  widens : Widens l.fn.table l.table;
-  rows : rows_of l.table ≡ rows_of l.fn.table;
-  never_falls : l.fn.applied ≤ l.applied;
+  tries : OnlyTries l.fn.table l.table l.fn.applied l.applied;
   cost : l.applied ≤ l.fn.applied + l.call-index;
 }

@@ -4,30 +4,25 @@ use Rattle.std.proofs.lemmas.List.{set_past}
 use Rattle.std.proofs.lemmas.Option.{slice_get_within}
 use Rattle.models.specs.Objects.{of_table}
 use Rattle.interned.proofs.Lists.{some_at}
-use Rattle.ends.proofs.Showing.{widens_on}
+use Rattle.ends.proofs.Showing.{tries_on}
 use Rattle.products.specs.Products.{Family, IsIn, IsInAt, IsInOne}
 use Rattle.product_ends.specs.Growing.{SayReached}
-use Rattle.product_ends.proofs.Beginning.{kept_says, known_none}
-use Rattle.product_ends.proofs.Closing.{are_by, from_here, in_here}
+use Rattle.product_ends.proofs.Beginning.{grown_none, kept_says}
+use Rattle.product_ends.proofs.Closing.{are_by, from_here, grown_on, in_here}
 use Rattle.product_ends.proofs.growth.begin.Goals as goal
 
 pub loop-at-init : goal.loop-at-init
 loop-at-init g c = record {
-  known = known_none g.M.SeqObject.apply_to c.args.table.now c.args.calls.now c.forget.new.deeds c.restart.new.self.1 c.forget.ensures.none (c.forget.ensures.stays (length c.args.calls.now))
-      (ap (λ (family : Family). family.1) c.restart.ensures);
-  few = search rules;
+  grown = grown_none g.M.SeqObject.apply_to c.args.table.now c.args.calls.now c.forget.new.deeds c.restart.new.self.1 c.forget.ensures.none (c.forget.ensures.stays (length c.args.calls.now))
+      (ap (λ (family : Family). family.1) c.restart.ensures) c.args.budget c.args.applied.now;
   places = search rules;
-  widens = search rules;
-  rows = search rules;
-  never_falls = search rules;
-  paid = search rules;
+  tries = search rules;
   reached = search rules;
   all = search rules;
 }
 
-pub returns-in_err-put_widened-clause-widens : goal.returns-in_err-put_widened-clause-widens
-returns-in_err-put_widened-clause-widens g c =
-    widens_on c.args.table.now c.loop-at.table c.put_widened.new.table c.loop-at.invariant.widens c.put_widened.ensures.widens
+pub returns-in_err-put_widened-clause-tries : goal.returns-in_err-put_widened-clause-tries
+returns-in_err-put_widened-clause-tries g c = tries_on c.loop-at.invariant.tries c.put_widened.ensures.tries
 
 pub returns-then-not-branch-clause-reached : goal.returns-then-not-branch-clause-reached
 returns-then-not-branch-clause-reached g c once ends shown =
@@ -39,12 +34,14 @@ returns-then-not-branch-clause-reached g c once ends shown =
     let product = some_at kept c.loop-at.at (omega arith) in
     c.in_ok-put_widened.ensures.reached once ends (i.reached once ends shown)
     (subst (λ l. SayReached o c.loop-at.table c.args.calls.now ends (c.first-number.result, l)) (sym same)
-    (λ row is. kept_says o c.args.table.now c.loop-at.table c.args.calls.now kept ends shown i.widens row
+    (λ row is. kept_says o c.args.table.now c.loop-at.table c.args.calls.now kept ends shown i.tries.widens row
     (c.loop-at.at, from_here kept c.loop-at.at c.first-number.result source c.first-number.ensures (are_by kept c.loop-at.at source c.sets.result.now c.in_ok-rewrite.ensures c.sets.ensures.sets) product.0 product.1 row is)))
 
-pub returns-then-not-branch-clause-widens : goal.returns-then-not-branch-clause-widens
-returns-then-not-branch-clause-widens g c =
-    widens_on c.args.table.now c.loop-at.table c.put_widened.new.table c.loop-at.invariant.widens c.in_ok-put_widened.ensures.widens
+pub returns-then-not-branch-clause-tries : goal.returns-then-not-branch-clause-tries
+returns-then-not-branch-clause-tries g c = tries_on c.loop-at.invariant.tries c.in_ok-put_widened.ensures.tries
+
+pub returns-then-not-branch-clause-grown : goal.returns-then-not-branch-clause-grown
+returns-then-not-branch-clause-grown g c = grown_on c.loop-at.invariant.grown c.in_ok-put_widened.ensures.grown c.if-not-branch.true (omega arith)
 
 pub loop-at-preserved : goal.loop-at-preserved
 loop-at-preserved g c =
@@ -56,24 +53,20 @@ loop-at-preserved g c =
     let same : set source c.len-place.result 0 ≡ source = set_past source c.len-place.result 0 (omega arith) in
     let product = some_at kept c.loop-at.at (omega arith) in
     record {
-      known = e.known;
-      few = e.within c.if-not-branch.false;
+      grown = grown_on i.grown e.grown c.if-not-branch.false (omega arith);
       places = e.places ∙ i.places;
-      widens = widens_on c.args.table.now c.loop-at.table c.put_widened.new.table i.widens e.widens;
-      rows = e.rows ∙ i.rows;
-      never_falls = (let a = i.never_falls in let b = e.never_falls in omega (arith, a, b));
-      paid = (let a = i.paid in let b = e.paid in omega (arith, a, b));
+      tries = tries_on i.tries e.tries;
       reached = λ once ends shown.
           e.reached once ends (i.reached once ends shown)
           (subst (λ l. SayReached o c.loop-at.table c.args.calls.now ends (c.first-number.result, l)) (sym same)
-          (λ row is. kept_says o c.args.table.now c.loop-at.table c.args.calls.now kept ends shown i.widens row
+          (λ row is. kept_says o c.args.table.now c.loop-at.table c.args.calls.now kept ends shown i.tries.widens row
           (c.loop-at.at, from_here kept c.loop-at.at c.first-number.result source c.first-number.ensures (are_by kept c.loop-at.at source c.sets.result.now c.in_ok-rewrite.ensures c.sets.ensures.sets) product.0 product.1 row is)));
       all = λ k row lt is.
           ⊎_elim {C = IsInOne c.put_widened.new.room.all.1 row}
           (λ here.
           e.puts row (subst (λ l. IsIn (c.first-number.result, l) row) (sym same)
           (in_here kept c.loop-at.at c.first-number.result source c.first-number.ensures (are_by kept c.loop-at.at source c.sets.result.now c.in_ok-rewrite.ensures c.sets.ensures.sets) row (subst (λ n. IsInAt kept n row) here is))))
-          (λ other. e.gains.kept row (i.all k row (omega (arith, lt, other)) is))
+          (λ other. e.grown.gains.kept row (i.all k row (omega (arith, lt, other)) is))
           (cases_eq k c.loop-at.at);
     }
 

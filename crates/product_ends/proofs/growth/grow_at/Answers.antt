@@ -1,4 +1,4 @@
-use Rattle.std.proofs.Common.{◌≡◌, ◌∷◌, ◌∙◌, Some, set, slice_get, get_or, length, sym, ap, refl, subst, arith}
+use Rattle.std.proofs.Common.{◌≡◌, [], ◌∷◌, ◌∙◌, Some, set, slice_get, get_or, length, sym, ap, refl, subst, arith}
 use Rattle.std.proofs.lemmas.Bool.{true≢false}
 use Rattle.std.proofs.lemmas.List.{get_or_default}
 use Rattle.std.proofs.lemmas.Option.{slice_get-get_or}
@@ -7,7 +7,8 @@ use Rattle.models.specs.Objects.{of_table}
 use Rattle.interned.proofs.Lists.{some_at}
 use Rattle.products.specs.Products.{Has}
 use Rattle.product_ends.specs.declared.deeds.Deed.TheVariants.{Nowhere, To}
-use Rattle.product_ends.specs.Growing.{LeadsFrom}
+use Rattle.product_ends.specs.Deeds.{IsTried}
+use Rattle.product_ends.specs.Growing.{Leads, LeadsFrom}
 use Rattle.product_ends.proofs.Led.{base_reached, leads_none, leads_nowhere, leads_still, leads_to}
 use Rattle.product_ends.proofs.Putting.{deed_of}
 use Rattle.product_ends.proofs.Stepping.{in_same, in_with, same_by}
@@ -50,7 +51,7 @@ returns-in-To-clause-leads g c once start hold call here =
     let new = c.put_widened.new.room.all.1 in
     on_ok_weaker c.put_widened.result
     (λ puts row there.
-    leads_still o t c.put_widened.new.table calls c.put_widened.ensures.widens new new (λ r k. k) call row
+    leads_still o t c.put_widened.new.table calls c.put_widened.ensures.tries.widens new new (λ r k. k) call row
     (leads_to g.row.M-State.Denot g.M.SeqObject.start_state g.M.SeqObject.apply_to t calls once start number sets at c.requires.here call here
     (λ r k. hold.each r (c.requires.there r k)) c.in-To.to c.in-To.found
     (λ r e shows first. deed_of g.M.SeqObject.apply_to t calls c.args.room.now.deeds c.requires.known.deeds number (length calls) c.in-Some.deeds.now c.in-Some.ensures.some r e shows first at call (To c.in-To.to c.in-To.found) here is)
@@ -94,3 +95,10 @@ returns-in_default-deeds-2-clause-leads g c once start hold call here =
     leads_nowhere g.row.M-State.Denot g.M.SeqObject.start_state g.M.SeqObject.apply_to t calls once start number sets at c.requires.here call here
     (λ r k. hold.each r (c.requires.there r k)) c.args.room.now.all.1
     (λ r e shows first. deed_of g.M.SeqObject.apply_to t calls c.args.room.now.deeds c.requires.known.deeds number (length calls) c.in-Some.deeds.now c.in-Some.ensures.some r e shows first at call Nowhere here is)
+
+pub returns-in_default-clause-leads : goal.returns-in_default-clause-leads
+returns-in_default-clause-leads g c once start hold call here [] is = absurd is
+returns-in_default-clause-leads g c once start hold call here (n ∷ row) is =
+    let tried = subst (IsTried c.args.room.now.deeds) is.0 (c.requires.known.tried (n ∷ row) (c.requires.there (n ∷ row) is)) in
+    absurd {A = Leads (of_table g.row.M-State.Denot g.M.SeqObject.start_state g.M.SeqObject.apply_to) c.args.table.now c.args.calls.now c.args.room.now.all.1 call (n ∷ row)}
+    (true≢false (sym (c.in_default.ensures.tried c.requires.known.within tried)))

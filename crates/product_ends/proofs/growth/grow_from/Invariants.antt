@@ -1,24 +1,19 @@
-use Rattle.std.proofs.Common.{◌≡◌, ◌<◌, ◌≤◌, ◌+◌, ℕ, List, Some, length, slice_get}
+use Rattle.std.proofs.Common.{◌≡◌, ◌<◌, ◌+◌, ℕ, true, List, Some, slice_get}
 use Rattle.models.specs.Objects.{of_table}
 use Rattle.linspec.specs.Ends.{End}
 use Rattle.ends.specs.declared.pending_op.PendingOp.{PendingOp}
-use Rattle.ends.specs.Tables.{HasEachOnce, Widens, rows_of}
-use Rattle.products.specs.Products.{IsIn, rows_in}
-use Rattle.product_ends.specs.Growing.{AreKnown, Gains, HoldReached, IsPaid, Leads}
+use Rattle.ends.specs.Tables.{HasEachOnce, OnlyTries}
+use Rattle.products.specs.Products.{IsIn}
+use Rattle.product_ends.specs.Growing.{AreGrown, HoldReached, Leads}
 use Rattle.product_ends.proofs.growth.grow_from.Given as goal
 
 abbrev pub invariant-loop-at : goal.invariant-loop-at
 invariant-loop-at g l =
     record {
-      known : AreKnown g.M.SeqObject.apply_to l.table l.calls l.room.deeds l.room.all.1;
-      few : length (rows_in l.room.all.1) ≤ l.budget;
-      gains : Gains (l.from + 1) l.initial.room.all.1 l.room.all.1;
+      grown : AreGrown g.M.SeqObject.apply_to l.table l.calls l.room.deeds (l.from + 1) l.budget l.initial.room.all.1 l.room.all.1 l.initial.applied l.applied true;
       source : l.room.source.items ≡ l.initial.room.source.items;
       places : l.room.all.0 ≡ l.initial.room.all.0;
-      widens : Widens l.initial.table l.table;
-      rows : rows_of l.table ≡ rows_of l.initial.table;
-      never_falls : l.initial.applied ≤ l.applied;
-      paid : IsPaid (length l.calls) l.initial.applied l.initial.room.all.1 l.applied l.room.all.1;
+      tries : OnlyTries l.initial.table l.table l.initial.applied l.applied;
       reached : HasEachOnce l.calls → (start : List (End g.row.M-State.Denot))
           → HoldReached (of_table g.row.M-State.Denot g.M.SeqObject.start_state g.M.SeqObject.apply_to) l.initial.table l.calls start l.initial.room.all.1
           → HoldReached (of_table g.row.M-State.Denot g.M.SeqObject.start_state g.M.SeqObject.apply_to) l.table l.calls start l.room.all.1;

@@ -6,6 +6,7 @@ use Rattle.witness.specs.KeyOrders.{AreThere, FindsAll}
 use Rattle.witness.proofs.Sound.{IsSound, sound}
 use Rattle.witness.proofs.Reasons.{there, fits, reason}
 use Rattle.witness.proofs.Refuting.{linearizable, refuted}
+use Rattle.witness.proofs.Firsts.{first}
 use Rattle.witness.proofs.confirming.confirm.Goals as goal
 use Rattle.witness.proofs.confirming.confirm.Goals.{In_ok-placed, In_ok-unfit}
 
@@ -36,6 +37,13 @@ returns-in-Some-clause-reason c =
     let at = goal.at.returns-in-Some-clause-reason c in
     let p = at.In_ok-placed in
     reason c.args.history.now.events (is_sound p) c.in_ok-fates.fates.items (are_fates p) c.args.order.now c.in_ok-placed.placed.stands.items c.in_ok-placed.placed.stop (are_placed p)
+    c.args.kind c.in-Some.unfit (subst (FindsAll c.args.kind c.args.history.now.events c.in_ok-fates.fates.items c.in_ok-placed.placed.stop c.in_ok-placed.placed.stands.items) c.in-Some.is (found at.In_ok-unfit))
+
+pub returns-in-Some-clause-first : goal.returns-in-Some-clause-first
+returns-in-Some-clause-first c =
+    let at = goal.at.returns-in-Some-clause-first c in
+    let p = at.In_ok-placed in
+    first c.args.history.now.events (is_sound p) c.in_ok-fates.fates.items (are_fates p) c.args.order.now c.in_ok-placed.placed.stands.items c.in_ok-placed.placed.stop (are_placed p)
     c.args.kind c.in-Some.unfit (subst (FindsAll c.args.kind c.args.history.now.events c.in_ok-fates.fates.items c.in_ok-placed.placed.stop c.in_ok-placed.placed.stands.items) c.in-Some.is (found at.In_ok-unfit))
 
 pub returns-in-Some-clause-confirmed : goal.returns-in-Some-clause-confirmed

@@ -2,7 +2,7 @@
 use Rattle.std.proofs.Common.{◌≡◌, ◌+◌, ◌<◌, [], ◌∷◌, length, take, sym, ap, ◌∙◌, subst, arith}
 use Rattle.std.proofs.lemmas.List.{length-append}
 use mathlib.Core.Path.{fun_ext}
-use Rattle.history.specs.Events.{op_event, last_after}
+use Rattle.events.specs.Events.{op_event, last_after}
 use Rattle.linspec.specs.KeptMarks.{last_invocation}
 use Rattle.witness.specs.declared.fates.Fate.TheVariants.{NoOperation}
 use Rattle.witness.specs.Fates.{fate_at, fate_with, last_in}

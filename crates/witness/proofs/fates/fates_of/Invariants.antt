@@ -1,5 +1,5 @@
 use Rattle.std.proofs.Common.{◌≡◌, ℕ, ◌+◌, ◌<◌, length, take}
-use Rattle.history.specs.Events.{entries_of, indexed_from}
+use Rattle.events.specs.Events.{entries_of, indexed_from}
 use Rattle.linspec.specs.KeptMarks.{last_invocation}
 use Rattle.witness.specs.Fates.{fate_at, fate_in, last_in}
 use Rattle.witness.proofs.fates.fates_of.Given as goal

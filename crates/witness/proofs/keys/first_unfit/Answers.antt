@@ -32,7 +32,7 @@ keys-preserved c =
       apart = apart_more c.args.stands.items sorted by start end was lt within same other;
       found = found_more c.args.kind c.args.events.now c.args.fates.now c.args.found sorted (get_or sorted start d).key start end (take (end - start) (drop start sorted)) c.keys.first c.in_ok-unfit.unfit c.earlier-first.result
           (same_as c.args.stands.items sorted by start end was lt within same other d) (run_is c.args.stands.items sorted by start end was lt within same other d) c.keys.invariant.found judged
-          c.earlier-first.ensures.one c.earlier-first.ensures.none;
+          c.earlier-first.ensures.one c.earlier-first.ensures.none c.earlier-first.ensures.first;
     }
 
 pub returns : goal.returns

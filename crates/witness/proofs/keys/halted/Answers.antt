@@ -15,5 +15,5 @@ pub unfit_at-requires : goal.unfit_at-requires
 unfit_at-requires c = halt_within c.args.kind c.args.events.now c.args.fates.now c.args.stands.now c.in_ok-calls.calls.items c.in-Some.halt.at c.in-Some.halt.why c.in_ok-calls.ensures (halt (goal.at.unfit_at-requires c).In-Some)
 
 pub returns-in-Some : goal.returns-in-Some
-returns-in-Some c = halt_unfit c.args.kind c.args.events.now c.args.fates.now c.args.stands.now c.in_ok-calls.calls.items c.in-Some.halt.at c.in-Some.halt.why c.unfit_at.result c.in_ok-calls.ensures
+returns-in-Some c = halt_unfit c.args.kind c.args.events.now c.args.fates.now c.args.stands.now c.in_ok-calls.calls.items c.in-Some.halt.at c.in-Some.halt.why c.unfit_at.result c.requires.in_time c.in_ok-calls.ensures
     (halt (goal.at.returns-in-Some c).In-Some) c.unfit_at.ensures

@@ -1,7 +1,7 @@
 -- a value that is answered
 use Rattle.std.proofs.Common.{ℤ, FitsSigned, w64, rules, Some, ◌∷◌, ap, sym, ◌∙◌, subst}
 use Rattle.std.proofs.lemmas.Int.{to_z-of_z}
-use Rattle.models.specs.Multisets.{with_one}
+use Rattle.values.specs.Multisets.{with_one}
 use Rattle.witness.specs.Needs.{AreNeeds}
 use Rattle.witness.proofs.QueueNeeds.{before_one, before_none}
 use Rattle.witness.proofs.needs.before_answered.Goals as goal

@@ -1,5 +1,6 @@
 -- by halves
-use Rattle.std.proofs.Common.{◌≡◌, ℕ, zero, suc, ◌+◌, ◌-◌, ◌≤◌, List, [], length, take, sym, subst, arith}
+use Rattle.std.proofs.Common.{◌≡◌, ℕ, zero, suc, ◌+◌, ◌-◌, ◌<◌, ◌≤◌, ⊎_elim, List, [], length, take, sym, subst, arith}
+use Rattle.std.proofs.lemmas.Bool.{cases_order}
 use Rattle.std.proofs.lemmas.List.{take_all}
 use Rattle.models.specs.Objects.{unordered_queue}
 use Rattle.witness.specs.declared.calls.Call.{Call}
@@ -14,6 +15,7 @@ pub halves-init : goal.halves-init
 halves-init c = record {
   ordered = omega arith;
   within = omega arith;
+  can_run = tt;
   halts = subst (λ l. ¬ CanRun unordered_queue l []) (sym (take_all (length c.args.calls.now) c.args.calls.now (omega arith))) c.requires;
 }
 
@@ -25,6 +27,19 @@ returns-clause-within c =
     let some = some_unfit c.args.calls.now c.halves.high c.halves.invariant.halts in
     let within = c.halves.invariant.within in
     omega (arith, some, within)
+
+-- the halves have met
+met : (calls : List Call) (low high : ℕ) → low ≤ high → high - low ≤ 1 → CanRun unordered_queue (take low calls) [] → ¬ CanRun unordered_queue (take high calls) [] → low ≡ high - 1
+met calls low high le near runs halts =
+    ⊎_elim
+    (λ (e : low ≡ high). absurd (halts (subst (λ n. CanRun unordered_queue (take n calls) []) e runs)))
+    (λ h. ⊎_elim (λ (l : low < high). omega (arith, l, near)) (λ (l : high < low). absurd (omega (arith, l, le))) h)
+    (cases_order low high)
+
+pub returns-clause-can_run : goal.returns-clause-can_run
+returns-clause-can_run c =
+    let i = c.halves.invariant in
+    subst (λ n. CanRun unordered_queue (take n c.args.calls.now) []) (met c.args.calls.now c.halves.low c.halves.high i.ordered c.halves-test.false i.can_run i.halts) i.can_run
 
 pub returns-clause-halts : goal.returns-clause-halts
 returns-clause-halts c =

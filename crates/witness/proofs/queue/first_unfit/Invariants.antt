@@ -7,6 +7,7 @@ abbrev pub invariant-halves : goal.invariant-halves
 invariant-halves l = record {
   ordered : l.low ≤ l.high;
   within : l.high ≤ length l.calls;
+  can_run : CanRun unordered_queue (take l.low l.calls) [];
   halts : ¬ CanRun unordered_queue (take l.high l.calls) [];
 }
 

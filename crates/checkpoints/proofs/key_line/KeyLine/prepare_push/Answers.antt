@@ -1,5 +1,5 @@
 use Rattle.std.proofs.Common.{◌≡◌, ℕ, [], ◌∷◌, ◌++◌, length, sym, ◌∙◌, subst, arith}
-use Rattle.history.specs.declared.event.Event.{Event}
+use Rattle.events.specs.declared.event.Event.{Event}
 use Rattle.checkpoints.specs.SoundLine.{IsBrought}
 use Rattle.checkpoints.proofs.Soundness.{history_seen, next_seen, pushed, many_places, next_right, IsSoundLine-dropped, IsSoundLine-prepared}
 use Rattle.checkpoints.proofs.key_line.KeyLine.prepare_push.Goals as goal

@@ -1,8 +1,9 @@
 use Rattle.std.proofs.Common.{◌≡◌, ◌+◌, ◌++◌, length, take, sym, ap, ◌∙◌, refl, subst, arith}
 use Rattle.std.proofs.lemmas.List.{append-nil, take_all}
-use Rattle.history.specs.ProcessRule.{IsHistory}
+use Rattle.events.specs.ProcessRule.{IsHistory}
 use Rattle.checkpoints.specs.KeyLineView.{count_on}
 use Rattle.checkpoints.specs.KeyState.{IsKeyState}
+use Rattle.checkpoints.specs.Next.{IsNext}
 use Rattle.checkpoints.proofs.Counts.{count_on_none, count_on_more}
 use Rattle.checkpoints.proofs.Cutting.{IsHistory-front, length-places}
 use Rattle.checkpoints.proofs.Lending.{stands_within, one_more_behind}
@@ -23,8 +24,9 @@ loop-index-preserved c =
     record {
       stands = λ kind budget before events first history at.
           (let one = one_more_behind c.args.lent.now c.args.places.now events at i _ 0 (omega arith) refl before _ c.index-lent-index.is in
-          subst (λ l. IsKeyState kind budget l c.go_on.new.self) (sym one)
-          (c.in_ok-go_on.ensures kind budget (before ++ take i events) (c.loop-index.invariant.stands kind budget before events first history at) (subst IsHistory one (IsHistory-front before events (i + 1) history))));
+          c.commit.ensures kind budget (before ++ take (i + 1) events)
+          (subst (λ l. IsNext kind budget l c.prepare.new.self c.in_ok-next.next) (sym one)
+          (c.in_ok-next.ensures.next kind budget (before ++ take i events) (c.loop-index.invariant.stands kind budget before events first history at) (subst IsHistory one (IsHistory-front before events (i + 1) history)))));
       counted = c.saturating_add-count.ensures ∙ ap (λ n. count_on n 1) c.loop-index.invariant.counted ∙ count_on_more c.args.replayed.now i;
     }
 

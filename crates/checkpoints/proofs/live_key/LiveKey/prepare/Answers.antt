@@ -1,6 +1,6 @@
 use Rattle.std.proofs.Common.{◌∙◌, ap}
-use Rattle.history.specs.Events.{op_event_in}
-use Rattle.history.specs.declared.event.Process.TheVariants.{Client}
+use Rattle.events.specs.Events.{op_event_in}
+use Rattle.events.specs.declared.event.Process.TheVariants.{Client}
 use Rattle.frontier.specs.declared.frontier.Step.TheVariants as steps
 use Rattle.frontier.specs.AnyFrontier.{AnyWillStandFor}
 use Rattle.checkpoints.proofs.Judging.{silent_after, never_none, status_stepped, marks_stepped}

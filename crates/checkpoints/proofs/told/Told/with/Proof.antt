@@ -32,7 +32,7 @@ use Rattle.checkpoints.proofs.told.Told.with.Statement as stated
 use Rattle.checkpoints.proofs.told.Told.with.Code as code
 use Rattle.checkpoints.specs.contracts.told.Told as told
 use denote.Builtin.{u32}
-use Rattle.history.specs.contracts.event.Event as event
+use Rattle.events.specs.contracts.event.Event as event
 
 abbrev stayed : Stays (f.ended).signature.params (f.ended).kept
 stayed = (stay_none_ref (0 ∷ []) tt (plain (λ _. told.the_row)) yes, (stay_none_ref (1 ∷ []) tt (plain (λ _. u32)) yes, (stay_none_ref (2 ∷ []) tt (plain (λ _. event.the_row)) yes, tt)))

@@ -1,6 +1,6 @@
 use Rattle.std.proofs.Common.{◌∷◌, ◌≡◌, ◌≤◌, ◌+◌, ◌++◌, [], false, ap, length, length-append, map, refl, sym, take, ◌∙◌, subst, arith}
 use Rattle.models.specs.Objects.{of_table}
-use Rattle.history.specs.Events.Mark.{Invoked}
+use Rattle.events.specs.Events.Mark.{Invoked}
 use Rattle.ends.specs.declared.pending_op.PendingOp.{PendingOp}
 use Rattle.ends.specs.KeptEnds.{AreIncluded, end_kept}
 use Rattle.frontier.proofs.Standing.{generates_of, shown_of, stands_shown}

@@ -9,18 +9,18 @@ pub returns-in_err-choose_form-clause-nothing : goal.returns-in_err-choose_form-
 returns-in_err-choose_form-clause-nothing g c =
     let o = of_table g.row.M-State.Denot g.M.SeqObject.start_state g.M.SeqObject.apply_to in
     let p = err_from_is_err_and c.from_residual.result c.from_residual.ensures.1 in
-    rw p.1 (λ marks given. c.choose_form.ensures.keeps marks (idle_like o c.args.self.now _ (refl, refl, refl, refl) c.drop_change.ensures marks given))
+    rw p.1 (λ marks given. c.choose_form.ensures.keeps marks (idle_like o c.args.self.now _ (refl, refl, refl, refl) c.drop_prepared.ensures marks given))
 
 pub returns-clause-listed : goal.returns-clause-listed
 returns-clause-listed g c =
     let o = of_table g.row.M-State.Denot g.M.SeqObject.start_state g.M.SeqObject.apply_to in
     let f = c.args.self.now in
     ok_keeps (StandsFor o f) (IsIdle o _) (IsListed o _) c.place_fresh.result
-    (λ marks given. c.choose_form.ensures.keeps marks (idle_like o f _ (refl, refl, refl, refl) c.drop_change.ensures marks given)) c.place_fresh.ensures.listed
+    (λ marks given. c.choose_form.ensures.keeps marks (idle_like o f _ (refl, refl, refl, refl) c.drop_prepared.ensures marks given)) c.place_fresh.ensures.listed
 
 pub returns-clause-nothing : goal.returns-clause-nothing
 returns-clause-nothing g c =
     let o = of_table g.row.M-State.Denot g.M.SeqObject.start_state g.M.SeqObject.apply_to in
     let f = c.args.self.now in
     err_keeps (StandsFor o f) (IsIdle o _) (IsIdle o _) c.place_fresh.result
-    (λ marks given. c.choose_form.ensures.keeps marks (idle_like o f _ (refl, refl, refl, refl) c.drop_change.ensures marks given)) c.place_fresh.ensures.nothing
+    (λ marks given. c.choose_form.ensures.keeps marks (idle_like o f _ (refl, refl, refl, refl) c.drop_prepared.ensures marks given)) c.place_fresh.ensures.nothing

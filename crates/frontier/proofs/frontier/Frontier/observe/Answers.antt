@@ -1,4 +1,4 @@
 use Rattle.frontier.proofs.frontier.Frontier.observe.Goals as goal
 
-pub returns-in_ok-copy-in-Ok-clause-cost : goal.returns-in_ok-copy-in-Ok-clause-cost
-returns-in_ok-copy-in-Ok-clause-cost g c = rw c.in-Ok.is c.ok.ensures.cost
+pub returns-clause-cost : goal.returns-clause-cost
+returns-clause-cost g c = rw c.commit.ensures.cost c.prepare.ensures.cost

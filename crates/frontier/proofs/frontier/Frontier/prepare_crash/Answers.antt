@@ -1,8 +1,9 @@
 use Rattle.std.proofs.Common.{◌↔◌, ◌≤◌, ◌∷◌, ◌++◌, [], None, IsTrue, not, ap, map, length, refl, ◌∙◌, subst, arith}
 use Rattle.models.specs.Objects.{of_table}
-use Rattle.history.specs.Events.Mark.{Crashed}
+use Rattle.events.specs.Events.Mark.{Crashed}
 use Rattle.linspec.specs.Ends.{End}
-use Rattle.frontier.specs.declared.change.Change.TheVariants.{Anew}
+use Rattle.frontier.specs.declared.change.AfterCrash.{AfterCrash}
+use Rattle.frontier.specs.declared.change.Change.TheVariants.{Crashed as ToCrashed}
 use Rattle.frontier.specs.declared.frontier.Frontier.{Frontier}
 use Rattle.ends.specs.KeptEnds.{end_kept}
 use Rattle.ends.specs.EndSteps.{HasRead, after_crash, calls_after_crash}
@@ -51,6 +52,8 @@ returns-clause-next g c marks given is_open =
       room = f.room;
       as_products = None;
       next = f.next;
+      coming = f.coming;
+      after_crash = f.after_crash;
     } in
     let lists =
     stands_shown o h (marks ++ Crashed id ∷ []) (map end_kept c.in_ok-after.after.items) (calls_after_crash counted id f.calls.items) calls
@@ -58,11 +61,19 @@ returns-clause-next g c marks given is_open =
     (generates_after_crash o stands.kept marks id is_open (generates_of o f marks stands) g.met.M.SeqObject.reads counted tells (map end_kept c.in_ok-after.after.items) each)
     (pending_after_crash f.calls.items marks stands.well_kept.pending id is_open counted tells)
     (once_after_crash counted f.calls.items id stands.well_kept.calls_once) included none (closed_none o (map end_kept c.in_ok-after.after.items)) in
-    will_by o _ (marks ++ Crashed id ∷ []) (Anew h.calls c.in_ok-boxed.boxed h.tried) refl l.none h.table h.calls.items h.tried (λ g made. (made.0 ∙ c.in_ok-boxed.ensures.ok, made.1, made.2, made.3))
+    will_by o _ (marks ++ Crashed id ∷ []) ToCrashed refl l.none h.table h.calls.items h.tried
+    (λ f2 made.
+    let m = made c.in_ok-after_crash.after_crash refl in
+    let is = c.in_ok-after_crash.ensures.ok in (
+      m.0 ∙ ap (λ (a : AfterCrash g.row.M-State.Denot). a.table) is,
+      m.1 ∙ ap (λ (a : AfterCrash g.row.M-State.Denot). a.calls.items) is,
+      m.2,
+      m.3,
+    ))
     (λ g table calls tried. lists_like o h g table calls tried (marks ++ Crashed id ∷ []) lists)
 
-pub returns-in_err-boxed-clause-now : goal.returns-in_err-boxed-clause-now
-returns-in_err-boxed-clause-now g c marks given =
+pub returns-in_err-after_crash-clause-now : goal.returns-in_err-after_crash-clause-now
+returns-in_err-after_crash-clause-now g c marks given =
     let o = of_table g.row.M-State.Denot g.M.SeqObject.start_state g.M.SeqObject.apply_to in
     let f = c.list_as_rows.new.self in
     let l = c.in_ok-list_as_rows.ensures.listed marks given in

@@ -1,7 +1,7 @@
 use Rattle.std.proofs.Common.{◌-◌, ◌∷◌, ◌++◌, [], ap, length, refl, ◌∙◌, subst}
 use Rattle.std.specs.List.{filter}
 use Rattle.models.specs.Objects.{of_table}
-use Rattle.history.specs.Events.Mark.{Failed}
+use Rattle.events.specs.Events.Mark.{Failed}
 use Rattle.frontier.specs.declared.change.Change.TheVariants.{Done}
 use Rattle.ends.specs.EndSteps.{is_other}
 use Rattle.ends.specs.Tables.{with_rows}

@@ -14,4 +14,4 @@ pub returns-clause-next : goal.returns-clause-next
 returns-clause-next g c marks stands may =
     let o = of_table g.row.M-State.Denot g.M.SeqObject.start_state g.M.SeqObject.apply_to in
     let l = c.in_ok-list_fresh.ensures.listed marks stands in
-    will_invoke o _ marks _ refl may (lists_like o c.list_fresh.new.self _ refl refl refl marks l.lists)
+    will_invoke o _ marks _ refl refl may (lists_like o c.list_fresh.new.self _ refl refl refl marks l.lists)

@@ -1,5 +1,5 @@
 use Rattle.std.proofs.Common.{◌≡◌, take}
-use Rattle.history.specs.Events.{indexed_from, events_of_key}
+use Rattle.events.specs.Events.{indexed_from, events_of_key}
 use Rattle.history.proofs.history.History.events_of.Given as goal
 
 abbrev pub invariant-loop-i : goal.invariant-loop-i

@@ -1,10 +1,10 @@
 use Rattle.std.proofs.Common.{◌≡◌, Some, IfSome, length, slice_get, take, ap, sym, ◌∙◌, refl, subst, arith}
 use Rattle.std.proofs.lemmas.Option.{slice_get_read}
 use Rattle.edn.specs.View.{value_of}
-use Rattle.history.specs.Spelling.{Spells}
-use Rattle.history.specs.EventMap.{map_of, with_index}
+use Rattle.events.specs.Spelling.{Spells}
+use Rattle.events.specs.EventMap.{map_of, with_index}
 use Rattle.history.specs.WellFormed.{HistoryView, IsHistoryOf}
-use Rattle.history.proofs.Written.{event_in_tables, ok_told, some_told}
+use Rattle.history.proofs.KeyFronts.{event_in_tables, ok_told, some_told}
 use Rattle.history.proofs.history.History.to_edn.Goals as goal
 
 pub map_of_event-requires : goal.map_of_event-requires

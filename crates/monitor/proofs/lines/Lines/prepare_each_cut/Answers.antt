@@ -1,6 +1,8 @@
-use Rattle.std.proofs.Common.{◌<◌, ◌≤◌, ℕ, Option, IfSome, length, slice_get, sym, ap, subst, ◌∙◌, arith}
+use Rattle.std.proofs.Common.{◌<◌, ◌≤◌, ℕ, Option, IfSome, length, slice_get, sym, ap, subst, ◌∙◌, arith, rules}
 use Rattle.linspec.specs.declared.verdict.KeyStatus.{KeyStatus}
+use Rattle.checkpoints.proofs.Counts.{count_on_none}
 use Rattle.monitor.specs.Rows.{LinesView, StandsAfter, with_cut, AreRowsLentBy}
+use Rattle.monitor.proofs.Again.{more_counted, all_counted}
 use Rattle.monitor.proofs.Changing.{changed-all}
 use Rattle.monitor.proofs.Cutting.{AreCutSoFar-skip, AreCutSoFar-more, all_joined, same_nows, same_length}
 use Rattle.monitor.proofs.lines.Lines.prepare_each_cut.Goals as goal
@@ -18,6 +20,13 @@ prepare_cut_at-requires-clause-within c =
     let long = same_length old rows (same_nows c.args.n old rows c.loop-place.place c.loop-place.invariant.so_far.changed) in
     omega (arith, seen, long, c.len-place-end.ensures.len)
 
+pub loop-place-init : goal.loop-place-init
+loop-place-init c = record {
+  so_far = search rules;
+  counted = sym (count_on_none c.args.again.now (omega arith));
+  room = omega arith;
+}
+
 pub loop-place-preserved : goal.loop-place-preserved
 loop-place-preserved c =
     let n = c.args.n in
@@ -32,17 +41,20 @@ loop-place-preserved c =
     let lt : place < length old = omega (arith, seen, c.len-place-end.ensures.len) in
     let stands = c.in_ok-key.ensures.stands in
     let next = c.in_ok-key.ensures.next in
+    let counted_more = more_counted n old rows place c.args.again.now c.loop-place.again c.prepare_cut_at.new.again so_far.changed lt c.loop-place.invariant.counted c.in_ok-key.ensures.counted in
     elim c.match-branch-2.branch [
       | in-Some w ↦
           (let stands_so = subst (λ (o : Option (ℕ × KeyStatus)). IfSome (slice_get rows place) (λ row. StandsAfter n (row.0, row.1.now) o)) w.in-Some.is stands in
           record {
             so_far = rw (w.kept-is, w.verdict-is) (AreCutSoFar-more n old rows after place kept verdict so_far lt next (w.in-Some.key, w.in-Some.status) w.join_with-verdict.result stands_so w.join_with-verdict.ensures);
+            counted = counted_more;
             room = omega arith;
           })
       | in_default w ↦
           (let stands_so = subst (λ (o : Option (ℕ × KeyStatus)). IfSome (slice_get rows place) (λ row. StandsAfter n (row.0, row.1.now) o)) w.in_default.is stands in
           record {
             so_far = rw (w.kept-is, w.verdict-is) (AreCutSoFar-skip n old rows after place kept verdict so_far lt next stands_so);
+            counted = counted_more;
             room = omega arith;
           })
     ]
@@ -68,3 +80,10 @@ returns-clause-verdict c =
     let seen = ap (λ (v : LinesView). length v.rows) c.self.view_is in
     let all : length old ≤ c.loop-place.place = omega (arith, seen, c.len-place-end.ensures.len) in
     all_joined c.args.n old c.loop-place.self.rows c.loop-place.place c.loop-place.kept c.loop-place.verdict c.loop-place.invariant.so_far all
+
+pub returns-clause-counted : goal.returns-clause-counted
+returns-clause-counted c =
+    let old = c.args.self.now.rows in
+    let seen = ap (λ (v : LinesView). length v.rows) c.self.view_is in
+    let all : length old ≤ c.loop-place.place = omega (arith, seen, c.len-place-end.ensures.len) in
+    all_counted c.args.n old c.loop-place.place c.args.again.now c.loop-place.again all c.loop-place.invariant.counted

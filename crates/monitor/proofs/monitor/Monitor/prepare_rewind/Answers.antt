@@ -1,9 +1,12 @@
-use Rattle.std.proofs.Common.{ap, ◌∙◌, subst}
+use Rattle.std.proofs.Common.{ℕ, ◌+◌, ◌*◌, ◌≤◌, List, length, ap, ◌∙◌, subst}
+use Rattle.linspec.specs.KeyHistory.{KeyHistory}
+use Rattle.monitor.specs.Judged.{rows_of}
 use Rattle.history.specs.WellFormed.{HistoryView}
 use Rattle.linspec.specs.JudgedHistory.{IsVerdictOn, rewound}
 use Rattle.monitor.specs.Monitors.{MonitorView}
 use Rattle.monitor.specs.SoundMonitor.{judged_by_parts}
-use Rattle.monitor.specs.Rows.{nows}
+use Rattle.monitor.specs.Rows.{nows, losing}
+use Rattle.monitor.proofs.Again.{few_more}
 use Rattle.monitor.proofs.Changes.{cut_judged}
 use Rattle.monitor.proofs.Carried.{renamed}
 use Rattle.monitor.proofs.Cutting.{are_cut}
@@ -28,3 +31,11 @@ returns-clause-verdict c =
     subst (λ (s : MonitorView). IsVerdictOn (rewound c.args.n s.now) c.in_ok-kept.verdict) c.self.view_is
     (cut_judged c.judging_law.ensures (judged_by_parts c.self.inside.history c.self.inside.kinds c.self.inside.budgets) (nows c.self.inside.lines.rows) c.self.inside.verdict c.args.n c.in_ok-kept.kept c.in_ok-kept.verdict
     c.self.invariant.now c.in_ok-kept.ensures.kept_lines c.in_ok-kept.ensures.verdict).is_verdict
+
+pub returns-clause-few : goal.returns-clause-few
+returns-clause-few c =
+    let a = c.self.inside in
+    let again = c.prepare_cut-2.new.again in
+    subst (λ (s : MonitorView). again ≤ s.again + 63 * length (losing c.args.n (rows_of s.now))) c.self.view_is
+    (subst (λ (l : List (ℕ × KeyHistory)). again ≤ a.again + 63 * length (losing c.args.n l)) c.self.invariant.now.rows_are
+    (few_more c.args.n a.again again (nows a.lines.rows) c.in_ok-kept.ensures.counted))

@@ -14,11 +14,11 @@ returns-in_default-change c =
     record {
       counted = counted_seen c.self.inside.history c.self.inside.kinds c.self.inside.budgets c.self.inside.lines c.self.inside.verdict c.self.inside.prepared c.self.invariant
           c.in-Some.prepared c.in-Some.is c.args.key 0
-          counted c.args.self.now c.self.view_is;
+          counted c.self.inside.again c.args.self.now c.self.view_is;
       few = omega arith;
       none = none_seen c.self.inside.history c.self.inside.kinds c.self.inside.budgets c.self.inside.lines c.self.inside.verdict c.self.inside.prepared c.self.invariant
           c.in-Some.prepared c.in-Some.is c.args.key 0
-          counted c.args.self.now c.self.view_is;
+          counted c.self.inside.again c.args.self.now c.self.view_is;
     }
 
 abbrev before : goal.After-replays_at → JudgedHistory
@@ -37,17 +37,17 @@ counted c =
 pub returns-in-Some-find-clause-counted : goal.returns-in-Some-find-clause-counted
 returns-in-Some-find-clause-counted c = counted_seen c.self.inside.history c.self.inside.kinds c.self.inside.budgets c.self.inside.lines c.self.inside.verdict c.self.inside.prepared c.self.invariant
     c.in-Some.prepared c.in-Some.is c.args.key
-    c.replays_at.result (counted c) c.args.self.now c.self.view_is
+    c.replays_at.result (counted c) c.self.inside.again c.args.self.now c.self.view_is
 
 pub returns-in-Some-find-clause-few : goal.returns-in-Some-find-clause-few
 returns-in-Some-find-clause-few c = few_seen c.self.inside.history c.self.inside.kinds c.self.inside.budgets c.self.inside.lines c.self.inside.verdict c.self.inside.prepared c.self.invariant
     c.in-Some.prepared c.in-Some.is c.args.key
-    c.replays_at.result (counted c) c.args.self.now c.self.view_is
+    c.replays_at.result (counted c) c.self.inside.again c.args.self.now c.self.view_is
 
 pub returns-in-Some-find-clause-none : goal.returns-in-Some-find-clause-none
 returns-in-Some-find-clause-none c = none_seen c.self.inside.history c.self.inside.kinds c.self.inside.budgets c.self.inside.lines c.self.inside.verdict c.self.inside.prepared c.self.invariant
     c.in-Some.prepared c.in-Some.is c.args.key
-    c.replays_at.result (counted c) c.args.self.now c.self.view_is
+    c.replays_at.result (counted c) c.self.inside.again c.args.self.now c.self.view_is
 
 pub returns-in-None-clause-counted : goal.returns-in-None-clause-counted
 returns-in-None-clause-counted c =
@@ -59,4 +59,4 @@ returns-in-None-clause-counted c =
     c.in-Rewind.n c.in-Rewind.field-1 c.in-Rewind.is (no_events_again h c.args.key c.in-Rewind.n at) in
     counted_seen c.self.inside.history c.self.inside.kinds c.self.inside.budgets c.self.inside.lines c.self.inside.verdict c.self.inside.prepared c.self.invariant
     c.in-Some.prepared c.in-Some.is c.args.key 0
-    none c.args.self.now c.self.view_is
+    none c.self.inside.again c.args.self.now c.self.view_is

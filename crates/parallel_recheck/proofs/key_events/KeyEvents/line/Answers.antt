@@ -1,7 +1,7 @@
 use Rattle.std.proofs.Common.{◌≡◌, ℕ, ◌∷◌, ◌++◌, [], ◌+◌, List, take, length, ◌∙◌, sym, ap, subst, arith}
 use Rattle.std.proofs.lemmas.List.{take_all}
-use Rattle.history.specs.declared.event.Event.{Event}
-use Rattle.history.specs.ProcessRule.{IsHistory}
+use Rattle.events.specs.declared.event.Event.{Event}
+use Rattle.events.specs.ProcessRule.{IsHistory}
 use Rattle.linspec.specs.KeyHistory.{with_pushed, without_events}
 use Rattle.checkpoints.specs.KeyLineView.{KeyLineView, at_rest, count_on}
 use Rattle.checkpoints.proofs.Counts.{count_on_none, count_on_more}

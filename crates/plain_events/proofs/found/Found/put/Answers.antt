@@ -1,8 +1,8 @@
 use Rattle.std.proofs.Common.{◌≡◌, Some, codes, refl, subst}
 use Rattle.edn.specs.Value.{keyword}
 use Rattle.models.specs.Names.{text_of}
-use Rattle.history.specs.EventMap.{number}
-use Rattle.history.specs.Spelling.{text_of_kind}
+use Rattle.events.specs.EventMap.{number}
+use Rattle.events.specs.Spelling.{text_of_kind}
 use Rattle.plain_events.specs.Fronts.{IsIndexAt}
 use Rattle.plain_events.proofs.found.Found.put.Goals as goal
 

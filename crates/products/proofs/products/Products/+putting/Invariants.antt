@@ -1,5 +1,4 @@
-use Rattle.std.proofs.Common.{◌≡◌, ◌<◌, ◌≤◌, ◌+◌, ◌-◌, ◌*◌, ℕ, List, drop}
-use Rattle.products.specs.Products.{Family, IsIn, IsInAt}
+use Rattle.std.proofs.Common.{◌≡◌, ◌+◌, ◌-◌, ◌*◌, drop}
 use Rattle.products.proofs.Putting.{Brings, IsAlike, IsLeftFrom, sets_at}
 use Rattle.products.proofs.products.Products.+putting.Given as goal
 
@@ -7,7 +6,7 @@ abbrev pub decreases-put_rest : goal.decreases-put_rest
 decreases-put_rest l = 2 * (l.end - l.begin) + 1
 
 abbrev pub decreases-put_pieces : goal.decreases-put_pieces
-decreases-put_pieces l = 2 * (l.end - l.at)
+decreases-put_pieces l = 2 * (l.at - l.begin) + 2
 
 -- The pieces for places behind those to come are put.
 abbrev pub invariant-put_pieces-loop-behind : goal.invariant-put_pieces-loop-behind
@@ -21,11 +20,3 @@ invariant-put_pieces-loop-behind l =
       brings : Brings (IsLeftFrom (many - l.behind) l.first sets others) sets l.from l.fn.self.1 l.self.1;
       alike : IsAlike (many - l.behind) l.at others l.self.1;
     }
-
--- No row of the product is in those that were looked at.
-abbrev pub invariant-put_rest-loop-at : goal.invariant-put_rest-loop-at
-invariant-put_rest-loop-at l = record {
-  self : ◌≡◌ {A = Family} l.self l.fn.self;
-  stack : l.stack.items ≡ l.fn.stack.items;
-  apart : (i : ℕ) (row : List ℕ) → IsIn (l.first, drop l.start l.fn.stack.items) row → IsInAt l.fn.self.1 i row → (l.at ≤ i) × (i < l.end);
-}

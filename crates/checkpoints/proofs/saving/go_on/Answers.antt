@@ -1,6 +1,0 @@
-use Rattle.checkpoints.proofs.SavedStates.{always}
-use Rattle.checkpoints.proofs.saving.go_on.Goals as goal
-
-pub returns-clause-more : goal.returns-clause-more
-returns-clause-more c kind budget before all stands are =
-    always c.go_on.result (c.in_ok-save.ensures.more kind budget before (c.args.index, c.args.event.now) all stands are)

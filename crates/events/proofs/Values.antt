@@ -1,0 +1,40 @@
+-- What the elements of a vector are, and what spells no part
+use Rattle.std.proofs.Common.{◌≡◌, ◌≢◌, ℤ, true, is_some, Option, Some, None, List, [], ◌∷◌, length, get_or, refl, sym, ap, ◌∙◌, arith}
+use Rattle.edn.specs.Value.{Value, nil, int, vector, none, more}
+use Rattle.edn.specs.Parts.{int_in}
+use Rattle.edn.specs.View.{value_of, values_of}
+use Rattle.edn.specs.declared.value.Edn.{Edn}
+use Rattle.models.specs.declared.operation.Part.{Part}
+use Rattle.models.specs.declared.operation.Part.TheVariants.{Nil, Int, Pair, Set}
+use Rattle.models.specs.declared.operation.Name.{Name}
+use Rattle.events.specs.declared.event.EventKind.{EventKind}
+use Rattle.events.specs.Spelling.{two_in, set_in, SpellsPart}
+use Rattle.events.specs.Tables.{IsPartOf}
+use Rattle.events.proofs.AnySet.{any_set}
+
+pub not_two : (vs : List Edn) → length vs ≢ 2 → None ≡ two_in (vector (values_of vs))
+not_two [] h = refl
+not_two (x ∷ []) h = refl
+not_two (x ∷ y ∷ []) h = absurd (h refl)
+not_two (x ∷ y ∷ z ∷ rest) h = refl
+
+pub are_two : (vs : List Edn) (v w : Edn) → length vs ≡ 2 → v ≡ get_or vs 0 v → w ≡ get_or vs 1 w → Some (value_of v, value_of w) ≡ two_in (vector (values_of vs))
+are_two [] v w h first second = absurd (omega arith)
+are_two (x ∷ []) v w h first second = absurd (omega arith)
+are_two (x ∷ y ∷ []) v w h first second = ap (λ a. Some (value_of a, value_of w)) first ∙ ap (λ a. Some (value_of x, value_of a)) second
+are_two (x ∷ y ∷ z ∷ rest) v w h first second = absurd (omega arith)
+
+-- what is not nil, no integer, no vector of two integers and no set of them that may be there spells no part that may
+pub no_part : (kind : EventKind) (name : Name) (v : Value) → v ≢ nil → int_in v ≡ None → ((p : ℤ × ℤ) → v ≢ vector (more (int p.0) (more (int p.1) none)))
+    → ((xs : List ℤ) → set_in v ≡ Some xs → ¬ IsPartOf kind name (Set xs)) → (part : Part) → SpellsPart v part → ¬ IsPartOf kind name part
+no_part kind name v is_nil is_int are_ints no_set Nil spelled allowed = is_nil spelled
+no_part kind name v is_nil is_int are_ints no_set (Int a) spelled allowed = (let found : Some a ≡ None = ap int_in (sym spelled) ∙ is_int in cc)
+no_part kind name v is_nil is_int are_ints no_set (Pair a b) spelled allowed = are_ints (a, b) spelled
+no_part kind name v is_nil is_int are_ints no_set (Set xs) spelled allowed = no_set xs spelled allowed
+
+set_found : (kind : EventKind) (name : Name) (v : Value) (o : Option (List ℤ)) → set_in v ≡ o → is_some o ≡ true → IsPartOf kind name (Set []) → (part : Part) × SpellsPart v part × IsPartOf kind name part
+set_found kind name v (Some xs) is some allowed = (Set xs, is, any_set kind name [] xs allowed)
+set_found kind name v None is some allowed = cc
+
+pub some_set : (kind : EventKind) (name : Name) (v : Value) → is_some (set_in v) ≡ true → IsPartOf kind name (Set []) → (part : Part) × SpellsPart v part × IsPartOf kind name part
+some_set kind name v some allowed = set_found kind name v (set_in v) refl some allowed

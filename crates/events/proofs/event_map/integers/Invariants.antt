@@ -1,0 +1,7 @@
+use Rattle.std.proofs.Common.{◌≡◌, map, take}
+use Rattle.edn.specs.Value.{int}
+use Rattle.edn.specs.View.{value_of}
+use Rattle.events.proofs.event_map.integers.Given as goal
+
+abbrev pub invariant-loop-value : goal.invariant-loop-value
+invariant-loop-value l = map value_of l.elements.items ≡ map int (take l.value-index l.values)

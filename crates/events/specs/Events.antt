@@ -1,0 +1,120 @@
+-- Promise: what events say of operations. An operation is named by the index of its invocation, and a completion is of its
+-- process's last invocation (the Jepsen documentation)
+use Rattle.std.specs.Prelude.{◌≡◌, ℕ, ◌+◌, List, [], ◌∷◌, ◌++◌, nat_eq, if◌then◌else◌, Bool, false, Option, Some, None, is_some, option_map, map}
+use Rattle.std.specs.List.{filter}
+use Rattle.models.specs.declared.operation.Op.{Op}
+use Rattle.models.specs.declared.finding.Answer.{Answer}
+use Rattle.models.specs.Objects.{answer_of}
+use Rattle.events.specs.declared.event.EventKind.{EventKind}
+use Rattle.events.specs.declared.event.EventKind.TheVariants.{Invoke, Ok, Fail, Info}
+use Rattle.events.specs.declared.event.Process.{Process}
+use Rattle.events.specs.declared.event.Process.TheVariants.{Client}
+use Rattle.events.specs.declared.event.Body.{Body}
+use Rattle.events.specs.declared.event.Body.TheVariants.{Op as AnOp}
+use Rattle.events.specs.declared.event.Event.{Event}
+
+-- what happens to an operation: it is invoked, has returned with an answer, has failed, has crashed
+pub data Act : Type 0 where
+  Invokes : Op → Act
+  Returns : Answer → Act
+  Fails : Act
+  Crashes : Act
+
+abbrev pub act_by : EventKind → Op → Act
+act_by Invoke op = Invokes op
+act_by Ok op = Returns (answer_of op.part)
+act_by Fail op = Fails
+act_by Info op = Crashes
+
+-- what an event says of an operation: its process, its key, and what happens to it
+pub record OpEvent : Type 0 where
+  pub process : ℕ
+  pub key : ℕ
+  pub act : Act
+
+-- only a client's event speaks of an operation. A fault of the nemesis speaks of none, and has no key
+abbrev pub op_event_in : EventKind → Process → Body → Option OpEvent
+op_event_in kind (Client p) (AnOp op) = Some (record { process = p; key = op.key; act = act_by kind op })
+op_event_in kind _ _ = None
+
+abbrev pub op_event : Event → Option OpEvent
+op_event e = op_event_in e.kind e.process e.body
+
+abbrev pub key_of : Event → Option ℕ
+key_of e = option_map (λ o. o.key) (op_event e)
+
+-- what happens to an operation
+pub data Mark : Type 0 where
+  Invoked : ℕ → Op → Mark
+  Returned : ℕ → Answer → Mark
+  Failed : ℕ → Mark
+  Crashed : ℕ → Mark
+
+-- a mark of a history: the index of its event, and its key
+pub record Entry : Type 0 where
+  pub index : ℕ
+  pub key : ℕ
+  pub mark : Mark
+
+-- the mark that an act makes at index i, where last is the last invocation of its process
+abbrev pub mark_by_act : ℕ → ℕ → Act → Mark
+mark_by_act i last (Invokes op) = Invoked i op
+mark_by_act i last (Returns answer) = Returned last answer
+mark_by_act i last Fails = Failed last
+mark_by_act i last Crashes = Crashed last
+
+-- the entry that an event makes, where the last invocation of each process is known
+abbrev pub entry_by : ℕ → (ℕ → ℕ) → OpEvent → Entry
+entry_by i last e = record { index = i; key = e.key; mark = mark_by_act i (last e.process) e.act }
+
+abbrev pub entries_by : ℕ → (ℕ → ℕ) → Option OpEvent → List Entry
+entries_by i last None = []
+entries_by i last (Some e) = entry_by i last e ∷ []
+
+-- the last invocation of each process, after an event
+abbrev pub last_by : ℕ → (ℕ → ℕ) → ℕ → Act → ℕ → ℕ
+last_by i last process (Invokes op) p = if nat_eq p process then i else last p
+last_by i last process _ p = last p
+
+abbrev pub last_after : ℕ → (ℕ → ℕ) → Option OpEvent → ℕ → ℕ
+last_after i last None = last
+last_after i last (Some e) = last_by i last e.process e.act
+
+abbrev pub entries_from : (ℕ → ℕ) → List (ℕ × Event) → List Entry
+entries_from last [] = []
+entries_from last (x ∷ events) = entries_by x.0 last (op_event x.1) ++ entries_from (last_after x.0 last (op_event x.1)) events
+
+-- the entries of events with their indices, in order
+abbrev pub entries_of : List (ℕ × Event) → List Entry
+entries_of events = entries_from (λ _. 0) events
+
+-- a whole history, whose indices are its places
+abbrev pub indexed_from : ℕ → List Event → List (ℕ × Event)
+indexed_from i [] = []
+indexed_from i (e ∷ events) = (i, e) ∷ indexed_from (i + 1) events
+
+-- the entries of a key, whose indices stay
+abbrev pub of_key : ℕ → List Entry → List Entry
+of_key key entries = filter (λ e. nat_eq e.key key) entries
+
+-- the events of a key, whose indices stay. A fault is no event of any key
+abbrev pub is_of_key : ℕ → Option OpEvent → Bool
+is_of_key key None = false
+is_of_key key (Some e) = nat_eq e.key key
+
+abbrev pub is_event_of : ℕ → Event → Bool
+is_event_of key e = is_of_key key (op_event e)
+
+abbrev pub events_of_key : ℕ → List (ℕ × Event) → List (ℕ × Event)
+events_of_key key events = filter (λ x. is_event_of key x.1) events
+
+-- the events that speak of an operation
+abbrev pub op_events : List (ℕ × Event) → List (ℕ × Event)
+op_events events = filter (λ x. is_some (op_event x.1)) events
+
+abbrev pub marks : List Entry → List Mark
+marks entries = map (λ e. e.mark) entries
+
+-- xs is a front of ys
+abbrev pub IsFront : {X : Type 0} → List X → List X → Type 0
+IsFront {X} xs ys = (rest : List X) × (xs ++ rest ≡ ys)

@@ -1,0 +1,6 @@
+pub mod Events
+pub mod ProcessRule
+pub mod Replicas
+pub mod Tables
+pub mod Spelling
+pub mod EventMap

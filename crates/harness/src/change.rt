@@ -1,0 +1,23 @@
+//! What is prepared in the parts of the one-thread object.
+use machine::Ticket;
+use test_store::Outcome;
+
+/// What is prepared.
+#[derive(Drop)]
+pub(crate) enum Change {
+    Nothing,
+    /// All stays as it is.
+    Same,
+    /// A change of the monitor alone.
+    Judged,
+    /// A cut of the history at this length.
+    Rewind(u32),
+    /// An invocation, and its ticket. It is large, so it stands apart.
+    Draw(Box<Ticket>),
+    /// The serve of the ticket with this number, and what it comes to, which stands apart too.
+    Serve(usize, Box<Outcome>),
+    /// The fault that is due.
+    StrikeDue,
+    /// A fault that the generator gave.
+    StrikeDrawn,
+}

@@ -1,8 +1,0 @@
-use Rattle.std.proofs.Common.{◌≡◌, is_some}
-use Rattle.edn.specs.Parts.{int_in}
-use Rattle.history.proofs.ReadEach.{read_from}
-use Rattle.history.proofs.collections.are_integers.Given as goal
-
-abbrev pub invariant-loop-element : goal.invariant-loop-element
-invariant-loop-element l =
-    is_some (read_from int_in l.elements 0) ≡ is_some (read_from int_in l.elements l.element-index)

@@ -1,9 +1,0 @@
-use Rattle.std.proofs.Common.{◌≡◌, ℕ, Vec, Global, map, drop}
-use Rattle.edn.specs.View.{values_of}
-use Rattle.history.specs.Spelling.{numbers_in, each_in}
-use Rattle.history.proofs.ReadEach.{after}
-use Rattle.history.proofs.collections.groups_of.Given as goal
-
-abbrev pub invariant-loop-element : goal.invariant-loop-element
-invariant-loop-element l =
-    each_in numbers_in (values_of l.element-items) ≡ after (map (λ (v : Vec ℕ Global). v.items) l.groups.items) (each_in numbers_in (values_of (drop l.element-index l.element-items)))

@@ -1,8 +1,0 @@
-use Rattle.history.proofs.KeyEvents.{IsHistory-events_of_key, entries_of-events_of_key}
-use Rattle.history.proofs.laws.key_events_law.Goals as goal
-
-pub returns-clause-history : goal.returns-clause-history
-returns-clause-history c = IsHistory-events_of_key
-
-pub returns-clause-entries : goal.returns-clause-entries
-returns-clause-entries c = entries_of-events_of_key

@@ -1,0 +1,72 @@
+-- What an operation finds is an answer that its ok may have
+use Rattle.std.proofs.Common.{◌≡◌, ℤ, Bool, true, false, if◌then◌else◌, Option, Some, None, List, [], ◌∷◌, refl, ap, subst, ⊎_elim}
+use Rattle.std.specs.Ordering.{int_eq}
+use Rattle.models.specs.declared.operation.Op.{Op}
+use Rattle.models.specs.declared.operation.Name.{Name}
+use Rattle.models.specs.declared.operation.Name.TheVariants.{Read, Write, Cas, Acquire, Release, Enqueue, Dequeue, Add}
+use Rattle.models.specs.declared.operation.Part.{Part}
+use Rattle.models.specs.declared.operation.Part.TheVariants.{Nil, Int, Pair}
+use Rattle.models.specs.declared.finding.Found.{Found}
+use Rattle.models.specs.declared.finding.Found.TheVariants.{Unit as Nothing, Reg, Item, Elements}
+use Rattle.models.specs.declared.model_kind.ModelKind.{ModelKind}
+use Rattle.models.specs.declared.model_kind.ModelKind.TheVariants.{Register, CasRegister, Mutex, FifoQueue, Set as SetOfNumbers, UnorderedQueue}
+use Rattle.models.specs.Objects.{IsOneOf, object_of, register_apply, cas_register_apply, mutex_apply, queue_apply, set_apply, taken_from, unordered_apply}
+use Rattle.values.specs.Multisets.{with_one, without_one, values_of}
+use Rattle.machine.specs.Trials.{Answers}
+
+-- where one outcome alone is listed, it is what is found
+finds : {S : Type 0} (s t : S) (f g : Found) → IsOneOf {X = S × Found} ((s, f) ∷ []) (t, g) → f ≡ g
+finds {S} s t f g h = ⊎_elim (λ e. ap (λ (x : S × Found). x.1) e) (λ n. absurd n) h
+
+reads : (x : Option ℤ) → Answers Read Nil (Reg x)
+reads None = (tt, tt)
+reads (Some v) = (tt, tt)
+
+register_answers : (name : Name) (part : Part) (s t : Option ℤ) (found : Found) → IsOneOf (register_apply name part s) (t, found) → Answers name part found
+register_answers Write (Int v) s t found h = subst (Answers Write (Int v)) (finds (Some v) t Nothing found h) (tt, refl)
+register_answers Read Nil s t found h = subst (Answers Read Nil) (finds s t (Reg s) found h) (reads s)
+register_answers name part s t found h = absurd h
+
+cas_answers : (b : Bool) (v w : ℤ) (t : Option ℤ) (found : Found) → IsOneOf {X = Option ℤ × Found} (if b then (Some w, Nothing) ∷ [] else []) (t, found) → Answers Cas (Pair v w) found
+cas_answers true v w t found h = subst (Answers Cas (Pair v w)) (finds (Some w) t Nothing found h) (tt, refl)
+cas_answers false v w t found h = absurd h
+
+cas_register_answers : (name : Name) (part : Part) (s t : Option ℤ) (found : Found) → IsOneOf (cas_register_apply name part s) (t, found) → Answers name part found
+cas_register_answers Cas (Pair a b) (Some s) t found h = cas_answers (int_eq s a) a b t found h
+cas_register_answers name part s t found h = register_answers name part s t found h
+
+mutex_answers : (name : Name) (part : Part) (s t : Bool) (found : Found) → IsOneOf (mutex_apply name part s) (t, found) → Answers name part found
+mutex_answers Acquire Nil false t found h = subst (Answers Acquire Nil) (finds true t Nothing found h) (tt, refl)
+mutex_answers Release Nil true t found h = subst (Answers Release Nil) (finds false t Nothing found h) (tt, refl)
+mutex_answers name part s t found h = absurd h
+
+queue_answers : (name : Name) (part : Part) (s t : List ℤ) (found : Found) → IsOneOf (queue_apply name part s) (t, found) → Answers name part found
+queue_answers Enqueue (Int v) s t found h = subst (Answers Enqueue (Int v)) (finds _ t Nothing found h) (tt, refl)
+queue_answers Dequeue Nil (x ∷ s) t found h = subst (Answers Dequeue Nil) (finds s t (Item x) found h) (tt, tt)
+queue_answers name part s t found h = absurd h
+
+set_answers : (name : Name) (part : Part) (s t : List ℤ) (found : Found) → IsOneOf (set_apply name part s) (t, found) → Answers name part found
+set_answers Add (Int v) s t found h = subst (Answers Add (Int v)) (finds _ t Nothing found h) (tt, refl)
+set_answers Read Nil s t found h = subst (Answers Read Nil) (finds s t (Elements s) found h) (tt, tt)
+set_answers name part s t found h = absurd h
+
+taken_answers : (s values t : List ℤ) (found : Found) → IsOneOf (taken_from s values) (t, found) → Answers Dequeue Nil found
+taken_answers s [] t found h = absurd h
+taken_answers s (v ∷ values) t found h =
+    ⊎_elim
+    (λ (e : (without_one v s, Item v) ≡ (t, found)). subst (Answers Dequeue Nil) (ap (λ (x : List ℤ × Found). x.1) e) (tt, tt))
+    (λ k. taken_answers s values t found k)
+    h
+
+unordered_answers : (name : Name) (part : Part) (s t : List ℤ) (found : Found) → IsOneOf (unordered_apply name part s) (t, found) → Answers name part found
+unordered_answers Enqueue (Int v) s t found h = subst (Answers Enqueue (Int v)) (finds (with_one v s) t Nothing found h) (tt, refl)
+unordered_answers Dequeue Nil s t found h = taken_answers s (values_of s) t found h
+unordered_answers name part s t found h = absurd h
+
+pub answers : (kind : ModelKind) (s t : (object_of kind).State) (op : Op) (found : Found) → (object_of kind).Steps s op found t → Answers op.name op.part found
+answers Register s t op found h = register_answers op.name op.part s t found h
+answers CasRegister s t op found h = cas_register_answers op.name op.part s t found h
+answers Mutex s t op found h = mutex_answers op.name op.part s t found h
+answers FifoQueue s t op found h = queue_answers op.name op.part s t found h
+answers SetOfNumbers s t op found h = set_answers op.name op.part s t found h
+answers UnorderedQueue s t op found h = unordered_answers op.name op.part s t found h

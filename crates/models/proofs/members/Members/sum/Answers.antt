@@ -1,7 +1,0 @@
-use Rattle.std.proofs.Common.{◌∙◌, sym, ap}
-use Rattle.models.specs.Sums.{members_in, sum_of}
-use Rattle.models.proofs.Sums.{sum_of-none}
-use Rattle.models.proofs.members.Members.sum.Goals as goal
-
-pub returns-in-None : goal.returns-in-None
-returns-in-None c = sym sum_of-none ∙ ap sum_of (ap members_in (sym c.in-None.is) ∙ c.self.view_is)

@@ -1,0 +1,284 @@
+//! Values in a row: a few in place, some more in a list, and many in a tree whose parts are shared.
+ghost use Rattle.std.specs.Prelude.{◌≡◌, ◌↔◌, ◌+◌, ◌<◌, ◌≤◌, ℕ, IfOk, OnOk, IsTrue};
+ghost use Rattle.std.specs.Prelude.{[], ◌∷◌, ◌++◌, get_or, length, take, drop, ◌<ℤ◌, ◌≤ℤ◌};
+ghost use Rattle.std.specs.List.{insert, remove};
+ghost use Rattle.persistent.specs.Shown.{IsShown};
+
+use crate::alike::are_same;
+use crate::few::{Few, IN_PLACE};
+use crate::lists::{list_around, list_of};
+use crate::placed::Placed;
+use crate::tree::{Tree, leaf_of, place_in};
+use std::alloc::{AllocError, Global};
+use std::marker::Model;
+
+/// A row with more values than this is a tree.
+pub const FLAT: usize = 128;
+
+/// Values in a row, each by its place. A change gives another row. A few values lie in place, and are copied; so are some more, which
+/// lie in a list; of many the other row shares all but what is on the way to the place, which grows with the logarithm of how many
+/// there are, and a copy shares all.
+#[derive(Drop)]
+pub struct Row<T: Copy> {
+    form: Form<T>,
+}
+
+// Where the values lie.
+#[derive(Drop)]
+enum Form<T: Copy> {
+    Empty,
+    InPlace(Few<T>),
+    Listed(Vec<T>),
+    Shared(Tree<T>),
+}
+
+// The values, as they are looked at.
+#[derive(Clone, Copy, Drop)]
+enum Shown<'a, T: Copy> {
+    Piece(&'a [T]),
+    Whole(&'a Tree<T>),
+}
+
+impl<T: Copy> Model for Row<T> {
+    ghost use Rattle.std.specs.Prelude.{List};
+    ghost use Rattle.persistent.specs.Rows.{lying, IsFit};
+
+    ghost Value = { List T };
+
+    ghost view = { λ a. lying a.form };
+
+    ghost invariant = { λ a. IsFit a.form };
+}
+
+// The row of this list.
+fn row_of_list<T: Copy>(alloc: Global, list: Vec<T>) -> Result<Row<T>, AllocError>
+    ensures { IfOk result (λ row. row ≡ list.items) }
+{
+    if list.len() <= FLAT {
+        return Ok(Row {
+            form: Form::Listed(list),
+        });
+    }
+    let tree = leaf_of(alloc, list)?;
+    Ok(Row {
+        form: Form::Shared(tree),
+    })
+}
+
+// The row of these values, one part behind the other, with any value as a blank.
+fn row_of<T: Copy>(alloc: Global, blank: T, first: &[T], second: &[T]) -> Result<Row<T>, AllocError>
+    ensures { IfOk result (λ row. row ≡ first.now ++ second.now) }
+{
+    if first.len().saturating_add(second.len()) <= IN_PLACE {
+        return Ok(Row {
+            form: Form::InPlace(Few::of(blank, first, second)),
+        });
+    }
+    row_of_list(alloc, list_of(alloc, first, second)?)
+}
+
+// The same, with one value between both parts.
+fn row_around<T: Copy>(
+    alloc: Global,
+    first: &[T],
+    value: T,
+    second: &[T],
+) -> Result<Row<T>, AllocError>
+    ensures { IfOk result (λ row. row ≡ first.now ++ value ∷ second.now) }
+{
+    if first.len().saturating_add(second.len()) < IN_PLACE {
+        return Ok(Row {
+            form: Form::InPlace(Few::around(first, value, second)),
+        });
+    }
+    row_of_list(alloc, list_around(alloc, first, value, second)?)
+}
+
+// The row of these values without the one at this place.
+fn row_without<T: Copy>(alloc: Global, values: &[T], at: usize) -> Result<Row<T>, AllocError>
+    requires { at < length values.now }
+    ensures { IfOk result (λ row. row ≡ remove values.now at) }
+{
+    row_of(alloc, values[at], &values[..at], &values[at + 1..])
+}
+
+// The row of this tree.
+fn row_of_tree<T: Copy>(alloc: Global, tree: Tree<T>) -> Result<Row<T>, AllocError>
+    ensures { IfOk result (λ row. row ≡ tree) }
+{
+    if tree.len() > FLAT {
+        return Ok(Row {
+            form: Form::Shared(tree),
+        });
+    }
+    let mut list = Vec::with_capacity(alloc, tree.len())?;
+    tree.append_to(&mut list)?;
+    row_of_list(alloc, list)
+}
+
+impl<T: Copy> Row<T> {
+    /// No values.
+    pub fn new() -> Row<T>
+        ensures { result ≡ [] }
+    {
+        Row { form: Form::Empty }
+    }
+
+    // The values, as they are looked at.
+    #[inline(always)]
+    fn shown(&self) -> Shown<'_, T>
+        ensures is { IsShown self.now result }
+    {
+        match &self.form {
+            Form::Empty => Shown::Piece(&[]),
+            Form::InPlace(few) => Shown::Piece(few.as_slice()),
+            Form::Listed(list) => Shown::Piece(list.as_slice()),
+            Form::Shared(tree) => Shown::Whole(tree),
+        }
+    }
+
+    /// How many there are. Takes constant time.
+    pub fn len(&self) -> usize
+        ensures { result ≡ length self.now }
+    {
+        match self.shown() {
+            Shown::Piece(values) => values.len(),
+            Shown::Whole(tree) => tree.len(),
+        }
+    }
+
+    /// The first of them. Takes constant time.
+    pub fn first(&self) -> T
+        requires { 0 < length self.now }
+        ensures { (d : T) → result ≡ get_or self.now 0 d }
+    {
+        match self.shown() {
+            Shown::Piece(values) => values[0],
+            Shown::Whole(tree) => tree.first(),
+        }
+    }
+
+    /// The same values. Takes the time and the memory of the values in a list, and else constant time and no memory; `AllocError` too
+    /// where as many share them as can be counted.
+    pub fn copy(&self) -> Result<Row<T>, AllocError>
+        ensures { IfOk result (λ row. row ≡ self.now) }
+    {
+        let form = match &self.form {
+            Form::Empty => Form::Empty,
+            Form::InPlace(few) => Form::InPlace(few.copy()),
+            Form::Listed(list) => {
+                Form::Listed(list_of(*list.allocator(), list.as_slice(), &[])?)
+            }
+            Form::Shared(tree) => Form::Shared(tree.copy()?),
+        };
+        Ok(Row { form })
+    }
+
+    /// The values with one more at this place. Takes the time and the memory of the values in a list, and else those of the way to the
+    /// place, which grow with the logarithm of how many values there are.
+    pub fn with(&self, alloc: Global, at: usize, value: T) -> Result<Row<T>, AllocError>
+        requires { at ≤ length self.now }
+        ensures { IfOk result (λ row. row ≡ insert self.now at value) }
+    {
+        if let Form::InPlace(few) = &self.form {
+            if at == few.as_slice().len() {
+                if let Some(more) = few.with_last(value) {
+                    return Ok(Row {
+                        form: Form::InPlace(more),
+                    });
+                }
+            }
+        }
+        match self.shown() {
+            Shown::Piece(values) => row_around(alloc, &values[..at], value, &values[at..]),
+            Shown::Whole(tree) => row_of_tree(alloc, tree.with(alloc, at, value)?),
+        }
+    }
+
+    /// The values without the one at this place. Takes time and memory as above.
+    pub fn without(&self, alloc: Global, at: usize) -> Result<Row<T>, AllocError>
+        requires { at < length self.now }
+        ensures { IfOk result (λ row. row ≡ remove self.now at) }
+    {
+        if at == 0 {
+            if let Form::InPlace(few) = &self.form {
+                return Ok(Row {
+                    form: Form::InPlace(few.without_first()),
+                });
+            }
+        }
+        match self.shown() {
+            Shown::Piece(values) => row_without(alloc, values, at),
+            Shown::Whole(tree) => row_of_tree(alloc, tree.without(alloc, at)?),
+        }
+    }
+
+    /// The values with this one in place of those from one place up to another, which are two at most. Takes time and memory as above.
+    pub fn spliced(
+        &self,
+        alloc: Global,
+        from: usize,
+        to: usize,
+        value: T,
+    ) -> Result<Row<T>, AllocError>
+        requires order { from ≤ to }
+        requires few { to ≤ from + 2 }
+        requires within { to ≤ length self.now }
+        ensures { IfOk result (λ row. row ≡ take from self.now ++ value ∷ drop to self.now) }
+    {
+        match self.shown() {
+            Shown::Piece(values) => row_around(alloc, &values[..from], value, &values[to..]),
+            Shown::Whole(tree) => row_of_tree(alloc, tree.spliced(alloc, from, to, value)?),
+        }
+    }
+
+    /// The values from this place on, as far as they lie in one piece of memory. Takes the time of the way there.
+    pub fn part_at(&self, at: usize) -> &[T]
+        requires { at < length self.now }
+        ensures some { 0 < length result.now }
+        ensures within { at + length result.now ≤ length self.now }
+        ensures part { take (at + length result.now) self.now ≡ take at self.now ++ result.now }
+    {
+        match self.shown() {
+            Shown::Piece(values) => &values[at..],
+            Shown::Whole(tree) => tree.part_at(at),
+        }
+    }
+
+    /// The value at this place. Takes the time of the way there.
+    pub fn get(&self, at: usize) -> T
+        requires { at < length self.now }
+        ensures { (d : T) → result ≡ get_or self.now at d }
+    {
+        match self.shown() {
+            Shown::Piece(values) => values[at],
+            Shown::Whole(tree) => tree.get(at),
+        }
+    }
+}
+
+impl<T: Placed> Row<T> {
+    /// A place in front of which stands a value whose place is below this one, if any does, and at which stands none below it. In a
+    /// row that never falls there is one alone. Takes the time of the way there.
+    pub fn place_of(&self, value: i64) -> usize
+        ensures within { result ≤ length self.now }
+        ensures before { (k : ℕ) (d : T) → result ≡ k + 1 → T.place (get_or self.now k d) <ℤ value }
+        ensures there { (d : T) → result < length self.now → value ≤ℤ T.place (get_or self.now result d) }
+    {
+        match self.shown() {
+            Shown::Piece(values) => place_in(values, value),
+            Shown::Whole(tree) => tree.place_of(value),
+        }
+    }
+
+    /// Whether both have the same values in the same order.
+    pub fn same(&self, other: &Row<T>) -> bool
+        ensures { IsTrue result ↔ (self.now ≡ other.now) }
+    {
+        match (self.shown(), other.shown()) {
+            (Shown::Piece(ours), Shown::Piece(theirs)) => are_same(ours, theirs),
+            (Shown::Whole(ours), Shown::Whole(theirs)) => ours.same(theirs),
+            _ => false,
+        }
+    }
+}

@@ -1,0 +1,10 @@
+pub mod PutIn
+pub mod Bags
+pub mod Firsts
+pub mod Sorting
+pub mod Sums
+pub mod InSpans
+pub mod Joining
+pub mod Rolling
+pub mod Past
+pub mod Crossing

@@ -1,0 +1,42 @@
+-- Invariant: the sum of a set or a multiset, by which most others are told apart
+use Rattle.std.specs.Prelude.{◌≡◌, ℕ, ◌+◌, ◌*◌, ◌/◌, ◌%◌, ◌^◌, ℤ, List, [], ◌∷◌, Option, Some, None, bit_xor}
+use Rattle.std.specs.Int.{cast_unsigned, w64}
+use Rattle.std.specs.Arc.{arc_value}
+use Rattle.std.specs.declared.sync.Arc.{Arc}
+use Rattle.std.specs.declared.alloc.Global.{Global}
+use Rattle.values.specs.Members.{IsAscending}
+use Rattle.values.specs.Multisets.{NeverFalls}
+
+-- a number spread over 64 bits, its upper half laid over the lower one
+unfoldable pub folded : ℕ → ℕ
+folded n = bit_xor ((bit_xor n 2685821657736338717 * 11400714819323198485) % 2 ^ 64) ((bit_xor n 2685821657736338717 * 11400714819323198485) % 2 ^ 64 / 2 ^ 32)
+
+-- the product of that with what it is turned into once more
+unfoldable pub product : ℕ → ℕ
+product n = (folded n * ((bit_xor (folded n) 11507291218515648293 * 15485907386658061715) % 2 ^ 64)) % 2 ^ 128
+
+-- a number spread over 128 bits: the product, its upper half laid over the lower one
+unfoldable pub spread : ℕ → ℕ
+spread n = bit_xor (product n) (product n / 2 ^ 64)
+
+unfoldable pub mixed : ℤ → ℕ
+mixed v = spread (cast_unsigned w64 v)
+
+-- what all members add
+unfoldable pub sum_of : List ℤ → ℕ
+sum_of [] = 0
+sum_of (x ∷ xs) = (sum_of xs + mixed x) % 2 ^ 128
+
+-- the members of a set, and this is what they add
+pub record IsListed (xs : List ℤ) (sum : ℕ) : Type 0 where
+  pub ascending : IsAscending xs
+  pub sums : sum ≡ sum_of xs
+
+-- the values of a multiset, and this is what they add
+pub record AreCounted (xs : List ℤ) (sum : ℕ) : Type 0 where
+  pub never_falls : NeverFalls xs
+  pub sums : sum ≡ sum_of xs
+
+abbrev pub members_in : Option (Arc (List ℤ) Global) → List ℤ
+members_in None = []
+members_in (Some shared) = arc_value shared

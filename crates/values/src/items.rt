@@ -1,0 +1,162 @@
+//! The items of a queue.
+ghost use Rattle.std.specs.Prelude.{◌≡◌, ◌+◌, ◌<◌, ℕ, IfOk, [], ◌∷◌, ◌++◌, List, ℤ, drop, get_or, length, pos};
+ghost use Rattle.std.specs.Ordering.{int_eq};
+ghost use Rattle.std.specs.Cmp.Lexicographic.{pointwise};
+ghost use Rattle.values.specs.Comparisons.{ints_alike, ints_equal, rolled_fed, rolled_fed-alike};
+ghost use Rattle.values.specs.Rolled.{power, rolled};
+
+use crate::members::mixed;
+use persistent::Row;
+use std::alloc::{AllocError, Global};
+use std::hash::{Hash, Hasher};
+use std::marker::Model;
+
+// What a place weighs more than the one behind it, up to a multiple of 2^128, and the number that takes that off again.
+const RATIO: u128 = 47026247687942121848144207491837523525;
+
+const BACK: u128 = 10455382779074951524300553632856583309;
+
+/// Integers, the front first. What two queues have in common they share. Beside them stands their sum, each by the weight of its
+/// place, so that their hash takes constant time, and what the place before them would weigh.
+#[derive(Drop)]
+pub struct Items {
+    alloc: Global,
+    items: Row<i64>,
+    sum: u128,
+    weight: u128,
+}
+
+impl Model for Items {
+    ghost use Rattle.std.specs.Prelude.{List, ℤ};
+    ghost use Rattle.values.specs.Rolled.{AreRolled};
+
+    ghost Value = { List ℤ };
+
+    ghost view = { λ a. a.items };
+
+    ghost invariant = { λ a. AreRolled a.items a.sum a.weight };
+}
+
+// The sum of the items with one more behind them, by theirs.
+fn sum_with(sum: u128, value: i64) -> u128
+    ensures { (values : List ℤ) → sum ≡ rolled values → result ≡ rolled (values ++ value ∷ []) }
+{
+    sum.wrapping_mul(RATIO).wrapping_add(mixed(value))
+}
+
+// What one place more weighs.
+fn weight_with(weight: u128) -> u128
+    ensures { (many : ℕ) → weight ≡ power many → result ≡ power (many + 1) }
+{
+    weight.wrapping_mul(RATIO)
+}
+
+// What one place less weighs.
+fn weight_without(weight: u128) -> u128
+    ensures { (many : ℕ) → weight ≡ power (many + 1) → result ≡ power many }
+{
+    weight.wrapping_mul(BACK)
+}
+
+// The sum of the items without the front one, by theirs and by what its place weighs.
+fn sum_without_front(sum: u128, weight: u128, front: i64) -> u128
+    ensures { (values : List ℤ) → sum ≡ rolled (front ∷ values) → weight ≡ power (length values)
+        → result ≡ rolled values }
+{
+    sum.wrapping_sub(weight.wrapping_mul(mixed(front)))
+}
+
+impl Items {
+    /// No items.
+    pub fn new(alloc: Global) -> Items
+        ensures { result ≡ [] }
+    {
+        Items {
+            alloc,
+            items: Row::new(),
+            sum: 0,
+            weight: 1,
+        }
+    }
+
+    /// How many there are. Takes constant time.
+    pub fn len(&self) -> usize
+        ensures { result ≡ length self.now }
+    {
+        self.items.len()
+    }
+
+    /// The front one. Takes constant time.
+    pub fn front(&self) -> i64
+        requires { 0 < length self.now }
+        ensures { result ≡ get_or self.now 0 (pos 0) }
+    {
+        self.items.first()
+    }
+
+    /// The same items, all of them shared where they are many. Takes the time and the memory of a copy of a row; `AllocError` too where
+    /// they are shared as often as they can be.
+    pub fn copy(&self) -> Result<Items, AllocError>
+        ensures { IfOk result (λ other. other ≡ self.now) }
+    {
+        Ok(Items {
+            alloc: self.alloc,
+            items: self.items.copy()?,
+            sum: self.sum,
+            weight: self.weight,
+        })
+    }
+
+    /// These items with one more behind them. Takes time and memory that grow with the logarithm of how many there are.
+    pub fn with(&self, value: i64) -> Result<Items, AllocError>
+        ensures { IfOk result (λ more. more ≡ self.now ++ value ∷ []) }
+    {
+        let items = self.items.with(self.alloc, self.items.len(), value)?;
+        Ok(Items {
+            alloc: self.alloc,
+            items,
+            sum: sum_with(self.sum, value),
+            weight: weight_with(self.weight),
+        })
+    }
+
+    /// These items without the front one. Takes time and memory as above.
+    pub fn without_front(&self) -> Result<Items, AllocError>
+        requires { 0 < length self.now }
+        ensures { IfOk result (λ rest. rest ≡ drop 1 self.now) }
+    {
+        let front = self.items.first();
+        let items = self.items.without(self.alloc, 0)?;
+        let weight = weight_without(self.weight);
+        Ok(Items {
+            alloc: self.alloc,
+            items,
+            sum: sum_without_front(self.sum, weight, front),
+            weight,
+        })
+    }
+}
+
+impl PartialEq for Items {
+    ghost eq = { pointwise int_eq };
+
+    ghost laws = { ints_alike };
+
+    fn eq(&self, other: &Items) -> bool {
+        self.items.same(&other.items)
+    }
+}
+
+impl Eq for Items {
+    ghost laws = { ints_equal };
+}
+
+impl Hash for Items {
+    ghost hash_input = { rolled_fed };
+
+    ghost respects_eq = { rolled_fed-alike };
+
+    fn hash<H: Hasher>(&self, state: &mut H) {
+        self.sum.hash(state);
+    }
+}

@@ -1,0 +1,158 @@
+//! Multisets of integers that share what they have in common.
+ghost use Rattle.std.specs.Prelude.{◌≡◌, ◌≢◌, ◌+◌, ◌≤◌, ◌<◌, ℕ, ℤ, [], IfOk, pos, get_or, length, remove, take};
+ghost use Rattle.std.specs.Ordering.{int_eq};
+ghost use Rattle.std.specs.Cmp.Lexicographic.{pointwise};
+ghost use Rattle.values.specs.Multisets.{NeverFalls, values_of, with_one};
+ghost use Rattle.values.specs.Comparisons.{ints_alike, ints_equal, sum_fed, sum_fed-alike};
+
+use crate::members::mixed;
+use persistent::Row;
+use std::alloc::{AllocError, Global};
+use std::hash::{Hash, Hasher};
+use std::marker::Model;
+
+/// A multiset of integers: its values ascending, each as often as it is in. What two multisets have in common they share, where one
+/// was made from the other. Beside them stands the sum of what the values add, so that its hash takes constant time.
+#[derive(Drop)]
+pub struct Multiset {
+    alloc: Global,
+    values: Row<i64>,
+    sum: u128,
+}
+
+impl Model for Multiset {
+    ghost use Rattle.std.specs.Prelude.{List, ℤ};
+    ghost use Rattle.values.specs.Sums.{AreCounted};
+
+    ghost Value = { List ℤ };
+
+    ghost view = { λ a. a.values };
+
+    ghost invariant = { λ a. AreCounted a.values a.sum };
+}
+
+impl Multiset {
+    /// Without values.
+    pub fn new(alloc: Global) -> Multiset
+        ensures { result ≡ [] }
+    {
+        Multiset {
+            alloc,
+            values: Row::new(),
+            sum: 0,
+        }
+    }
+
+    /// How many values there are, each as often as it is in; and they ascend. Takes constant time.
+    pub fn len(&self) -> usize
+        ensures is { result ≡ length self.now }
+        ensures never_falls { NeverFalls self.now }
+    {
+        self.values.len()
+    }
+
+    /// The value at this place, in ascending order. Takes the logarithm of how many there are.
+    pub fn get(&self, at: usize) -> i64
+        requires { at < length self.now }
+        ensures value { result ≡ get_or self.now at (pos 0) }
+        ensures never_falls { NeverFalls self.now }
+    {
+        self.values.get(at)
+    }
+
+    /// The place behind the last value that equals the one at this place. Takes the logarithm of how many there are.
+    pub fn past(&self, at: usize) -> usize
+        requires { at < length self.now }
+        ensures later { at < result }
+        ensures within { result ≤ length self.now }
+        ensures same { values_of (take result self.now) ≡ values_of (take (at + 1) self.now) }
+        ensures new { (p : ℕ) (d : ℤ) → p + 1 ≡ result → result < length self.now
+            → get_or self.now p d ≢ get_or self.now result d }
+    {
+        let many = self.values.len();
+        if many - at > 1 && self.values.get(at + 1) != self.values.get(at) {
+            return at + 1;
+        }
+        self.past_equals(at)
+    }
+
+    // The same, by the greatest value, and by the place of the next greater one.
+    fn past_equals(&self, at: usize) -> usize
+        requires { at < length self.now }
+        ensures later { at < result }
+        ensures within { result ≤ length self.now }
+        ensures same { values_of (take result self.now) ≡ values_of (take (at + 1) self.now) }
+        ensures new { (p : ℕ) (d : ℤ) → p + 1 ≡ result → result < length self.now
+            → get_or self.now p d ≢ get_or self.now result d }
+    {
+        let value = self.values.get(at);
+        let many = self.values.len();
+        if self.values.get(many - 1) == value {
+            return many;
+        }
+        self.values.place_of(value + 1)
+    }
+
+    /// The same multiset, all of it shared where it is large. Takes the time and the memory of a copy of a row; `AllocError` too where
+    /// it is shared as often as it can be.
+    pub fn copy(&self) -> Result<Multiset, AllocError>
+        ensures { IfOk result (λ other. other ≡ self.now) }
+    {
+        Ok(Multiset {
+            alloc: self.alloc,
+            values: self.values.copy()?,
+            sum: self.sum,
+        })
+    }
+
+    /// The multiset with one more of the value. Takes time and memory that grow with the logarithm of how many values there are.
+    pub fn with(&self, value: i64) -> Result<Multiset, AllocError>
+        ensures { IfOk result (λ more. more ≡ with_one value self.now) }
+    {
+        let at = self.values.place_of(value);
+        let values = self.values.with(self.alloc, at, value)?;
+        Ok(Multiset {
+            alloc: self.alloc,
+            values,
+            sum: self.sum.wrapping_add(mixed(value)),
+        })
+    }
+
+    /// The multiset without the value at this place. Takes time and memory as above.
+    pub fn without(&self, at: usize) -> Result<Multiset, AllocError>
+        requires { at < length self.now }
+        ensures { IfOk result (λ rest. rest ≡ remove self.now at) }
+    {
+        let value = self.values.get(at);
+        let values = self.values.without(self.alloc, at)?;
+        Ok(Multiset {
+            alloc: self.alloc,
+            values,
+            sum: self.sum.wrapping_sub(mixed(value)),
+        })
+    }
+}
+
+impl PartialEq for Multiset {
+    ghost eq = { pointwise int_eq };
+
+    ghost laws = { ints_alike };
+
+    fn eq(&self, other: &Multiset) -> bool {
+        self.values.same(&other.values)
+    }
+}
+
+impl Eq for Multiset {
+    ghost laws = { ints_equal };
+}
+
+impl Hash for Multiset {
+    ghost hash_input = { sum_fed };
+
+    ghost respects_eq = { sum_fed-alike };
+
+    fn hash<H: Hasher>(&self, state: &mut H) {
+        self.sum.hash(state);
+    }
+}
