@@ -5,18 +5,13 @@
 #![tactic(auto)]
 
 ghost use Rattle.std.specs.Prelude.{IfOk};
-ghost use Rattle.jepmon.specs.CommandLine.{IsWithinLimits};
+ghost use Rattle.command_line.specs.Orders.{IsWithinLimits};
 
-pub mod command_line;
-pub mod exit_status;
-mod help;
 mod orders;
-pub mod run;
 mod run_line;
 
-use command_line::{Order, Stop, no_text, order_of};
+use command_line::{Order, Stop, no_text, order_of, status_of_stop};
 use edn::Refusal;
-use exit_status::status_of_stop;
 use onlookers::OnStandardError;
 use std::alloc::{AllocError, Global};
 use std::env;

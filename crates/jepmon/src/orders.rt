@@ -1,16 +1,15 @@
 //! Orders, carried out: what each of them reads and writes, and the exit status that comes of it.
 ghost use Rattle.std.specs.Prelude.{◌≤◌};
 
-use crate::exit_status::{say_unwritten, status_after};
-use crate::help;
-use crate::run::run_store;
 use crate::run_line::RunLine;
 use checks::{check_file, check_input};
+use command_line::{TYPED, say_unwritten, status_after};
 use confirms::{confirm_file, confirm_input};
 use harness::Config;
 use line_loop::Watched;
 use models::ModelKind;
 use onlookers::OnStandardError;
+use runs::run_store;
 use scripts::run_script;
 use std::alloc::Global;
 use std::fs::Files;
@@ -24,7 +23,7 @@ const INPUT: &str = "standard input";
 // Says how to go on, where somebody at a terminal has to type what the program reads.
 fn greet<R: Eprint>(rt: &R, is_terminal: bool) {
     if is_terminal {
-        let _ = rt.eprintln(help::TYPED);
+        let _ = rt.eprintln(TYPED);
     }
 }
 

@@ -1,0 +1,109 @@
+-- Promise: what the words of the command line ask for
+use Rattle.std.specs.Prelude.{◌≡◌, ◌≤◌, ◌⊎◌, ℕ, Bool, true, false, List, codes, Option, Some, None, option_and_then, unwrap_or, Result, Ok, Err, IsOk, MatchResult, String, string_bytes}
+use Rattle.std.specs.declared.alloc.Global.{Global}
+use Rattle.edn.specs.declared.refusal.Refusal.TheVariants.{NoMemory}
+use Rattle.clap.specs.declared.parser.matches.Found.{Found}
+use Rattle.clap.specs.Matches.{first_value, one_text}
+use Rattle.harness.specs.declared.config.Config.{Config}
+use Rattle.harness.specs.Setups.{IsSetup, setup_of}
+use Rattle.run_plans.specs.declared.options.JudgingTexts.{JudgingTexts}
+use Rattle.run_plans.specs.declared.options.RunTexts.{RunTexts}
+use Rattle.run_plans.specs.declared.options.Misspelled.{Misspelled}
+use Rattle.run_plans.specs.declared.options.Misspelled.TheVariants.{Refused}
+use Rattle.run_plans.specs.Options.{default_run, default_setup, judging_spelled, number_within, run_spelled}
+use Rattle.command_line.specs.Stops.{IsStopBy, IsUsageFault}
+use Rattle.command_line.specs.declared.order.Stop.{Stop}
+use Rattle.command_line.specs.declared.order.Order.{Order}
+use Rattle.command_line.specs.declared.order.Order.TheVariants.{Script, Check, Confirm, Run}
+
+-- its numbers are within their limits. A run is as texts spell it; of its 64 seats the nemesis takes one
+abbrev pub IsWithinLimits : Order → Type 0
+IsWithinLimits (Script config is_strict) = IsSetup (setup_of config)
+IsWithinLimits (Check path workers config) = IsSetup (setup_of config) × (1 ≤ workers) × (workers ≤ 64)
+IsWithinLimits (Confirm path order_path concurrency kind) = (1 ≤ concurrency) × (concurrency ≤ 64)
+IsWithinLimits (Run config) =
+    IsSetup (setup_of config) × (config.concurrency ≤ 63)
+    × ((texts : RunTexts) × (run_spelled texts ≡ Ok (setup_of config)))
+
+-- the first text that was found of the option, or this one where there is none
+abbrev pub text_found : Found → List ℕ → List ℕ → List ℕ
+text_found found id default = unwrap_or (first_value found id) default
+
+-- the texts of the options by which a history is judged, where some others stand for those that are not given
+abbrev pub AreJudgingTexts : Found → JudgingTexts → JudgingTexts → Type 0
+AreJudgingTexts found defaults texts =
+    (texts.budget.now ≡ text_found found (codes "budget") defaults.budget.now)
+    × (texts.concurrency.now ≡ text_found found (codes "concurrency") defaults.concurrency.now)
+    × (texts.model.now ≡ text_found found (codes "model") defaults.model.now)
+
+-- the same of the options of a run
+abbrev pub AreRunTexts : Found → RunTexts → RunTexts → Type 0
+AreRunTexts found defaults texts =
+    AreJudgingTexts found defaults.judging texts.judging
+    × (texts.seed.now ≡ text_found found (codes "seed") defaults.seed.now)
+    × (texts.operations.now ≡ text_found found (codes "ops") defaults.operations.now)
+    × (texts.keys.now ≡ text_found found (codes "keys") defaults.keys.now)
+    × (texts.replicas.now ≡ text_found found (codes "replicas") defaults.replicas.now)
+    × (texts.mode.now ≡ text_found found (codes "mode") defaults.mode.now)
+    × (texts.faults.now ≡ text_found found (codes "faults") defaults.faults.now)
+
+-- how many workers the text of the option spells
+abbrev pub workers_found : Found → Option ℕ
+workers_found found = option_and_then (number_within 1 64) (first_value found (codes "workers"))
+
+-- whether the flag was given, as far as what was found says it
+abbrev pub IsFlagFound : Found → List ℕ → Bool → Type 0
+IsFlagFound found id flag =
+    ((one_text found id ≡ None) → (flag ≡ false))
+    × ((one_text found id ≡ Some (codes "true")) → (flag ≡ true))
+    × ((one_text found id ≡ Some (codes "false")) → (flag ≡ false))
+
+-- there is the configuration that the texts spell, or the stop by what they miss
+abbrev pub JudgesAsFound : Found → Result Config Stop → Type 0
+JudgesAsFound found result =
+    (defaults : JudgingTexts) × (judging_spelled defaults ≡ Ok default_setup)
+    × ((texts : JudgingTexts) × AreJudgingTexts found defaults texts
+    × MatchResult result
+    (λ config. judging_spelled texts ≡ Ok (setup_of config))
+    (λ stop. (why : Misspelled) × (judging_spelled texts ≡ Err why) × IsStopBy why stop))
+
+-- where there is a configuration to judge by, the order is such a one; else there is the stop
+abbrev pub AfterJudging : Found → (Config → Result Order Stop → Type 0) → Result Order Stop → Type 0
+AfterJudging found IsSuch result =
+    (judged : Result Config Stop) × JudgesAsFound found judged
+    × MatchResult judged (λ config. IsSuch config result) (λ stop. result ≡ Err stop)
+
+-- lines are answered by this configuration, and the script is strict where that was found
+abbrev pub ScriptsAsFound : Found → Config → Result Order Stop → Type 0
+ScriptsAsFound found config result =
+    (is_strict : Bool) × (result ≡ Ok (Script config is_strict)) × IsFlagFound found (codes "strict") is_strict
+
+-- the file that was found is judged by this configuration, by so many workers; or there is a usage fault
+abbrev pub ChecksAsFound : Found → Config → Result Order Stop → Type 0
+ChecksAsFound found config result =
+    MatchResult result
+    (λ order. (path : String Global) × (workers : ℕ) × (order ≡ Check path workers config)
+    × (first_value found (codes "FILE") ≡ Some (string_bytes path))
+    × (workers_found found ≡ Some workers))
+    IsUsageFault
+
+-- the order that was found is to be shown of the history that was found, which is read by this configuration; or there is a usage fault
+abbrev pub ConfirmsAsFound : Found → Config → Result Order Stop → Type 0
+ConfirmsAsFound found config result =
+    MatchResult result
+    (λ order. (path order_path : String Global) × (order ≡ Confirm path order_path config.concurrency config.kind)
+    × (first_value found (codes "FILE") ≡ Some (string_bytes path))
+    × (first_value found (codes "ORDER") ≡ Some (string_bytes order_path)))
+    IsUsageFault
+
+-- clients run by the configuration that the texts of a run spell, or there is the stop by what they miss; or memory was
+-- refused, where they spell one
+abbrev pub RunsAsFound : Found → Result Order Stop → Type 0
+RunsAsFound found result =
+    (defaults : RunTexts) × (run_spelled defaults ≡ Ok default_run)
+    × ((texts : RunTexts) × AreRunTexts found defaults texts
+    × MatchResult result
+    (λ order. (config : Config) × (order ≡ Run config) × (run_spelled texts ≡ Ok (setup_of config)))
+    (λ stop. (why : Misspelled)
+    × ((run_spelled texts ≡ Err why) ⊎ ((why ≡ Refused NoMemory) × IsOk (run_spelled texts)))
+    × IsStopBy why stop))

@@ -1,0 +1,24 @@
+-- Promise: what stands in place of an order
+use Rattle.std.specs.Prelude.{◌≡◌}
+use Rattle.edn.specs.declared.refusal.Refusal.TheVariants.{NoMemory}
+use Rattle.run_plans.specs.declared.options.Misspelled.{Misspelled}
+use Rattle.run_plans.specs.declared.options.Misspelled.TheVariants.{Unread, Refused as IsRefused}
+use Rattle.command_line.specs.declared.order.Stop.{Stop}
+use Rattle.command_line.specs.declared.order.Stop.TheVariants.{Help, Usage, Refused}
+
+-- help or the version was asked for
+abbrev pub IsHelp : Stop → Type 0
+IsHelp (Help error) = Unit {0}
+IsHelp (Usage error) = ⊥
+IsHelp (Refused why) = ⊥
+
+-- a usage fault, or there was no memory to say it
+abbrev pub IsUsageFault : Stop → Type 0
+IsUsageFault (Help error) = ⊥
+IsUsageFault (Usage error) = Unit {0}
+IsUsageFault (Refused why) = why ≡ NoMemory
+
+-- what texts that spell no configuration come to: a usage fault of the option, or the refusal
+abbrev pub IsStopBy : Misspelled → Stop → Type 0
+IsStopBy (Unread option) stop = IsUsageFault stop
+IsStopBy (IsRefused why) stop = stop ≡ Refused why

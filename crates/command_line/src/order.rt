@@ -1,0 +1,525 @@
+//! The words of the command line.
+ghost use Rattle.std.specs.Prelude.{◌≡◌, ◌≤◌, length, IfOk, IfSome, Ok, false, codes, string_bytes};
+ghost use Rattle.harness.specs.Setups.{setup_of, IsSetup};
+ghost use Rattle.harness.specs.declared.config.Config.{Config};
+ghost use Rattle.clap.specs.Words.{found_of, kind_of};
+ghost use Rattle.run_plans.specs.Options.{default_setup};
+ghost use Rattle.command_line.specs.Orders.{AfterJudging, AreJudgingTexts, AreRunTexts, ChecksAsFound, ConfirmsAsFound, IsWithinLimits, JudgesAsFound, RunsAsFound, ScriptsAsFound, text_found, workers_found};
+ghost use Rattle.command_line.specs.Stops.{IsStopBy, IsUsageFault};
+
+use crate::help;
+use clap::error::ErrorKind;
+use clap::{Arg, ArgAction, ArgMatches, Command};
+use edn::Refusal;
+use harness::Config;
+use models::ModelKind;
+use run_plans::{JudgingTexts, Misspelled, OptionName, RunTexts, workers_in};
+use std::alloc::{AllocError, Global};
+
+/// What the words ask the program to do.
+#[derive(Drop)]
+pub enum Order {
+    /// Answers the lines of standard input.
+    Script {
+        /// How the one-thread object is opened.
+        config: Config,
+        /// Whether the first line that is refused ends it.
+        is_strict: bool,
+    },
+    /// Judges a recorded history.
+    Check {
+        /// The file that it stands in; `-` for standard input.
+        path: String,
+        /// Threads that judge its keys.
+        workers: u32,
+        /// How the one-thread object is opened.
+        config: Config,
+    },
+    /// Says what an order of its operations shows of a recorded history.
+    Confirm {
+        /// The file that the history stands in; `-` for standard input.
+        path: String,
+        /// The file that the order stands in.
+        order_path: String,
+        /// Threads of the clients.
+        concurrency: u32,
+        /// The object that every key is.
+        kind: ModelKind,
+    },
+    /// Runs clients against a store in the process.
+    Run(Config),
+}
+
+/// Why there is no order.
+#[derive(Drop)]
+pub enum Stop {
+    /// Help or the version was asked for.
+    Help(clap::Error),
+    /// The words are none that the program knows.
+    Usage(clap::Error),
+    /// A number is out of its limits, or memory was refused.
+    Refused(Refusal),
+}
+
+/// The order that the words after the program's name give. Without words it is `script` with its defaults, and takes no
+/// memory; else it takes memory for the table of the options and for what they say.
+///
+/// # Errors
+///
+/// `Help` where help or the version is asked for. `Usage` for words that are none of the program's, for a value that is no
+/// number, for a model, a mode or faults of another name, and for a seed, a number of operations, of keys or of workers out
+/// of its limits. `Refused` for another number out of its limits: `BadBudget` first, then `BadConcurrency`, which `run` has
+/// above 63 too, then `NoSuchReplica`; and with `NoMemory` where memory is refused.
+pub fn order_of(alloc: Global, words: &[String]) -> Result<Order, Stop>
+    ensures defaults { length words.now ≡ 0 → (config : Config)
+        × (result ≡ Ok (Order.Script config false)) × (setup_of config ≡ default_setup) }
+    ensures within { IfOk result IsWithinLimits }
+{
+    if words.is_empty() {
+        return Ok(Order::Script {
+            config: Config::to_judge(alloc, 2, ModelKind::Register, 4096),
+            is_strict: false,
+        });
+    }
+    let mut command = program(alloc)?;
+    let matches = match command.try_get_matches_from_mut(words) {
+        Ok(matches) => matches,
+        Err(error) => return Err(stop_at(alloc, words, error)),
+    };
+    let Some((name, options)) = matches.subcommand() else {
+        return Err(usage(&mut command, "no command was given"));
+    };
+    order_by(alloc, name, options)
+}
+
+/// The order of the command of this name, by what was found of its options: of `run`, of `check`, of `confirm`, else of `script`. It
+/// takes memory for the parts of a run, for the path of a file, and for a usage fault.
+///
+/// # Errors
+///
+/// Those of [`order_of`], but for help and for words that are none of the program's.
+pub fn order_by(alloc: Global, name: &str, options: &ArgMatches) -> Result<Order, Stop>
+    ensures within { IfOk result IsWithinLimits }
+    ensures run { name.now ≡ codes "run" → RunsAsFound (found_of options.now) result }
+    ensures check { name.now ≡ codes "check"
+        → AfterJudging (found_of options.now) (ChecksAsFound (found_of options.now)) result }
+    ensures confirm { name.now ≡ codes "confirm"
+        → AfterJudging (found_of options.now) (ConfirmsAsFound (found_of options.now)) result }
+    ensures script { name.now ≡ codes "script"
+        → AfterJudging (found_of options.now) (ScriptsAsFound (found_of options.now)) result }
+{
+    if name == "run" {
+        return run_of(alloc, options);
+    }
+    match config_of(alloc, name, options) {
+        Ok(config) => {
+            if name == "check" {
+                check_of(alloc, options, config)
+            } else if name == "confirm" {
+                confirm_of(alloc, options, config)
+            } else {
+                Ok(script_of(options, config))
+            }
+        }
+        Err(stop) => Err(stop),
+    }
+}
+
+// The order to answer lines, which judges as this configuration says.
+fn script_of(options: &ArgMatches, config: Config) -> Order
+    ensures { ScriptsAsFound (found_of options.now) config (Ok result) }
+{
+    Order::Script {
+        config,
+        is_strict: options.get_flag("strict"),
+    }
+}
+
+// The order to judge a recorded history, which judges as this configuration says.
+fn check_of(alloc: Global, options: &ArgMatches, config: Config) -> Result<Order, Stop>
+    requires { IsSetup (setup_of config) }
+    ensures within { IfOk result IsWithinLimits }
+    ensures found { ChecksAsFound (found_of options.now) config result }
+{
+    let Some(path) = options.get_str("FILE") else {
+        return Err(usage_of(alloc, "check", "check takes a file"));
+    };
+    let Some(workers) = workers_of(options) else {
+        return Err(usage_of(alloc, "check", "--workers takes a number, 1 to 64"));
+    };
+    match String::from_str(alloc, path) {
+        Ok(path) => Ok(Order::Check {
+            path,
+            workers,
+            config,
+        }),
+        Err(_) => Err(Stop::Refused(Refusal::NoMemory)),
+    }
+}
+
+// The order to say what an order of its operations shows of a recorded history, which is read as this configuration says.
+fn confirm_of(alloc: Global, options: &ArgMatches, config: Config) -> Result<Order, Stop>
+    requires { IsSetup (setup_of config) }
+    ensures within { IfOk result IsWithinLimits }
+    ensures found { ConfirmsAsFound (found_of options.now) config result }
+{
+    let Some(path) = options.get_str("FILE") else {
+        return Err(usage_of(alloc, "confirm", "confirm takes a file"));
+    };
+    let Some(order_path) = options.get_str("ORDER") else {
+        return Err(usage_of(alloc, "confirm", "confirm takes an order"));
+    };
+    match both_of(alloc, path, order_path) {
+        Ok((path, order_path)) => Ok(Order::Confirm {
+            path,
+            order_path,
+            concurrency: config.concurrency,
+            kind: config.kind,
+        }),
+        Err(_) => Err(Stop::Refused(Refusal::NoMemory)),
+    }
+}
+
+// The two texts, with memory of their own.
+fn both_of(alloc: Global, first: &str, second: &str) -> Result<(String, String), AllocError>
+    ensures { IfOk result (λ both. (string_bytes both.0 ≡ first.now) × (string_bytes both.1 ≡ second.now)) }
+{
+    Ok((
+        String::from_str(alloc, first)?,
+        String::from_str(alloc, second)?,
+    ))
+}
+
+// How many workers were asked for, 1 to 64.
+fn workers_of(options: &ArgMatches) -> Option<u32>
+    ensures found { result ≡ workers_found (found_of options.now) }
+    ensures limits { IfSome result (λ workers. (1 ≤ workers) × (workers ≤ 64)) }
+{
+    workers_in(options.get_str("workers")?)
+}
+
+// The order to run clients.
+fn run_of(alloc: Global, options: &ArgMatches) -> Result<Order, Stop>
+    ensures within { IfOk result IsWithinLimits }
+    ensures found { RunsAsFound (found_of options.now) result }
+{
+    let defaults = RunTexts::defaults();
+    match run_texts(options, &defaults).config(alloc) {
+        Ok(config) => Ok(Order::Run(config)),
+        Err(why) => Err(stop_by(alloc, "run", why)),
+    }
+}
+
+// How the one-thread object is opened, which judges alone, by the options of the command of this name.
+fn config_of(alloc: Global, name: &str, options: &ArgMatches) -> Result<Config, Stop>
+    ensures within { IfOk result (λ config. IsSetup (setup_of config)) }
+    ensures found { JudgesAsFound (found_of options.now) result }
+{
+    let defaults = JudgingTexts::defaults();
+    match judging_texts(options, &defaults).config(alloc) {
+        Ok(config) => Ok(config),
+        Err(why) => Err(stop_by(alloc, name, why)),
+    }
+}
+
+// The texts of the options of a run.
+fn run_texts<'a>(options: &ArgMatches<'a>, defaults: &RunTexts<'static>) -> RunTexts<'a>
+    ensures { AreRunTexts (found_of options.now) defaults.now result }
+{
+    RunTexts {
+        judging: judging_texts(options, &defaults.judging),
+        seed: text_or(options, "seed", defaults.seed),
+        operations: text_or(options, "ops", defaults.operations),
+        keys: text_or(options, "keys", defaults.keys),
+        replicas: text_or(options, "replicas", defaults.replicas),
+        mode: text_or(options, "mode", defaults.mode),
+        faults: text_or(options, "faults", defaults.faults),
+    }
+}
+
+// The texts of the options by which a history is judged.
+fn judging_texts<'a>(options: &ArgMatches<'a>, defaults: &JudgingTexts<'static>) -> JudgingTexts<'a>
+    ensures { AreJudgingTexts (found_of options.now) defaults.now result }
+{
+    JudgingTexts {
+        budget: text_or(options, "budget", defaults.budget),
+        concurrency: text_or(options, "concurrency", defaults.concurrency),
+        model: text_or(options, "model", defaults.model),
+    }
+}
+
+// The text of an option, or this one where it has none.
+fn text_or<'a>(options: &ArgMatches<'a>, id: &str, default: &'static str) -> &'a str
+    ensures { result.now ≡ text_found (found_of options.now) id.now default.now }
+{
+    match options.get_str(id) {
+        Some(text) => text,
+        None => default,
+    }
+}
+
+// Why there is no order of the command of this name: a usage fault of an option, or a refusal.
+fn stop_by(alloc: Global, name: &str, why: Misspelled) -> Stop
+    ensures { IsStopBy why result }
+{
+    match why {
+        Misspelled::Unread(option) => usage_of(alloc, name, taken_by(option)),
+        Misspelled::Refused(refusal) => Stop::Refused(refusal),
+    }
+}
+
+// What the option takes.
+fn taken_by(option: OptionName) -> &'static str {
+    match option {
+        OptionName::Budget => "--budget takes a number, 1 to 65536",
+        OptionName::Concurrency => "--concurrency takes a number, 1 to 64",
+        OptionName::Model => help::NO_MODEL,
+        OptionName::Seed => "--seed takes a number, 0 to 9223372036854775807",
+        OptionName::Operations => "--ops takes a number, 0 to 100000",
+        OptionName::Keys => "--keys takes a number, 1 to 64",
+        OptionName::Replicas => "--replicas takes a number, 1 to 7",
+        OptionName::Mode => "--mode takes one of strict, sloppy",
+        OptionName::Faults => "--faults takes one of off, on",
+    }
+}
+
+/// Why there is no order of words that are no text: `Usage`, or `Refused` with `NoMemory` where there is no memory to say
+/// it.
+pub fn no_text(alloc: Global) -> Stop
+    ensures { IsUsageFault result }
+{
+    match program(alloc) {
+        Ok(mut command) => usage(&mut command, "the words are no UTF-8"),
+        Err(_) => Stop::Refused(Refusal::NoMemory),
+    }
+}
+
+// An option that takes a number.
+fn a_number<'a>(
+    alloc: Global,
+    name: &'static str,
+    default: &'static str,
+    help: &'static str,
+) -> Arg<'a> {
+    Arg::new(alloc, name)
+        .long(name)
+        .value_name("N")
+        .default_value(default)
+        .allow_negative_numbers(true)
+        .help(help)
+}
+
+// An option that takes a name.
+fn a_name<'a>(
+    alloc: Global,
+    name: &'static str,
+    default: &'static str,
+    help: &'static str,
+) -> Arg<'a> {
+    Arg::new(alloc, name)
+        .long(name)
+        .value_name("NAME")
+        .default_value(default)
+        .help(help)
+}
+
+// A command with the options by which a history is judged.
+fn with_settings<'a>(
+    alloc: Global,
+    command: Command<'a>,
+    concurrency: &'static str,
+) -> Result<Command<'a>, AllocError> {
+    let budget = JudgingTexts::defaults().budget;
+    with_object(alloc, command, concurrency)?.arg(a_number(alloc, "budget", budget, help::BUDGET))
+}
+
+// A command with the options by which a history is read, and of which object.
+fn with_object<'a>(
+    alloc: Global,
+    command: Command<'a>,
+    concurrency: &'static str,
+) -> Result<Command<'a>, AllocError> {
+    let defaults = JudgingTexts::defaults();
+    command
+        .arg(a_number(alloc, "concurrency", defaults.concurrency, concurrency))?
+        .arg(a_name(alloc, "model", defaults.model, help::MODEL))
+}
+
+// The command `script`, with its options and their help.
+fn script<'a>(alloc: Global) -> Result<Command<'a>, AllocError> {
+    let strict = Arg::new(alloc, "strict")
+        .long("strict")
+        .action(ArgAction::SetTrue)
+        .help(help::STRICT);
+    let command = Command::new(alloc, "script")
+        .about(help::SCRIPT)
+        .long_about(help::SCRIPT_LONG)
+        .after_help(help::STATUS)
+        .after_long_help(help::SCRIPT_FORMS)
+        .arg(strict)?;
+    with_settings(alloc, command, help::CONCURRENCY)
+}
+
+// The command `check`, with its options and their help.
+fn check<'a>(alloc: Global) -> Result<Command<'a>, AllocError> {
+    let file = Arg::new(alloc, "FILE").required(true).help(help::FILE);
+    let command = Command::new(alloc, "check")
+        .about(help::CHECK)
+        .long_about(help::CHECK_LONG)
+        .after_help(help::STATUS)
+        .after_long_help(help::CHECK_FORMS)
+        .arg(file)?
+        .arg(a_number(alloc, "workers", "1", help::WORKERS))?;
+    with_settings(alloc, command, help::CONCURRENCY)
+}
+
+// The command `confirm`, with its options and their help.
+fn confirm<'a>(alloc: Global) -> Result<Command<'a>, AllocError> {
+    let file = Arg::new(alloc, "FILE").required(true).help(help::FILE);
+    let order = Arg::new(alloc, "ORDER").required(true).help(help::ORDER);
+    let command = Command::new(alloc, "confirm")
+        .about(help::CONFIRM)
+        .long_about(help::CONFIRM_LONG)
+        .after_help(help::CONFIRM_STATUS)
+        .after_long_help(help::CONFIRM_FORMS)
+        .arg(file)?
+        .arg(order)?;
+    with_object(alloc, command, help::CONCURRENCY)
+}
+
+// The command `run`, with its options and their help.
+fn run<'a>(alloc: Global) -> Result<Command<'a>, AllocError> {
+    let defaults = RunTexts::defaults();
+    let command = Command::new(alloc, "run")
+        .about(help::RUN)
+        .long_about(help::RUN_LONG)
+        .after_help(help::STATUS)
+        .after_long_help(help::RUN_FORMS)
+        .arg(a_number(alloc, "seed", defaults.seed, help::SEED))?
+        .arg(a_number(alloc, "ops", defaults.operations, help::OPERATIONS))?
+        .arg(a_number(alloc, "keys", defaults.keys, help::KEYS))?
+        .arg(a_number(alloc, "replicas", defaults.replicas, help::REPLICAS))?
+        .arg(a_name(alloc, "mode", defaults.mode, help::MODE))?
+        .arg(a_name(alloc, "faults", defaults.faults, help::FAULTS))?;
+    with_settings(alloc, command, help::CLIENTS)
+}
+
+// The program's commands.
+fn program<'a>(alloc: Global) -> Result<Command<'a>, AllocError> {
+    Command::new(alloc, "jepmon")
+        .no_binary_name(true)
+        .bin_name("jepmon")?
+        .version(help::VERSION)
+        .about(help::ABOUT)
+        .after_help(help::MORE)
+        .subcommand(script(alloc)?)?
+        .subcommand(check(alloc)?)?
+        .subcommand(confirm(alloc)?)?
+        .subcommand(run(alloc)?)
+}
+
+// A usage fault of the command of this name, with this message.
+fn usage_of(alloc: Global, name: &str, message: &str) -> Stop
+    ensures { IsUsageFault result }
+{
+    let command = match name {
+        "check" => check(alloc),
+        "confirm" => confirm(alloc),
+        "run" => run(alloc),
+        _ => script(alloc),
+    };
+    match named(alloc, name, command) {
+        Ok(mut command) => usage(&mut command, message),
+        Err(_) => Stop::Refused(Refusal::NoMemory),
+    }
+}
+
+// A command by itself, whose usage names the program before it.
+fn named<'a>(
+    alloc: Global,
+    name: &str,
+    command: Result<Command<'a>, AllocError>,
+) -> Result<Command<'a>, AllocError> {
+    let whole = format!(in alloc; "jepmon {name}")?;
+    command?.bin_name(whole.as_str())
+}
+
+// A usage fault with this message.
+fn usage(command: &mut Command, message: &str) -> Stop
+    ensures { IsUsageFault result }
+{
+    match command.error(ErrorKind::ValueValidation, message) {
+        Ok(error) => stop_of(error),
+        Err(_) => Stop::Refused(Refusal::NoMemory),
+    }
+}
+
+// What an error in these words is to the program. Script takes no file, and says so where it was given one; and so does the
+// program where the name of a file stands in place of a command.
+fn stop_at(alloc: Global, words: &[String], error: clap::Error) -> Stop {
+    if error.kind() == ErrorKind::UnknownArgument && is_script_with_file(words) {
+        return usage_of(alloc, "script", help::NO_FILE);
+    }
+    match words.first() {
+        Some(first) if error.kind() == ErrorKind::InvalidSubcommand && is_path(first) => {
+            path_alone(alloc, first)
+        }
+        _ => stop_of(error),
+    }
+}
+
+// Whether a word looks like the path of a file.
+fn is_path(word: &str) -> bool {
+    word.bytes().any(|byte| byte == b'.' || byte == b'/')
+}
+
+// The usage fault of a path where a command must stand.
+fn path_alone(alloc: Global, path: &str) -> Stop {
+    let Ok(message) = format!(in alloc; "{path} is no command; jepmon check {path} judges it")
+    else {
+        return Stop::Refused(Refusal::NoMemory);
+    };
+    match program(alloc) {
+        Ok(mut command) => usage(&mut command, message.as_str()),
+        Err(_) => Stop::Refused(Refusal::NoMemory),
+    }
+}
+
+// Whether the words are script and, somewhere behind it, one that is neither an option nor an option's value.
+fn is_script_with_file(words: &[String]) -> bool {
+    let Some(first) = words.first() else {
+        return false;
+    };
+    first.as_str() == "script"
+        && words.windows(2).any(|pair| {
+            let before = pair[0].as_str();
+            let takes_value = before.starts_with('-') && !before.contains('=');
+            !takes_value && !pair[1].as_str().starts_with('-')
+        })
+}
+
+// What an error of the command line is to the program.
+fn stop_of(error: clap::Error) -> Stop
+    ensures { kind_of error ≡ ErrorKind.ValueValidation → IsUsageFault result }
+{
+    if error.kind() == ErrorKind::OutOfMemory {
+        return Stop::Refused(Refusal::NoMemory);
+    }
+    if error.use_stderr() {
+        Stop::Usage(error)
+    } else {
+        Stop::Help(error)
+    }
+}
+
+impl From<Refusal> for Stop {
+    fn from(refusal: Refusal) -> Stop {
+        Stop::Refused(refusal)
+    }
+}
+
+impl From<AllocError> for Stop {
+    fn from(_: AllocError) -> Stop {
+        Stop::Refused(Refusal::NoMemory)
+    }
+}

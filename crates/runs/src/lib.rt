@@ -1,0 +1,9 @@
+//! A run of clients against the store in the process, from its configuration to the text that says what it came to: the report, or
+//! the line of a refusal.
+//!
+//! A call takes memory only where its result can be `AllocError`, or a refusal for want of memory.
+#![tactic(auto)]
+
+mod run;
+
+pub use run::run_store;
