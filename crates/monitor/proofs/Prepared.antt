@@ -11,7 +11,7 @@ use Rattle.models.specs.declared.model_kind.ModelKind.{ModelKind}
 use Rattle.events.specs.declared.event.Event.{Event}
 use Rattle.events.specs.Events.{key_of}
 use Rattle.events.specs.ProcessRule.{IsHistory}
-use Rattle.history.specs.WellFormed.{HistoryView, IsWellFormed, IsHistoryOf, with_next, with_events}
+use Rattle.history.specs.WellFormed.{HistoryView, IsWellFormed, IsHistoryOf, with_next}
 use Rattle.linspec.specs.declared.verdict.KeyStatus.{KeyStatus}
 use Rattle.linspec.specs.declared.verdict.KeyStatus.TheVariants.{Alive}
 use Rattle.linspec.specs.declared.verdict.Verdict.{Verdict}
@@ -26,7 +26,6 @@ use Rattle.monitor.specs.SoundMonitor.{judged_by_parts, IsSoundMonitor}
 use Rattle.monitor.specs.declared.monitor.Prepared.{Prepared}
 use Rattle.monitor.specs.declared.monitor.Change.TheVariants.{Fault, Append, Begin, Rewind, Kind, Budget}
 use Rattle.monitor.proofs.Changes.{JudgingLaw, IsLineOf, line_of, keys_of_lines, fault_judged, next_judged, first_judged, kept_first, cut_judged, kind_judged, budget_judged}
-use Rattle.monitor.proofs.Carried.{sound_at_rest}
 use Rattle.monitor.proofs.KeyedEvents.{events-none}
 use Rattle.monitor.proofs.KeyPlaces.{position_none}
 use Rattle.monitor.proofs.Places.{row_within}
@@ -102,12 +101,6 @@ module _ (next_law : NextEventLaw) (h : JudgedHistory) (lines : List (ℕ × Key
       next_judged law decide h (nows lines) v e k place status w judged well key at now
       (λ s was. settled (history_of_key h k) (length h.events) e s status (next_law h e k judged.history well key) was now) with_it
 
-  pub push_rows : (rows : List (ℕ × KeyHistory)) → IfSome (slice_get lines place) (λ row. rows ≡ set_value_at (nows lines) place (with_pushed index event row.1.now))
-      → rows ≡ set_value_at (nows lines) place (with_pushed (length h.events) e (history_of_key h k))
-  push_rows rows are =
-      if_at (slice_get lines place) (k, its_line.line) (λ row. rows ≡ set_value_at (nows lines) place (with_pushed index event row.1.now)) its_line.at are
-      ∙ ap (set_value_at (nows lines) place) pushed_is
-
   pub push_brings : (lines' : LinesView) (rows : List (ℕ × KeyHistory))
       → IfSome (slice_get lines place) (λ row. slice_get lines'.rows place ≡ Some (row.0, line_with_next (with_pushed index event row.1.now) 1 row.1))
       → nows lines'.rows ≡ rows
@@ -141,27 +134,6 @@ next_ready law decide next_law settled history history' kinds budgets lines line
         judged = push_judged next_law (judged_by_parts history kinds budgets) lines.rows v sound.now e k place index event well key at index_is event_is law decide settled status w is_status with_it;
       };
     })
-
--- the same event where it is appended at once: the history has it, and so has the line
-event_carried : (history history' history'' : HistoryView) (kinds : SettingsView ModelKind) (budgets : SettingsView ℕ) (e : Event) → history' ≡ with_next (history.events ++ e ∷ []) history
-    → IfSome history'.next (λ events. history'' ≡ with_events events history') → judged_by_parts history'' kinds budgets ≡ with_event e (judged_by_parts history kinds budgets)
-event_carried history history' history'' kinds budgets e is carried =
-    ap (λ (h : HistoryView). judged_by_parts h kinds budgets)
-    (subst (λ (h : HistoryView). IfSome h.next (λ events. history'' ≡ with_events events h)) is carried)
-
-pub next_appended : JudgingLaw → BadKeysDecide → NextEventLaw → SettledLaw → (history history' history'' : HistoryView) (kinds : SettingsView ModelKind) (budgets : SettingsView ℕ)
-    (lines lines' : LinesView) (v : Verdict) (before : Option Prepared) (e : Event) (k place index : ℕ) (event : Event) (status : KeyStatus) (w : Verdict)
-    → IsSoundMonitor history kinds budgets lines v before → history' ≡ with_next (history.events ++ e ∷ []) history → IfSome history'.next (λ events. history'' ≡ with_events events history')
-    → IsWellFormed history.concurrency history.events e → key_of e ≡ Some k → position (nat_eq k) (keys_in_order history.events) ≡ Some place → index ≡ length history.events → event ≡ e
-    → IfSome (slice_get lines.rows place) (λ row. IsStatusOf (with_pushed index event row.1.now) status)
-    → IfSome (slice_get lines.rows place) (λ row. nows lines'.rows ≡ set_value_at (nows lines.rows) place (with_pushed index event row.1.now)) → JoinsWith v k status w
-    → IsSoundMonitor history'' kinds budgets lines' w None
-next_appended law decide next_law settled history history' history'' kinds budgets lines lines' v before e k place index event status w sound is carried well key at index_is event_is is_status pushed with_it =
-    let h = judged_by_parts history kinds budgets in
-    sound_at_rest history'' kinds budgets lines' (with_event e h) (set_value_at (nows lines.rows) place (with_pushed (length history.events) e (history_of_key h k))) w
-    (event_carried history history' history'' kinds budgets e is carried)
-    (push_rows next_law h lines.rows v sound.now e k place index event well key at index_is event_is (nows lines'.rows) pushed)
-    (push_judged next_law h lines.rows v sound.now e k place index event well key at index_is event_is law decide settled status w is_status with_it)
 
 -- the first event of a key
 pub may_begin : NextEventLaw → (h : JudgedHistory) (rows : List (ℕ × KeyHistory)) (v : Verdict) (e : Event) (k index : ℕ) (event : Event) → IsJudged h rows v

@@ -2,7 +2,7 @@
 use Rattle.std.proofs.Common.{◌≡◌, ℕ, zero, suc, Option, Some, IfSome, Result, Ok, Err, IfOk, OnOk, OnErr, List, [], ◌∷◌, slice_get, sym, ap, subst, ◌∙◌}
 use Rattle.std.specs.Map.{values_of}
 use Rattle.std.proofs.lemmas.Option.{none-some, same_Some}
-use Rattle.std.proofs.lemmas.Result.{IfOk-weaker, on_ok_weaker, on_err_weaker}
+use Rattle.std.proofs.lemmas.Result.{IfOk-weaker, on_ok_weaker}
 use Rattle.indexmap.specs.Layout.{set_value_at}
 use Rattle.events.specs.declared.event.Event.{Event}
 use Rattle.linspec.specs.declared.verdict.KeyStatus.{KeyStatus}
@@ -67,20 +67,6 @@ module _ (es rows : List (ℕ × KeyLineView)) (seen : es ≡ rows) (place : ℕ
         written_now
         ∙ ap (λ (h : KeyHistory). set_value_at (nows rows) place h) (now_kept r line after (change line.now) (due line.now) ok err)
         ∙ same_written (nows rows) place row_at.0 line.now (now_read rows place row_at.0 line row_at.1)
-
-  -- the line has one event more at once, or what it had
-  module _ {E : Type 0} (r : Result KeyStatus E) (next : KeyHistory → KeyHistory) where
-    pub pushed_status : IfOk r (IsStatusOf (next line.now)) → IfOk r (λ status. IfSome (slice_get rows place) (λ row. IsStatusOf (next row.1.now) status))
-    pushed_status = prepared_status r next (λ (_ : KeyHistory). 1)
-
-    pub pushed_rows : OnOk r (after.now ≡ next line.now) → OnOk r (IfSome (slice_get rows place) (λ row. nows (set_value_at es place after) ≡ set_value_at (nows rows) place (next row.1.now)))
-    pushed_rows = on_ok_weaker r
-        (λ (e : after.now ≡ next line.now). at_row rows place row_at.0 line (λ row. nows (set_value_at es place after) ≡ set_value_at (nows rows) place (next row.1.now)) row_at.1
-        (written_now ∙ ap (set_value_at (nows rows) place) e))
-
-    pub pushed_none : OnErr r (after.now ≡ line.now) → OnErr r (nows (set_value_at es place after) ≡ nows rows)
-    pushed_none = on_err_weaker r
-        (λ (e : after.now ≡ line.now). written_now ∙ ap (set_value_at (nows rows) place) e ∙ same_written (nows rows) place row_at.0 line.now (now_read rows place row_at.0 line row_at.1))
 
   -- what was prepared is dropped
   pub dropped : after ≡ without_next line → IfSome (slice_get rows place) (λ row. set_value_at es place after ≡ set_value_at rows place (without_next row.1))

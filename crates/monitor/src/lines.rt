@@ -98,30 +98,6 @@ impl Lines {
         }
     }
 
-    /// Appends one more event of the key at a place, with nothing to be kept between the halves, and gives how the key then
-    /// stands. It takes the time of [`KeyLine::push`]. `AllocError` where memory was refused: then the line has nothing
-    /// prepared, and the rest is as it was.
-    pub(crate) fn push(
-        &mut self,
-        place: usize,
-        index: u32,
-        event: &Event,
-    ) -> Result<KeyStatus, AllocError>
-        requires { IsSomeAnd (slice_get self.old.rows place)
-            (λ row. IsHistory (row.1.now.events ++ (index, event.now) ∷ [])) }
-        ensures status { IfOk result (λ status. IfSome (slice_get self.old.rows place)
-            (λ row. IsStatusOf (with_pushed index event.now row.1.now) status)) }
-        ensures pushed { OnOk result (IfSome (slice_get self.old.rows place) (λ row.
-            nows self.new.rows ≡ set_value_at (nows self.old.rows) place
-            (with_pushed index event.now row.1.now))) }
-        ensures err { OnErr result (nows self.new.rows ≡ nows self.old.rows) }
-    {
-        match self.map.get_index_mut(place) {
-            Some(line) => push_on(line, index, event),
-            None => unreachable!(),
-        }
-    }
-
     /// Prepares that the key at a place is judged by this kind and budget, and gives the status that this brings. All events
     /// are lent. It takes the time of [`KeyLine::prepare_rebuild`]. `AllocError` where memory was refused: then the line has
     /// nothing prepared, and the rest is as it was.
@@ -374,17 +350,6 @@ impl Lines {
             None => unreachable!(),
         }
     }
-}
-
-// Appends one more event of a key to its line, and gives how the key then stands.
-fn push_on(line: &mut KeyLine, index: u32, event: &Event) -> Result<KeyStatus, AllocError>
-    requires { IsHistory (line.old.now.events ++ (index, event.now) ∷ []) }
-    ensures status { IfOk result (IsStatusOf (with_pushed index event.now line.old.now)) }
-    ensures pushed { OnOk result (line.new.now ≡ with_pushed index event.now line.old.now) }
-    ensures err { OnErr result (line.new.now ≡ line.old.now) }
-{
-    line.push(index, event)?;
-    Ok(line.status())
 }
 
 // Prepares a cut at `n` of a line, and gives the status that this brings. Each event that is judged again is counted.

@@ -331,8 +331,7 @@ impl Monitor {
         }
     }
 
-    /// Appends an event, as [`prepare_append`](Self::prepare_append) and [`commit`](Self::commit) do, with nothing to be kept
-    /// between the two where its key has events. Gives the verdict.
+    /// Appends an event: [`prepare_append`](Self::prepare_append) and [`commit`](Self::commit) in one. Gives the verdict.
     ///
     /// # Errors
     /// Those of [`prepare_append`](Self::prepare_append); what is judged is then as before, and nothing is prepared.
@@ -345,11 +344,6 @@ impl Monitor {
         ensures memory_last { IsErrOf result Refusal.NoMemory → Admits self.old.now event }
         ensures err { OnErr result (self.new ≡ at_rest self.old.now self.old.again) }
     {
-        if let Some(key) = event.key() {
-            if let Some(place) = self.lines.find(key) {
-                return self.append_next(key, place, event);
-            }
-        }
         let verdict = self.prepare_append(event)?;
         self.commit();
         Ok(verdict)
@@ -498,33 +492,6 @@ impl Monitor {
     {
         let count = self.again;
         count
-    }
-
-    // Appends an event of a key that has the line at this place, with nothing to be kept between the halves.
-    fn append_next(&mut self, key: Key, place: usize, event: Event) -> Result<Verdict, Refusal>
-        requires key { key_of event ≡ Some key }
-        requires place { position (nat_eq key) (keys_in_order self.old.now.events) ≡ Some place }
-        ensures well_formed { OnOk result (Admits self.old.now event) }
-        ensures appended { OnOk result
-            (self.new ≡ at_rest (with_event event self.old.now) self.old.again) }
-        ensures verdict { IfOk result (IsVerdictOn (with_event event self.old.now)) }
-        ensures refused { IfErr result (MayDecline self.old.now event) }
-        ensures memory_last { IsErrOf result Refusal.NoMemory → Admits self.old.now event }
-        ensures err { OnErr result (self.new ≡ at_rest self.old.now self.old.again) }
-    {
-        clear(&mut self.prepared);
-        judging_law();
-        next_event_law();
-        settled_law();
-        bad_keys_law();
-        let index = self.history.len();
-        self.history.prepare_push(event)?;
-        let event = next_event(&self.history);
-        let status = self.lines.push(place, index, event)?;
-        self.history.commit();
-        let joined = join_with(self.verdict, key, status);
-        self.verdict = joined;
-        Ok(joined)
     }
 
     // Prepares that an event comes next that speaks of no operation: no line sees it, and the verdict stays.
