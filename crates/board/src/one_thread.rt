@@ -46,7 +46,7 @@ pub trait OneThread: Drop {
             × summarizes next r.1) }
         ensures memory { OnErr result (may_want (state self.old) command) };
 
-    /// Carries out what is prepared. It cannot fail.
+    /// Carries out what is prepared. It takes no memory and cannot fail.
     fn commit(&mut self)
         requires { IsSome (promised self.old) }
         ensures { promised self.old ≡ Some (state self.new) };

@@ -56,7 +56,6 @@ struct Change {
 ///
 /// Each change is prepared, which may fail and changes nothing but what is prepared, and then committed. What was prepared
 /// before is dropped. An event is prepared on the ends themselves, so no copy of them is made for it.
-#[derive(Drop)]
 pub struct KeyLine {
     alloc: Global,
     kind: ModelKind,
@@ -87,6 +86,23 @@ impl Model for KeyLine {
     ghost invariant = { λ a.
         IsSoundLine a.kind a.budget a.told.events a.places.items a.state a.saved.items
         (vec_capacity a.places) a.prepared };
+}
+
+// So a crate above gives one back by one call, and is not proved again with each of its parts.
+impl Drop for KeyLine {
+    fn drop(self) {
+        let KeyLine {
+            alloc: _alloc,
+            kind: _kind,
+            budget: _budget,
+            places: _places,
+            told: _told,
+            state: _state,
+            saved: _saved,
+            replayed: _replayed,
+            prepared: _prepared,
+        } = self;
+    }
 }
 
 impl KeyLine {
@@ -231,7 +247,7 @@ impl KeyLine {
         Ok(status)
     }
 
-    /// Carries out what is prepared.
+    /// Carries out what is prepared. It takes no memory and cannot fail.
     #[inline(always)]
     pub fn commit(&mut self)
         requires { IsSome self.old.next }
@@ -274,8 +290,7 @@ impl KeyLine {
         drop_prepared(&mut self.prepared);
     }
 
-    /// Appends this event, as [`prepare_push`](Self::prepare_push) and [`commit`](Self::commit) do, with nothing to be kept
-    /// between the two.
+    /// Appends this event: [`prepare_push`](Self::prepare_push) and [`commit`](Self::commit) in one.
     ///
     /// # Errors
     ///

@@ -62,7 +62,7 @@ impl KeyState {
         }
     }
 
-    /// Carries out what becomes of the key.
+    /// Carries out what becomes of the key. It takes no memory and cannot fail.
     #[inline(always)]
     pub(crate) fn commit(&mut self, next: Next)
         ensures { (kind : ModelKind) (budget : ℕ) (events : List (ℕ × Event))

@@ -1,4 +1,4 @@
-//! What the program ends with.
+//! The exit status where a script has ended, and where there is no order.
 ghost use Rattle.std.specs.Prelude.{◌≡◌, ◌⊎◌, MatchOption, MatchResult};
 ghost use Rattle.command_line.specs.Stops.{IsHelp};
 ghost use Rattle.checks.specs.ExitStatus.{status_of};

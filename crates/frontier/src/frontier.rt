@@ -46,7 +46,6 @@ pub enum Step {
 ///
 /// An event can be prepared, which may fail and leaves what the frontier stands for, and then committed, which takes no
 /// memory. What was prepared before is dropped.
-#[derive(Drop)]
 pub struct Frontier<M: SeqObject> {
     alloc: Global,
     budget: u32,
@@ -61,6 +60,27 @@ pub struct Frontier<M: SeqObject> {
     next: Change,
     coming: Option<Fresh>,
     after_crash: Option<Box<AfterCrash<M::State>>>,
+}
+
+// So a crate above gives one back by one call, and is not proved again with each of its parts.
+impl<M: SeqObject> Drop for Frontier<M> {
+    fn drop(self) {
+        let Frontier {
+            alloc: _alloc,
+            budget: _budget,
+            applied: _applied,
+            calls: _calls,
+            fresh: _fresh,
+            tried: _tried,
+            table: _table,
+            spare: _spare,
+            room: _room,
+            as_products: _as_products,
+            next: _next,
+            coming: _coming,
+            after_crash: _after_crash,
+        } = self;
+    }
 }
 
 // Alive where some end is left, else Dead.

@@ -178,7 +178,7 @@ impl Lines {
         verdict
     }
 
-    /// Carries out what is prepared at a place.
+    /// Carries out what is prepared at a place. It takes no memory and cannot fail.
     pub fn commit(&mut self, place: usize)
         requires { IsSomeAnd (slice_get self.old.rows place) (λ row. IsSome row.1.next) }
         ensures { IfSome (slice_get self.old.rows place) (λ row. IfSome row.1.next (λ next.
