@@ -80,7 +80,6 @@ fn spans_have_their_members(rt: HostRuntime) -> Result<(), Fail> {
 fn items_keep_their_order(rt: HostRuntime) -> Result<(), Fail> {
     let items = Items::new(rt.alloc()).with(9)?.with(1)?;
     assert_eq!(rt; items.len(), 2);
-    assert_eq!(rt; items.front(), 9);
     assert!(rt; items.copy()? == items);
     assert!(rt; Items::new(rt.alloc()).with(1)?.with(9)? != items);
     Ok(())
