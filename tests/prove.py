@@ -15,6 +15,7 @@ import threading
 import time
 
 TICKS = os.sysconf("SC_CLK_TCK")
+MOST_OF_A_CHECK = 4_000_000_000  # bytes: more than any check of a crate has been seen to take
 KINDS = ("proofs", "tests", "wrong bodies")
 COUNTS = re.compile(rb"\d+ passed, \d+ failed")
 SHARE = re.compile(r"^rt: ok.*?(\d+) of the (\d+) proofs(?: .*?(\d+) of the (\d+) must-fail edits)?")
@@ -102,9 +103,18 @@ def share(line):
     return "; ".join(done)
 
 
+def lanes():
+    """How many checks to run side by side: one a processor, as many as the free memory holds. Left to itself `rt ci` plans with twice
+    the memory that checks of the upper crates take, and leaves processors idle."""
+    with open("/proc/meminfo", encoding="ascii") as meminfo:
+        free = int(re.search(r"MemAvailable:\s+(\d+)", meminfo.read())[1]) * 1024
+    return max(1, min(len(os.sched_getaffinity(0)), free // MOST_OF_A_CHECK))
+
+
 def main(words):
     begin = time.monotonic()
-    ran = subprocess.Popen(["rt", "ci", *words], stdout=subprocess.PIPE, stderr=subprocess.STDOUT)
+    settings = {"RT_JOBS": str(lanes())} | os.environ
+    ran = subprocess.Popen(["rt", "ci", *words], stdout=subprocess.PIPE, stderr=subprocess.STDOUT, env=settings)
     times, told, counts = Times(ran.pid), None, b""
     for line in ran.stdout:
         told = share(line.decode(errors="replace")) or told
