@@ -24,7 +24,7 @@ use Rattle.linspec.proofs.Histories.{of_history}
 use Rattle.frontier.specs.declared.frontier.Step.{Step}
 use Rattle.frontier.specs.declared.frontier.Step.TheVariants as steps
 use Rattle.frontier.specs.Meaning.{mark_by, Blows, IsStep, IsAnswer, Answers, TakesUnlessOver}
-use Rattle.frontier.specs.AnyFrontier.{AnyStandsFor, any_budget_of, kind_of_frontier}
+use Rattle.frontier.specs.AnyFrontier.{any_view_of, kind_of_frontier}
 use Rattle.checkpoints.specs.declared.live_key.LiveKey.{LiveKey}
 use Rattle.checkpoints.specs.declared.key_state.KeyState.{KeyState}
 use Rattle.checkpoints.specs.declared.key_state.KeyState.TheVariants.{Alive, Dead, Over}
@@ -115,7 +115,7 @@ module _ (kind : ModelKind) (budget : ℕ) (events : List (ℕ × Event)) (index
   silent_after silent = (
     subst (λ l. IsKeyStatus (object_of kind) budget l status.Alive) (sym same) alive,
     record {
-      stands = subst (λ l. AnyStandsFor live.frontier (marks l)) (sym same) is_live.stands;
+      stands = subst (λ l. (any_view_of live.frontier).stands (marks l)) (sym same) is_live.stands;
       kind_is = is_live.kind_is;
       budget_is = is_live.budget_is;
       knows = λ p k h. is_live.knows p k (sym (ap (λ o. busy_after (busy_of events) o p) silent) ∙ ap (λ (f : ℕ → Option ℕ). f p) (sym (busy_of-push events (index, event))) ∙ h)
@@ -205,20 +205,20 @@ module _ (kind : ModelKind) (budget : ℕ) (events : List (ℕ × Event)) (index
         same_id : id ≡ the_id
         same_id = (let both : Some id ≡ Some the_id = sym is_id ∙ (finds ∙ finds_id) in cc)
 
-        pub status_stepped : Answers (object_of (kind_of_frontier live.frontier)) (any_budget_of live.frontier) (AnyStandsFor live.frontier) (mark_by id event.kind op) step → KillNothing (object_of kind)
+        pub status_stepped : Answers (object_of (kind_of_frontier live.frontier)) (any_view_of live.frontier).budget (any_view_of live.frontier).stands (mark_by id event.kind op) step → KillNothing (object_of kind)
             → (s : Step) → step ≡ s → IsKeyStatus (object_of kind) budget (entries_of (events ++ (index, event) ∷ [])) (status_at s)
         status_stepped answers kills s is =
             let before : IsLinearizable (object_of kind) (marks (entries_of events)) = alive.1 (entries_of events) ([], append-nil (entries_of events)) in
-            let here = subst (λ k. Answers (object_of k) budget (AnyStandsFor live.frontier) (mark_by the_id event.kind op) step) is_live.kind_is
-            (subst (λ n. Answers (object_of (kind_of_frontier live.frontier)) n (AnyStandsFor live.frontier) (mark_by the_id event.kind op) step) is_live.budget_is
-            (subst (λ n. Answers (object_of (kind_of_frontier live.frontier)) (any_budget_of live.frontier) (AnyStandsFor live.frontier) (mark_by n event.kind op) step) same_id answers)) in
+            let here = subst (λ k. Answers (object_of k) budget (any_view_of live.frontier).stands (mark_by the_id event.kind op) step) is_live.kind_is
+            (subst (λ n. Answers (object_of (kind_of_frontier live.frontier)) n (any_view_of live.frontier).stands (mark_by the_id event.kind op) step) is_live.budget_is
+            (subst (λ n. Answers (object_of (kind_of_frontier live.frontier)) (any_view_of live.frontier).budget (any_view_of live.frontier).stands (mark_by n event.kind op) step) same_id answers)) in
             subst (λ r. IsKeyStatus (object_of kind) budget (entries_of (events ++ (index, event) ∷ [])) (status_at r)) is
             (by_step step (step_of_answer (object_of kind) kills budget (marks (entries_of events)) (mark_by the_id event.kind op) may_follow before step (here.right (marks (entries_of events)) is_live.stands may_follow)))
 
         -- what the frontier stands for after a step of Alive, now or once it is carried out
-        pub marks_stepped : (next : List Mark → Type 0) → TakesUnlessOver (AnyStandsFor live.frontier) next (mark_by id event.kind op) step → step ≡ steps.Alive → next (marks (entries_of (events ++ (index, event) ∷ [])))
+        pub marks_stepped : (next : List Mark → Type 0) → TakesUnlessOver (any_view_of live.frontier).stands next (mark_by id event.kind op) step → step ≡ steps.Alive → next (marks (entries_of (events ++ (index, event) ∷ [])))
         marks_stepped next kept is =
-            let same_kept = subst (λ n. TakesUnlessOver (AnyStandsFor live.frontier) next (mark_by n event.kind op) step) same_id kept in
+            let same_kept = subst (λ n. TakesUnlessOver (any_view_of live.frontier).stands next (mark_by n event.kind op) step) same_id kept in
             subst next (sym (ap marks entries ∙ marks_with)) (same_kept.taken (λ e. cc) (marks (entries_of events)) is_live.stands may_follow)
 
 -- a key without events is alive

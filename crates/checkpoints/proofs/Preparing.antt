@@ -8,7 +8,7 @@ use Rattle.events.specs.declared.event.Event.{Event}
 use Rattle.events.specs.Events.{entries_of, marks}
 use Rattle.events.specs.ProcessRule.{IsHistory}
 use Rattle.frontier.specs.Meaning.{Keeps}
-use Rattle.frontier.specs.AnyFrontier.{AnyStandsFor, AnyWillStandFor, any_budget_of, kind_of_frontier}
+use Rattle.frontier.specs.AnyFrontier.{any_view_of, kind_of_frontier}
 use Rattle.checkpoints.specs.declared.live_key.LiveKey.{LiveKey}
 use Rattle.checkpoints.specs.Noted.{noted_of}
 use Rattle.checkpoints.specs.LiveKey.{IsLiveKey, WillBeLive, id_by, closed_by}
@@ -17,9 +17,9 @@ use Rattle.checkpoints.proofs.Noting.{noted_others, noted_as, noted_here}
 use Rattle.checkpoints.proofs.Judging.{knows_then, knows_still, closed_then}
 
 module _ (kind : ModelKind) (budget : ℕ) (events : List (ℕ × Event)) (index : ℕ) (event : Event) (live : LiveKey) (is_live : IsLiveKey kind budget events live) (alive : IsAlive kind budget events) (history : IsHistory (events ++ (index, event) ∷ [])) (p : ℕ) (is_client : event.process ≡ processes.Client p) (op : Op) (is_op : event.body ≡ bodies.Op op) (after : LiveKey)
-    (kind_stays : kind_of_frontier after.frontier ≡ kind_of_frontier live.frontier) (budget_stays : any_budget_of after.frontier ≡ any_budget_of live.frontier) (noted : (q : ℕ) → noted_of after.invocations q ≡ cond (nat_eq q p) (id_by index event.kind (noted_of live.invocations q)) (noted_of live.invocations q)) where
+    (kind_stays : kind_of_frontier after.frontier ≡ kind_of_frontier live.frontier) (budget_stays : (any_view_of after.frontier).budget ≡ (any_view_of live.frontier).budget) (noted : (q : ℕ) → noted_of after.invocations q ≡ cond (nat_eq q p) (id_by index event.kind (noted_of live.invocations q)) (noted_of live.invocations q)) where
   -- it stands as it stood
-  pub still_live : Keeps (AnyStandsFor live.frontier) (AnyStandsFor after.frontier) → IsLiveKey kind budget events after
+  pub still_live : Keeps (any_view_of live.frontier).stands (any_view_of after.frontier).stands → IsLiveKey kind budget events after
   still_live keeps = record {
     stands = keeps (marks (entries_of events)) is_live.stands;
     kind_is = kind_stays ∙ is_live.kind_is;
@@ -29,7 +29,7 @@ module _ (kind : ModelKind) (budget : ℕ) (events : List (ℕ × Event)) (index
   }
 
   -- what is prepared is the event
-  pub will_be_live : after.closes ≡ closed_by p event.kind → AnyWillStandFor after.frontier (marks (entries_of (events ++ (index, event) ∷ []))) → WillBeLive kind budget (events ++ (index, event) ∷ []) after
+  pub will_be_live : after.closes ≡ closed_by p event.kind → (any_view_of after.frontier).will_stand (marks (entries_of (events ++ (index, event) ∷ []))) → WillBeLive kind budget (events ++ (index, event) ∷ []) after
   will_be_live closes stands = record {
     stands = stands;
     kind_is = kind_stays ∙ is_live.kind_is;

@@ -6,7 +6,7 @@ use Rattle.events.specs.declared.event.EventKind.TheVariants.{Invoke, Ok, Fail, 
 use Rattle.events.specs.declared.event.Event.{Event}
 use Rattle.events.specs.Events.{op_event, last_after, entries_of, marks}
 use Rattle.events.specs.ProcessRule.{busy_after}
-use Rattle.frontier.specs.AnyFrontier.{AnyStandsFor, AnyWillStandFor, any_budget_of, kind_of_frontier}
+use Rattle.frontier.specs.AnyFrontier.{any_view_of, kind_of_frontier}
 use Rattle.checkpoints.specs.Noted.{noted_of}
 use Rattle.checkpoints.specs.declared.live_key.LiveKey.{LiveKey}
 
@@ -33,18 +33,18 @@ KnowsOpen events live = (p k : ℕ) → busy_of events p ≡ Some k
 -- the frontier stands for the events, and what is open is known
 pub record IsLiveKey (kind : ModelKind) (budget : ℕ) (events : List (ℕ × Event)) (live : LiveKey)
     : Type 0 where
-  pub stands : AnyStandsFor live.frontier (marks (entries_of events))
+  pub stands : (any_view_of live.frontier).stands (marks (entries_of events))
   pub kind_is : kind_of_frontier live.frontier ≡ kind
-  pub budget_is : any_budget_of live.frontier ≡ budget
+  pub budget_is : (any_view_of live.frontier).budget ≡ budget
   pub knows : KnowsOpen events live
 
 -- once what is prepared is carried out, the frontier will stand for the events, and what is open after
 -- them is known. The process that is closed then has no open operation
 pub record WillBeLive (kind : ModelKind) (budget : ℕ) (events : List (ℕ × Event)) (live : LiveKey)
     : Type 0 where
-  pub stands : AnyWillStandFor live.frontier (marks (entries_of events))
+  pub stands : (any_view_of live.frontier).will_stand (marks (entries_of events))
   pub kind_is : kind_of_frontier live.frontier ≡ kind
-  pub budget_is : any_budget_of live.frontier ≡ budget
+  pub budget_is : (any_view_of live.frontier).budget ≡ budget
   pub knows : KnowsOpen events live
   pub closed : (p : ℕ) → live.closes ≡ Some p → busy_of events p ≡ None
 

@@ -88,7 +88,7 @@ impl Model for KeyLine {
         (vec_capacity a.places) a.prepared };
 }
 
-// So a crate above gives one back by one call, and is not proved again with each of its parts.
+// So that crates above give one back by one call.
 impl Drop for KeyLine {
     fn drop(self) {
         let KeyLine {

@@ -2,6 +2,7 @@
 //! ended or no order was given. What an order then does stands in `scripts`, `checks`, `confirms` and `runs`.
 #![tactic(auto)]
 
+mod commands;
 mod exit_status;
 mod help;
 mod order;

@@ -7,9 +7,9 @@ ghost use Rattle.run_plans.specs.Options.{default_setup};
 ghost use Rattle.command_line.specs.Orders.{AfterJudging, AreJudgingTexts, AreRunTexts, ChecksAsFound, ConfirmsAsFound, IsWithinLimits, JudgesAsFound, RunsAsFound, ScriptsAsFound, text_found, workers_found};
 ghost use Rattle.command_line.specs.Stops.{IsStopBy, IsUsageFault};
 
-use crate::help;
+use crate::{commands, help};
 use clap::error::ErrorKind;
-use clap::{Arg, ArgAction, ArgMatches, Command};
+use clap::{ArgMatches, Command};
 use edn::Refusal;
 use harness::Config;
 use models::ModelKind;
@@ -81,7 +81,7 @@ pub fn order_of(alloc: Global, words: &[String]) -> Result<Order, Stop>
             is_strict: false,
         });
     }
-    let mut command = program(alloc)?;
+    let mut command = commands::program(alloc)?;
     let matches = match command.try_get_matches_from_mut(words) {
         Ok(matches) => matches,
         Err(error) => return Err(stop_at(alloc, words, error)),
@@ -288,160 +288,20 @@ fn taken_by(option: OptionName) -> &'static str {
 pub fn no_text(alloc: Global) -> Stop
     ensures { IsUsageFault result }
 {
-    match program(alloc) {
+    match commands::program(alloc) {
         Ok(mut command) => usage(&mut command, "the words are no UTF-8"),
         Err(_) => Stop::Refused(Refusal::NoMemory),
     }
-}
-
-// An option that takes a number.
-fn a_number<'a>(
-    alloc: Global,
-    name: &'static str,
-    default: &'static str,
-    help: &'static str,
-) -> Arg<'a> {
-    Arg::new(alloc, name)
-        .long(name)
-        .value_name("N")
-        .default_value(default)
-        .allow_negative_numbers(true)
-        .help(help)
-}
-
-// An option that takes a name.
-fn a_name<'a>(
-    alloc: Global,
-    name: &'static str,
-    default: &'static str,
-    help: &'static str,
-) -> Arg<'a> {
-    Arg::new(alloc, name)
-        .long(name)
-        .value_name("NAME")
-        .default_value(default)
-        .help(help)
-}
-
-// A command with the options by which a history is judged.
-fn with_settings<'a>(
-    alloc: Global,
-    command: Command<'a>,
-    concurrency: &'static str,
-) -> Result<Command<'a>, AllocError> {
-    let budget = JudgingTexts::defaults().budget;
-    with_object(alloc, command, concurrency)?.arg(a_number(alloc, "budget", budget, help::BUDGET))
-}
-
-// A command with the options by which a history is read, and of which object.
-fn with_object<'a>(
-    alloc: Global,
-    command: Command<'a>,
-    concurrency: &'static str,
-) -> Result<Command<'a>, AllocError> {
-    let defaults = JudgingTexts::defaults();
-    command
-        .arg(a_number(alloc, "concurrency", defaults.concurrency, concurrency))?
-        .arg(a_name(alloc, "model", defaults.model, help::MODEL))
-}
-
-// The command `script`, with its options and their help.
-fn script<'a>(alloc: Global) -> Result<Command<'a>, AllocError> {
-    let strict = Arg::new(alloc, "strict")
-        .long("strict")
-        .action(ArgAction::SetTrue)
-        .help(help::STRICT);
-    let command = Command::new(alloc, "script")
-        .about(help::SCRIPT)
-        .long_about(help::SCRIPT_LONG)
-        .after_help(help::STATUS)
-        .after_long_help(help::SCRIPT_FORMS)
-        .arg(strict)?;
-    with_settings(alloc, command, help::CONCURRENCY)
-}
-
-// The command `check`, with its options and their help.
-fn check<'a>(alloc: Global) -> Result<Command<'a>, AllocError> {
-    let file = Arg::new(alloc, "FILE").required(true).help(help::FILE);
-    let command = Command::new(alloc, "check")
-        .about(help::CHECK)
-        .long_about(help::CHECK_LONG)
-        .after_help(help::STATUS)
-        .after_long_help(help::CHECK_FORMS)
-        .arg(file)?
-        .arg(a_number(alloc, "workers", "1", help::WORKERS))?;
-    with_settings(alloc, command, help::CONCURRENCY)
-}
-
-// The command `confirm`, with its options and their help.
-fn confirm<'a>(alloc: Global) -> Result<Command<'a>, AllocError> {
-    let file = Arg::new(alloc, "FILE").required(true).help(help::FILE);
-    let order = Arg::new(alloc, "ORDER").required(true).help(help::ORDER);
-    let command = Command::new(alloc, "confirm")
-        .about(help::CONFIRM)
-        .long_about(help::CONFIRM_LONG)
-        .after_help(help::CONFIRM_STATUS)
-        .after_long_help(help::CONFIRM_FORMS)
-        .arg(file)?
-        .arg(order)?;
-    with_object(alloc, command, help::CONCURRENCY)
-}
-
-// The command `run`, with its options and their help.
-fn run<'a>(alloc: Global) -> Result<Command<'a>, AllocError> {
-    let defaults = RunTexts::defaults();
-    let command = Command::new(alloc, "run")
-        .about(help::RUN)
-        .long_about(help::RUN_LONG)
-        .after_help(help::STATUS)
-        .after_long_help(help::RUN_FORMS)
-        .arg(a_number(alloc, "seed", defaults.seed, help::SEED))?
-        .arg(a_number(alloc, "ops", defaults.operations, help::OPERATIONS))?
-        .arg(a_number(alloc, "keys", defaults.keys, help::KEYS))?
-        .arg(a_number(alloc, "replicas", defaults.replicas, help::REPLICAS))?
-        .arg(a_name(alloc, "mode", defaults.mode, help::MODE))?
-        .arg(a_name(alloc, "faults", defaults.faults, help::FAULTS))?;
-    with_settings(alloc, command, help::CLIENTS)
-}
-
-// The program's commands.
-fn program<'a>(alloc: Global) -> Result<Command<'a>, AllocError> {
-    Command::new(alloc, "jepmon")
-        .no_binary_name(true)
-        .bin_name("jepmon")?
-        .version(help::VERSION)
-        .about(help::ABOUT)
-        .after_help(help::MORE)
-        .subcommand(script(alloc)?)?
-        .subcommand(check(alloc)?)?
-        .subcommand(confirm(alloc)?)?
-        .subcommand(run(alloc)?)
 }
 
 // A usage fault of the command of this name, with this message.
 fn usage_of(alloc: Global, name: &str, message: &str) -> Stop
     ensures { IsUsageFault result }
 {
-    let command = match name {
-        "check" => check(alloc),
-        "confirm" => confirm(alloc),
-        "run" => run(alloc),
-        _ => script(alloc),
-    };
-    match named(alloc, name, command) {
+    match commands::by_itself(alloc, name) {
         Ok(mut command) => usage(&mut command, message),
         Err(_) => Stop::Refused(Refusal::NoMemory),
     }
-}
-
-// A command by itself, whose usage names the program before it.
-fn named<'a>(
-    alloc: Global,
-    name: &str,
-    command: Result<Command<'a>, AllocError>,
-) -> Result<Command<'a>, AllocError> {
-    let whole = format!(in alloc; "jepmon {name}")?;
-    command?.bin_name(whole.as_str())
 }
 
 // A usage fault with this message.
@@ -479,7 +339,7 @@ fn path_alone(alloc: Global, path: &str) -> Stop {
     else {
         return Stop::Refused(Refusal::NoMemory);
     };
-    match program(alloc) {
+    match commands::program(alloc) {
         Ok(mut command) => usage(&mut command, message.as_str()),
         Err(_) => Stop::Refused(Refusal::NoMemory),
     }

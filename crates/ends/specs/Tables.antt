@@ -1,6 +1,7 @@
 -- Invariant: ends as rows of numbers
-use Rattle.std.specs.Prelude.{◌<◌, ◌≤◌, ◌≡◌, ◌≢◌, ◌↔◌, ℕ, ◌+◌, Bool, true, false, Option, Some, None, List, [], length, set, slice_get, get_or}
+use Rattle.std.specs.Prelude.{◌<◌, ◌≤◌, ◌≡◌, ◌≢◌, ◌↔◌, ℕ, ◌+◌, Bool, true, false, Option, Some, None, List, [], length, take, set, slice_get, get_or, Result, IfOk}
 use Rattle.std.specs.List.{Contains, filter}
+use Rattle.std.specs.declared.alloc.AllocError.{AllocError}
 use Rattle.std.specs.FinMap as finmap
 use Rattle.std.specs.FinSet as finset
 use Rattle.models.specs.declared.finding.Answer.{Answer}
@@ -14,7 +15,7 @@ use Rattle.interned.specs.Numbers.{IsOnceIn, IsSlot}
 use Rattle.ends.specs.declared.pending_op.PendingOp.{PendingOp}
 use Rattle.ends.specs.declared.table.Table.{Table}
 use Rattle.ends.specs.KeptEnds.{IsIncluded}
-use Rattle.ends.specs.EndSteps.{TakesLast, Next, IsReached, Adds, Along, Grows, Settles, is_other}
+use Rattle.ends.specs.EndSteps.{TakesLast, Next, IsReached, Adds, Along, AreClosed, Grows, ReachesMoreThan, Settles, is_other}
 
 -- what the call found in the end, if it is in it; a crashed one tells nothing
 abbrev pub nothing_if : Bool → Option Found
@@ -172,3 +173,15 @@ pub record IsAdvanced (o : Object) (t : Table o.State) (calls : List PendingOp)
   pub adds : Adds (IsReached o calls ends) ends all
   pub within : length all ≤ budget
   pub left : ShownWith t (filter (is_other id) calls) [] (Along (Settles id answer) all)
+
+-- what an ok finds, where the first calls, `tried` of them, lead from the ends of the table `t` to no others: either the table
+-- `left` has what the ok leaves of all ends that the calls lead to, or all ends are more than the budget (which is told where the
+-- ends of `t` are there once each)
+pub record FindsLeft (o : Object) (t left : Table o.State) (calls : List PendingOp)
+    (tried budget id : ℕ) (answer : Answer) (result : Result Bool AllocError) : Type 0 where
+  pub all : HasEachOnce calls → (ends : List (End o.State)) → AreShown t calls ends
+      → AreClosed o (take tried calls) ends
+      → IfOk result (λ all. all ≡ true → IsAdvanced o left calls ends budget id answer)
+  pub over : HasEachOnce calls → (ends : List (End o.State)) → Pairwise (λ d e. d ≢ e) ends
+      → AreShown t calls ends → AreClosed o (take tried calls) ends
+      → IfOk result (λ all. all ≡ false → ReachesMoreThan o calls ends budget)

@@ -8,8 +8,8 @@ ghost use Rattle.linspec.specs.Ends.{End};
 ghost use Rattle.linspec.specs.Orders.{Pairwise};
 ghost use Rattle.ends.specs.Moves.{AreAlike, AreMoves, IsAlike, IsKnown, KeepMoves, targets_of};
 ghost use Rattle.ends.specs.EndSteps.{Along, AreClosed, TakesLast, Next, ReachesMoreThan, is_in};
-ghost use Rattle.ends.specs.Tables.{AreShown, HasEachOnce, Shows, Widens, row_led, rows_of};
-ghost use Rattle.ends.specs.Tables.{IsAdvanced, OnlyAdds, ShownWith, ShownGrown, with_rows};
+ghost use Rattle.ends.specs.Tables.{AreShown, FindsLeft, HasEachOnce, OnlyAdds, OnlyTries, ShownGrown, ShownWith, Shows};
+ghost use Rattle.ends.specs.Tables.{row_led, rows_of, with_rows};
 
 use crate::after;
 use crate::moves::{self, Move, Moves};
@@ -22,12 +22,23 @@ use std::hash::Hash;
 
 /// Memory that an ok works in, kept for the next one: what calls do in states, the row that is looked at, the marks of what fits
 /// the answer, and the rows that are left, into which a fail puts its own too.
-#[derive(Drop)]
 pub struct Room<S> {
     moves: Moves<S>,
     row: Row,
     marks: Vec<bool>,
     pub rows: RowSet,
+}
+
+// So that crates above give one back by one call.
+impl<S: Drop> Drop for Room<S> {
+    fn drop(self) {
+        let Room {
+            moves: _moves,
+            row: _row,
+            marks: _marks,
+            rows: _rows,
+        } = self;
+    }
 }
 
 impl<S> Room<S> {
@@ -301,15 +312,8 @@ fn found_rows<M: SeqObject>(
     id: u32,
     answer: &Answer,
 ) -> Result<bool, AllocError>
-    ensures all { let object = of_table M.State M.start_state M.apply_to in
-        HasEachOnce calls.now → (ends : List (End M.State)) → AreShown table.old calls.now ends
-        → AreClosed object (take tried calls.now) ends
-        → IfOk result (λ all. all ≡ true → IsAdvanced object
-        (with_rows table.new room.new.rows) calls.now ends budget id answer.now) }
-    ensures over { let object = of_table M.State M.start_state M.apply_to in
-        HasEachOnce calls.now → (ends : List (End M.State)) → Pairwise (λ d e. d ≢ e) ends
-        → AreShown table.old calls.now ends → AreClosed object (take tried calls.now) ends
-        → IfOk result (λ all. all ≡ false → ReachesMoreThan object calls.now ends budget) }
+    ensures found { let object = of_table M.State M.start_state M.apply_to in
+        FindsLeft object table.old (with_rows table.new room.new.rows) calls.now tried budget id answer.now result }
     ensures only_adds { OnlyAdds table.old table.new applied.old applied.new }
     ensures cost { applied.new ≤ applied.old + (budget + 1) * length calls.now }
 {
@@ -349,18 +353,9 @@ pub fn advance<M: SeqObject>(
     id: u32,
     answer: &Answer,
 ) -> Result<bool, AllocError>
-    ensures all { let object = of_table M.State M.start_state M.apply_to in
-        HasEachOnce calls.now → (ends : List (End M.State)) → AreShown table.old calls.now ends
-        → AreClosed object (take tried calls.now) ends
-        → IfOk result (λ all. all ≡ true → IsAdvanced object
-        (with_rows table.new room.new.rows) calls.now ends budget id answer.now) }
-    ensures over { let object = of_table M.State M.start_state M.apply_to in
-        HasEachOnce calls.now → (ends : List (End M.State)) → Pairwise (λ d e. d ≢ e) ends
-        → AreShown table.old calls.now ends → AreClosed object (take tried calls.now) ends
-        → IfOk result (λ all. all ≡ false → ReachesMoreThan object calls.now ends budget) }
-    ensures widens { Widens table.old table.new }
-    ensures rows { rows_of table.new ≡ rows_of table.old }
-    ensures never_falls { applied.old ≤ applied.new }
+    ensures found { let object = of_table M.State M.start_state M.apply_to in
+        FindsLeft object table.old (with_rows table.new room.new.rows) calls.now tried budget id answer.now result }
+    ensures tries { OnlyTries table.old table.new applied.old applied.new }
     ensures cost { applied.new ≤ applied.old + (budget + 1) * length calls.now }
 {
     let kept = table.rows.len();

@@ -26,11 +26,21 @@ const FEW_STATES: usize = 64;
 /// The ends that a frontier keeps, and while an ok works those too that it finds, each a row of numbers. The first says where
 /// its state stands; then comes one for each call: zero where it is not in, and else one more than where what it found stands.
 /// States and what was found stand once, so equal ends are equal rows.
-#[derive(Drop)]
 pub struct Table<S: Hash + Drop> {
     pub states: States<S>,
     pub founds: Founds,
     pub rows: RowSet,
+}
+
+// So that crates above give one back by one call.
+impl<S: Hash + Drop> Drop for Table<S> {
+    fn drop(self) {
+        let Table {
+            states: _states,
+            founds: _founds,
+            rows: _rows,
+        } = self;
+    }
 }
 
 // The number of what was found, and zero if nothing was.

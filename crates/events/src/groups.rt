@@ -12,7 +12,6 @@ pub const MOST_REPLICAS: u8 = 7;
 pub const REPLICAS: usize = 7;
 
 /// The groups into which a partition cuts the replicas, by their numbers. A replica that no group names is alone.
-#[derive(Drop)]
 pub struct Groups {
     groups: Vec<Vec<u8>>,
 }
@@ -23,6 +22,13 @@ impl Model for Groups {
     ghost Value = { List (List ℕ) };
 
     ghost view = { λ a. map (λ v. v.items) a.groups.items };
+}
+
+// So that crates above give one back by one call.
+impl Drop for Groups {
+    fn drop(self) {
+        let Groups { groups: _groups } = self;
+    }
 }
 
 impl Groups {

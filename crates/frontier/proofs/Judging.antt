@@ -16,7 +16,7 @@ use Rattle.ends.specs.declared.kept_end.KeptEnd.{KeptEnd}
 use Rattle.ends.specs.KeptEnds.{AreIncluded, ArePending, end_kept}
 use Rattle.ends.specs.EndSteps.{Along, AreClosed, Fails, ReachesMoreThan, is_other}
 use Rattle.frontier.specs.Kept.{IsListed, Lists, StandsFor, table_of}
-use Rattle.frontier.specs.Meaning.{CostsAtMost, Keeps}
+use Rattle.frontier.specs.Meaning.{Keeps, StepsOfOk}
 use Rattle.ends.specs.Tables.{AreShown, HasEachOnce, IsAdvanced, IsOpenAt, ShownWith}
 use Rattle.frontier.proofs.AfterEvents.{ends_after_ok}
 use Rattle.ends.proofs.Closing.{among_front, closed_after_fail, closed_after_ok, closed_fewer, one_fewer}
@@ -114,9 +114,9 @@ module _ {M : Type 0} (o : Object) (f : Frontier M o.State) (marks : List Mark) 
   kept_ends items h = h calls_once stands.kept its_rows
 
 -- what an ok costs, from the count of steps before it and after it
-pub ok_costs : {M : Type 0} (o : Object) (f g : Frontier M o.State) (id : ℕ) (answer : Answer) (after : ℕ) → Keeps (StandsFor o f) (IsListed o g) → g.budget ≡ f.budget → g.applied ≡ f.applied → g.applied ≤ after → after ≤ g.applied + (g.budget + 1) * length g.calls.items
-    → CostsAtMost f.budget (StandsFor o f) (Returned id answer) f.applied after
-ok_costs o f g id answer after listed budget applied rises cost = (
+pub ok_costs : {M : Type 0} (o : Object) (f g : Frontier M o.State) (after : ℕ) → Keeps (StandsFor o f) (IsListed o g) → g.budget ≡ f.budget → g.applied ≡ f.applied → g.applied ≤ after → after ≤ g.applied + (g.budget + 1) * length g.calls.items
+    → StepsOfOk f.budget (StandsFor o f) f.applied after
+ok_costs o f g after listed budget applied rises cost = (
   subst (λ a. a ≤ after) applied rises,
   λ marks given n most.
       let l = listed marks given in

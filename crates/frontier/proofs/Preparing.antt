@@ -3,15 +3,16 @@ use Rattle.std.proofs.Common.{◌≡◌, ◌∙◌, ℕ, Option, Some, None, Res
 use Rattle.std.specs.declared.alloc.AllocError.{AllocError}
 use Rattle.models.specs.Objects.{Object}
 use Rattle.events.specs.Events.{Mark}
-use Rattle.events.specs.Events.Mark.{Invoked}
+use Rattle.events.specs.Events.Mark.{Crashed, Failed, Invoked, Returned}
 use Rattle.linspec.specs.MarkRule.{MayFollow}
 use Rattle.frontier.specs.declared.change.Change.{Change}
 use Rattle.frontier.specs.declared.change.Change.TheVariants.{Nothing, Invoked as ToInvoked}
 use Rattle.frontier.specs.declared.change.Fresh.{Fresh}
 use Rattle.frontier.specs.declared.frontier.Frontier.{Frontier}
+use Rattle.frontier.specs.declared.frontier.Step.{Step}
 use Rattle.ends.specs.declared.pending_op.PendingOp.{PendingOp}
 use Rattle.ends.specs.declared.table.Table.{Table}
-use Rattle.frontier.specs.Meaning.{Keeps}
+use Rattle.frontier.specs.Meaning.{Commits, Costs, FrontierView, IsReturn, Keeps, Observes, Prepares, StepsOfOk, TakesAlways}
 use Rattle.frontier.specs.Kept.{IsIdle, IsListed, IsOf, Lists, ListsBut, Makes, StandsFor, StandsWith, WillStandFor, table_of}
 use Rattle.ends.specs.Tables.{AreShown, Widens, rows_of}
 use Rattle.ends.proofs.Showing.{shown_more}
@@ -106,3 +107,29 @@ ok_keeps old mid new (Err e) to on = tt
 pub err_keeps : (old mid new : List Mark → Type 0) (r : Result (Unit {0}) AllocError) → Keeps old mid → OnErr r (Keeps mid new) → OnErr r (Keeps old new)
 err_keeps old mid new (Ok x) to on = tt
 err_keeps old mid new (Err e) to on = λ marks stands. on marks (to marks stands)
+
+-- what was prepared, carried out at once
+module _ (o : Object) (old mid new : FrontierView) (committed : Commits mid new) where
+  costs_too : (mark : Mark) → Costs old mid mark → Costs old new mark
+  costs_too (Returned id answer) cost = subst (StepsOfOk old.budget old.stands old.applied) (sym committed.applied) cost
+  costs_too (Invoked id op) cost = committed.applied ∙ cost
+  costs_too (Failed id) cost = committed.applied ∙ cost
+  costs_too (Crashed id) cost = committed.applied ∙ cost
+
+  pub observed : (mark : Mark) (step : Step) → Prepares old mid o mark (Ok step) → Observes old new o mark (Ok step)
+  observed mark step p = record {
+    step = p.step;
+    kept = record {
+      over = λ over marks given. committed.stands marks (p.next.over over marks given);
+      taken = λ other marks given may. committed.stands (marks ++ mark ∷ []) (p.next.taken other marks given may);
+    };
+    budget = committed.budget ∙ p.budget;
+    cost = costs_too mark p.cost;
+  }
+
+  pub noted : (mark : Mark) → ¬ IsReturn mark → (step : Step) → Prepares old mid o mark (Ok step) → TakesAlways old new mark (Ok tt)
+  noted mark none step p = record {
+    kept = λ marks given may. committed.stands (marks ++ mark ∷ []) (p.next.taken (λ over. none (p.step.over_at_ok over)) marks given may);
+    budget = committed.budget ∙ p.budget;
+    cost = costs_too mark p.cost;
+  }

@@ -1,6 +1,7 @@
 -- Invariant: how a frontier keeps the ends of the histories of one key that it stands for. No layer above cites how:
--- public clauses cite `StandsFor`, `WillStandFor`, `budget_of` and `applied_of` alone
-use Rattle.std.specs.Prelude.{◌≡◌, ◌≢◌, ◌↔◌, ℕ, ◌≤◌, false, Option, Some, None, List, [], ◌∷◌, ◌++◌, length, take}
+-- public clauses cite `view_of` alone
+use Rattle.std.specs.Prelude.{◌≡◌, ◌≢◌, ◌↔◌, ℕ, ◌≤◌, false, Option, Some, None, List, [], ◌∷◌, ◌++◌, length, take, Result, OnOk, OnErr}
+use Rattle.std.specs.declared.alloc.AllocError.{AllocError}
 use Rattle.std.specs.List.{filter}
 use Rattle.models.specs.Objects.{Object}
 use Rattle.events.specs.Events.{Mark}
@@ -22,6 +23,7 @@ use Rattle.products.specs.Products.{rows_in}
 use Rattle.std.specs.Global.{Box}
 use Rattle.frontier.specs.declared.as_products.AsProducts.{AsProducts}
 use Rattle.ends.specs.EndSteps.{AreClosed, IsReached, is_other}
+use Rattle.frontier.specs.Meaning.{FrontierView, Keeps}
 
 -- the rows of the kept products, where there are any, else these
 abbrev pub rows_by : {S : Type 0} → Option (Box (AsProducts S)) → List (List ℕ) → List (List ℕ)
@@ -35,11 +37,11 @@ left_by (Some those) rows = rows_in those.value.room.left.1
 
 -- the table with the rows in force
 abbrev pub table_of : {M S : Type 0} → Frontier M S → Table S
-table_of f = with_rows f.table (rows_by f.as_products (rows_of f.table))
+table_of f = with_rows f.table (rows_by f.products (rows_of f.table))
 
 -- the rows that are left
 abbrev pub left_of : {M S : Type 0} → Frontier M S → List (List ℕ)
-left_of f = left_by f.as_products f.room.rows
+left_of f = left_by f.products f.room.rows
 
 -- a frontier that keeps these ends represents the end: operations that may still take place lead to
 -- it, one after another, from an end that is kept (Lowe 2017)
@@ -82,12 +84,16 @@ abbrev pub IsOf : {M S : Type 0} → Frontier M S → Table S → List PendingOp
 IsOf g table calls tried fresh =
     (table_of g ≡ table) × (g.calls.items ≡ calls) × (g.tried ≡ tried) × (g.fresh ≡ fresh)
 
+-- the budget and the count of steps stay
+pub record HasCountsOf {M S : Type 0} (f g : Frontier M S) : Type 0 where
+  pub budget : g.budget ≡ f.budget
+  pub applied : g.applied ≡ f.applied
+
 -- the frontier is this one but for what is worked in
 pub record IsAlike {M S : Type 0} (f g : Frontier M S) : Type 0 where
   pub same : IsOf g (table_of f) f.calls.items f.tried f.fresh
   pub next : g.next ≡ f.next
-  pub budget : g.budget ≡ f.budget
-  pub applied : g.applied ≡ f.applied
+  pub counts : HasCountsOf f g
 
 -- the fresh operation as a call
 abbrev pub call_of : Fresh → PendingOp
@@ -127,10 +133,26 @@ pub record IsListed {M : Type 0} (o : Object) (f : Frontier M o.State) (marks : 
   pub none : f.fresh ≡ None
   pub lists : Lists o f marks
 
--- the greatest number of ends that an ok may meet
-abbrev pub budget_of : {M S : Type 0} → Frontier M S → ℕ
-budget_of f = f.budget
+-- what is known of the frontier
+abbrev pub view_of : {M : Type 0} (o : Object) → Frontier M o.State → FrontierView
+view_of o f = record {
+  stands = StandsFor o f;
+  will_stand = WillStandFor o f;
+  budget = f.budget;
+  applied = f.applied;
+}
 
--- how many steps were made so far: how often an operation was tried in a state
-abbrev pub applied_of : {M S : Type 0} → Frontier M S → ℕ
-applied_of f = f.applied
+module _ {M : Type 0} (o : Object) (f g : Frontier M o.State) where
+  -- the fresh operation has its place in the rows; where there is no memory all stands as before, and
+  -- nothing is prepared
+  pub record ListsFresh (before : List Mark → Type 0) (result : Result (Unit {0}) AllocError)
+      : Type 0 where
+    pub listed : OnOk result (Keeps before (IsListed o g))
+    pub nothing : OnErr result (Keeps before (IsIdle o g))
+    pub counts : HasCountsOf f g
+
+  -- the ends may have another form, and nothing else changes
+  pub record Reforms : Type 0 where
+    pub keeps : Keeps (IsIdle o f) (IsIdle o g)
+    pub fresh : g.fresh ≡ f.fresh
+    pub counts : HasCountsOf f g

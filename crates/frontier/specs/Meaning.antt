@@ -1,5 +1,7 @@
--- Promise: what an event makes of the histories of one key that a frontier stands for, and what it answers
-use Rattle.std.specs.Prelude.{◌≡◌, ◌≢◌, ℕ, ◌+◌, ◌*◌, ◌≤◌, ◌⊎◌, List, [], ◌∷◌, ◌++◌, length}
+-- Promise: what an event makes of the histories of one key that a frontier stands for, what it answers and costs; how a
+-- frontier begins, and what a copy is
+use Rattle.std.specs.Prelude.{◌≡◌, ◌≢◌, ◌↔◌, ℕ, ◌+◌, ◌*◌, ◌≤◌, ◌⊎◌, List, [], ◌∷◌, ◌++◌, length, Result, IfOk, MatchResult}
+use Rattle.std.specs.declared.alloc.AllocError.{AllocError}
 use Rattle.std.specs.List.{Contains}
 use Rattle.models.specs.declared.operation.Op.{Op}
 use Rattle.models.specs.Objects.{Object, answer_of}
@@ -60,21 +62,13 @@ pub record HasAtMostPending (marks : List Mark) (n : ℕ) : Type 0 where
   pub many : length ids ≤ n
   pub each : (id : ℕ) → IsOpen marks id ⊎ HasCrashedBy is_no_read marks id → Contains ids id
 
--- the most steps that the mark may cost where n such operations are there just before it: an
--- ok costs one for each of these on each end of the budget and on one more, and another mark none
-abbrev pub most_steps : ℕ → ℕ → Mark → ℕ
-most_steps budget n (Returned id answer) = (budget + 1) * n
-most_steps budget n (Invoked id op) = 0
-most_steps budget n (Failed id) = 0
-most_steps budget n (Crashed id) = 0
-
--- the mark costs no more steps than that, by how many were made before it and after it, and the count
--- of steps never falls
-abbrev pub CostsAtMost : ℕ → (List Mark → Type 0) → Mark → ℕ → ℕ → Type 0
-CostsAtMost budget old mark before after =
+-- an ok makes at most (budget + 1) * n steps where no more than n operations may still take place and change
+-- something just before it; the count of steps, before it and after it, never falls
+abbrev pub StepsOfOk : ℕ → (List Mark → Type 0) → ℕ → ℕ → Type 0
+StepsOfOk budget old before after =
     (before ≤ after)
     × ((marks : List Mark) → old marks → (n : ℕ) → HasAtMostPending marks n
-    → after ≤ before + most_steps budget n mark)
+    → after ≤ before + (budget + 1) * n)
 
 -- what an event makes of the histories that are stood for: those before it and those after it
 module _ (old new : List Mark → Type 0) where
@@ -98,3 +92,63 @@ pub record Answers (o : Object) (budget : ℕ) (old : List Mark → Type 0) (mar
   pub right : (marks : List Mark) → old marks → MayFollow marks mark
       → IsAnswer o budget marks mark step
   pub over_at_ok : step ≡ Over → IsReturn mark
+
+-- what is known of a frontier: the histories of one key that it stands for; those that it will stand for
+-- once what is prepared is carried out; the greatest number of ends that an ok may meet; and how many
+-- steps were made so far, each of which tries an operation in a state
+pub record FrontierView : Type 1 where
+  pub stands : List Mark → Type 0
+  pub will_stand : List Mark → Type 0
+  pub budget : ℕ
+  pub applied : ℕ
+
+-- a frontier of a history without events
+pub record IsStart (budget : ℕ) (new : FrontierView) : Type 0 where
+  pub stands : new.stands []
+  pub budget_is : new.budget ≡ budget
+  pub applied_is : new.applied ≡ 0
+
+module _ (old new : FrontierView) where
+  -- what a mark costs: an ok steps within `StepsOfOk`, another mark none
+  abbrev pub Costs : Mark → Type 0
+  Costs (Returned id answer) = StepsOfOk old.budget old.stands old.applied new.applied
+  Costs (Invoked id op) = new.applied ≡ old.applied
+  Costs (Failed id) = new.applied ≡ old.applied
+  Costs (Crashed id) = new.applied ≡ old.applied
+
+  -- the answer is right, and the frontier takes the mark; after Over, and where there is no memory, it stands for what it stood
+  -- for. The budget stays
+  pub record Observes (o : Object) (mark : Mark) (result : Result Step AllocError) : Type 0 where
+    pub step : IfOk result (Answers o old.budget old.stands mark)
+    pub kept : MatchResult result (TakesUnlessOver old.stands new.stands mark)
+        (λ _. Keeps old.stands new.stands)
+    pub budget : new.budget ≡ old.budget
+    pub cost : Costs mark
+
+  -- the same of an invocation and a crash, which are always taken where there is memory
+  pub record TakesAlways (mark : Mark) (result : Result (Unit {0}) AllocError) : Type 0 where
+    pub kept : MatchResult result (λ _. Takes old.stands new.stands mark)
+        (λ _. Keeps old.stands new.stands)
+    pub budget : new.budget ≡ old.budget
+    pub cost : Costs mark
+
+  -- the answer is right, and the mark is prepared: the frontier stands for what it stood for, and will take the mark, or after Over
+  -- will stand for the same. The budget stays
+  pub record Prepares (o : Object) (mark : Mark) (result : Result Step AllocError) : Type 0 where
+    pub step : IfOk result (Answers o old.budget old.stands mark)
+    pub now : Keeps old.stands new.stands
+    pub next : IfOk result (TakesUnlessOver old.stands new.will_stand mark)
+    pub budget : new.budget ≡ old.budget
+    pub cost : Costs mark
+
+  -- what is prepared is carried out, and costs no step
+  pub record Commits : Type 0 where
+    pub stands : Keeps old.will_stand new.stands
+    pub budget : new.budget ≡ old.budget
+    pub applied : new.applied ≡ old.applied
+
+  -- the new one is a copy
+  pub record IsCopy : Type 0 where
+    pub same : (marks : List Mark) → new.stands marks ↔ old.stands marks
+    pub budget : new.budget ≡ old.budget
+    pub applied : new.applied ≡ old.applied

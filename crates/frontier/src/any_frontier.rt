@@ -1,11 +1,9 @@
 //! Frontiers of any kind of object.
-ghost use Rattle.std.specs.Prelude.{◌≡◌, ◌↔◌, List, [], IfOk, MatchResult};
+ghost use Rattle.std.specs.Prelude.{◌≡◌, IfOk};
 ghost use Rattle.models.specs.Objects.{object_of, of_table};
-ghost use Rattle.events.specs.Events.{Mark};
-ghost use Rattle.frontier.specs.Meaning.{Answers, CostsAtMost, Keeps, TakesUnlessOver, mark_by};
-ghost use Rattle.frontier.specs.AnyFrontier.{AnyStandsFor, AnyWillStandFor, any_applied_of, any_budget_of};
-ghost use Rattle.frontier.specs.AnyFrontier.{kind_of_frontier};
-ghost use Rattle.frontier.specs.Kept.{StandsFor, applied_of, budget_of};
+ghost use Rattle.frontier.specs.AnyFrontier.{any_view_of, kind_of_frontier};
+ghost use Rattle.frontier.specs.Kept.{view_of};
+ghost use Rattle.frontier.specs.Meaning.{Commits, IsCopy, IsStart, Observes, Prepares, mark_by};
 
 use crate::frontier::{Frontier, Step};
 use events::EventKind;
@@ -85,10 +83,8 @@ macro_rules! commit_of {
 // A frontier of one kind at its start; apart, so that no place is laid out for those of the other kinds.
 #[inline(never)]
 fn started<M: SeqObject>(alloc: Global, budget: u32) -> Result<Box<Frontier<M>>, AllocError>
-    ensures stands { let object = of_table M.State M.start_state M.apply_to in
-        IfOk result (λ f. StandsFor object f.value []) }
-    ensures budget { IfOk result (λ f. budget_of f.value ≡ budget) }
-    ensures applied { IfOk result (λ f. applied_of f.value ≡ 0) }
+    ensures { let object = of_table M.State M.start_state M.apply_to in
+        IfOk result (λ f. IsStart budget (view_of object f.value)) }
 {
     Ok(Box::new(alloc, Frontier::<M>::start(alloc, budget)?)?)
 }
@@ -96,11 +92,8 @@ fn started<M: SeqObject>(alloc: Global, budget: u32) -> Result<Box<Frontier<M>>,
 // A copy of a frontier of one kind, likewise.
 #[inline(never)]
 fn copied<M: SeqObject>(frontier: &Frontier<M>) -> Result<Box<Frontier<M>>, AllocError>
-    ensures same { let object = of_table M.State M.start_state M.apply_to in
-        IfOk result (λ f. (marks : List Mark)
-        → StandsFor object f.value marks ↔ StandsFor object frontier.now marks) }
-    ensures budget { IfOk result (λ f. budget_of f.value ≡ budget_of frontier.now) }
-    ensures applied { IfOk result (λ f. applied_of f.value ≡ applied_of frontier.now) }
+    ensures { let object = of_table M.State M.start_state M.apply_to in
+        IfOk result (λ f. IsCopy (view_of object frontier.now) (view_of object f.value)) }
 {
     Ok(Box::new(frontier.allocator(), frontier.copy()?)?)
 }
@@ -109,10 +102,8 @@ impl AnyFrontier {
     /// The frontier of a history without events of an object of this kind. The budget is the greatest number of ends that an ok may
     /// meet. Takes constant time.
     pub fn start(alloc: Global, kind: ModelKind, budget: u32) -> Result<Self, AllocError>
-        ensures stands { IfOk result (λ f. AnyStandsFor f []) }
+        ensures started { IfOk result (λ f. IsStart budget (any_view_of f)) }
         ensures kind { IfOk result (λ f. kind_of_frontier f ≡ kind) }
-        ensures budget { IfOk result (λ f. any_budget_of f ≡ budget) }
-        ensures applied { IfOk result (λ f. any_applied_of f ≡ 0) }
     {
         each_kind!(start_of; kind, alloc, budget)
     }
@@ -122,17 +113,9 @@ impl AnyFrontier {
     /// event is an ok and more ends than the budget stand just before it: then, and on `AllocError`, the frontier stands for
     /// what it stood for. An invocation and an info are answered Alive, since they kill nothing.
     pub fn observe(&mut self, id: u32, kind: EventKind, op: &Op) -> Result<Step, AllocError>
-        ensures step { let object = object_of (kind_of_frontier self.old) in
-            let old = AnyStandsFor self.old in
-            IfOk result (Answers object (any_budget_of self.old) old (mark_by id kind op.now)) }
-        ensures kept { let old = AnyStandsFor self.old in let new = AnyStandsFor self.new in
-            MatchResult result (TakesUnlessOver old new (mark_by id kind op.now))
-            (λ _. Keeps old new) }
+        ensures observed { Observes (any_view_of self.old) (any_view_of self.new)
+            (object_of (kind_of_frontier self.old)) (mark_by id kind op.now) result }
         ensures kind { kind_of_frontier self.new ≡ kind_of_frontier self.old }
-        ensures budget { any_budget_of self.new ≡ any_budget_of self.old }
-        ensures cost { let old = AnyStandsFor self.old in
-            CostsAtMost (any_budget_of self.old) old (mark_by id kind op.now)
-            (any_applied_of self.old) (any_applied_of self.new) }
     {
         each_kind!(observe_of; self, id, kind, op)
     }
@@ -141,34 +124,24 @@ impl AnyFrontier {
     /// what it stood for until [`commit`](Self::commit). After Over nothing is prepared; after `AllocError` no commit must
     /// follow. What was prepared before is dropped.
     pub fn prepare(&mut self, id: u32, kind: EventKind, op: &Op) -> Result<Step, AllocError>
-        ensures step { let object = object_of (kind_of_frontier self.old) in
-            let old = AnyStandsFor self.old in
-            IfOk result (Answers object (any_budget_of self.old) old (mark_by id kind op.now)) }
-        ensures now { Keeps (AnyStandsFor self.old) (AnyStandsFor self.new) }
-        ensures next { let old = AnyStandsFor self.old in let next = AnyWillStandFor self.new in
-            IfOk result (TakesUnlessOver old next (mark_by id kind op.now)) }
+        ensures prepared { Prepares (any_view_of self.old) (any_view_of self.new)
+            (object_of (kind_of_frontier self.old)) (mark_by id kind op.now) result }
         ensures kind { kind_of_frontier self.new ≡ kind_of_frontier self.old }
-        ensures budget { any_budget_of self.new ≡ any_budget_of self.old }
-        ensures cost { let old = AnyStandsFor self.old in
-            CostsAtMost (any_budget_of self.old) old (mark_by id kind op.now)
-            (any_applied_of self.old) (any_applied_of self.new) }
     {
         each_kind!(prepare_of; self, id, kind, op)
     }
 
-    /// Carries out what is prepared, if anything is: [`Frontier::commit`].
+    /// Carries out what is prepared, if anything is: [`Frontier::commit`]. It takes no memory and cannot fail.
     pub fn commit(&mut self)
-        ensures stands { Keeps (AnyWillStandFor self.old) (AnyStandsFor self.new) }
+        ensures committed { Commits (any_view_of self.old) (any_view_of self.new) }
         ensures kind { kind_of_frontier self.new ≡ kind_of_frontier self.old }
-        ensures budget { any_budget_of self.new ≡ any_budget_of self.old }
-        ensures cost { any_applied_of self.new ≡ any_applied_of self.old }
     {
         each_kind!(commit_of; self)
     }
 
     /// How many steps were made so far: [`Frontier::applied`].
     pub fn applied(&self) -> u64
-        ensures { result ≡ any_applied_of self.now }
+        ensures { result ≡ (any_view_of self.now).applied }
     {
         each_kind!(applied_of; self)
     }
@@ -176,11 +149,8 @@ impl AnyFrontier {
     /// An equal frontier, which shares the items of queues and the members that were found; nothing is prepared of it:
     /// [`Frontier::copy`]. Takes the time of the calls, the rows, the states and what was found.
     pub fn copy(&self) -> Result<Self, AllocError>
-        ensures same { IfOk result (λ f. (marks : List Mark)
-            → AnyStandsFor f marks ↔ AnyStandsFor self.now marks) }
+        ensures copied { IfOk result (λ f. IsCopy (any_view_of self.now) (any_view_of f)) }
         ensures kind { IfOk result (λ f. kind_of_frontier f ≡ kind_of_frontier self.now) }
-        ensures budget { IfOk result (λ f. any_budget_of f ≡ any_budget_of self.now) }
-        ensures applied { IfOk result (λ f. any_applied_of f ≡ any_applied_of self.now) }
     {
         each_kind!(copy_of; self)
     }

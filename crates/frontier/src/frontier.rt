@@ -1,19 +1,16 @@
 //! Frontiers, and what each event does to one.
-ghost use Rattle.std.specs.Prelude.{◌≡◌, ◌≢◌, ◌↔◌, ◌<◌, ◌≤◌, ◌+◌, ◌*◌, ◌++◌, ◌∷◌, ℕ, List, Some, None, [], true, false, length, take, IfOk, IsSome, OnOk, OnErr, MatchResult};
+ghost use Rattle.std.specs.Prelude.{◌≡◌, ◌≢◌, ◌↔◌, ◌<◌, ◌≤◌, ◌+◌, ◌*◌, ◌++◌, ◌∷◌, ℕ, List, Some, None, [], length, IfOk, IsSome, OnOk};
 ghost use Rattle.std.specs.Global.{Box};
 ghost use Rattle.std.specs.Vec.{vec_capacity, vec_len};
 ghost use Rattle.std.specs.List.{filter};
 ghost use Rattle.models.specs.Objects.{of_table};
-ghost use Rattle.events.specs.Events.{Mark};
 ghost use Rattle.events.specs.Events.Mark.{Invoked, Returned, Failed, Crashed};
 ghost use Rattle.linspec.specs.Ends.{End};
-ghost use Rattle.linspec.specs.Orders.{Pairwise};
-ghost use Rattle.ends.specs.EndSteps.{Along, AreClosed, Fails, ReachesMoreThan, is_other};
-ghost use Rattle.ends.specs.Tables.{AreShown, HasEachOnce, IsAdvanced, IsOpenAt, ShowTheSame, ShownWith, Widens, rows_of, with_rows};
-ghost use Rattle.frontier.specs.Kept.{StandsFor, WillStandFor, IsListed, IsIdle, IsStepOf};
-ghost use Rattle.frontier.specs.Meaning.{Answers, Keeps, Takes, TakesUnlessOver};
-ghost use Rattle.frontier.specs.Kept.{IsAlike, IsOf, applied_of, budget_of, call_of, left_of, rows_by, table_of};
-ghost use Rattle.frontier.specs.Meaning.{CostsAtMost, mark_by};
+ghost use Rattle.ends.specs.EndSteps.{Along, Fails, is_other};
+ghost use Rattle.ends.specs.Tables.{AreShown, FindsLeft, HasEachOnce, IsOpenAt, OnlyTries, ShowTheSame, ShownWith, rows_of, with_rows};
+ghost use Rattle.frontier.specs.Kept.{IsAlike, IsIdle, IsListed, IsOf, IsStepOf, HasCountsOf, ListsFresh, Reforms, StandsFor};
+ghost use Rattle.frontier.specs.Kept.{call_of, left_of, rows_by, table_of, view_of};
+ghost use Rattle.frontier.specs.Meaning.{Commits, IsCopy, IsStart, Keeps, Observes, Prepares, TakesAlways, mark_by};
 
 use crate::as_products::{self, AsProducts};
 use crate::change::{self, AfterCrash, Change, Fresh};
@@ -56,13 +53,13 @@ pub struct Frontier<M: SeqObject> {
     table: Table<M::State>,
     spare: Option<Box<Table<M::State>>>,
     room: Room<M::State>,
-    as_products: Option<Box<AsProducts<M::State>>>,
+    products: Option<Box<AsProducts<M::State>>>,
     next: Change,
     coming: Option<Fresh>,
     after_crash: Option<Box<AfterCrash<M::State>>>,
 }
 
-// So a crate above gives one back by one call, and is not proved again with each of its parts.
+// So that crates above give one back by one call.
 impl<M: SeqObject> Drop for Frontier<M> {
     fn drop(self) {
         let Frontier {
@@ -75,7 +72,7 @@ impl<M: SeqObject> Drop for Frontier<M> {
             table: _table,
             spare: _spare,
             room: _room,
-            as_products: _as_products,
+            products: _products,
             next: _next,
             coming: _coming,
             after_crash: _after_crash,
@@ -106,10 +103,8 @@ impl<M: SeqObject> Frontier<M> {
     /// The frontier of a history without events. The budget is the greatest number of ends that an ok may meet. Takes constant
     /// time.
     pub fn start(alloc: Global, budget: u32) -> Result<Self, AllocError>
-        ensures stands { let object = of_table M.State M.start_state M.apply_to in
-            IfOk result (λ f. StandsFor object f []) }
-        ensures budget { IfOk result (λ f. budget_of f ≡ budget) }
-        ensures applied { IfOk result (λ f. applied_of f ≡ 0) }
+        ensures { let object = of_table M.State M.start_state M.apply_to in
+            IfOk result (λ f. IsStart budget (view_of object f)) }
     {
         let mut ends = Vec::new(alloc);
         ends.push(KeptEnd {
@@ -129,7 +124,7 @@ impl<M: SeqObject> Frontier<M> {
             table,
             spare: None,
             room: Room::for_two(alloc)?,
-            as_products: None,
+            products: None,
             next: Change::Nothing,
             coming: None,
             after_crash: None,
@@ -141,21 +136,10 @@ impl<M: SeqObject> Frontier<M> {
     /// answer. An invocation and an info are answered Alive, since they kill nothing. Over where the event is an ok and more
     /// ends than the budget stand just before it: then, and on `AllocError`, the frontier stands for what it stood for; the
     /// steps that were made stay counted, the call that was noted last may have its place in the rows, and rows may have become
-    /// products, or products rows. It is [`prepare`](Self::prepare) and [`commit`](Self::commit) in one, with nothing kept between
-    /// the two.
+    /// products, or products rows. It is [`prepare`](Self::prepare) and [`commit`](Self::commit) in one.
     pub fn observe(&mut self, id: u32, kind: EventKind, op: &Op) -> Result<Step, AllocError>
-        ensures step { let object = of_table M.State M.start_state M.apply_to in
-            let old = StandsFor object self.old in
-            IfOk result (Answers object (budget_of self.old) old (mark_by id kind op.now)) }
-        ensures kept { let object = of_table M.State M.start_state M.apply_to in
-            let old = StandsFor object self.old in let new = StandsFor object self.new in
-            MatchResult result (TakesUnlessOver old new (mark_by id kind op.now))
-            (λ _. Keeps old new) }
-        ensures budget { budget_of self.new ≡ budget_of self.old }
-        ensures cost { let object = of_table M.State M.start_state M.apply_to in
-            let old = StandsFor object self.old in
-            CostsAtMost (budget_of self.old) old (mark_by id kind op.now)
-            (applied_of self.old) (applied_of self.new) }
+        ensures { let object = of_table M.State M.start_state M.apply_to in
+            Observes (view_of object self.old) (view_of object self.new) object (mark_by id kind op.now) result }
     {
         let step = self.prepare(id, kind, op)?;
         self.commit();
@@ -167,44 +151,29 @@ impl<M: SeqObject> Frontier<M> {
     /// no commit must follow.
     #[inline(always)]
     pub fn prepare(&mut self, id: u32, kind: EventKind, op: &Op) -> Result<Step, AllocError>
-        ensures step { let object = of_table M.State M.start_state M.apply_to in
-            let old = StandsFor object self.old in
-            IfOk result (Answers object (budget_of self.old) old (mark_by id kind op.now)) }
-        ensures now { let object = of_table M.State M.start_state M.apply_to in
-            Keeps (StandsFor object self.old) (StandsFor object self.new) }
-        ensures next { let object = of_table M.State M.start_state M.apply_to in
-            let old = StandsFor object self.old in let next = WillStandFor object self.new in
-            IfOk result (TakesUnlessOver old next (mark_by id kind op.now)) }
-        ensures budget { budget_of self.new ≡ budget_of self.old }
-        ensures cost { let object = of_table M.State M.start_state M.apply_to in
-            let old = StandsFor object self.old in
-            CostsAtMost (budget_of self.old) old (mark_by id kind op.now)
-            (applied_of self.old) (applied_of self.new) }
+        ensures { let object = of_table M.State M.start_state M.apply_to in
+            Prepares (view_of object self.old) (view_of object self.new) object (mark_by id kind op.now) result }
     {
         match kind {
             EventKind::Invoke => {
-                self.prepare_invoke(id, op.copy()?)?;
-                Ok(Step::Alive)
+                let op = op.copy()?;
+                self.prepare_invoke(id, op)
             }
             EventKind::Ok => {
                 let answer = Answer::of_part(op.part.copy()?);
                 self.prepare_ok(id, &answer)
             }
             EventKind::Fail => self.prepare_fail(id),
-            EventKind::Info => {
-                self.prepare_crash(id)?;
-                Ok(Step::Alive)
-            }
+            EventKind::Info => self.prepare_crash(id),
         }
     }
 
-    /// Carries out what is prepared, if anything is. Takes the time of the calls and of what it drops.
+    /// Carries out what is prepared, if anything is. It takes no memory and cannot fail. Takes the time of the calls and of what it
+    /// drops.
     #[inline(always)]
     pub fn commit(&mut self)
-        ensures stands { let object = of_table M.State M.start_state M.apply_to in
-            Keeps (WillStandFor object self.old) (StandsFor object self.new) }
-        ensures budget { budget_of self.new ≡ budget_of self.old }
-        ensures cost { applied_of self.new ≡ applied_of self.old }
+        ensures { let object = of_table M.State M.start_state M.apply_to in
+            Commits (view_of object self.old) (view_of object self.new) }
     {
         let next = self.next;
         self.next = Change::Nothing;
@@ -222,8 +191,7 @@ impl<M: SeqObject> Frontier<M> {
     fn take_left(&mut self, id: u32, tried: usize)
         ensures is { IsOf self.new (with_rows (table_of self.old) (left_of self.old))
             (filter (is_other id) self.old.calls.items) tried self.old.fresh }
-        ensures budget { budget_of self.new ≡ budget_of self.old }
-        ensures cost { applied_of self.new ≡ applied_of self.old }
+        ensures counts { HasCountsOf self.old self.new }
     {
         self.trade_left();
         ends::drop_call(&mut self.calls, id);
@@ -235,10 +203,9 @@ impl<M: SeqObject> Frontier<M> {
     fn trade_left(&mut self)
         ensures is { IsOf self.new (with_rows (table_of self.old) (left_of self.old))
             self.old.calls.items self.old.tried self.old.fresh }
-        ensures budget { budget_of self.new ≡ budget_of self.old }
-        ensures cost { applied_of self.new ≡ applied_of self.old }
+        ensures counts { HasCountsOf self.old self.new }
     {
-        match &mut self.as_products {
+        match &mut self.products {
             Some(those) => as_products::take_left(those),
             None => self.table.rows.trade(&mut self.room.rows),
         }
@@ -249,14 +216,13 @@ impl<M: SeqObject> Frontier<M> {
     fn take_after_crash(&mut self)
         ensures is { (after : Box (AfterCrash M.State)) → self.old.after_crash ≡ Some after
             → IsOf self.new after.value.table after.value.calls.items 0 self.old.fresh }
-        ensures budget { budget_of self.new ≡ budget_of self.old }
-        ensures cost { applied_of self.new ≡ applied_of self.old }
+        ensures counts { HasCountsOf self.old self.new }
     {
         if let Some(after) = self.after_crash.take() {
             let AfterCrash { calls, table } = Box::into_inner(after);
             self.calls = calls;
             self.table = table;
-            self.as_products = None;
+            self.products = None;
             self.tried = 0;
         }
     }
@@ -267,42 +233,31 @@ impl<M: SeqObject> Frontier<M> {
     /// products rows, or products get new numbers. Takes the time of the rows or of a copy of the products; where products are made
     /// or get new numbers, at most the square of how many there are.
     pub fn invoke(&mut self, id: u32, op: Op) -> Result<(), AllocError>
-        ensures kept { let object = of_table M.State M.start_state M.apply_to in
-            let old = StandsFor object self.old in let new = StandsFor object self.new in
-            MatchResult result (λ _. Takes old new (Invoked id op)) (λ _. Keeps old new) }
-        ensures budget { budget_of self.new ≡ budget_of self.old }
-        ensures cost { applied_of self.new ≡ applied_of self.old }
+        ensures { let object = of_table M.State M.start_state M.apply_to in
+            TakesAlways (view_of object self.old) (view_of object self.new) (Invoked id op) result }
     {
         self.prepare_invoke(id, op)?;
         self.commit();
         Ok(())
     }
 
-    // The first half of `invoke`: it is noted at `commit`, and gets its place in the rows with the next event.
+    // The first half of `invoke`, which is always answered Alive: it is noted at `commit`, and gets its place in the rows with the
+    // next event.
     #[inline(always)]
-    fn prepare_invoke(&mut self, id: u32, op: Op) -> Result<(), AllocError>
-        ensures now { let object = of_table M.State M.start_state M.apply_to in
-            Keeps (StandsFor object self.old) (StandsFor object self.new) }
-        ensures next { let object = of_table M.State M.start_state M.apply_to in
-            let old = StandsFor object self.old in let next = WillStandFor object self.new in
-            OnOk result (Takes old next (Invoked id op)) }
-        ensures budget { budget_of self.new ≡ budget_of self.old }
-        ensures cost { applied_of self.new ≡ applied_of self.old }
+    fn prepare_invoke(&mut self, id: u32, op: Op) -> Result<Step, AllocError>
+        ensures { let object = of_table M.State M.start_state M.apply_to in
+            Prepares (view_of object self.old) (view_of object self.new) object (Invoked id op) result }
     {
         self.list_fresh()?;
         self.coming = Some(Fresh { id, op });
         self.next = Change::Invoked;
-        Ok(())
+        Ok(Step::Alive)
     }
 
     // Drops what is prepared, and takes the fresh operation among the calls, with a place in each row.
     fn list_fresh(&mut self) -> Result<(), AllocError>
-        ensures listed { let object = of_table M.State M.start_state M.apply_to in
-            OnOk result (Keeps (StandsFor object self.old) (IsListed object self.new)) }
-        ensures nothing { let object = of_table M.State M.start_state M.apply_to in
-            OnErr result (Keeps (StandsFor object self.old) (IsIdle object self.new)) }
-        ensures budget { budget_of self.new ≡ budget_of self.old }
-        ensures cost { applied_of self.new ≡ applied_of self.old }
+        ensures { let object = of_table M.State M.start_state M.apply_to in
+            ListsFresh object self.old self.new (StandsFor object self.old) result }
     {
         change::drop_prepared(&mut self.next, &mut self.coming, &mut self.after_crash);
         if self.fresh.is_none() {
@@ -315,14 +270,10 @@ impl<M: SeqObject> Frontier<M> {
     // The same, where nothing is prepared, and the rows or products have the form in which they get the place.
     fn place_fresh(&mut self) -> Result<(), AllocError>
         requires fresh { IsSome self.old.fresh }
-        ensures listed { let object = of_table M.State M.start_state M.apply_to in
-            OnOk result (Keeps (IsIdle object self.old) (IsListed object self.new)) }
-        ensures nothing { let object = of_table M.State M.start_state M.apply_to in
-            OnErr result (Keeps (IsIdle object self.old) (IsIdle object self.new)) }
-        ensures budget { budget_of self.new ≡ budget_of self.old }
-        ensures cost { applied_of self.new ≡ applied_of self.old }
+        ensures { let object = of_table M.State M.start_state M.apply_to in
+            ListsFresh object self.old self.new (IsIdle object self.old) result }
     {
-        if let Some(those) = &mut self.as_products {
+        if let Some(those) = &mut self.products {
             self.calls.reserve(1)?;
             as_products::lengthen(self.alloc, those)?;
             self.push_fresh();
@@ -345,8 +296,7 @@ impl<M: SeqObject> Frontier<M> {
         ensures is { (fresh : Fresh) → self.old.fresh ≡ Some fresh → IsOf self.new (table_of self.old)
             (self.old.calls.items ++ call_of fresh ∷ []) self.old.tried None }
         ensures next { self.new.next ≡ self.old.next }
-        ensures budget { budget_of self.new ≡ budget_of self.old }
-        ensures cost { applied_of self.new ≡ applied_of self.old }
+        ensures counts { HasCountsOf self.old self.new }
     {
         match self.fresh.take() {
             Some(Fresh { id, op }) => {
@@ -367,13 +317,10 @@ impl<M: SeqObject> Frontier<M> {
     // Ends whose reads double them, or of which an ok will find many, are kept as products, while these are not many; and products
     // are numbered anew where many of their numbers are no longer used. On `AllocError` the frontier stands for what it stood for.
     fn choose_form(&mut self) -> Result<(), AllocError>
-        ensures keeps { let object = of_table M.State M.start_state M.apply_to in
-            Keeps (IsIdle object self.old) (IsIdle object self.new) }
-        ensures fresh { self.new.fresh ≡ self.old.fresh }
-        ensures budget { budget_of self.new ≡ budget_of self.old }
-        ensures cost { applied_of self.new ≡ applied_of self.old }
+        ensures { let object = of_table M.State M.start_state M.apply_to in
+            Reforms object self.old self.new }
     {
-        match &self.as_products {
+        match &self.products {
             Some(those) if as_products::are_many(those) => self.make_rows(),
             Some(those) if as_products::is_crowded(those, &self.table) => self.renumber(),
             Some(_) => Ok(()),
@@ -389,16 +336,13 @@ impl<M: SeqObject> Frontier<M> {
     // The rows become products, if they can. On `AllocError` the frontier stands for what it stood for.
     #[inline(never)]
     fn make_products(&mut self) -> Result<(), AllocError>
-        requires rows { self.old.as_products ≡ None }
-        ensures keeps { let object = of_table M.State M.start_state M.apply_to in
-            Keeps (IsIdle object self.old) (IsIdle object self.new) }
-        ensures fresh { self.new.fresh ≡ self.old.fresh }
-        ensures budget { budget_of self.new ≡ budget_of self.old }
-        ensures cost { applied_of self.new ≡ applied_of self.old }
+        requires rows { self.old.products ≡ None }
+        ensures { let object = of_table M.State M.start_state M.apply_to in
+            Reforms object self.old self.new }
     {
         let made = product_ends::as_products(self.alloc, &self.table, self.calls.len())?;
         if let Some(kept) = made {
-            self.as_products = Some(as_products::of_kept(self.alloc, kept)?);
+            self.products = Some(as_products::of_kept(self.alloc, kept)?);
             self.table.rows = RowSet::new(self.alloc, 0);
         }
         Ok(())
@@ -407,16 +351,13 @@ impl<M: SeqObject> Frontier<M> {
     // The products become rows, if there are any. On `AllocError` the frontier stands for what it stood for.
     #[inline(never)]
     fn make_rows(&mut self) -> Result<(), AllocError>
-        ensures keeps { let object = of_table M.State M.start_state M.apply_to in
-            Keeps (IsIdle object self.old) (IsIdle object self.new) }
-        ensures rows { OnOk result (self.new.as_products ≡ None) }
-        ensures fresh { self.new.fresh ≡ self.old.fresh }
-        ensures budget { budget_of self.new ≡ budget_of self.old }
-        ensures cost { applied_of self.new ≡ applied_of self.old }
+        ensures same { let object = of_table M.State M.start_state M.apply_to in
+            Reforms object self.old self.new }
+        ensures rows { OnOk result (self.new.products ≡ None) }
     {
-        if let Some(those) = &self.as_products {
+        if let Some(those) = &self.products {
             self.table.rows = product_ends::as_rows(self.alloc, &those.kept)?;
-            self.as_products = None;
+            self.products = None;
         }
         Ok(())
     }
@@ -425,13 +366,10 @@ impl<M: SeqObject> Frontier<M> {
     // for what it stood for.
     #[inline(never)]
     fn renumber(&mut self) -> Result<(), AllocError>
-        ensures keeps { let object = of_table M.State M.start_state M.apply_to in
-            Keeps (IsIdle object self.old) (IsIdle object self.new) }
-        ensures fresh { self.new.fresh ≡ self.old.fresh }
-        ensures budget { budget_of self.new ≡ budget_of self.old }
-        ensures cost { applied_of self.new ≡ applied_of self.old }
+        ensures { let object = of_table M.State M.start_state M.apply_to in
+            Reforms object self.old self.new }
     {
-        if let Some(those) = &mut self.as_products {
+        if let Some(those) = &mut self.products {
             let other = product_ends::renumbered::<M>(self.alloc, &self.table, &those.kept)?;
             let (most_found, most_states) = match &other {
                 Some((table, _)) => as_products::to_come(table),
@@ -455,13 +393,9 @@ impl<M: SeqObject> Frontier<M> {
     // The same as `list_fresh`, with another table, in the memory of the one before.
     #[inline(never)]
     fn list_anew(&mut self) -> Result<(), AllocError>
-        requires rows { self.old.as_products ≡ None }
-        ensures listed { let object = of_table M.State M.start_state M.apply_to in
-            OnOk result (Keeps (IsIdle object self.old) (IsListed object self.new)) }
-        ensures nothing { let object = of_table M.State M.start_state M.apply_to in
-            OnErr result (Keeps (IsIdle object self.old) (IsIdle object self.new)) }
-        ensures budget { budget_of self.new ≡ budget_of self.old }
-        ensures cost { applied_of self.new ≡ applied_of self.old }
+        requires rows { self.old.products ≡ None }
+        ensures { let object = of_table M.State M.start_state M.apply_to in
+            ListsFresh object self.old self.new (IsIdle object self.old) result }
     {
         let Some(fresh) = &self.fresh else {
             return Ok(());
@@ -490,18 +424,8 @@ impl<M: SeqObject> Frontier<M> {
     /// products, tries each operation once in each state that is met, and compares each product that comes of it with the others.
     /// Goes on with no end once these are more than the budget.
     pub fn ok(&mut self, id: u32, answer: &Answer) -> Result<Step, AllocError>
-        ensures step { let object = of_table M.State M.start_state M.apply_to in
-            let old = StandsFor object self.old in
-            IfOk result (Answers object (budget_of self.old) old (Returned id answer.now)) }
-        ensures kept { let object = of_table M.State M.start_state M.apply_to in
-            let old = StandsFor object self.old in let new = StandsFor object self.new in
-            MatchResult result (TakesUnlessOver old new (Returned id answer.now))
-            (λ _. Keeps old new) }
-        ensures budget { budget_of self.new ≡ budget_of self.old }
-        ensures cost { let object = of_table M.State M.start_state M.apply_to in
-            let old = StandsFor object self.old in
-            CostsAtMost (budget_of self.old) old (Returned id answer.now)
-            (applied_of self.old) (applied_of self.new) }
+        ensures { let object = of_table M.State M.start_state M.apply_to in
+            Observes (view_of object self.old) (view_of object self.new) object (Returned id answer.now) result }
     {
         let step = self.prepare_ok(id, answer)?;
         self.commit();
@@ -511,19 +435,8 @@ impl<M: SeqObject> Frontier<M> {
     // The first half of `ok`: the rows that are left are put into the room, and take the others' place at `commit`.
     #[inline(always)]
     fn prepare_ok(&mut self, id: u32, answer: &Answer) -> Result<Step, AllocError>
-        ensures step { let object = of_table M.State M.start_state M.apply_to in
-            let old = StandsFor object self.old in
-            IfOk result (Answers object (budget_of self.old) old (Returned id answer.now)) }
-        ensures now { let object = of_table M.State M.start_state M.apply_to in
-            Keeps (StandsFor object self.old) (StandsFor object self.new) }
-        ensures next { let object = of_table M.State M.start_state M.apply_to in
-            let old = StandsFor object self.old in let next = WillStandFor object self.new in
-            IfOk result (TakesUnlessOver old next (Returned id answer.now)) }
-        ensures budget { budget_of self.new ≡ budget_of self.old }
-        ensures cost { let object = of_table M.State M.start_state M.apply_to in
-            let old = StandsFor object self.old in
-            CostsAtMost (budget_of self.old) old (Returned id answer.now)
-            (applied_of self.old) (applied_of self.new) }
+        ensures { let object = of_table M.State M.start_state M.apply_to in
+            Prepares (view_of object self.old) (view_of object self.new) object (Returned id answer.now) result }
     {
         self.list_fresh()?;
         self.suit_outcomes()?;
@@ -541,10 +454,9 @@ impl<M: SeqObject> Frontier<M> {
     fn suit_outcomes(&mut self) -> Result<(), AllocError>
         ensures keeps { let object = of_table M.State M.start_state M.apply_to in
             Keeps (IsListed object self.old) (IsListed object self.new) }
-        ensures single { OnOk result (self.new.as_products ≢ None →
+        ensures single { OnOk result (self.new.products ≢ None →
             (op : Op) (state : M.State) → length (M.apply_to op state) ≤ 1) }
-        ensures budget { budget_of self.new ≡ budget_of self.old }
-        ensures cost { applied_of self.new ≡ applied_of self.old }
+        ensures counts { HasCountsOf self.old self.new }
     {
         if M::has_scalar_states() {
             Ok(())
@@ -556,30 +468,20 @@ impl<M: SeqObject> Frontier<M> {
     // Puts what is left of all ends after the ok into the room. False where there are more ends than the budget.
     #[inline(always)]
     fn advance(&mut self, id: u32, answer: &Answer) -> Result<bool, AllocError>
-        requires single { self.old.as_products ≢ None →
+        requires single { self.old.products ≢ None →
             (op : Op) (state : M.State) → length (M.apply_to op state) ≤ 1 }
-        ensures all { let object = of_table M.State M.start_state M.apply_to in
-            let calls = self.old.calls.items in
-            HasEachOnce calls → (ends : List (End M.State)) → AreShown (table_of self.old) calls ends
-            → AreClosed object (take self.old.tried calls) ends
-            → IfOk result (λ all. all ≡ true → IsAdvanced object
-            (with_rows (table_of self.new) (left_of self.new)) calls ends (budget_of self.old) id answer.now) }
-        ensures over { let object = of_table M.State M.start_state M.apply_to in
-            let calls = self.old.calls.items in
-            HasEachOnce calls → (ends : List (End M.State)) → Pairwise (λ d e. d ≢ e) ends
-            → AreShown (table_of self.old) calls ends → AreClosed object (take self.old.tried calls) ends
-            → IfOk result (λ all. all ≡ false → ReachesMoreThan object calls ends (budget_of self.old)) }
+        ensures found { let object = of_table M.State M.start_state M.apply_to in
+            FindsLeft object (table_of self.old) (with_rows (table_of self.new) (left_of self.new))
+            self.old.calls.items self.old.tried self.old.budget id answer.now result }
         ensures is { IsOf self.new (table_of self.new) self.old.calls.items self.old.tried self.old.fresh }
-        ensures widens { Widens (table_of self.old) (table_of self.new) }
-        ensures rows { rows_of (table_of self.new) ≡ rows_of (table_of self.old) }
+        ensures tries { OnlyTries (table_of self.old) (table_of self.new) self.old.applied self.new.applied }
         ensures next { self.new.next ≡ self.old.next }
-        ensures budget { budget_of self.new ≡ budget_of self.old }
-        ensures never_falls { applied_of self.old ≤ applied_of self.new }
-        ensures cost { applied_of self.new
-            ≤ applied_of self.old + (budget_of self.old + 1) * length self.old.calls.items }
+        ensures budget { self.new.budget ≡ self.old.budget }
+        ensures cost { self.new.applied
+            ≤ self.old.applied + (self.old.budget + 1) * length self.old.calls.items }
     {
         let budget = self.budget;
-        match &mut self.as_products {
+        match &mut self.products {
             Some(those) => {
                 let those = &mut **those;
                 product_ends::advance::<M>(
@@ -613,7 +515,7 @@ impl<M: SeqObject> Frontier<M> {
     fn left(&self) -> usize
         ensures { (result ≡ 0) ↔ (length (left_of self.now) ≡ 0) }
     {
-        match &self.as_products {
+        match &self.products {
             Some(those) => as_products::left(those),
             None => self.room.rows.len(),
         }
@@ -622,7 +524,8 @@ impl<M: SeqObject> Frontier<M> {
     /// How many steps were made so far: how often an operation was tried in a state, also in an ok that was answered Over or found
     /// no memory. It never falls, and stops at the greatest u64. Takes constant time.
     pub fn applied(&self) -> u64
-        ensures { result ≡ applied_of self.now }
+        ensures { let object = of_table M.State M.start_state M.apply_to in
+            result ≡ (view_of object self.now).applied }
     {
         self.applied
     }
@@ -631,14 +534,8 @@ impl<M: SeqObject> Frontier<M> {
     /// ends that do not include the operation: looks at one number of each row, or one set of each product, and puts what is left,
     /// without it, with the others.
     pub fn fail(&mut self, id: u32) -> Result<Step, AllocError>
-        ensures step { let object = of_table M.State M.start_state M.apply_to in
-            let old = StandsFor object self.old in
-            IfOk result (Answers object (budget_of self.old) old (Failed id)) }
-        ensures kept { let object = of_table M.State M.start_state M.apply_to in
-            let old = StandsFor object self.old in let new = StandsFor object self.new in
-            MatchResult result (TakesUnlessOver old new (Failed id)) (λ _. Keeps old new) }
-        ensures budget { budget_of self.new ≡ budget_of self.old }
-        ensures cost { applied_of self.new ≡ applied_of self.old }
+        ensures { let object = of_table M.State M.start_state M.apply_to in
+            Observes (view_of object self.old) (view_of object self.new) object (Failed id) result }
     {
         let step = self.prepare_fail(id)?;
         self.commit();
@@ -648,16 +545,8 @@ impl<M: SeqObject> Frontier<M> {
     // The first half of `fail`: the rows that are left are put into the room, and take the others' place at `commit`.
     #[inline(never)]
     fn prepare_fail(&mut self, id: u32) -> Result<Step, AllocError>
-        ensures step { let object = of_table M.State M.start_state M.apply_to in
-            let old = StandsFor object self.old in
-            IfOk result (Answers object (budget_of self.old) old (Failed id)) }
-        ensures now { let object = of_table M.State M.start_state M.apply_to in
-            Keeps (StandsFor object self.old) (StandsFor object self.new) }
-        ensures next { let object = of_table M.State M.start_state M.apply_to in
-            let old = StandsFor object self.old in let next = WillStandFor object self.new in
-            IfOk result (TakesUnlessOver old next (Failed id)) }
-        ensures budget { budget_of self.new ≡ budget_of self.old }
-        ensures cost { applied_of self.new ≡ applied_of self.old }
+        ensures { let object = of_table M.State M.start_state M.apply_to in
+            Prepares (view_of object self.old) (view_of object self.new) object (Failed id) result }
     {
         self.list_fresh()?;
         self.find_failed(id)?;
@@ -674,7 +563,7 @@ impl<M: SeqObject> Frontier<M> {
             (Along (Fails id) ends)) }
         ensures alike { IsAlike self.old self.new }
     {
-        match &mut self.as_products {
+        match &mut self.products {
             Some(those) => {
                 let those = &mut **those;
                 product_ends::failed(
@@ -694,27 +583,19 @@ impl<M: SeqObject> Frontier<M> {
     /// nothing any more: ends that differed by it alone are one then. On `AllocError` the frontier stands for what it stood
     /// for. Makes its rows anew; products become rows before that, one for each kept end.
     pub fn crash(&mut self, id: u32) -> Result<(), AllocError>
-        ensures kept { let object = of_table M.State M.start_state M.apply_to in
-            let old = StandsFor object self.old in let new = StandsFor object self.new in
-            MatchResult result (λ _. Takes old new (Crashed id)) (λ _. Keeps old new) }
-        ensures budget { budget_of self.new ≡ budget_of self.old }
-        ensures cost { applied_of self.new ≡ applied_of self.old }
+        ensures { let object = of_table M.State M.start_state M.apply_to in
+            TakesAlways (view_of object self.old) (view_of object self.new) (Crashed id) result }
     {
         self.prepare_crash(id)?;
         self.commit();
         Ok(())
     }
 
-    // The first half of `crash`: makes the rows that take the others' place at `commit`.
+    // The first half of `crash`, which is always answered Alive: makes the rows that take the others' place at `commit`.
     #[inline(never)]
-    fn prepare_crash(&mut self, id: u32) -> Result<(), AllocError>
-        ensures now { let object = of_table M.State M.start_state M.apply_to in
-            Keeps (StandsFor object self.old) (StandsFor object self.new) }
-        ensures next { let object = of_table M.State M.start_state M.apply_to in
-            let old = StandsFor object self.old in let next = WillStandFor object self.new in
-            OnOk result (Takes old next (Crashed id)) }
-        ensures budget { budget_of self.new ≡ budget_of self.old }
-        ensures cost { applied_of self.new ≡ applied_of self.old }
+    fn prepare_crash(&mut self, id: u32) -> Result<Step, AllocError>
+        ensures { let object = of_table M.State M.start_state M.apply_to in
+            Prepares (view_of object self.old) (view_of object self.new) object (Crashed id) result }
     {
         self.list_as_rows()?;
         let counts = !ends::is_read(&self.calls, id);
@@ -726,18 +607,14 @@ impl<M: SeqObject> Frontier<M> {
         let after_crash = Box::new(self.alloc, AfterCrash { calls, table })?;
         self.after_crash = Some(after_crash);
         self.next = Change::Crashed;
-        Ok(())
+        Ok(Step::Alive)
     }
 
     // The same as `list_fresh`, and products become rows.
     fn list_as_rows(&mut self) -> Result<(), AllocError>
         ensures listed { let object = of_table M.State M.start_state M.apply_to in
-            OnOk result (Keeps (StandsFor object self.old) (IsListed object self.new)) }
-        ensures nothing { let object = of_table M.State M.start_state M.apply_to in
-            OnErr result (Keeps (StandsFor object self.old) (IsIdle object self.new)) }
-        ensures rows { OnOk result (self.new.as_products ≡ None) }
-        ensures budget { budget_of self.new ≡ budget_of self.old }
-        ensures cost { applied_of self.new ≡ applied_of self.old }
+            ListsFresh object self.old self.new (StandsFor object self.old) result }
+        ensures rows { OnOk result (self.new.products ≡ None) }
     {
         self.list_fresh()?;
         self.make_rows()
@@ -751,13 +628,10 @@ impl<M: SeqObject> Frontier<M> {
     /// An equal frontier, which shares the items of queues and the members that were found; nothing is prepared of it. Takes the
     /// time of the calls, the rows or products, the states and what was found.
     pub fn copy(&self) -> Result<Self, AllocError>
-        ensures same { let object = of_table M.State M.start_state M.apply_to in
-            IfOk result (λ f. (marks : List Mark)
-            → StandsFor object f marks ↔ StandsFor object self.now marks) }
-        ensures budget { IfOk result (λ f. budget_of f ≡ budget_of self.now) }
-        ensures applied { IfOk result (λ f. applied_of f ≡ applied_of self.now) }
+        ensures { let object = of_table M.State M.start_state M.apply_to in
+            IfOk result (λ f. IsCopy (view_of object self.now) (view_of object f)) }
     {
-        let (table, as_products) = self.copied_form()?;
+        let (table, products) = self.copied_form()?;
         Ok(Frontier {
             alloc: self.alloc,
             budget: self.budget,
@@ -768,7 +642,7 @@ impl<M: SeqObject> Frontier<M> {
             table,
             spare: None,
             room: Room::new(self.alloc),
-            as_products,
+            products,
             next: Change::Nothing,
             coming: None,
             after_crash: None,
@@ -782,7 +656,7 @@ impl<M: SeqObject> Frontier<M> {
         ensures { IfOk result (λ copy. ShowTheSame (table_of self.now)
             (with_rows copy.0 (rows_by copy.1 (rows_of copy.0)))) }
     {
-        match &self.as_products {
+        match &self.products {
             Some(those) => {
                 let table = ends::copied_whole::<M>(self.alloc, &self.table)?;
                 let copy = as_products::copied(self.alloc, those)?;

@@ -16,7 +16,6 @@ use std::marker::Model;
 ///
 /// A draw has two halves: [`prepare`](Source::prepare) finds the item and changes nothing else, and
 /// [`commit`](Source::commit) moves on behind it. Neither copies the generator.
-#[derive(Drop)]
 pub struct Source {
     alloc: Global,
     generator: Gen,
@@ -41,6 +40,18 @@ impl Model for Source {
     } };
 
     ghost invariant = { λ a. IfSome a.prepared (λ found. found.1.seed ≡ a.words.seed) };
+}
+
+// So that crates above give one back by one call.
+impl Drop for Source {
+    fn drop(self) {
+        let Source {
+            alloc: _alloc,
+            generator: _generator,
+            words: _words,
+            prepared: _prepared,
+        } = self;
+    }
 }
 
 impl Source {

@@ -66,7 +66,7 @@ impl Model for Core {
         (vec_capacity a.tickets) a.change };
 }
 
-// So a crate above gives one back by one call, and is not proved again with each of its parts.
+// So that crates above give one back by one call.
 impl Drop for Core {
     fn drop(self) {
         let Core {

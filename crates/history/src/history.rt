@@ -27,7 +27,6 @@ pub const MOST_EVENTS: u32 = 1_048_576;
 ///
 /// Each change is prepared, which may fail and changes nothing but what is prepared, and then committed. What was prepared
 /// before is dropped.
-#[derive(Drop)]
 pub struct History {
     concurrency: u32,
     /// So many events are committed.
@@ -65,6 +64,19 @@ impl Model for History {
         IsSoundHistory a.concurrency (take a.count a.events.items) a.clients.threads
         a.clients.opened.items
         × IsReady a.concurrency a.count a.events.items a.prepared };
+}
+
+// So that crates above give one back by one call.
+impl Drop for History {
+    fn drop(self) {
+        let History {
+            concurrency: _concurrency,
+            count: _count,
+            events: _events,
+            clients: _clients,
+            prepared: _prepared,
+        } = self;
+    }
 }
 
 impl History {

@@ -17,7 +17,6 @@ const FIRST: usize = 32;
 
 /// Different things that were found, each with a number, which is one more than its place. The first thirty-two are compared in
 /// turn, and the others are found by the order of their keys.
-#[derive(Drop)]
 pub struct Founds {
     items: Vec<Found>,
     slots: BTreeMap<FoundKey, usize>,
@@ -33,6 +32,16 @@ impl Model for Founds {
     ghost view = { λ a. a.items.items };
 
     ghost invariant = { λ a. AreSlots a.slots a.items.items };
+}
+
+// So that crates above give one back by one call.
+impl Drop for Founds {
+    fn drop(self) {
+        let Founds {
+            items: _items,
+            slots: _slots,
+        } = self;
+    }
 }
 
 impl Founds {

@@ -15,7 +15,6 @@ use std::marker::Model;
 const FEW: usize = 512;
 
 /// Different states, each with a number, which is its place. An index of their hashes finds them.
-#[derive(Drop)]
 pub struct States<S: Hash + Drop> {
     items: Vec<S>,
     hashes: Vec<u64>,
@@ -32,6 +31,17 @@ impl<S: Hash + Drop> Model for States<S> {
 
     ghost invariant = { λ a. AreStates S.hash_input a.items.items
         a.hashes.items a.index.last.items a.index.before.items };
+}
+
+// So that crates above give one back by one call.
+impl<S: Hash + Drop> Drop for States<S> {
+    fn drop(self) {
+        let States {
+            items: _items,
+            hashes: _hashes,
+            index: _index,
+        } = self;
+    }
 }
 
 impl<S: Hash + Drop> States<S> {

@@ -19,7 +19,6 @@ use std::alloc::{AllocError, Global};
 use values::{Items, Multiset, Spans};
 
 /// A state of an object of some kind, where the kind is known only as the program runs.
-#[derive(Drop)]
 pub enum AnyState {
     Register(Option<i64>),
     CasRegister(Option<i64>),
@@ -27,6 +26,14 @@ pub enum AnyState {
     FifoQueue(Items),
     Set(Spans),
     UnorderedQueue(Multiset),
+}
+
+macro_rules! drop_of {
+    ($state:expr; $($K:ident $name:literal),*) => {
+        match $state {
+            $(AnyState::$K(_state) => {})*
+        }
+    };
 }
 
 macro_rules! start_of {
@@ -74,6 +81,13 @@ macro_rules! outcomes_in {
             })*
         }
     };
+}
+
+// So that crates above give one back by one call.
+impl Drop for AnyState {
+    fn drop(self) {
+        each_kind!(drop_of; self)
+    }
 }
 
 impl AnyState {

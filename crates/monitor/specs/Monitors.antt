@@ -1,12 +1,13 @@
 -- Promise: a monitor, as a caller sees it, and why a call of it is refused
-use Rattle.std.specs.Prelude.{ℕ, ◌+◌, ◌*◌, ◌<◌, ◌≤◌, Bool, Option, Some, None, length}
+use Rattle.std.specs.Prelude.{◌≡◌, ℕ, ◌+◌, ◌*◌, ◌<◌, ◌≤◌, Bool, Option, Some, None, length, Result, IfOk, IfErr, OnOk, OnErr, IsErrOf}
 use Rattle.edn.specs.declared.refusal.Refusal.{Refusal}
 use Rattle.edn.specs.declared.refusal.Refusal.TheVariants.{BadBudget, BadConcurrency, NoSuchIndex, NoMemory}
 use Rattle.events.specs.declared.event.Event.{Event}
 use Rattle.history.specs.WellFormed.{IsConcurrency, IsWellFormed, MayRefuse}
 use Rattle.linspec.specs.KeyHistory.{loses_at}
 use Rattle.checkpoints.specs.KeyLineView.{replays_at, count_on}
-use Rattle.linspec.specs.JudgedHistory.{JudgedHistory, history_of_key, IsBudget}
+use Rattle.linspec.specs.declared.verdict.Verdict.{Verdict}
+use Rattle.linspec.specs.JudgedHistory.{JudgedHistory, history_of_key, IsBudget, IsVerdictOn, with_event}
 use Rattle.monitor.specs.Judged.{rows_of}
 use Rattle.monitor.specs.Rows.{losing, replays_in}
 
@@ -49,6 +50,16 @@ Admits h event = IsWellFormed h.concurrency h.events event
 
 abbrev pub MayDecline : JudgedHistory → Event → Refusal → Type 0
 MayDecline h event why = MayRefuse h.concurrency h.events event why
+
+-- the event is prepared to come next, with the verdict that it brings; or why it is not, and then nothing is prepared
+pub record PreparesAppend (old new : MonitorView) (event : Event) (result : Result Verdict Refusal)
+    : Type 0 where
+  pub well_formed : OnOk result (Admits old.now event)
+  pub prepared : OnOk result (new ≡ with_next (with_event event old.now) old)
+  pub verdict : IfOk result (IsVerdictOn (with_event event old.now))
+  pub refused : IfErr result (MayDecline old.now event)
+  pub memory_last : IsErrOf result NoMemory → Admits old.now event
+  pub err : OnErr result (new ≡ at_rest old.now old.again)
 
 -- why no monitor is opened: the budget is tested first
 abbrev pub MayNotBegin : ℕ → ℕ → Refusal → Type 0

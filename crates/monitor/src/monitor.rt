@@ -5,7 +5,7 @@ ghost use Rattle.history.specs.WellFormed.{IsConcurrency};
 ghost use Rattle.linspec.specs.declared.verdict.Verdict.{Verdict};
 ghost use Rattle.linspec.specs.KeyHistory.{IsStatusOf};
 ghost use Rattle.linspec.specs.JudgedHistory.{IsVerdictOn, with_event, rewound, with_kind, with_budget, IsBudget, opening_of, keys_in_order, history_of_key, kind_of, budget_of};
-ghost use Rattle.monitor.specs.Monitors.{at_rest, with_next, with_again, again_by, FewAgain, Admits, MayDecline, MayNotBegin, MayNotRewind, MayNotSetBudget, replays_by, loses_by};
+ghost use Rattle.monitor.specs.Monitors.{at_rest, with_next, with_again, again_by, FewAgain, Admits, MayDecline, MayNotBegin, MayNotRewind, MayNotSetBudget, PreparesAppend, replays_by, loses_by};
 ghost use Rattle.monitor.specs.Rows.{nows};
 ghost use Rattle.monitor.specs.Judged.{rows_of, IsJudged};
 ghost use Rattle.monitor.specs.Loading.{with_all};
@@ -102,7 +102,7 @@ impl Model for Monitor {
         IsSoundMonitor a.history a.kinds a.budgets a.lines a.verdict a.prepared };
 }
 
-// So a crate above gives one back by one call, and is not proved again with each of its parts.
+// So that crates above give one back by one call.
 impl Drop for Monitor {
     fn drop(self) {
         let Monitor {
@@ -194,8 +194,9 @@ impl Monitor {
     }
 
     /// Prepares to keep the first `n` events alone, and gives the verdict that [`commit`](Self::commit) will bring. Kinds
-    /// and budgets stay. It judges again fewer than 64 events of each key that loses events, and none of any other. It takes the time of the first `n` events, of all keys with events, and of a cut of the line of each
-    /// key that loses events (see [`KeyLine::prepare_cut`]).
+    /// and budgets stay. It judges again fewer than 64 events of each key that loses events, and none of any other. It takes the
+    /// time of the first `n` events, of all keys with events, and of a cut of the line of each key that loses events (see
+    /// [`KeyLine::prepare_cut`]).
     ///
     /// # Errors
     /// [`Refusal::NoSuchIndex`] where there are fewer events; else [`Refusal::NoMemory`] where a growth was refused. Then
@@ -219,13 +220,7 @@ impl Monitor {
             .lines
             .prepare_cut(n, self.history.events(), &mut again)?;
         self.again = again;
-        put(
-            &mut self.prepared,
-            Prepared {
-                change: Change::Rewind(n, kept),
-                verdict,
-            },
-        );
+        put(&mut self.prepared, Change::Rewind(n, kept), verdict);
         Ok(verdict)
     }
 
@@ -258,13 +253,7 @@ impl Monitor {
             &mut again,
         )?;
         self.again = again;
-        put(
-            &mut self.prepared,
-            Prepared {
-                change: Change::Kind(key, kind, place),
-                verdict,
-            },
-        );
+        put(&mut self.prepared, Change::Kind(key, kind, place), verdict);
         Ok(verdict)
     }
 
@@ -301,13 +290,7 @@ impl Monitor {
             &mut again,
         )?;
         self.again = again;
-        put(
-            &mut self.prepared,
-            Prepared {
-                change: Change::Budget(key, n, place),
-                verdict,
-            },
-        );
+        put(&mut self.prepared, Change::Budget(key, n, place), verdict);
         Ok(verdict)
     }
 
@@ -512,24 +495,12 @@ impl Monitor {
     // Prepares that an event comes next that speaks of no operation: no line sees it, and the verdict stays.
     fn prepare_fault(&mut self, event: Event) -> Result<Verdict, Refusal>
         requires { key_of event ≡ None }
-        ensures well_formed { OnOk result (Admits self.old.now event) }
-        ensures prepared { OnOk result
-            (self.new ≡ with_next (with_event event self.old.now) self.old) }
-        ensures verdict { IfOk result (IsVerdictOn (with_event event self.old.now)) }
-        ensures refused { IfErr result (MayDecline self.old.now event) }
-        ensures memory_last { IsErrOf result Refusal.NoMemory → Admits self.old.now event }
-        ensures err { OnErr result (self.new ≡ at_rest self.old.now self.old.again) }
+        ensures { PreparesAppend self.old self.new event result }
     {
         clear(&mut self.prepared);
         judging_law();
         self.history.prepare_push(event)?;
-        put(
-            &mut self.prepared,
-            Prepared {
-                change: Change::Fault,
-                verdict: self.verdict,
-            },
-        );
+        put(&mut self.prepared, Change::Fault, self.verdict);
         Ok(self.verdict)
     }
 
@@ -537,13 +508,7 @@ impl Monitor {
     fn prepare_next(&mut self, key: Key, place: usize, event: Event) -> Result<Verdict, Refusal>
         requires key { key_of event ≡ Some key }
         requires place { position (nat_eq key) (keys_in_order self.old.now.events) ≡ Some place }
-        ensures well_formed { OnOk result (Admits self.old.now event) }
-        ensures prepared { OnOk result
-            (self.new ≡ with_next (with_event event self.old.now) self.old) }
-        ensures verdict { IfOk result (IsVerdictOn (with_event event self.old.now)) }
-        ensures refused { IfErr result (MayDecline self.old.now event) }
-        ensures memory_last { IsErrOf result Refusal.NoMemory → Admits self.old.now event }
-        ensures err { OnErr result (self.new ≡ at_rest self.old.now self.old.again) }
+        ensures { PreparesAppend self.old self.new event result }
     {
         clear(&mut self.prepared);
         judging_law();
@@ -555,13 +520,7 @@ impl Monitor {
         let event = next_event(&self.history);
         let status = self.lines.prepare_push(place, index, event)?;
         let verdict = join_with(self.verdict, key, status);
-        put(
-            &mut self.prepared,
-            Prepared {
-                change: Change::Append(place),
-                verdict,
-            },
-        );
+        put(&mut self.prepared, Change::Append(place), verdict);
         Ok(verdict)
     }
 
@@ -569,13 +528,7 @@ impl Monitor {
     fn prepare_first(&mut self, key: Key, event: Event) -> Result<Verdict, Refusal>
         requires key { key_of event ≡ Some key }
         requires new { position (nat_eq key) (keys_in_order self.old.now.events) ≡ None }
-        ensures well_formed { OnOk result (Admits self.old.now event) }
-        ensures prepared { OnOk result
-            (self.new ≡ with_next (with_event event self.old.now) self.old) }
-        ensures verdict { IfOk result (IsVerdictOn (with_event event self.old.now)) }
-        ensures refused { IfErr result (MayDecline self.old.now event) }
-        ensures memory_last { IsErrOf result Refusal.NoMemory → Admits self.old.now event }
-        ensures err { OnErr result (self.new ≡ at_rest self.old.now self.old.again) }
+        ensures { PreparesAppend self.old self.new event result }
     {
         clear(&mut self.prepared);
         judging_law();
@@ -588,13 +541,7 @@ impl Monitor {
         let event = next_event(&self.history);
         let line = first_line(self.alloc, kind, budget, index, event)?;
         let verdict = join_with(self.verdict, key, line.status());
-        put(
-            &mut self.prepared,
-            Prepared {
-                change: Change::Begin(key, line),
-                verdict,
-            },
-        );
+        put(&mut self.prepared, Change::Begin(key, line), verdict);
         Ok(verdict)
     }
 }
@@ -618,9 +565,9 @@ fn clear(prepared: &mut Option<Prepared>)
     *prepared = None;
 }
 
-// Keeps what is prepared, in place of what was.
-fn put(prepared: &mut Option<Prepared>, next: Prepared)
-    ensures { prepared.new ≡ Some next }
+// Keeps this change as what is prepared, in place of what was.
+fn put(prepared: &mut Option<Prepared>, change: Change, verdict: Verdict)
+    ensures { prepared.new ≡ Some (record { change = change; verdict = verdict }) }
 {
-    *prepared = Some(next);
+    *prepared = Some(Prepared { change, verdict });
 }

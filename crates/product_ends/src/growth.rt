@@ -1,5 +1,5 @@
 //! The ends that calls lead to from others, as products.
-ghost use Rattle.std.specs.Prelude.{◌≡◌, ◌≢◌, ◌<◌, ◌≤◌, ◌+◌, ◌-◌, ◌*◌, ◌^◌, ◌⊎◌, ℕ, List, [], IfOk, IsSome, OnOk, true, false, Some, length, slice_get, slice_set, take};
+ghost use Rattle.std.specs.Prelude.{◌≡◌, ◌≢◌, ◌<◌, ◌≤◌, ◌+◌, ◌-◌, ◌*◌, ◌^◌, ◌⊎◌, ℕ, List, [], IfOk, IsSome, OnOk, true, false, Some, length, slice_get, slice_set};
 ghost use Rattle.models.specs.Objects.{of_table};
 ghost use Rattle.models.specs.declared.operation.Op.{Op};
 ghost use Rattle.linspec.specs.Ends.{End};
@@ -7,7 +7,7 @@ ghost use Rattle.linspec.specs.Orders.{Pairwise};
 ghost use Rattle.std.specs.List.{filter};
 ghost use Rattle.ends.specs.declared.pending_op.PendingOp.{PendingOp};
 ghost use Rattle.ends.specs.EndSteps.{Along, AreClosed, Fails, IsReached, ReachesMoreThan, is_other};
-ghost use Rattle.ends.specs.Tables.{AreShown, HasEachOnce, IsAdvanced, IsOpenAt, OnlyTries, ShownWith, Shows, Widens, rows_of, with_rows};
+ghost use Rattle.ends.specs.Tables.{AreShown, FindsLeft, HasEachOnce, IsAdvanced, IsOpenAt, OnlyTries, ShownWith, Shows, with_rows};
 ghost use Rattle.products.specs.Products.{AreApart, AreIn, IsIn, IsInOne, rows_in};
 ghost use Rattle.product_ends.specs.Deeds.{AreDeeds, AreStays, AreWithin, IsTried};
 ghost use Rattle.product_ends.specs.Growing.{AreClosedTo, AreGrown, AreKnown, HoldReached, LeadsFrom, SayReached};
@@ -40,10 +40,19 @@ struct Work<S> {
 
 /// Memory that oks and fails work in, which the first of them makes, and the products that are left after one. An ok that came to
 /// its end and met more than 1,024 products gives the memory back.
-#[derive(Drop)]
 pub struct Room<S> {
     work: Option<Box<Work<S>>>,
     pub left: Products,
+}
+
+// So that crates above give one back by one call.
+impl<S: Drop> Drop for Room<S> {
+    fn drop(self) {
+        let Room {
+            work: _work,
+            left: _left,
+        } = self;
+    }
 }
 
 impl<S> Room<S> {
@@ -488,20 +497,10 @@ pub fn advance<M: SeqObject>(
     answer: &Answer,
 ) -> Result<bool, AllocError>
     requires single { (op : Op) (s : M.State) → length (M.apply_to op s) ≤ 1 }
-    ensures all { let object = of_table M.State M.start_state M.apply_to in
-        HasEachOnce calls.now → (ends : List (End M.State))
-        → AreShown (with_rows table.old (rows_in kept.now.1)) calls.now ends
-        → AreClosed object (take tried calls.now) ends
-        → IfOk result (λ all. all ≡ true → IsAdvanced object
-        (with_rows table.new (rows_in room.new.left.1)) calls.now ends budget id answer.now) }
-    ensures over { let object = of_table M.State M.start_state M.apply_to in
-        HasEachOnce calls.now → (ends : List (End M.State)) → Pairwise (λ d e. d ≢ e) ends
-        → AreShown (with_rows table.old (rows_in kept.now.1)) calls.now ends
-        → AreClosed object (take tried calls.now) ends
-        → IfOk result (λ all. all ≡ false → ReachesMoreThan object calls.now ends budget) }
-    ensures widens { Widens table.old table.new }
-    ensures rows { rows_of table.new ≡ rows_of table.old }
-    ensures never_falls { applied.old ≤ applied.new }
+    ensures found { let object = of_table M.State M.start_state M.apply_to in
+        FindsLeft object (with_rows table.old (rows_in kept.now.1)) (with_rows table.new (rows_in room.new.left.1))
+        calls.now tried budget id answer.now result }
+    ensures tries { OnlyTries table.old table.new applied.old applied.new }
     ensures cost { applied.new ≤ applied.old + (budget + 1) * length calls.now }
 {
     make(alloc, &mut room.work)?;

@@ -11,7 +11,6 @@ use std::mem::swap;
 
 /// Products of sets of numbers: each has a first number, and a set of numbers for each place after it, and stands for each row
 /// with this first number and one of the set at each place. No row is in two of them.
-#[derive(Drop)]
 pub struct Products {
     places: usize,
     rows: u64,
@@ -30,6 +29,18 @@ impl Model for Products {
     ghost invariant = { λ a. (length a.words.items ≡ length a.firsts.items * a.places)
         × AreApart (laid_out a.places a.firsts.items a.words.items)
         × (a.rows ≡ min (length (rows_in (laid_out a.places a.firsts.items a.words.items))) (2 ^ 64 - 1)) };
+}
+
+// So that crates above give one back by one call.
+impl Drop for Products {
+    fn drop(self) {
+        let Products {
+            places: _places,
+            rows: _rows,
+            firsts: _firsts,
+            words: _words,
+        } = self;
+    }
 }
 
 impl Products {

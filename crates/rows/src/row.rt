@@ -10,7 +10,6 @@ use std::marker::Model;
 /// A row of numbers that was read from where it stands. Where it was half a word or a whole one, it
 /// is looked at there; else each of its numbers has a place in a list, whose memory is kept for the
 /// next one.
-#[derive(Drop)]
 pub struct Row {
     long: usize,
     bits: u32,
@@ -28,6 +27,19 @@ impl Model for Row {
     ghost view = { λ r. row_in r.long r.bits r.half r.longer };
 
     ghost invariant = { λ r. IsHalf r.bits r.long r.largest };
+}
+
+// So that crates above give one back by one call.
+impl Drop for Row {
+    fn drop(self) {
+        let Row {
+            long: _long,
+            bits: _bits,
+            largest: _largest,
+            half: _half,
+            longer: _longer,
+        } = self;
+    }
 }
 
 impl Row {

@@ -15,7 +15,6 @@ use std::mem::swap;
 
 /// Rows of numbers, none twice, in the order in which they were put. As long as they are of the expected length and
 /// their numbers small, each is one word, of which at first half is used; else each is a list of its own.
-#[derive(Drop)]
 pub struct RowSet {
     alloc: Global,
     long: usize,
@@ -35,6 +34,21 @@ impl Model for RowSet {
     ghost view = { λ a. rows_in a.wide a.bits a.long a.words a.lists };
 
     ghost invariant = { λ a. ArePacked a.bits a.long a.words };
+}
+
+// So that crates above give one back by one call.
+impl Drop for RowSet {
+    fn drop(self) {
+        let RowSet {
+            alloc: _alloc,
+            long: _long,
+            bits: _bits,
+            whole: _whole,
+            wide: _wide,
+            words: _words,
+            lists: _lists,
+        } = self;
+    }
 }
 
 // How many bits each number has, where so many stand in a word, with room for two more: in the whole of it or in half of it.

@@ -33,7 +33,6 @@ enum Change {
 /// no memory.
 ///
 /// Each change has two halves: `prepare_serve` or `prepare_fault` says what it comes to, `commit` carries it out.
-#[derive(Drop)]
 pub struct Store {
     alloc: Global,
     mode: Mode,
@@ -58,6 +57,22 @@ impl Model for Store {
     } };
 
     ghost invariant = { λ a. IsSound a.replicas a.rows a.losing a.change };
+}
+
+// So that crates above give one back by one call.
+impl Drop for Store {
+    fn drop(self) {
+        let Store {
+            alloc: _alloc,
+            mode: _mode,
+            kind: _kind,
+            replicas: _replicas,
+            rows: _rows,
+            links: _links,
+            losing: _losing,
+            change: _change,
+        } = self;
+    }
 }
 
 impl Store {

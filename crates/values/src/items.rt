@@ -18,7 +18,6 @@ const BACK: u128 = 10455382779074951524300553632856583309;
 
 /// Integers, the front first. What two queues have in common they share. Beside them stands their sum, each by the weight of its
 /// place, so that their hash takes constant time, and what the place before them would weigh.
-#[derive(Drop)]
 pub struct Items {
     alloc: Global,
     items: Row<i64>,
@@ -35,6 +34,18 @@ impl Model for Items {
     ghost view = { λ a. a.items };
 
     ghost invariant = { λ a. AreRolled a.items a.sum a.weight };
+}
+
+// So that crates above give one back by one call.
+impl Drop for Items {
+    fn drop(self) {
+        let Items {
+            alloc: _alloc,
+            items: _items,
+            sum: _sum,
+            weight: _weight,
+        } = self;
+    }
 }
 
 // The sum of the items with one more behind them, by theirs.

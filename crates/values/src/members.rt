@@ -17,7 +17,6 @@ use std::sync::Arc;
 
 /// A set of integers, ascending, as a read finds it and an answer has it; the state of a set is [`Spans`](crate::Spans). A copy
 /// shares the members, which are never changed where they lie.
-#[derive(Drop)]
 pub struct Members {
     alloc: Global,
     listed: Option<Arc<Listed>>,
@@ -27,6 +26,16 @@ impl Model for Members {
     ghost Value = { List ℤ };
 
     ghost view = { λ a. members_in a.listed };
+}
+
+// So that crates above give one back by one call.
+impl Drop for Members {
+    fn drop(self) {
+        let Members {
+            alloc: _alloc,
+            listed: _listed,
+        } = self;
+    }
 }
 
 // Integers, ascending, with their sum, by which most other sets are told apart.

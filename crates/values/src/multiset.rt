@@ -13,7 +13,6 @@ use std::marker::Model;
 
 /// A multiset of integers: its values ascending, each as often as it is in. What two multisets have in common they share, where one
 /// was made from the other. Beside them stands the sum of what the values add, so that its hash takes constant time.
-#[derive(Drop)]
 pub struct Multiset {
     alloc: Global,
     values: Row<i64>,
@@ -29,6 +28,17 @@ impl Model for Multiset {
     ghost view = { λ a. a.values };
 
     ghost invariant = { λ a. AreCounted a.values a.sum };
+}
+
+// So that crates above give one back by one call.
+impl Drop for Multiset {
+    fn drop(self) {
+        let Multiset {
+            alloc: _alloc,
+            values: _values,
+            sum: _sum,
+        } = self;
+    }
 }
 
 impl Multiset {

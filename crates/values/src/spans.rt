@@ -18,7 +18,6 @@ use std::marker::Model;
 /// A set of integers, by its spans: as many consecutive members as there are, in ascending order. So each set has one such row, and
 /// to compare two takes the time of the spans, and not that of the members. What two sets have in common they share, where one was made
 /// from the other.
-#[derive(Drop)]
 pub struct Spans {
     alloc: Global,
     spans: SpanRow,
@@ -34,6 +33,17 @@ impl Model for Spans {
     ghost view = { λ a. integers_in a.spans };
 
     ghost invariant = { λ a. AreSpans a.spans a.sum };
+}
+
+// So that crates above give one back by one call.
+impl Drop for Spans {
+    fn drop(self) {
+        let Spans {
+            alloc: _alloc,
+            spans: _spans,
+            sum: _sum,
+        } = self;
+    }
 }
 
 // Whether there is a span at this place, and it starts at the value or before.

@@ -11,7 +11,7 @@ use crate::taking::take_call;
 use models::{AnyState, ModelKind};
 use std::alloc::{AllocError, Global};
 
-// The same, of any kind but a queue without an order, where each call has one outcome at most.
+// Where the calls come to a halt, if they do, of any kind but the queue without an order: so each call has one outcome at most.
 fn halt_in_turn(alloc: Global, kind: ModelKind, calls: &[Call]) -> Result<Option<Halt>, AllocError>
     requires { kind ≢ ModelKind.UnorderedQueue }
     ensures { let o = object_of kind in IfOk result (λ first.

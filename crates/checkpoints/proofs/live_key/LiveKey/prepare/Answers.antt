@@ -2,7 +2,7 @@ use Rattle.std.proofs.Common.{◌∙◌, ap}
 use Rattle.events.specs.Events.{op_event_in}
 use Rattle.events.specs.declared.event.Process.TheVariants.{Client}
 use Rattle.frontier.specs.declared.frontier.Step.TheVariants as steps
-use Rattle.frontier.specs.AnyFrontier.{AnyWillStandFor}
+use Rattle.frontier.specs.AnyFrontier.{any_view_of}
 use Rattle.checkpoints.proofs.Judging.{silent_after, never_none, status_stepped, marks_stepped}
 use Rattle.checkpoints.proofs.Preparing.{still_live, will_be_live}
 use Rattle.checkpoints.proofs.live_key.LiveKey.prepare.Goals as goal
@@ -26,42 +26,42 @@ pub returns-in_err-prepare-clause-now : goal.returns-in_err-prepare-clause-now
 returns-in_err-prepare-clause-now c kind budget events is_live alive history =
     still_live kind budget events c.args.index c.args.event.now c.args.self.now is_live alive history _ c.in-Client.is _ c.in-Op.is
     (record { frontier = c.prepare.new.self; invocations = c.noted.new.invocations; closes = c.closing-self.result })
-    c.prepare.ensures.kind c.prepare.ensures.budget c.in_ok-id.ensures.invocations c.prepare.ensures.now
+    c.prepare.ensures.kind c.prepare.ensures.prepared.budget c.in_ok-id.ensures.invocations c.prepare.ensures.prepared.now
 
 pub returns-in-Alive-clause-now : goal.returns-in-Alive-clause-now
 returns-in-Alive-clause-now c kind budget events is_live alive history =
     still_live kind budget events c.args.index c.args.event.now c.args.self.now is_live alive history _ c.in-Client.is _ c.in-Op.is
     (record { frontier = c.prepare.new.self; invocations = c.noted.new.invocations; closes = c.closing-self.result })
-    c.prepare.ensures.kind c.prepare.ensures.budget c.in_ok-id.ensures.invocations c.prepare.ensures.now
+    c.prepare.ensures.kind c.prepare.ensures.prepared.budget c.in_ok-id.ensures.invocations c.prepare.ensures.prepared.now
 
 pub returns-in-Dead-clause-now : goal.returns-in-Dead-clause-now
 returns-in-Dead-clause-now c kind budget events is_live alive history =
     still_live kind budget events c.args.index c.args.event.now c.args.self.now is_live alive history _ c.in-Client.is _ c.in-Op.is
     (record { frontier = c.prepare.new.self; invocations = c.noted.new.invocations; closes = c.closing-self.result })
-    c.prepare.ensures.kind c.prepare.ensures.budget c.in_ok-id.ensures.invocations c.prepare.ensures.now
+    c.prepare.ensures.kind c.prepare.ensures.prepared.budget c.in_ok-id.ensures.invocations c.prepare.ensures.prepared.now
 
 pub returns-in-Over-clause-now : goal.returns-in-Over-clause-now
 returns-in-Over-clause-now c kind budget events is_live alive history =
     still_live kind budget events c.args.index c.args.event.now c.args.self.now is_live alive history _ c.in-Client.is _ c.in-Op.is
     (record { frontier = c.prepare.new.self; invocations = c.noted.new.invocations; closes = c.closing-self.result })
-    c.prepare.ensures.kind c.prepare.ensures.budget c.in_ok-id.ensures.invocations c.prepare.ensures.now
+    c.prepare.ensures.kind c.prepare.ensures.prepared.budget c.in_ok-id.ensures.invocations c.prepare.ensures.prepared.now
 
 pub returns-in-Alive-clause-next : goal.returns-in-Alive-clause-next
 returns-in-Alive-clause-next c kind budget events is_live alive history = (
-  status_stepped kind budget events c.args.index c.args.event.now c.args.self.now is_live alive history _ c.in-Client.is _ c.in-Op.is _ c.in_ok-id.ensures.id _ c.in-Some.is _ c.in_ok-prepare.ensures.step
+  status_stepped kind budget events c.args.index c.args.event.now c.args.self.now is_live alive history _ c.in-Client.is _ c.in-Op.is _ c.in_ok-id.ensures.id _ c.in-Some.is _ c.in_ok-prepare.ensures.prepared.step
       (record { invocation = c.never_kills_law.ensures.invocation kind; crash = c.never_kills_law.ensures.crash kind }) steps.Alive c.in-Alive.is,
   will_be_live kind budget events c.args.index c.args.event.now c.args.self.now is_live alive history _ c.in-Client.is _ c.in-Op.is
       (record { frontier = c.prepare.new.self; invocations = c.noted.new.invocations; closes = c.closing-self.result })
-      c.prepare.ensures.kind c.prepare.ensures.budget c.in_ok-id.ensures.invocations c.closing-self.ensures
-      (marks_stepped kind budget events c.args.index c.args.event.now c.args.self.now is_live alive history _ c.in-Client.is _ c.in-Op.is _ c.in_ok-id.ensures.id _ c.in-Some.is _ (AnyWillStandFor c.prepare.new.self) c.in_ok-prepare.ensures.next c.in-Alive.is),
+      c.prepare.ensures.kind c.prepare.ensures.prepared.budget c.in_ok-id.ensures.invocations c.closing-self.ensures
+      (marks_stepped kind budget events c.args.index c.args.event.now c.args.self.now is_live alive history _ c.in-Client.is _ c.in-Op.is _ c.in_ok-id.ensures.id _ c.in-Some.is _ (any_view_of c.prepare.new.self).will_stand c.in_ok-prepare.ensures.prepared.next c.in-Alive.is),
 )
 
 pub returns-in-Dead-clause-next : goal.returns-in-Dead-clause-next
 returns-in-Dead-clause-next c kind budget events is_live alive history =
-    status_stepped kind budget events c.args.index c.args.event.now c.args.self.now is_live alive history _ c.in-Client.is _ c.in-Op.is _ c.in_ok-id.ensures.id _ c.in-Some.is _ c.in_ok-prepare.ensures.step
+    status_stepped kind budget events c.args.index c.args.event.now c.args.self.now is_live alive history _ c.in-Client.is _ c.in-Op.is _ c.in_ok-id.ensures.id _ c.in-Some.is _ c.in_ok-prepare.ensures.prepared.step
     (record { invocation = c.never_kills_law.ensures.invocation kind; crash = c.never_kills_law.ensures.crash kind }) steps.Dead c.in-Dead.is
 
 pub returns-in-Over-clause-next : goal.returns-in-Over-clause-next
 returns-in-Over-clause-next c kind budget events is_live alive history =
-    status_stepped kind budget events c.args.index c.args.event.now c.args.self.now is_live alive history _ c.in-Client.is _ c.in-Op.is _ c.in_ok-id.ensures.id _ c.in-Some.is _ c.in_ok-prepare.ensures.step
+    status_stepped kind budget events c.args.index c.args.event.now c.args.self.now is_live alive history _ c.in-Client.is _ c.in-Op.is _ c.in_ok-id.ensures.id _ c.in-Some.is _ c.in_ok-prepare.ensures.prepared.step
     (record { invocation = c.never_kills_law.ensures.invocation kind; crash = c.never_kills_law.ensures.crash kind }) steps.Over c.in-Over.is

@@ -15,7 +15,7 @@ returns-in-Some-clause-failed g c =
     subst (λ l. HasEachOnce l → (at : ℕ) → IsOpenAt l at id → (ends : List (End g.row.M-State.Denot)) → AreShown (table_of f) l ends
     → OnOk c.failed.result (ShownWith (with_rows (table_of f) (rows_in c.failed.new.room.left.1)) (filter (is_other id) l) [] (Along (Fails id) ends))) c.deref.ensures.value
     (λ once at is_open ends shown. c.failed.ensures once at is_open ends
-    (shown_products f.table f.as_products c.deref_mut-those.result.now c.in-Some.those c.in-Some.is c.deref_mut-those.ensures.value c.deref.result.now ends shown))
+    (shown_products f.table f.products c.deref_mut-those.result.now c.in-Some.those c.in-Some.is c.deref_mut-those.ensures.value c.deref.result.now ends shown))
 
 pub returns-in-None-clause-failed : goal.returns-in-None-clause-failed
 returns-in-None-clause-failed g c =
@@ -23,7 +23,7 @@ returns-in-None-clause-failed g c =
     let id = c.args.id in
     let left = c.failed-in-None.new.rows in
     subst (λ l. HasEachOnce l → (at : ℕ) → IsOpenAt l at id → (ends : List (End g.row.M-State.Denot)) → AreShown (table_of f) l ends
-    → OnOk c.failed-in-None.result (ShownWith (with_rows f.table (left_by f.as_products left)) (filter (is_other id) l) [] (Along (Fails id) ends))) c.deref-in-None.ensures.value
+    → OnOk c.failed-in-None.result (ShownWith (with_rows f.table (left_by f.products left)) (filter (is_other id) l) [] (Along (Fails id) ends))) c.deref-in-None.ensures.value
     (subst (λ p. HasEachOnce c.deref-in-None.result.now → (at : ℕ) → IsOpenAt c.deref-in-None.result.now at id → (ends : List (End g.row.M-State.Denot)) → AreShown (with_rows f.table (rows_by p (rows_of f.table))) c.deref-in-None.result.now ends
     → OnOk c.failed-in-None.result (ShownWith (with_rows f.table (left_by p left)) (filter (is_other id) c.deref-in-None.result.now) [] (Along (Fails id) ends))) (sym c.in-None.is)
     c.failed-in-None.ensures)

@@ -1,4 +1,4 @@
-use Rattle.std.proofs.Common.{◌-◌, ◌∷◌, ◌++◌, [], ap, length, refl, ◌∙◌, subst}
+use Rattle.std.proofs.Common.{◌-◌, ◌∷◌, ◌++◌, [], ap, length, refl, ◌∙◌, subst, rules}
 use Rattle.std.specs.List.{filter}
 use Rattle.models.specs.Objects.{of_table}
 use Rattle.events.specs.Events.Mark.{Failed}
@@ -12,53 +12,59 @@ use Rattle.frontier.proofs.Judging.{failed_by, generates_failed, stands_failed}
 use Rattle.frontier.proofs.Preparing.{listed_stands, stands_like, will_by}
 use Rattle.frontier.proofs.frontier.Frontier.prepare_fail.Goals as goal
 
-pub returns-in_err-find_failed-clause-now : goal.returns-in_err-find_failed-clause-now
-returns-in_err-find_failed-clause-now g c marks given =
+pub returns-in_err-find_failed : goal.returns-in_err-find_failed
+returns-in_err-find_failed g c =
     let o = of_table g.row.M-State.Denot g.M.SeqObject.start_state g.M.SeqObject.apply_to in
-    let f = c.list_fresh.new.self in
-    let l = c.in_ok-list_fresh.ensures.listed marks given in
-    stands_like o f _ c.find_failed.ensures.alike.same marks (listed_stands o f marks l.none l.lists)
-
-pub returns-clause-step : goal.returns-clause-step
-returns-clause-step g c =
-    let o = of_table g.row.M-State.Denot g.M.SeqObject.start_state g.M.SeqObject.apply_to in
-    let f = c.list_fresh.new.self in
-    let id = c.args.id in
-    let left = left_of c.find_failed.new.self in
-    let t = with_rows (table_of f) left in
-    let is = same_step c.left.result (length left) c.step_of.result c.left.ensures c.step_of.ensures in
-    subst (λ b. Answers o b (StandsFor o c.args.self.now) (Failed id) c.step_of.result) c.in_ok-list_fresh.ensures.budget
-    (record {
-      right = λ marks given is_open.
-          let l = c.in_ok-list_fresh.ensures.listed marks given in
-          let s = failed_by o f marks l.lists f.calls.items refl t id is_open c.in_ok-find_failed.ensures.failed in
-          step_by o s.more (length left) s.shown.long marks (Failed id) (generates_failed o f marks l.lists t id is_open s)
-          f.budget (λ none. none) _ is.alive is.dead is.never_over;
-      over_at_ok = λ over. absurd (c.step_of.ensures.never_over over);
-    })
-
-pub returns-clause-now : goal.returns-clause-now
-returns-clause-now g c marks given =
-    let o = of_table g.row.M-State.Denot g.M.SeqObject.start_state g.M.SeqObject.apply_to in
-    let f = c.list_fresh.new.self in
-    let l = c.in_ok-list_fresh.ensures.listed marks given in
-    stands_like o f _ c.find_failed.ensures.alike.same marks (listed_stands o f marks l.none l.lists)
-
-pub returns-clause-next : goal.returns-clause-next
-returns-clause-next g c =
-    let o = of_table g.row.M-State.Denot g.M.SeqObject.start_state g.M.SeqObject.apply_to in
-    let f = c.list_fresh.new.self in
-    let id = c.args.id in
-    let left = left_of c.find_failed.new.self in
-    let t = with_rows (table_of f) left in
-    let tried = c.saturating_sub.result in
-    let same = c.find_failed.ensures.alike.same in
     record {
-      over = λ over. absurd (c.step_of.ensures.never_over over);
-      taken = λ _ marks given is_open.
+      step = search rules;
+      now = λ marks given.
+          let f = c.list_fresh.new.self in
           let l = c.in_ok-list_fresh.ensures.listed marks given in
-          let s = failed_by o f marks l.lists f.calls.items refl t id is_open c.in_ok-find_failed.ensures.failed in
-          will_by o _ (marks ++ Failed id ∷ []) (Done id tried) refl (same.3 ∙ l.none) t (filter (is_other id) f.calls.items) tried
-          (λ g made. (made.0 ∙ ap (λ u. with_rows u left) same.0, made.1 ∙ ap (filter (is_other id)) same.1, made.2, made.3))
-          (λ g table calls is. stands_failed o f marks l.lists t id is_open s g table calls (is ∙ c.saturating_sub.ensures ∙ ap (λ n. n - 1) same.2));
+          stands_like o f _ c.find_failed.ensures.alike.same marks (listed_stands o f marks l.none l.lists);
+      next = search rules;
+      budget = search rules;
+      cost = search rules;
+    }
+
+pub returns : goal.returns
+returns g c =
+    let o = of_table g.row.M-State.Denot g.M.SeqObject.start_state g.M.SeqObject.apply_to in
+    record {
+      step =
+          let f = c.list_fresh.new.self in
+          let id = c.args.id in
+          let left = left_of c.find_failed.new.self in
+          let t = with_rows (table_of f) left in
+          let is = same_step c.left.result (length left) c.step_of.result c.left.ensures c.step_of.ensures in
+          subst (λ b. Answers o b (StandsFor o c.args.self.now) (Failed id) c.step_of.result) c.in_ok-list_fresh.ensures.counts.budget
+          (record {
+            right = λ marks given is_open.
+                let l = c.in_ok-list_fresh.ensures.listed marks given in
+                let s = failed_by o f marks l.lists f.calls.items refl t id is_open c.in_ok-find_failed.ensures.failed in
+                step_by o s.more (length left) s.shown.long marks (Failed id) (generates_failed o f marks l.lists t id is_open s)
+                f.budget (λ none. none) _ is.alive is.dead is.never_over;
+            over_at_ok = λ over. absurd (c.step_of.ensures.never_over over);
+          });
+      now = λ marks given.
+          let f = c.list_fresh.new.self in
+          let l = c.in_ok-list_fresh.ensures.listed marks given in
+          stands_like o f _ c.find_failed.ensures.alike.same marks (listed_stands o f marks l.none l.lists);
+      next =
+          let f = c.list_fresh.new.self in
+          let id = c.args.id in
+          let left = left_of c.find_failed.new.self in
+          let t = with_rows (table_of f) left in
+          let tried = c.saturating_sub.result in
+          let same = c.find_failed.ensures.alike.same in
+          record {
+            over = λ over. absurd (c.step_of.ensures.never_over over);
+            taken = λ _ marks given is_open.
+                let l = c.in_ok-list_fresh.ensures.listed marks given in
+                let s = failed_by o f marks l.lists f.calls.items refl t id is_open c.in_ok-find_failed.ensures.failed in
+                will_by o _ (marks ++ Failed id ∷ []) (Done id tried) refl (same.3 ∙ l.none) t (filter (is_other id) f.calls.items) tried
+                (λ g made. (made.0 ∙ ap (λ u. with_rows u left) same.0, made.1 ∙ ap (filter (is_other id)) same.1, made.2, made.3))
+                (λ g table calls is. stands_failed o f marks l.lists t id is_open s g table calls (is ∙ c.saturating_sub.ensures ∙ ap (λ n. n - 1) same.2));
+          };
+      budget = search rules;
+      cost = search rules;
     }

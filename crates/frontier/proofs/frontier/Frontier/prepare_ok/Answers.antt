@@ -13,108 +13,101 @@ use Rattle.frontier.proofs.Judging.{advanced, generates_left, ok_costs, stands_a
 use Rattle.frontier.proofs.Preparing.{idle_of, idle_will, listed_more, listed_stands, stands_like}
 use Rattle.frontier.proofs.frontier.Frontier.prepare_ok.Goals as goal
 
-pub returns-in_err-all-clause-now : goal.returns-in_err-all-clause-now
-returns-in_err-all-clause-now g c marks given =
+pub returns-in_err-all : goal.returns-in_err-all
+returns-in_err-all g c =
     let o = of_table g.row.M-State.Denot g.M.SeqObject.start_state g.M.SeqObject.apply_to in
-    let is = c.advance.ensures in
-    let l = listed_more o c.suit_outcomes.new.self c.advance.new.self marks is.is is.widens is.rows is.next (c.suit_outcomes.ensures.keeps marks (c.in_ok-list_fresh.ensures.listed marks given)) in
-    listed_stands o c.advance.new.self marks l.none l.lists
-
-pub returns-in_err-all-clause-cost : goal.returns-in_err-all-clause-cost
-returns-in_err-all-clause-cost g c =
-    let o = of_table g.row.M-State.Denot g.M.SeqObject.start_state g.M.SeqObject.apply_to in
-    ok_costs o c.args.self.now c.suit_outcomes.new.self c.args.id c.args.answer.now _ (λ marks given. c.suit_outcomes.ensures.keeps marks (c.in_ok-list_fresh.ensures.listed marks given))
-    (c.suit_outcomes.ensures.budget ∙ c.in_ok-list_fresh.ensures.budget) (c.suit_outcomes.ensures.cost ∙ c.in_ok-list_fresh.ensures.cost) c.advance.ensures.never_falls c.advance.ensures.cost
-
-pub returns-then-not-all-clause-step : goal.returns-then-not-all-clause-step
-returns-then-not-all-clause-step g c =
-    let o = of_table g.row.M-State.Denot g.M.SeqObject.start_state g.M.SeqObject.apply_to in
-    let f = c.suit_outcomes.new.self in
-    subst (λ b. Answers o b (StandsFor o c.args.self.now) (Returned c.args.id c.args.answer.now) Over) (c.suit_outcomes.ensures.budget ∙ c.in_ok-list_fresh.ensures.budget)
-    (record {
-      right = λ marks given is_open.
-          too_many_by o f marks (c.suit_outcomes.ensures.keeps marks (c.in_ok-list_fresh.ensures.listed marks given)).lists f.calls.items refl f.budget
-          (λ once ends apart shown closed. c.in_ok-all.ensures.over once ends apart shown closed c.if-not-all.true);
-      over_at_ok = λ over. tt;
-    })
-
-pub returns-then-not-all-clause-now : goal.returns-then-not-all-clause-now
-returns-then-not-all-clause-now g c marks given =
-    let o = of_table g.row.M-State.Denot g.M.SeqObject.start_state g.M.SeqObject.apply_to in
-    let is = c.advance.ensures in
-    let l = listed_more o c.suit_outcomes.new.self c.advance.new.self marks is.is is.widens is.rows is.next (c.suit_outcomes.ensures.keeps marks (c.in_ok-list_fresh.ensures.listed marks given)) in
-    listed_stands o c.advance.new.self marks l.none l.lists
-
-pub returns-then-not-all-clause-next : goal.returns-then-not-all-clause-next
-returns-then-not-all-clause-next g c =
-    let o = of_table g.row.M-State.Denot g.M.SeqObject.start_state g.M.SeqObject.apply_to in
-    let is = c.advance.ensures in
     record {
-      over = λ over marks given.
-          idle_will o c.advance.new.self marks
-          (idle_of o c.advance.new.self marks
-          (listed_more o c.suit_outcomes.new.self c.advance.new.self marks is.is is.widens is.rows is.next (c.suit_outcomes.ensures.keeps marks (c.in_ok-list_fresh.ensures.listed marks given))));
-      taken = λ ne. absurd (ne refl);
+      step = search rules;
+      now = λ marks given.
+          let is = c.advance.ensures in
+          let l = listed_more o c.suit_outcomes.new.self c.advance.new.self marks is.is is.tries.widens is.tries.rows is.next (c.suit_outcomes.ensures.keeps marks (c.in_ok-list_fresh.ensures.listed marks given)) in
+          listed_stands o c.advance.new.self marks l.none l.lists;
+      next = search rules;
+      budget = search rules;
+      cost =
+          ok_costs o c.args.self.now c.suit_outcomes.new.self _ (λ marks given. c.suit_outcomes.ensures.keeps marks (c.in_ok-list_fresh.ensures.listed marks given))
+          (c.suit_outcomes.ensures.counts.budget ∙ c.in_ok-list_fresh.ensures.counts.budget) (c.suit_outcomes.ensures.counts.applied ∙ c.in_ok-list_fresh.ensures.counts.applied) c.advance.ensures.tries.never_falls c.advance.ensures.cost;
     }
 
-pub returns-then-not-all-clause-cost : goal.returns-then-not-all-clause-cost
-returns-then-not-all-clause-cost g c =
+pub returns-then-not-all : goal.returns-then-not-all
+returns-then-not-all g c =
     let o = of_table g.row.M-State.Denot g.M.SeqObject.start_state g.M.SeqObject.apply_to in
-    ok_costs o c.args.self.now c.suit_outcomes.new.self c.args.id c.args.answer.now _ (λ marks given. c.suit_outcomes.ensures.keeps marks (c.in_ok-list_fresh.ensures.listed marks given))
-    (c.suit_outcomes.ensures.budget ∙ c.in_ok-list_fresh.ensures.budget) (c.suit_outcomes.ensures.cost ∙ c.in_ok-list_fresh.ensures.cost) c.advance.ensures.never_falls c.advance.ensures.cost
-
-pub returns-clause-step : goal.returns-clause-step
-returns-clause-step g c =
-    let o = of_table g.row.M-State.Denot g.M.SeqObject.start_state g.M.SeqObject.apply_to in
-    let f = c.suit_outcomes.new.self in
-    let id = c.args.id in
-    let answer = c.args.answer.now in
-    let left = left_of c.advance.new.self in
-    let t = with_rows (table_of c.advance.new.self) left in
-    let is = same_step c.left.result (length left) c.step_of.result c.left.ensures c.step_of.ensures in
-    subst (λ b. Answers o b (StandsFor o c.args.self.now) (Returned id answer) c.step_of.result) (c.suit_outcomes.ensures.budget ∙ c.in_ok-list_fresh.ensures.budget)
-    (record {
-      right = λ marks given is_open.
-          let l = c.suit_outcomes.ensures.keeps marks (c.in_ok-list_fresh.ensures.listed marks given) in
-          let found = advanced o f marks l.lists f.calls.items refl t f.budget id answer (λ once ends shown closed. c.in_ok-all.ensures.all once ends shown closed c.if-not-all.false) in
-          step_by o found.left.more (length left) found.left.shown.long marks (Returned id answer) (generates_left o f marks l.lists f.budget t id is_open answer found)
-          f.budget (within o f marks l.lists f.budget t id is_open answer found) c.step_of.result is.alive is.dead is.never_over;
-      over_at_ok = λ over. tt;
-    })
-
-pub returns-clause-now : goal.returns-clause-now
-returns-clause-now g c marks given =
-    let o = of_table g.row.M-State.Denot g.M.SeqObject.start_state g.M.SeqObject.apply_to in
-    let is = c.advance.ensures in
-    let l = listed_more o c.suit_outcomes.new.self c.advance.new.self marks is.is is.widens is.rows is.next (c.suit_outcomes.ensures.keeps marks (c.in_ok-list_fresh.ensures.listed marks given)) in
-    stands_like o c.advance.new.self _ (refl, refl, refl, refl) marks (listed_stands o c.advance.new.self marks l.none l.lists)
-
-pub returns-clause-next : goal.returns-clause-next
-returns-clause-next g c =
-    let o = of_table g.row.M-State.Denot g.M.SeqObject.start_state g.M.SeqObject.apply_to in
-    let f = c.suit_outcomes.new.self in
-    let after = c.advance.new.self in
-    let is = c.advance.ensures.is in
-    let id = c.args.id in
-    let answer = c.args.answer.now in
-    let t = with_rows (table_of after) (left_of after) in
-    let long : vec_len after.calls ≡ length after.calls.items = search rules in
-    let tried : c.saturating_sub-tried.result ≡ length after.calls.items - 1 = c.saturating_sub-tried.ensures ∙ ap (λ n. n - 1) (c.len.ensures ∙ long) in
     record {
-      over = λ over. absurd (c.step_of.ensures.never_over over);
-      taken = λ _ marks given is_open.
-          let l = c.suit_outcomes.ensures.keeps marks (c.in_ok-list_fresh.ensures.listed marks given) in
-          let found = advanced o f marks l.lists f.calls.items refl t f.budget id answer (λ once ends shown closed. c.in_ok-all.ensures.all once ends shown closed c.if-not-all.false) in
+      step =
+          let f = c.suit_outcomes.new.self in
+          subst (λ b. Answers o b (StandsFor o c.args.self.now) (Returned c.args.id c.args.answer.now) Over) (c.suit_outcomes.ensures.counts.budget ∙ c.in_ok-list_fresh.ensures.counts.budget)
+          (record {
+            right = λ marks given is_open.
+                too_many_by o f marks (c.suit_outcomes.ensures.keeps marks (c.in_ok-list_fresh.ensures.listed marks given)).lists f.calls.items refl f.budget
+                (λ once ends apart shown closed. c.in_ok-all.ensures.found.over once ends apart shown closed c.if-not-all.true);
+            over_at_ok = λ over. tt;
+          });
+      now = λ marks given.
+          let is = c.advance.ensures in
+          let l = listed_more o c.suit_outcomes.new.self c.advance.new.self marks is.is is.tries.widens is.tries.rows is.next (c.suit_outcomes.ensures.keeps marks (c.in_ok-list_fresh.ensures.listed marks given)) in
+          listed_stands o c.advance.new.self marks l.none l.lists;
+      next =
+          let is = c.advance.ensures in
           record {
-            will = λ h makes.
-                listed_stands o h (marks ++ Returned id answer ∷ []) (makes.3 ∙ is.3 ∙ l.none)
-                (stands_after o f marks l.lists f.budget t id is_open answer found h makes.0 (makes.1 ∙ ap (filter (is_other id)) is.1)
-                (makes.2 ∙ tried ∙ ap (λ calls. length calls - 1) is.1));
+            over = λ over marks given.
+                idle_will o c.advance.new.self marks
+                (idle_of o c.advance.new.self marks
+                (listed_more o c.suit_outcomes.new.self c.advance.new.self marks is.is is.tries.widens is.tries.rows is.next (c.suit_outcomes.ensures.keeps marks (c.in_ok-list_fresh.ensures.listed marks given))));
+            taken = λ ne. absurd (ne refl);
           };
+      budget = search rules;
+      cost =
+          ok_costs o c.args.self.now c.suit_outcomes.new.self _ (λ marks given. c.suit_outcomes.ensures.keeps marks (c.in_ok-list_fresh.ensures.listed marks given))
+          (c.suit_outcomes.ensures.counts.budget ∙ c.in_ok-list_fresh.ensures.counts.budget) (c.suit_outcomes.ensures.counts.applied ∙ c.in_ok-list_fresh.ensures.counts.applied) c.advance.ensures.tries.never_falls c.advance.ensures.cost;
     }
 
-pub returns-clause-cost : goal.returns-clause-cost
-returns-clause-cost g c =
+pub returns : goal.returns
+returns g c =
     let o = of_table g.row.M-State.Denot g.M.SeqObject.start_state g.M.SeqObject.apply_to in
-    ok_costs o c.args.self.now c.suit_outcomes.new.self c.args.id c.args.answer.now _ (λ marks given. c.suit_outcomes.ensures.keeps marks (c.in_ok-list_fresh.ensures.listed marks given))
-    (c.suit_outcomes.ensures.budget ∙ c.in_ok-list_fresh.ensures.budget) (c.suit_outcomes.ensures.cost ∙ c.in_ok-list_fresh.ensures.cost) c.advance.ensures.never_falls c.advance.ensures.cost
+    record {
+      step =
+          let f = c.suit_outcomes.new.self in
+          let id = c.args.id in
+          let answer = c.args.answer.now in
+          let left = left_of c.advance.new.self in
+          let t = with_rows (table_of c.advance.new.self) left in
+          let is = same_step c.left.result (length left) c.step_of.result c.left.ensures c.step_of.ensures in
+          subst (λ b. Answers o b (StandsFor o c.args.self.now) (Returned id answer) c.step_of.result) (c.suit_outcomes.ensures.counts.budget ∙ c.in_ok-list_fresh.ensures.counts.budget)
+          (record {
+            right = λ marks given is_open.
+                let l = c.suit_outcomes.ensures.keeps marks (c.in_ok-list_fresh.ensures.listed marks given) in
+                let found = advanced o f marks l.lists f.calls.items refl t f.budget id answer (λ once ends shown closed. c.in_ok-all.ensures.found.all once ends shown closed c.if-not-all.false) in
+                step_by o found.left.more (length left) found.left.shown.long marks (Returned id answer) (generates_left o f marks l.lists f.budget t id is_open answer found)
+                f.budget (within o f marks l.lists f.budget t id is_open answer found) c.step_of.result is.alive is.dead is.never_over;
+            over_at_ok = λ over. tt;
+          });
+      now = λ marks given.
+          let is = c.advance.ensures in
+          let l = listed_more o c.suit_outcomes.new.self c.advance.new.self marks is.is is.tries.widens is.tries.rows is.next (c.suit_outcomes.ensures.keeps marks (c.in_ok-list_fresh.ensures.listed marks given)) in
+          stands_like o c.advance.new.self _ (refl, refl, refl, refl) marks (listed_stands o c.advance.new.self marks l.none l.lists);
+      next =
+          let f = c.suit_outcomes.new.self in
+          let after = c.advance.new.self in
+          let is = c.advance.ensures.is in
+          let id = c.args.id in
+          let answer = c.args.answer.now in
+          let t = with_rows (table_of after) (left_of after) in
+          let long : vec_len after.calls ≡ length after.calls.items = search rules in
+          let tried : c.saturating_sub-tried.result ≡ length after.calls.items - 1 = c.saturating_sub-tried.ensures ∙ ap (λ n. n - 1) (c.len.ensures ∙ long) in
+          record {
+            over = λ over. absurd (c.step_of.ensures.never_over over);
+            taken = λ _ marks given is_open.
+                let l = c.suit_outcomes.ensures.keeps marks (c.in_ok-list_fresh.ensures.listed marks given) in
+                let found = advanced o f marks l.lists f.calls.items refl t f.budget id answer (λ once ends shown closed. c.in_ok-all.ensures.found.all once ends shown closed c.if-not-all.false) in
+                record {
+                  will = λ h makes.
+                      listed_stands o h (marks ++ Returned id answer ∷ []) (makes.3 ∙ is.3 ∙ l.none)
+                      (stands_after o f marks l.lists f.budget t id is_open answer found h makes.0 (makes.1 ∙ ap (filter (is_other id)) is.1)
+                      (makes.2 ∙ tried ∙ ap (λ calls. length calls - 1) is.1));
+                };
+          };
+      budget = search rules;
+      cost =
+          ok_costs o c.args.self.now c.suit_outcomes.new.self _ (λ marks given. c.suit_outcomes.ensures.keeps marks (c.in_ok-list_fresh.ensures.listed marks given))
+          (c.suit_outcomes.ensures.counts.budget ∙ c.in_ok-list_fresh.ensures.counts.budget) (c.suit_outcomes.ensures.counts.applied ∙ c.in_ok-list_fresh.ensures.counts.applied) c.advance.ensures.tries.never_falls c.advance.ensures.cost;
+    }

@@ -1,4 +1,4 @@
-use Rattle.std.proofs.Common.{refl, [], subst}
+use Rattle.std.proofs.Common.{rules, refl, [], subst}
 use Rattle.std.specs.Prelude.{IfSome}
 use Rattle.models.specs.Objects.{of_table}
 use Rattle.ends.specs.declared.table.Table.{Table}
@@ -8,12 +8,17 @@ use Rattle.products.specs.Products.{Family, rows_in}
 use Rattle.frontier.proofs.Reordering.{idle_again, shown_products}
 use Rattle.frontier.proofs.frontier.Frontier.renumber.Goals as goal
 
-pub returns-in-Some-other-2-clause-keeps : goal.returns-in-Some-other-2-clause-keeps
-returns-in-Some-other-2-clause-keeps g c marks =
+pub returns-in-Some-other-2 : goal.returns-in-Some-other-2
+returns-in-Some-other-2 g c =
     let o = of_table g.row.M-State.Denot g.M.SeqObject.start_state g.M.SeqObject.apply_to in
     let f = c.args.self.now in
-    idle_again o f _ refl refl
-    (λ ends shown.
-    subst (λ found. IfSome found (λ (other : Table g.row.M-State.Denot × Family). ShownWith (with_rows other.0 (rows_in other.1.1)) f.calls.items [] (Along IsThat ends))) c.in-Some-other-2.is
-    (c.in_ok-other.ensures f.calls.items ends (shown_products f.table f.as_products c.deref.result.now c.in-Some.those c.in-Some.is c.deref.ensures f.calls.items ends shown)))
-    refl refl marks
+    record {
+      keeps = λ marks.
+          idle_again o f _ refl refl
+          (λ ends shown.
+          subst (λ found. IfSome found (λ (other : Table g.row.M-State.Denot × Family). ShownWith (with_rows other.0 (rows_in other.1.1)) f.calls.items [] (Along IsThat ends))) c.in-Some-other-2.is
+          (c.in_ok-other.ensures f.calls.items ends (shown_products f.table f.products c.deref.result.now c.in-Some.those c.in-Some.is c.deref.ensures f.calls.items ends shown)))
+          refl refl marks;
+      fresh = search rules;
+      counts = search rules;
+    }

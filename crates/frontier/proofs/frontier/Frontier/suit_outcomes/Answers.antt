@@ -5,4 +5,4 @@ use Rattle.frontier.proofs.frontier.Frontier.suit_outcomes.Goals as goal
 pub returns-else-has_scalar_states-clause-keeps : goal.returns-else-has_scalar_states-clause-keeps
 returns-else-has_scalar_states-clause-keeps g c marks =
     let o = of_table g.row.M-State.Denot g.M.SeqObject.start_state g.M.SeqObject.apply_to in
-    listed_again o c.args.self.now c.make_rows.new.self marks c.make_rows.ensures.keeps c.make_rows.ensures.fresh
+    listed_again o c.args.self.now c.make_rows.new.self marks c.make_rows.ensures.same.keeps c.make_rows.ensures.same.fresh

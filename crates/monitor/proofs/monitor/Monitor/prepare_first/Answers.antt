@@ -1,4 +1,4 @@
-use Rattle.std.proofs.Common.{◌≡◌, None, nat_eq, sym, subst}
+use Rattle.std.proofs.Common.{◌≡◌, None, nat_eq, sym, subst, rules}
 use Rattle.std.specs.List.{position}
 use Rattle.linspec.specs.KeyHistory.{IsStatusOf}
 use Rattle.checkpoints.specs.KeyLineView.{KeyLineView}
@@ -29,10 +29,18 @@ invariant_of-self-2 c =
     c.len-index.ensures.value (c.next_event-event.ensures c.args.event (next_is c.self.inside.history c.prepare_push.new.self c.args.event c.in_ok-prepare_push.ensures.prepared)) c.of-kind.ensures c.of-budget.ensures c.in_ok-reserve.ensures.same c.in_ok-reserve.ensures.room c.in_ok-line.ensures
     (subst (λ (l : KeyLineView). IsStatusOf l.now c.status.result) c.deref.ensures c.status.ensures) c.join_with-verdict.ensures)
 
-pub returns-clause-verdict : goal.returns-clause-verdict
-returns-clause-verdict c =
-    subst (λ (s : MonitorView). IsVerdictOn (with_event c.args.event s.now) c.join_with-verdict.result) c.self.view_is
-    (begin_judged c.judging_law.ensures (judged_by_parts c.self.inside.history c.self.inside.kinds c.self.inside.budgets) _ c.self.inside.verdict c.args.event c.next_event-event.result.now c.args.key c.len-index.result
-    c.of-kind.result c.of-budget.result c.in_ok-line.line.value c.status.result c.join_with-verdict.result c.self.invariant.now c.in_ok-prepare_push.ensures.well_formed c.requires.key
-    (subst (λ (s : MonitorView). position (nat_eq c.args.key) (keys_in_order s.now.events) ≡ None) (sym c.self.view_is) c.requires.new)
-    c.len-index.ensures.value (c.next_event-event.ensures c.args.event (next_is c.self.inside.history c.prepare_push.new.self c.args.event c.in_ok-prepare_push.ensures.prepared)) c.of-kind.ensures c.of-budget.ensures c.in_ok-line.ensures (subst (λ (l : KeyLineView). IsStatusOf l.now c.status.result) c.deref.ensures c.status.ensures) c.join_with-verdict.ensures).is_verdict
+pub returns : goal.returns
+returns c =
+    record {
+      well_formed = search rules;
+      prepared = search rules;
+      verdict =
+          subst (λ (s : MonitorView). IsVerdictOn (with_event c.args.event s.now) c.join_with-verdict.result) c.self.view_is
+          (begin_judged c.judging_law.ensures (judged_by_parts c.self.inside.history c.self.inside.kinds c.self.inside.budgets) _ c.self.inside.verdict c.args.event c.next_event-event.result.now c.args.key c.len-index.result
+          c.of-kind.result c.of-budget.result c.in_ok-line.line.value c.status.result c.join_with-verdict.result c.self.invariant.now c.in_ok-prepare_push.ensures.well_formed c.requires.key
+          (subst (λ (s : MonitorView). position (nat_eq c.args.key) (keys_in_order s.now.events) ≡ None) (sym c.self.view_is) c.requires.new)
+          c.len-index.ensures.value (c.next_event-event.ensures c.args.event (next_is c.self.inside.history c.prepare_push.new.self c.args.event c.in_ok-prepare_push.ensures.prepared)) c.of-kind.ensures c.of-budget.ensures c.in_ok-line.ensures (subst (λ (l : KeyLineView). IsStatusOf l.now c.status.result) c.deref.ensures c.status.ensures) c.join_with-verdict.ensures).is_verdict;
+      refused = search rules;
+      memory_last = search rules;
+      err = search rules;
+    }

@@ -1,4 +1,4 @@
-use Rattle.std.proofs.Common.{◌≡◌, Some, nat_eq, sym, subst}
+use Rattle.std.proofs.Common.{◌≡◌, Some, nat_eq, sym, subst, rules}
 use Rattle.std.specs.List.{position}
 use Rattle.linspec.specs.JudgedHistory.{IsVerdictOn, with_event, keys_in_order}
 use Rattle.monitor.specs.Monitors.{MonitorView}
@@ -26,11 +26,19 @@ invariant_of-self-2 c =
     (subst (λ (s : MonitorView). position (nat_eq c.args.key) (keys_in_order s.now.events) ≡ Some c.args.place) (sym c.self.view_is) c.requires.place)
     c.len-index.ensures.value (c.next_event-event.ensures c.args.event (next_is c.self.inside.history c.prepare_push.new.self c.args.event c.in_ok-prepare_push.ensures.prepared)) c.in_ok-status.ensures.status c.in_ok-status.ensures.next c.in_ok-status.ensures.kept c.join_with-verdict.ensures)
 
-pub returns-clause-verdict : goal.returns-clause-verdict
-returns-clause-verdict c =
-    subst (λ (s : MonitorView). IsVerdictOn (with_event c.args.event s.now) c.join_with-verdict.result) c.self.view_is
-    (push_judged c.next_event_law.ensures (judged_by_parts c.self.inside.history c.self.inside.kinds c.self.inside.budgets) c.self.inside.lines.rows c.self.inside.verdict c.self.invariant.now c.args.event c.args.key c.args.place
-    c.len-index.result c.next_event-event.result.now c.in_ok-prepare_push.ensures.well_formed c.requires.key
-    (subst (λ (s : MonitorView). position (nat_eq c.args.key) (keys_in_order s.now.events) ≡ Some c.args.place) (sym c.self.view_is) c.requires.place)
-    c.len-index.ensures.value (c.next_event-event.ensures c.args.event (next_is c.self.inside.history c.prepare_push.new.self c.args.event c.in_ok-prepare_push.ensures.prepared)) c.judging_law.ensures c.bad_keys_law.ensures c.settled_law.ensures.no_other c.in_ok-status.status c.join_with-verdict.result
-    c.in_ok-status.ensures.status c.join_with-verdict.ensures).is_verdict
+pub returns : goal.returns
+returns c =
+    record {
+      well_formed = search rules;
+      prepared = search rules;
+      verdict =
+          subst (λ (s : MonitorView). IsVerdictOn (with_event c.args.event s.now) c.join_with-verdict.result) c.self.view_is
+          (push_judged c.next_event_law.ensures (judged_by_parts c.self.inside.history c.self.inside.kinds c.self.inside.budgets) c.self.inside.lines.rows c.self.inside.verdict c.self.invariant.now c.args.event c.args.key c.args.place
+          c.len-index.result c.next_event-event.result.now c.in_ok-prepare_push.ensures.well_formed c.requires.key
+          (subst (λ (s : MonitorView). position (nat_eq c.args.key) (keys_in_order s.now.events) ≡ Some c.args.place) (sym c.self.view_is) c.requires.place)
+          c.len-index.ensures.value (c.next_event-event.ensures c.args.event (next_is c.self.inside.history c.prepare_push.new.self c.args.event c.in_ok-prepare_push.ensures.prepared)) c.judging_law.ensures c.bad_keys_law.ensures c.settled_law.ensures.no_other c.in_ok-status.status c.join_with-verdict.result
+          c.in_ok-status.ensures.status c.join_with-verdict.ensures).is_verdict;
+      refused = search rules;
+      memory_last = search rules;
+      err = search rules;
+    }
