@@ -38,6 +38,7 @@ impl Model for Items {
 
 // So that crates above give one back by one call.
 impl Drop for Items {
+    #[inline(always)]
     fn drop(self) {
         let Items {
             alloc: _alloc,

@@ -30,6 +30,7 @@ impl Model for Members {
 
 // So that crates above give one back by one call.
 impl Drop for Members {
+    #[inline(always)]
     fn drop(self) {
         let Members {
             alloc: _alloc,

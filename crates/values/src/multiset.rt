@@ -32,6 +32,7 @@ impl Model for Multiset {
 
 // So that crates above give one back by one call.
 impl Drop for Multiset {
+    #[inline(always)]
     fn drop(self) {
         let Multiset {
             alloc: _alloc,

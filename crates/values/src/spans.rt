@@ -37,6 +37,7 @@ impl Model for Spans {
 
 // So that crates above give one back by one call.
 impl Drop for Spans {
+    #[inline(always)]
     fn drop(self) {
         let Spans {
             alloc: _alloc,
