@@ -1,11 +1,9 @@
 -- lists that grow by what is said of their elements
-use Rattle.std.proofs.Common.{◌≡◌, ◌≢◌, ◌↔◌, IsTrue, Bool, true, false, map, ℕ, ◌+◌, ◌<◌, ◌≤◌, ◌⊎◌, inl, inr, ⊎_elim, List, [], ◌∷◌, ◌++◌, length, get_or, take, drop, refl, sym, ap, ◌∙◌, subst, arith, append_assoc}
+use Rattle.std.proofs.Common.{◌≡◌, ◌≢◌, ℕ, ◌+◌, ◌<◌, ◌≤◌, ◌⊎◌, inl, inr, ⊎_elim, List, [], ◌∷◌, ◌++◌, length, get_or, take, drop, refl, sym, ap, ◌∙◌, subst, arith, append_assoc}
 use Rattle.std.specs.List.{Contains}
-use Rattle.std.proofs.lemmas.Bool.{true≢false}
-use Rattle.std.proofs.lemmas.List.{append-nil, map_push, get_or_default, take_all, length-take-le, drop-append-le}
+use Rattle.std.proofs.lemmas.List.{append-nil, length-take-le, drop-append-le}
 use Rattle.std.proofs.lemmas.List.Elements.{Contains-append_left, Contains-push, Contains-push_cases}
 use Rattle.events.specs.Events.{IsFront}
-use Rattle.linspec.proofs.Filters.{from_map}
 use Rattle.linspec.proofs.Lists.{Contains-nil, Contains-cons_cases, Pairwise-append}
 use Rattle.interned.proofs.Lists.{one_more}
 use Rattle.ends.specs.EndSteps.{Along, Adds}
@@ -101,25 +99,6 @@ module _ {C Y : Type 0} (R : C → Y → Type 0) (cs : List C) (xs ys : List Y) 
   pub Adds-skip : (i : ℕ) (c : C) → i < length cs → c ≡ get_or cs i c → Adds (Along R (take i cs)) xs ys → ((y : Y) → ¬ R c y) → Adds (Along R (take (i + 1) cs)) xs ys
   Adds-skip i c l is a none = Adds-more R cs xs ys ys i c l is a (Adds-none (R c) ys none)
 
-  pub Adds-end : (i : ℕ) → length cs ≤ i → Adds (Along R (take i cs)) xs ys → Adds (Along R cs) xs ys
-  Adds-end i l a = subst (λ ds. Adds (Along R ds) xs ys) (take_all i cs l) a
-
 -- before the first
 pub Adds-start : {C Y : Type 0} (R : C → Y → Type 0) (xs : List Y) → Adds (Along R []) xs xs
 Adds-start R xs = Adds-none (Along R []) xs (λ y h. Contains-nil h.0 h.1)
-
--- in the words of the code: what a test for it says, and what is pushed
-pub kept_already : {X Y : Type 0} (f : X → Y) (xs slice : List X) (x : X) (b : Bool) → slice ≡ xs → (IsTrue b ↔ Contains (map f slice) (f x)) → b ≡ true → Adds (λ y. f x ≡ y) (map f xs) (map f xs)
-kept_already f xs slice x b same test is = Adds-old (map f xs) (f x) (subst (λ l. Contains (map f l) (f x)) same (test.0 is))
-
-pub kept_now : {X Y : Type 0} (f : X → Y) (xs slice ys : List X) (x : X) (b : Bool) → slice ≡ xs → (IsTrue b ↔ Contains (map f slice) (f x)) → b ≡ false → ys ≡ xs ++ x ∷ []
-    → Adds (λ y. f x ≡ y) (map f xs) (map f ys)
-kept_now f xs slice ys x b same test is push =
-    subst (λ l. Adds (λ y. f x ≡ y) (map f xs) l) (sym (ap (map f) push ∙ map_push f xs x))
-    (Adds-new (map f xs) (f x) (λ h. true≢false (sym (test.1 (subst (λ l. Contains (map f l) (f x)) (sym same) h)) ∙ is)))
-
-pub not_among : {X Y : Type 0} (f : X → Y) (xs : List X) (d : X) (y : Y) (n : ℕ) → length xs ≤ n → ((k : ℕ) → k < n → f (get_or xs k d) ≢ y) → ¬ Contains (map f xs) y
-not_among f xs d y n l none h =
-    let i = from_map f xs y h in
-    let at = i.1 in
-    none at.0 (let lt : at.0 < length xs = at.1 in omega arith) (ap f (get_or_default xs at.0 d i.0 at.1 ∙ at.2) ∙ i.2)

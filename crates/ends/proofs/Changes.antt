@@ -67,10 +67,6 @@ crash_is : {S : Type 0} (e : End S) (id : ℕ) (r : Option Found) → is_some r 
 crash_is e id None some = absurd (true≢false (sym some))
 crash_is e id (Some found) some = refl
 
-crash_not : {S : Type 0} (e : End S) (id : ℕ) (r : Option Found) → is_some r ≡ false → crashed_if r e id ≡ e
-crash_not e id None none = refl
-crash_not e id (Some found) none = absurd (true≢false none)
-
 -- it was there: its id is pushed, and then it is settled
 pub crashed_by : {S : Type 0} (state : S) (entries : List (ℕ × Found)) (ids pushed : List ℕ) (f : End S) (id : ℕ) → is_in (end_by state entries ids) id false ≡ true
     → pushed ≡ ids ++ id ∷ [] → f ≡ settled (end_by state entries pushed) id → f ≡ after_crash true (end_by state entries ids) id
@@ -79,9 +75,6 @@ crashed_by state entries ids pushed f id there push is =
     ∙ same_parts (settled (end_by state entries pushed) id) (record { state = state; pending = finmap.remove (pending_in entries) id; crashed = finset.insert (crashed_in ids) id })
     refl refl (ap crashed_in push ∙ crashed_push ids id)
     ∙ sym (crash_is (end_by state entries ids) id (found_at entries id) there)
-
-pub crashed_without : {S : Type 0} (e : End S) (id : ℕ) → is_in e id false ≡ false → e ≡ after_crash true e id
-crashed_without e id not_there = sym (crash_not e id (finmap.get e.pending id) not_there)
 
 none_of : (r : Option Found) → is_some r ≡ false → r ≡ None
 none_of None e = refl

@@ -1,55 +1,18 @@
 -- ends that grow by what calls lead to, until they are closed
-use Rattle.std.proofs.Common.{◌≡◌, ℕ, ◌+◌, ◌*◌, ◌<◌, ◌≤◌, inl, inr, ⊎_elim, List, ◌∷◌, ◌++◌, [], map, length, get_or, take, sym, ap, ◌∙◌, subst, arith}
+use Rattle.std.proofs.Common.{◌≡◌, ℕ, Bool, true, Result, Ok, Err, IfOk, ◌+◌, ◌*◌, ◌≤◌, inr, ⊎_elim, List, length, take, sym, ap, subst, arith}
 use Rattle.std.specs.List.{Contains}
-use Rattle.std.proofs.Math.Nat.{mul-le-mul_left, mul-le-mul_right}
-use Rattle.std.proofs.lemmas.List.{length-map, map-append, get_or-map, take-append-le}
-use Rattle.std.proofs.lemmas.List.Elements.{Contains-get_or, Contains-push_cases}
+use Rattle.std.proofs.Math.Nat.{mul-le-mul_left}
 use Rattle.models.specs.Objects.{Object}
-use Rattle.events.specs.Events.{IsFront}
 use Rattle.linspec.specs.Ends.{End}
 use Rattle.ends.specs.declared.pending_op.PendingOp.{PendingOp}
-use Rattle.ends.specs.EndSteps.{Adds, Grows, IsReached, Next}
-use Rattle.interned.proofs.Lists.{one_more}
-use Rattle.ends.proofs.Reaching.{closed_has, reached_itself, reached_next}
+use Rattle.std.specs.declared.alloc.AllocError.{AllocError}
+use Rattle.ends.specs.declared.table.Table.{Table}
+use Rattle.ends.specs.EndSteps.{Adds, AreClosed, Grows, IsReached, Next}
+use Rattle.ends.specs.Tables.{AreShown, Asked, FindsLeft, HasEachOnce, IsAdvanced, IsLeft, ReachesOver, ShownGrown, rows_of}
+use Rattle.ends.proofs.Reaching.{closed_has, reached_itself}
 
 pub Grows-itself : (o : Object) (calls : List PendingOp) (ends : List (End o.State)) → Grows o calls ends ends
 Grows-itself o calls ends = record { kept = λ e h. h; reached = λ e h. reached_itself o calls ends e h; once = λ h. h }
-
--- the calls are tried on the end at this place
-module _ (o : Object) (calls : List PendingOp) {K : Type 0} (f : K → End o.State) (start now new : List K) (at : ℕ) (x kept : K) (within : at < length now) (here : x ≡ get_or now at x) (same : f kept ≡ f x)
-    (front : IsFront now new) (adds : Adds (Next o calls (f kept)) (map f now) (map f new)) where
-  added : Adds (Next o calls (f x)) (map f now) (map f new)
-  added = subst (λ y. Adds (Next o calls y) (map f now) (map f new)) same adds
-
-  long : at < length (map f now)
-  long = let l : length (map f now) ≡ length now = length-map now f in omega arith
-
-  mapped : f x ≡ get_or (map f now) at (f x)
-  mapped = ap f here ∙ sym (get_or-map f now at x (f x) within)
-
-  there : Contains (map f now) (f x)
-  there = subst (Contains (map f now)) (sym mapped) (Contains-get_or (map f now) at (f x) long)
-
-  pub grows_more : Grows o calls (map f start) (map f now) → Grows o calls (map f start) (map f new)
-  grows_more grows = record {
-    kept = λ e h. (added.each e).1 (inl (grows.kept e h));
-    reached = λ e h. ⊎_elim (grows.reached e) (λ n. reached_next o calls (map f start) (f x) e (grows.reached (f x) there) n) ((added.each e).0 h);
-    once = λ h. added.once (grows.once h);
-  }
-
-  first : take (at + 1) (map f new) ≡ take at (map f now) ++ f x ∷ []
-  first =
-      ap (λ l. take (at + 1) (map f l)) (sym front.1) ∙ ap (take (at + 1)) (map-append f now front.0)
-      ∙ take-append-le (at + 1) (map f now) (map f front.0) (let l = long in omega arith)
-      ∙ one_more (map f now) at (f x) long mapped
-
-  pub done_more : ((e g : End o.State) → Contains (take at (map f now)) e → Next o calls e g → Contains (map f now) g)
-      → (e g : End o.State) → Contains (take (at + 1) (map f new)) e → Next o calls e g → Contains (map f new) g
-  done_more done e g h n =
-      ⊎_elim
-      (λ k. (added.each g).1 (inl (done e g k n)))
-      (λ is. (added.each g).1 (inr (subst (λ d. Next o calls d g) (sym is) n)))
-      (Contains-push_cases (take at (map f now)) (f x) e (subst (λ l. Contains l e) first h))
 
 -- what is closed has all that is reached
 pub grown_all : (o : Object) (calls : List PendingOp) (xs ys : List (End o.State)) → Grows o calls xs ys → ((e f : End o.State) → Contains ys e → Next o calls e f → Contains ys f) → Adds (IsReached o calls xs) xs ys
@@ -61,12 +24,36 @@ grown_all o calls xs ys grows closed = record {
   once = grows.once;
 }
 
+-- what an ok finds, by what its rows have grown to: all ends, of which some are left, or else it tells of none
+module _ (o : Object) (t u left : Table o.State) (ok : Asked) (all : Result Bool AllocError)
+    (grows : HasEachOnce ok.calls → (ends : List (End o.State)) → AreShown t ok.calls ends → AreClosed o (take ok.tried ok.calls) ends → IfOk all (ShownGrown o u ok.calls ends))
+    (within : IfOk all (λ all. all ≡ true → length (rows_of u) ≤ ok.budget))
+    (over : ReachesOver o t ok all) where
+  pub finds_left : (told : Bool) → all ≡ Ok told → (HasEachOnce ok.calls → (ends : List (End o.State)) → AreShown u ok.calls ends → IsLeft left ok ends) → FindsLeft o t left ok all
+  finds_left told is settled = record {
+    all = λ once ends shown closed. subst (λ r. IfOk r (λ b. b ≡ true → IsAdvanced o left ok ends)) (sym is) (λ whole.
+        let n : ShownGrown o u ok.calls ends told = subst (λ r. IfOk r (ShownGrown o u ok.calls ends)) is (grows once ends shown closed) in
+        let few : length (rows_of u) ≤ ok.budget = subst (λ r. IfOk r (λ b. b ≡ true → length (rows_of u) ≤ ok.budget)) is within whole in
+        let long = n.shown.long in
+        record {
+          all = n.more;
+          adds = grown_all o ok.calls ends n.more n.grows (n.closed whole);
+          within = omega (arith, long, few);
+          left = settled once n.more n.shown;
+        });
+    over = over;
+  }
+
+  not_all : (r : Result Bool AllocError) → ¬ (r ≡ Ok true) → (P : Type 0) → IfOk r (λ b. b ≡ true → P)
+  not_all (Ok b) other P = λ is. absurd (other (ap Ok is))
+  not_all (Err e) other P = tt
+
+  pub finds_none : ¬ (all ≡ Ok true) → FindsLeft o t left ok all
+  finds_none other = record { all = λ once ends shown closed. not_all all other (IsAdvanced o left ok ends); over = over }
+
 -- the cost of one place more, and of all places
 pub cost_more : (start before after at n : ℕ) → before ≤ start + at * n → after ≤ before + n → after ≤ start + (at + 1) * n
 cost_more start before after at n so_far step = let one : (at + 1) * n ≡ at * n + n = grind arith in omega (arith, so_far, step, one)
-
-pub cost_all : (start now at budget n : ℕ) → now ≤ start + at * n → at ≤ budget → now ≤ start + (budget + 1) * n
-cost_all start now at budget n so_far le = let more : at * n ≤ (budget + 1) * n = mul-le-mul_right n (omega (arith, le)) in omega (arith, so_far, more)
 
 pub cost_within : (start now budget k n : ℕ) → now ≤ start + (budget + 1) * k → k ≤ n → now ≤ start + (budget + 1) * n
 cost_within start now budget k n cost le = let more : (budget + 1) * k ≤ (budget + 1) * n = mul-le-mul_left (budget + 1) le in omega (arith, cost, more)

@@ -12,7 +12,7 @@ use Rattle.ends.specs.declared.table.Table.{Table}
 use Rattle.ends.specs.EndSteps.{Adds, TakesLast, Next, Along, Grows}
 use Rattle.models.specs.declared.finding.Found.{Found}
 use Rattle.ends.specs.KeptEnds.{AreIncluded}
-use Rattle.ends.specs.Tables.{AreLed, AreShown, OnlyAdds, OnlyTries, Says, Shows, ShownWith, Widens, row_led, rows_of, with_rows}
+use Rattle.ends.specs.Tables.{AreLed, AreShown, KeepsRows, OnlyAdds, OnlyTries, Says, Shows, ShownWith, Widens, row_led, rows_of, with_rows}
 use Rattle.interned.specs.Numbers.{IsOnceIn}
 use Rattle.rows.specs.RowSets.{IsPut}
 use Rattle.ends.proofs.Adding.{IsFront-itself, IsFront-push, IsFront-trans, Adds-old, Adds-new, Adds-change, Adds-more, Adds-more_from, Adds-start}
@@ -31,6 +31,13 @@ widens_on t u v a b = record {
   states_once = λ h. b.states_once (a.states_once h);
   founds_once = λ h. b.founds_once (a.founds_once h);
 }
+
+-- the rows stay, and go on to stay
+pub keeps_itself : {S : Type 0} (t : Table S) → KeepsRows t t
+keeps_itself t = record { widens = widens_itself t; rows = refl }
+
+pub keeps_on : {S : Type 0} (t u v : Table S) → KeepsRows t u → KeepsRows u v → KeepsRows t v
+keeps_on t u v a b = record { widens = widens_on t u v a.widens b.widens; rows = b.rows ∙ a.rows }
 
 pub adds_itself : {S : Type 0} (t : Table S) (n : ℕ) → OnlyAdds t t n n
 adds_itself t n = record { widens = widens_itself t; front = IsFront-itself (rows_of t); never_falls = omega arith }
@@ -51,7 +58,7 @@ module _ {S : Type 0} {t u v : Table S} {a b c : ℕ} where
   }
 
 -- a table whose states or whose found things are more
-pub widens_states : {S : Type 0} (t u : Table S) (states : List S) → Widens t u → IsFront u.states states → (IsOnceIn u.states → IsOnceIn states) → Widens t (record { states = states; founds = u.founds; rows = u.rows })
+pub widens_states : {S : Type 0} (t u : Table S) (states : List S) → Widens t u → IsFront u.states states → (IsOnceIn u.states → IsOnceIn states) → Widens t (record { alloc = u.alloc; states = states; founds = u.founds; rows = u.rows })
 widens_states t u states w front once = record {
   states = IsFront-trans t.states u.states states w.states front;
   founds = w.founds;
@@ -59,7 +66,7 @@ widens_states t u states w front once = record {
   founds_once = w.founds_once;
 }
 
-pub widens_founds : {S : Type 0} (t u : Table S) (founds : List Found) → Widens t u → IsFront u.founds founds → (IsOnceIn u.founds → IsOnceIn founds) → Widens t (record { states = u.states; founds = founds; rows = u.rows })
+pub widens_founds : {S : Type 0} (t u : Table S) (founds : List Found) → Widens t u → IsFront u.founds founds → (IsOnceIn u.founds → IsOnceIn founds) → Widens t (record { alloc = u.alloc; states = u.states; founds = founds; rows = u.rows })
 widens_founds t u founds w front once = record {
   states = w.states;
   founds = IsFront-trans t.founds u.founds founds w.founds front;

@@ -1,5 +1,5 @@
 -- Invariant: ends as rows of numbers
-use Rattle.std.specs.Prelude.{◌<◌, ◌≤◌, ◌≡◌, ◌≢◌, ◌↔◌, ℕ, ◌+◌, Bool, true, false, Option, Some, None, List, [], length, take, set, slice_get, get_or, Result, IfOk}
+use Rattle.std.specs.Prelude.{◌<◌, ◌≤◌, ◌≡◌, ◌≢◌, ◌↔◌, ℕ, ◌+◌, Bool, true, false, Option, Some, None, List, [], length, take, set, slice_get, get_or, Result, IfOk, OnOk, ◌*◌}
 use Rattle.std.specs.List.{Contains, filter}
 use Rattle.std.specs.declared.alloc.AllocError.{AllocError}
 use Rattle.std.specs.FinMap as finmap
@@ -13,6 +13,7 @@ use Rattle.linspec.specs.Orders.{Pairwise}
 use Rattle.linspec.specs.Ends.{End}
 use Rattle.interned.specs.Numbers.{IsOnceIn, IsSlot}
 use Rattle.ends.specs.declared.pending_op.PendingOp.{PendingOp}
+use Rattle.ends.specs.declared.returning.Returning.{Returning}
 use Rattle.ends.specs.declared.table.Table.{Table}
 use Rattle.ends.specs.KeptEnds.{IsIncluded}
 use Rattle.ends.specs.EndSteps.{TakesLast, Next, IsReached, Adds, Along, AreClosed, Grows, ReachesMoreThan, Settles, is_other}
@@ -76,6 +77,17 @@ pub record Widens {S : Type 0} (old new : Table S) : Type 0 where
   pub states_once : IsOnceIn old.states → IsOnceIn new.states
   pub founds_once : IsOnceIn old.founds → IsOnceIn new.founds
 
+-- the table may have more states and found things, and its rows are the same
+pub record KeepsRows {S : Type 0} (old new : Table S) : Type 0 where
+  pub widens : Widens old new
+  pub rows : rows_of new ≡ rows_of old
+
+-- rows may be put behind those of the table, which stay, and nothing else changes
+pub record OnlyPuts {S : Type 0} (old new : Table S) : Type 0 where
+  pub states : new.states ≡ old.states
+  pub founds : new.founds ≡ old.founds
+  pub front : IsFront (rows_of old) (rows_of new)
+
 -- calls are tried and no more: the table has what it had and its rows are the same, and the count of the steps does not fall
 pub record OnlyTries {S : Type 0} (old new : Table S) (before after : ℕ) : Type 0 where
   pub widens : Widens old new
@@ -112,6 +124,13 @@ pub record ShownWith {S : Type 0} (t : Table S) (calls : List PendingOp) (ends :
   pub front : IsFront ends more
   pub adds : Adds P ends more
 
+-- the rows with the numbers of each target stand behind the others, if they are to say ends
+abbrev pub PutsLed : {S : Type 0} → Table S → Table S → List ℕ → ℕ → List (ℕ × ℕ) → Result (Unit {0}) AllocError → Type 0
+PutsLed {S} old new row place targets result =
+    (calls : List PendingOp) (ends : List (End S)) → AreShown old calls ends
+    → ((to : ℕ × ℕ) → Contains targets to → (f : End S) × Shows old calls (row_led row place to) f)
+    → OnOk result (ShownWith new calls ends (Along (λ to f. Shows old calls (row_led row place to) f) targets))
+
 -- the rows say these ends and more that calls lead to, all of them if so it is told
 pub record ShownGrown (o : Object) (t : Table o.State) (calls : List PendingOp)
     (ends : List (End o.State)) (all : Bool) : Type 0 where
@@ -138,7 +157,7 @@ pub record AreMarksOf (answer : Answer) (founds : List Found) (marks : List Bool
 
 -- the table with these rows
 abbrev pub with_rows : {S : Type 0} → Table S → List (List ℕ) → Table S
-with_rows t rows = record { states = t.states; founds = t.founds; rows = rows }
+with_rows t rows = record { alloc = t.alloc; states = t.states; founds = t.founds; rows = rows }
 
 -- both have the same states, found things and rows
 pub record IsSameTable {S : Type 0} (t u : Table S) : Type 0 where
@@ -166,22 +185,56 @@ pub record SayTheSame {S : Type 0} (t u : Table S) (n : ℕ) : Type 0 where
       → (new : List ℕ) × (slice_get (rows_of u) i ≡ Some new)
       × SaysTheSame t.states u.states row new
 
--- the rows say what an ok leaves of all ends that the calls lead to from these
-pub record IsAdvanced (o : Object) (t : Table o.State) (calls : List PendingOp)
-    (ends : List (End o.State)) (budget id : ℕ) (answer : Answer) : Type 0 where
-  pub all : List (End o.State)
-  pub adds : Adds (IsReached o calls ends) ends all
-  pub within : length all ≤ budget
-  pub left : ShownWith t (filter (is_other id) calls) [] (Along (Settles id answer) all)
+-- what an ok asks: the calls, of which the first were tried, the most ends that may stand just before it, the operation and its
+-- answer
+pub record Asked : Type 0 where
+  pub calls : List PendingOp
+  pub tried : ℕ
+  pub budget : ℕ
+  pub id : ℕ
+  pub answer : Answer
 
--- what an ok finds, where the first calls, `tried` of them, lead from the ends of the table `t` to no others: either the table
--- `left` has what the ok leaves of all ends that the calls lead to, or all ends are more than the budget (which is told where the
--- ends of `t` are there once each)
-pub record FindsLeft (o : Object) (t left : Table o.State) (calls : List PendingOp)
-    (tried budget id : ℕ) (answer : Answer) (result : Result Bool AllocError) : Type 0 where
-  pub all : HasEachOnce calls → (ends : List (End o.State)) → AreShown t calls ends
-      → AreClosed o (take tried calls) ends
-      → IfOk result (λ all. all ≡ true → IsAdvanced o left calls ends budget id answer)
-  pub over : HasEachOnce calls → (ends : List (End o.State)) → Pairwise (λ d e. d ≢ e) ends
-      → AreShown t calls ends → AreClosed o (take tried calls) ends
-      → IfOk result (λ all. all ≡ false → ReachesMoreThan o calls ends budget)
+abbrev pub asked_by : Returning → Asked
+asked_by returning = record {
+  calls = returning.calls.now;
+  tried = returning.tried;
+  budget = returning.budget;
+  id = returning.id;
+  answer = returning.answer.now;
+}
+
+-- the rows say what an ok leaves of these ends
+abbrev pub IsLeft : {S : Type 0} → Table S → Asked → List (End S) → Type 0
+IsLeft t ok ends =
+    ShownWith t (filter (is_other ok.id) ok.calls) []
+    (Along (Settles ok.id ok.answer) ends)
+
+-- the rows say what an ok leaves of all ends that the calls lead to from these
+pub record IsAdvanced (o : Object) (t : Table o.State) (ok : Asked) (ends : List (End o.State)) : Type 0 where
+  pub all : List (End o.State)
+  pub adds : Adds (IsReached o ok.calls ends) ends all
+  pub within : length all ≤ ok.budget
+  pub left : IsLeft t ok all
+
+-- where false is told, the ends of the table, which are there once each, and what the calls lead to from them are more than the
+-- budget; the calls that were tried lead from these ends to no others
+abbrev pub ReachesOver : (o : Object) → Table o.State → Asked → Result Bool AllocError → Type 0
+ReachesOver o t ok result =
+    let calls = ok.calls in
+    HasEachOnce calls → (ends : List (End o.State)) → Pairwise (λ d e. d ≢ e) ends
+    → AreShown t calls ends → AreClosed o (take ok.tried calls) ends
+    → IfOk result (λ all. all ≡ false → ReachesMoreThan o calls ends ok.budget)
+
+-- what an ok finds, where the calls that were tried lead from the ends of the table `t` to no others: either the table `left` has
+-- what the ok leaves of all ends that the calls lead to, or all ends are more than the budget (which is told where the ends of `t`
+-- are there once each)
+pub record FindsLeft (o : Object) (t left : Table o.State) (ok : Asked) (result : Result Bool AllocError) : Type 0 where
+  pub all : let calls = ok.calls in
+      HasEachOnce calls → (ends : List (End o.State)) → AreShown t calls ends
+      → AreClosed o (take ok.tried calls) ends
+      → IfOk result (λ all. all ≡ true → IsAdvanced o left ok ends)
+  pub over : ReachesOver o t ok result
+
+-- an ok makes no more steps than these: one for each call and each of so many ends as the budget, and one more
+abbrev pub most_steps : Asked → ℕ
+most_steps ok = (ok.budget + 1) * length ok.calls

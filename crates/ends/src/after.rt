@@ -1,14 +1,15 @@
 //! The ends after an event, by those before it.
-ghost use Rattle.std.specs.Prelude.{◌≡◌, ◌↔◌, ◌<◌, ◌+◌, get_or, ℕ, List, [], IsTrue, false, None, map, length};
+ghost use Rattle.std.specs.Prelude.{◌≡◌, ◌↔◌, ◌<◌, ◌+◌, ℕ, List, [], IsTrue, false, None, map, length};
 ghost use Rattle.std.specs.Prelude.{IfOk, OnOk, IfSome};
 ghost use Rattle.linspec.specs.Ends.{End};
 ghost use Rattle.ends.specs.KeptEnds.{end_kept};
 ghost use Rattle.std.specs.List.{filter};
-ghost use Rattle.ends.specs.EndSteps.{Settles, Fails, Along, after_crash, is_other};
-ghost use Rattle.ends.specs.Tables.{AreMarksOf, AreShown, HasEachOnce, IsOpenAt, ShownWith, with_rows};
+ghost use Rattle.ends.specs.EndSteps.{Fails, Along, after_crash, is_other};
+ghost use Rattle.ends.specs.Tables.{AreMarksOf, AreShown, HasEachOnce, IsLeft, IsOpenAt, ShownWith, asked_by, with_rows};
 
 use crate::kept_end::{KeptEnd, copy_of};
 use crate::pending_op::PendingOp;
+use crate::returning::Returning;
 use crate::table::{self, Table};
 use interned::Founds;
 use models::{Answer, SeqObject, finding};
@@ -48,8 +49,8 @@ fn lengthen(marks: &mut Vec<bool>, long: usize) -> Result<(), AllocError>
 }
 
 /// Writes the marks of the numbers that a row may have at the place of an open operation: a number has one where what it stands for
-/// fits the answer, and zero, where the operation is not in, has none. Marks behind these stay as they were. `AllocError` where there
-/// is no memory for them: then there may be more of them. Takes the time of what was found.
+/// fits the answer, and zero, where the operation is not in, has none. Marks behind these stay as they were. `AllocError` where
+/// there is no memory for them: then there may be more of them. Takes the time of what was found.
 pub fn mark_fitting(
     founds: &Founds,
     answer: &Answer,
@@ -70,36 +71,33 @@ pub fn mark_fitting(
     Ok(())
 }
 
-/// Puts the rows after the operation has returned with this answer, of those where it is in and what it found fits, each without
-/// it, in place of the rows that were there. None where it is not open. Looks at one number of each row.
+/// Puts the rows after the operation has returned, of those where it is in and what it found fits the answer, each without it, in
+/// place of the rows that were there. Leaves no rows where the operation is not open. Looks at one number of each row.
 pub fn settled<S: Hash + Drop>(
     table: &Table<S>,
-    calls: &[PendingOp],
-    id: u32,
-    answer: &Answer,
+    returning: &Returning,
     marks: &mut Vec<bool>,
     rows: &mut RowSet,
 ) -> Result<(), AllocError>
-    ensures { HasEachOnce calls.now → (ends : List (End S))
-        → AreShown table.now calls.now ends → OnOk result
-        (ShownWith (with_rows table.now rows.new) (filter (is_other id) calls.now) []
-        (Along (Settles id answer.now) ends)) }
+    ensures { let calls = returning.now.calls.now in
+        HasEachOnce calls → (ends : List (End S)) → AreShown table.now calls ends
+        → OnOk result (IsLeft (with_rows table.now rows.new) (asked_by returning.now) ends) }
 {
-    match place_of_open(calls, id) {
+    match place_of_open(returning.calls, returning.id) {
         Some(call) => {
-            mark_fitting(&table.founds, answer, marks)?;
-            rows.restart_like(&table.rows, calls.len());
+            mark_fitting(&table.founds, returning.answer, marks)?;
+            rows.restart_like(&table.rows, returning.calls.len());
             rows.put_marked(&table.rows, call + 1, marks)
         }
         None => {
-            rows.restart(calls.len());
+            rows.restart(returning.calls.len());
             Ok(())
         }
     }
 }
 
 /// Puts the rows after the operation, which is open, has failed, of those ends that it is not in, each without its number, in place
-/// of the rows that were there. None where it is not open. Looks at one number of each row.
+/// of the rows that were there. Leaves no rows where the operation is not open. Looks at one number of each row.
 pub fn failed<S: Hash + Drop>(
     table: &Table<S>,
     calls: &[PendingOp],
@@ -123,24 +121,6 @@ pub fn failed<S: Hash + Drop>(
     }
 }
 
-// The end after the operation has crashed.
-fn crashed_end<M: SeqObject>(
-    alloc: Global,
-    kept: &KeptEnd<M::State>,
-    id: u32,
-    counts: bool,
-) -> Result<KeptEnd<M::State>, AllocError>
-    ensures { IfOk result (λ after. end_kept after ≡ after_crash counts (end_kept kept.now) id) }
-{
-    let mut after = copy_of::<M>(alloc, kept)?;
-    if counts {
-        after.crash(id)?;
-        return Ok(after);
-    }
-    after.settle(id);
-    Ok(after)
-}
-
 /// The ends after the operation has crashed, in the same order. If it counts it is among the crashed ones of an end that it is in,
 /// and else it is in no end any more. Ends that differed before may be the same then. Takes the time of the ends: for each that of
 /// a copy of its state, and of the operations in it.
@@ -155,7 +135,9 @@ pub fn crashed_ends<M: SeqObject>(
 {
     let mut after = Vec::with_capacity(alloc, ends.len())?;
     for kept in ends {
-        after.push(crashed_end::<M>(alloc, kept, id, counts)?)?;
+        let mut end = copy_of::<M>(alloc, kept)?;
+        end.crash(id, counts)?;
+        after.push(end)?;
     }
     Ok(after)
 }

@@ -7,29 +7,26 @@ use crate::table::Table;
 use interned::{States, founds, states};
 use models::SeqObject;
 use rows::RowSet;
-use std::alloc::{AllocError, Global};
+use std::alloc::AllocError;
 
 /// The same table, with memory of its own. Takes the time of the rows, the states and what was found.
-pub fn copied_whole<M: SeqObject>(
-    alloc: Global,
-    table: &Table<M::State>,
-) -> Result<Table<M::State>, AllocError>
+pub fn copied_whole<M: SeqObject>(table: &Table<M::State>) -> Result<Table<M::State>, AllocError>
     ensures { IfOk result (IsSameTable table.now) }
 {
-    let states = states::copied::<M>(alloc, &table.states)?;
-    let founds = founds::copied(alloc, &table.founds)?;
+    let states = states::copied::<M>(table.alloc, &table.states)?;
+    let founds = founds::copied(table.alloc, &table.founds)?;
     let rows = table.rows.copied()?;
     Ok(Table {
+        alloc: table.alloc,
         states,
         founds,
         rows,
     })
 }
 
-// Puts the row that stands here behind those of the other table, by the number that its state has there. False where it has
-// no state, or is there already.
+// Puts the row at this place behind those of the other table, by the number that its state has there. False where it has no state,
+// or is there already.
 fn put_again<M: SeqObject>(
-    alloc: Global,
     table: &Table<M::State>,
     from: usize,
     other: &mut Table<M::State>,
@@ -43,7 +40,7 @@ fn put_again<M: SeqObject>(
     let Some(state) = table.states.get(table.rows.number(from, 0)) else {
         return Ok(false);
     };
-    let number = states::number_of::<M>(&mut other.states, M::copy(alloc, state)?)?;
+    let number = states::number_of::<M>(&mut other.states, M::copy(table.alloc, state)?)?;
     if row.is_empty() {
         return Ok(false);
     }
@@ -55,7 +52,6 @@ fn put_again<M: SeqObject>(
 // The table with the states of its rows alone, where it has more states than rows. None where it has no more, and where two
 // rows are one, or one has no state: such rows say no ends.
 fn narrowed<M: SeqObject>(
-    alloc: Global,
     table: &Table<M::State>,
     calls: &[PendingOp],
 ) -> Result<Option<Table<M::State>>, AllocError>
@@ -64,14 +60,16 @@ fn narrowed<M: SeqObject>(
     if table.states.len() <= table.rows.len() {
         return Ok(None);
     }
+    let alloc = table.alloc;
     let mut other = Table {
+        alloc,
         states: States::new(alloc),
         founds: founds::copied(alloc, &table.founds)?,
         rows: RowSet::new(alloc, calls.len().saturating_add(1)),
     };
     let mut row = Vec::new(alloc);
     for from in 0..table.rows.len() {
-        if !put_again::<M>(alloc, table, from, &mut other, &mut row)? {
+        if !put_again::<M>(table, from, &mut other, &mut row)? {
             return Ok(None);
         }
     }
@@ -81,14 +79,13 @@ fn narrowed<M: SeqObject>(
 /// A table that shows the same ends, with no more states than it has rows. Rows and states are copied, while the items of queues
 /// and the members that were found are shared. Takes the time of the rows, the states and what was found.
 pub fn copied<M: SeqObject>(
-    alloc: Global,
     table: &Table<M::State>,
     calls: &[PendingOp],
 ) -> Result<Table<M::State>, AllocError>
     ensures { IfOk result (ShowTheSame table.now) }
 {
-    match narrowed::<M>(alloc, table, calls)? {
+    match narrowed::<M>(table, calls)? {
         Some(other) => Ok(other),
-        None => copied_whole::<M>(alloc, table),
+        None => copied_whole::<M>(table),
     }
 }

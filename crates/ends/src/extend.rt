@@ -1,21 +1,19 @@
 //! The ends that calls lead to from others.
-ghost use Rattle.std.specs.Prelude.{◌≡◌, ◌≢◌, ℕ, ◌+◌, ◌*◌, ◌<◌, ◌≤◌, true, false, take, drop};
+ghost use Rattle.std.specs.Prelude.{◌≡◌, ℕ, ◌+◌, ◌<◌, ◌≤◌, true, false, take, drop};
 ghost use Rattle.std.specs.Prelude.{List, [], ◌∷◌, get_or, length, slice_get, Some, IfOk, OnOk};
-ghost use Rattle.std.specs.List.{Contains};
 ghost use Rattle.models.specs.Objects.{of_table};
-ghost use Rattle.events.specs.Events.{IsFront};
 ghost use Rattle.linspec.specs.Ends.{End};
-ghost use Rattle.linspec.specs.Orders.{Pairwise};
 ghost use Rattle.ends.specs.Moves.{AreAlike, AreMoves, IsAlike, IsKnown, KeepMoves, targets_of};
-ghost use Rattle.ends.specs.EndSteps.{Along, AreClosed, TakesLast, Next, ReachesMoreThan, is_in};
-ghost use Rattle.ends.specs.Tables.{AreShown, FindsLeft, HasEachOnce, OnlyAdds, OnlyTries, ShownGrown, ShownWith, Shows};
-ghost use Rattle.ends.specs.Tables.{row_led, rows_of, with_rows};
+ghost use Rattle.ends.specs.EndSteps.{AreClosed, TakesLast, Next, ReachesMoreThan, is_in};
+ghost use Rattle.ends.specs.Tables.{AreShown, FindsLeft, HasEachOnce, OnlyAdds, OnlyPuts, OnlyTries, PutsLed, ReachesOver, ShownGrown};
+ghost use Rattle.ends.specs.Tables.{ShownWith, Shows, asked_by, most_steps, rows_of, with_rows};
 
 use crate::after;
-use crate::moves::{self, Move, Moves};
+use crate::moves::{self, Attempt, Move, Moves};
 use crate::pending_op::PendingOp;
+use crate::returning::Returning;
 use crate::table::{self, Table};
-use models::{Answer, SeqObject};
+use models::SeqObject;
 use rows::{Row, RowSet};
 use std::alloc::{AllocError, Global};
 use std::hash::Hash;
@@ -62,7 +60,8 @@ impl<S: Drop> Room<S> {
     }
 }
 
-// Puts the row that stands here, with each of these numbers of a state and at the place, behind the others.
+// Adds a copy of the row at `from` for each target: with the target's number of a state first, and its number of what was found at
+// the place.
 #[inline(never)]
 fn put_each<S: Hash + Drop>(
     table: &mut Table<S>,
@@ -74,15 +73,8 @@ fn put_each<S: Hash + Drop>(
     requires after { 0 < place }
     requires zero_there { 0 < length targets.now
         → slice_get (get_or (rows_of table.old) from []) place ≡ Some 0 }
-    ensures puts { let row = get_or (rows_of table.old) from [] in
-        (calls : List PendingOp) (ends : List (End S)) → AreShown table.old calls ends
-        → ((to : ℕ × ℕ) → Contains targets.now to
-        → (f : End S) × Shows table.old calls (row_led row place to) f)
-        → OnOk result (ShownWith table.new calls ends
-        (Along (λ to f. Shows table.old calls (row_led row place to) f) targets.now)) }
-    ensures states { table.new.states ≡ table.old.states }
-    ensures founds { table.new.founds ≡ table.old.founds }
-    ensures front { IsFront (rows_of table.old) (rows_of table.new) }
+    ensures puts { PutsLed table.old table.new (get_or (rows_of table.old) from []) place targets.now result }
+    ensures only_rows { OnlyPuts table.old table.new }
 {
     for at in 0..targets.len() {
         let (to, slot) = targets[at];
@@ -91,7 +83,7 @@ fn put_each<S: Hash + Drop>(
     Ok(())
 }
 
-// Puts the row that stands here, with the numbers of each target of the move, behind the others.
+// Adds a copy of the row at `from` for each target of the move.
 #[inline(always)]
 fn put_led<S: Hash + Drop>(
     table: &mut Table<S>,
@@ -106,15 +98,8 @@ fn put_led<S: Hash + Drop>(
     requires zero_there { 0 < length (targets_of to targets.now)
         → slice_get (get_or (rows_of table.old) from []) place ≡ Some 0 }
     ensures puts { let row = get_or (rows_of table.old) from [] in
-        (calls : List PendingOp) (ends : List (End S)) → AreShown table.old calls ends
-        → ((target : ℕ × ℕ) → Contains (targets_of to targets.now) target
-        → (f : End S) × Shows table.old calls (row_led row place target) f)
-        → OnOk result (ShownWith table.new calls ends
-        (Along (λ target f. Shows table.old calls (row_led row place target) f)
-        (targets_of to targets.now))) }
-    ensures states { table.new.states ≡ table.old.states }
-    ensures founds { table.new.founds ≡ table.old.founds }
-    ensures front { IsFront (rows_of table.old) (rows_of table.new) }
+        PutsLed table.old table.new row place (targets_of to targets.now) result }
+    ensures only_rows { OnlyPuts table.old table.new }
 {
     match to {
         Move::To(number, slot) => {
@@ -131,47 +116,42 @@ fn put_led<S: Hash + Drop>(
     }
 }
 
-// Adds what the call at this place, which is not in it, leads to from the end of this row, which stands here. The call at the
-// other place does the same.
+// Adds a row for each end that the call leads to from the end of the row at `from`, which is this row, and in which the call is
+// not.
 fn grow_at<M: SeqObject>(
-    alloc: Global,
     table: &mut Table<M::State>,
     moves: &mut Moves<M::State>,
     from: usize,
-    number: usize,
     row: &Row,
     calls: &[PendingOp],
-    at: usize,
-    place: usize,
+    attempt: Attempt,
     applied: &mut u64,
 ) -> Result<(), AllocError>
-    requires within { at < length calls.now }
-    requires before { place ≤ at }
+    requires within { attempt.at < length calls.now }
+    requires before { attempt.place ≤ attempt.at }
     requires here { from < length (rows_of table.old) }
-    requires number { number ≡ get_or row.now 0 0 }
     requires row { row.now ≡ get_or (rows_of table.old) from [] }
-    requires zero_there { slice_get row.now (at + 1) ≡ Some 0 }
+    requires zero_there { slice_get row.now (attempt.at + 1) ≡ Some 0 }
     ensures moves { OnOk result (KeepMoves M.apply_to calls.now table.old table.new moves.old moves.new) }
     ensures adds { let object = of_table M.State M.start_state M.apply_to in
         AreMoves M.apply_to table.old calls.now moves.old.known moves.old.targets.items
-        → IsAlike calls.now at place → HasEachOnce calls.now
+        → IsAlike calls.now attempt.at attempt.place → HasEachOnce calls.now
         → (c : PendingOp) (e : End M.State) (ends : List (End M.State))
-        → slice_get calls.now at ≡ Some c → Shows table.old calls.now row.now e
+        → slice_get calls.now attempt.at ≡ Some c → Shows table.old calls.now row.now e
         → AreShown table.old calls.now ends
         → OnOk result (ShownWith table.new calls.now ends (TakesLast object e c)) }
     ensures only_adds { OnlyAdds table.old table.new applied.old applied.new }
     ensures cost { applied.new ≤ applied.old + 1 }
 {
-    let to = table::led_to::<M>(alloc, table, moves, number, row, calls, at, place, applied)?;
+    let to = table::led_to::<M>(table, moves, row, calls, attempt, applied)?;
     if let Move::Nowhere = to {
         return Ok(());
     }
-    put_led(table, from, at + 1, to, &moves.targets)
+    put_led(table, from, attempt.at + 1, to, &moves.targets)
 }
 
-// Adds what each call from that place on leads to from the end of this row, which stands here.
+// Adds a row for each end that a call from the first place on leads to from the end of the row at `from`, which is this row.
 fn grow_from<M: SeqObject>(
-    alloc: Global,
     table: &mut Table<M::State>,
     moves: &mut Moves<M::State>,
     from: usize,
@@ -206,8 +186,15 @@ fn grow_from<M: SeqObject>(
             at += stuck;
             continue;
         }
+        let place = like.place;
         grow_at::<M>(
-            alloc, table, moves, from, number, row, calls, at, like.place, applied,
+            table,
+            moves,
+            from,
+            row,
+            calls,
+            Attempt { at, place },
+            applied,
         )?;
         at += 1;
     }
@@ -251,117 +238,78 @@ fn leads_beyond<M: SeqObject>(
     false
 }
 
-// Adds what the calls lead to, one after another: goes through the rows once while they grow at their end. The first
-// calls, which were tried already, are tried on new rows alone. False where all ends are more than the budget, and then
-// there may be more to add. So no call is tried that has more outcomes in a state than the budget.
+// Adds what the calls lead to, one after another: goes through the rows once while they grow at their end. The calls that were
+// tried already are tried on new rows alone. False where all ends are more than the budget, and then there may be more to add. So
+// no call is tried that has more outcomes in a state than the budget.
 fn grow<M: SeqObject>(
-    alloc: Global,
     table: &mut Table<M::State>,
     moves: &mut Moves<M::State>,
     row: &mut Row,
-    calls: &[PendingOp],
-    tried: usize,
-    budget: u32,
+    returning: &Returning,
     applied: &mut u64,
 ) -> Result<bool, AllocError>
     ensures grows { let object = of_table M.State M.start_state M.apply_to in
-        HasEachOnce calls.now → (ends : List (End M.State)) → AreShown table.old calls.now ends
-        → AreClosed object (take tried calls.now) ends
-        → IfOk result (ShownGrown object table.new calls.now ends) }
-    ensures within { IfOk result (λ all. all ≡ true → length (rows_of table.new) ≤ budget) }
+        let calls = returning.now.calls.now in
+        HasEachOnce calls → (ends : List (End M.State)) → AreShown table.old calls ends
+        → AreClosed object (take returning.now.tried calls) ends
+        → IfOk result (ShownGrown object table.new calls ends) }
+    ensures within { IfOk result (λ all. all ≡ true
+        → length (rows_of table.new) ≤ returning.now.budget) }
     ensures over { let object = of_table M.State M.start_state M.apply_to in
-        HasEachOnce calls.now → (ends : List (End M.State)) → Pairwise (λ d e. d ≢ e) ends
-        → AreShown table.old calls.now ends → AreClosed object (take tried calls.now) ends
-        → IfOk result (λ all. all ≡ false → ReachesMoreThan object calls.now ends budget) }
+        ReachesOver object table.old (asked_by returning.now) result }
     ensures only_adds { OnlyAdds table.old table.new applied.old applied.new }
-    ensures cost { applied.new ≤ applied.old + (budget + 1) * length calls.now }
+    ensures cost { applied.new ≤ applied.old + most_steps (asked_by returning.now) }
 {
-    moves::forget(alloc, moves, table::first_number(table));
-    moves::note_likes(moves, calls)?;
+    moves::forget(table.alloc, moves, table::first_number(table));
+    moves::note_likes(moves, returning.calls)?;
     let kept = table.rows.len();
-    for at in 0..budget as usize {
-        if table.rows.len() > budget as usize {
+    for at in 0..returning.budget as usize {
+        if table.rows.len() > returning.budget as usize {
             return Ok(false);
         }
         if at >= table.rows.len() {
             return Ok(true);
         }
-        let first = first_for(at, kept, tried);
-        if first >= calls.len() {
+        let first = first_for(at, kept, returning.tried);
+        if first >= returning.calls.len() {
             continue;
         }
         table.rows.look(at, row)?;
-        if leads_beyond::<M>(table, row, calls, first, budget) {
+        if leads_beyond::<M>(table, row, returning.calls, first, returning.budget) {
             return Ok(false);
         }
-        grow_from::<M>(alloc, table, moves, at, row, calls, first, applied)?;
+        grow_from::<M>(table, moves, at, row, returning.calls, first, applied)?;
     }
-    Ok(table.rows.len() <= budget as usize)
+    Ok(table.rows.len() <= returning.budget as usize)
 }
 
-// Extends the rows to all ends, and puts those that are left after the operation has returned with this answer into the
-// room. False where all are more than the budget.
-fn found_rows<M: SeqObject>(
-    alloc: Global,
-    table: &mut Table<M::State>,
-    room: &mut Room<M::State>,
-    calls: &[PendingOp],
-    tried: usize,
-    budget: u32,
-    applied: &mut u64,
-    id: u32,
-    answer: &Answer,
-) -> Result<bool, AllocError>
-    ensures found { let object = of_table M.State M.start_state M.apply_to in
-        FindsLeft object table.old (with_rows table.new room.new.rows) calls.now tried budget id answer.now result }
-    ensures only_adds { OnlyAdds table.old table.new applied.old applied.new }
-    ensures cost { applied.new ≤ applied.old + (budget + 1) * length calls.now }
-{
-    if !grow::<M>(
-        alloc,
-        table,
-        &mut room.moves,
-        &mut room.row,
-        calls,
-        tried,
-        budget,
-        applied,
-    )? {
-        return Ok(false);
-    }
-    after::settled(table, calls, id, answer, &mut room.marks, &mut room.rows)?;
-    Ok(true)
-}
-
-/// Puts the rows of the ends that are left after the operation has returned with this answer into the room: of those where it
-/// is in and what it found fits, each without it. False where all ends, these and what the calls lead to from them one after
-/// another, are more than the budget. This is so where each end is there once, each call is of another operation, and the first
-/// calls, so many as were tried already, lead from the ends to no others. No more ends than the budget are extended, and no
-/// call is tried that has more outcomes than the budget. The rows of the table stay.
+/// Puts the rows of the ends that are left after the operation has returned into the room: of those where it is in and what it
+/// found fits the answer, each without it. False where all ends, these and what the calls lead to from them one after another, are
+/// more than the budget. This is so where each end is there once, each call is of another operation, and the calls that were tried
+/// already lead from the ends to no others. No more ends than the budget are extended, and no call is tried that has more outcomes
+/// than the budget. The rows of the table stay.
 ///
 /// `AllocError` where there is no memory for them: the rows of the table stay then too, and the steps that were made stay
 /// counted. It makes at most one step for each call and each end that is extended, and looks the row of each end that comes of
 /// one up among the others.
 pub fn advance<M: SeqObject>(
-    alloc: Global,
     table: &mut Table<M::State>,
     room: &mut Room<M::State>,
-    calls: &[PendingOp],
-    tried: usize,
-    budget: u32,
+    returning: &Returning,
     applied: &mut u64,
-    id: u32,
-    answer: &Answer,
 ) -> Result<bool, AllocError>
     ensures found { let object = of_table M.State M.start_state M.apply_to in
-        FindsLeft object table.old (with_rows table.new room.new.rows) calls.now tried budget id answer.now result }
+        FindsLeft object table.old (with_rows table.new room.new.rows) (asked_by returning.now) result }
     ensures tries { OnlyTries table.old table.new applied.old applied.new }
-    ensures cost { applied.new ≤ applied.old + (budget + 1) * length calls.now }
+    ensures cost { applied.new ≤ applied.old + most_steps (asked_by returning.now) }
 {
     let kept = table.rows.len();
-    let found = found_rows::<M>(
-        alloc, table, room, calls, tried, budget, applied, id, answer,
-    );
+    let all = grow::<M>(table, &mut room.moves, &mut room.row, returning, applied);
+    let left = match all {
+        Ok(true) => after::settled(table, returning, &mut room.marks, &mut room.rows),
+        _ => Ok(()),
+    };
     table.rows.truncate(kept);
-    found
+    left?;
+    all
 }

@@ -87,19 +87,22 @@ impl<S> KeptEnd<S> {
         Ok(())
     }
 
-    /// The open operation is done now, and what it found is told no more. Takes the time of the open operations in it.
-    pub fn settle(&mut self, id: u32)
+    // The open operation is done now, and what it found is told no more.
+    fn settle(&mut self, id: u32)
         ensures { end_kept self.new ≡ settled (end_kept self.old) id }
     {
         self.pending.retain(|entry| entry.0 != id);
     }
 
-    /// The open operation crashes, and is among the crashed ones if it is in it. `AllocError` where there is no memory for it:
-    /// then the end is as it was. Takes the time of the open operations in it.
-    pub fn crash(&mut self, id: u32) -> Result<(), AllocError>
-        ensures { OnOk result (end_kept self.new ≡ after_crash true (end_kept self.old) id) }
+    /// The open operation crashes. If it counts and is in the end, it is among the crashed ones then, and if it does not count it
+    /// is in the end no longer. `AllocError` where there is no memory for it: then the end is as it was. Takes the time of the open
+    /// operations in it.
+    pub fn crash(&mut self, id: u32, counts: bool) -> Result<(), AllocError>
+        ensures { OnOk result (end_kept self.new ≡ after_crash counts (end_kept self.old) id) }
     {
-        if self.includes(id) {
+        if !counts {
+            self.settle(id);
+        } else if self.includes(id) {
             self.crashed.push(id)?;
             self.settle(id);
         }

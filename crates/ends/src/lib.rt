@@ -1,5 +1,12 @@
 //! The ends of the legal orders of one key's history, as rows of small numbers, and what operations and answers make of them.
 //!
+//! A row has the number of the end's state, and then a number for each call: zero where the call is not in the end, else one more
+//! than the number of what it found. Equal ends are equal rows ([`Table`]). An ok ([`advance`]) lets the rows grow by what each
+//! call leads to, which is tried once in each state and remembered until the next ok; counts them against the budget; puts those
+//! whose operation found what the answer says into other rows, without the operation's number; and takes back what has grown. A
+//! fail ([`failed`]) keeps the rows that have a zero there. A crash makes ends of the rows ([`ends_of`]), changes these
+//! ([`crashed_ends`]), and makes rows of them again ([`of_ends`]).
+//!
 //! A call takes memory only where its result can be `AllocError`, or a refusal for want of memory.
 #![tactic(auto)]
 
@@ -10,6 +17,7 @@ mod kept_end;
 mod moves;
 mod notes;
 mod pending_op;
+mod returning;
 mod table;
 
 pub use after::{crashed_ends, failed, mark_fitting, place_of_open};
@@ -17,4 +25,5 @@ pub use copies::{copied, copied_whole};
 pub use extend::{Room, advance};
 pub use kept_end::KeptEnd;
 pub use pending_op::{PendingOp, copy_calls, crash_call, drop_call, is_read};
+pub use returning::Returning;
 pub use table::{Table, clear, empty, ends_of, of_ends, refill, step, told_by};

@@ -1,10 +1,10 @@
 //! What calls do in states, by numbers.
-ghost use Rattle.std.specs.Prelude.{◌≡◌, ◌+◌, ◌-◌, ◌*◌, ◌^◌, ◌<◌, ◌≤◌, ◌⊎◌, ℕ, List, [], ◌∷◌, ◌++◌, Some, IsTrue, length, get_or};
+ghost use Rattle.std.specs.Prelude.{◌≡◌, ◌+◌, ◌-◌, ◌*◌, ◌^◌, ◌<◌, ◌≤◌, ◌⊎◌, ℕ, List, [], ◌∷◌, ◌++◌, Some, IsTrue, length};
 ghost use Rattle.std.specs.Prelude.{slice_get};
 ghost use Rattle.std.specs.Prelude.{IfOk, OnOk, IfSome};
 ghost use Rattle.ends.specs.Moves.{AreAlike, AreAll, AreTo, IsAlike, IsKnown, IsStuck, IsTo, KeepMoves, LeadsTo, known_at, targets_of};
 ghost use Rattle.ends.specs.Notes.{AreUntried};
-ghost use Rattle.ends.specs.Tables.{OnlyTries, Widens, rows_of};
+ghost use Rattle.ends.specs.Tables.{KeepsRows, OnlyTries};
 
 use crate::notes::{MOST_KEPT, Notes};
 use crate::pending_op::PendingOp;
@@ -41,11 +41,19 @@ pub struct Known {
     list: Notes,
 }
 
-/// Where a call stands that does the same as so many from some place on.
+/// Equal calls: so many from some place on (`run`) do the same as the call at `place`.
 #[derive(Clone, Copy)]
 pub struct Like {
     pub place: usize,
     run: usize,
+}
+
+/// A call to try: where it stands, and where an equal call stands, which is tried in its place and under which the move is
+/// remembered.
+#[derive(Clone, Copy)]
+pub struct Attempt {
+    pub at: usize,
+    pub place: usize,
 }
 
 /// What is known of calls in states, with the list of the targets of those that lead to several, and memory to try more of them;
@@ -55,6 +63,7 @@ pub struct Moves<S> {
     known: Known,
     pub targets: Vec<(usize, usize)>,
     outcomes: Vec<(S, Found)>,
+    /// For each call the run of equal calls that begins with it, the last call first.
     likes: Vec<Like>,
 }
 
@@ -156,8 +165,7 @@ fn target_of<M: SeqObject>(
     found: Found,
 ) -> Result<(usize, usize), AllocError>
     ensures is { IfOk result (IsTo table.new crashed (state, found)) }
-    ensures widens { Widens table.old table.new }
-    ensures rows { rows_of table.new ≡ rows_of table.old }
+    ensures rows { KeepsRows table.old table.new }
 {
     let number = number_of::<M>(&mut table.states, state)?;
     let slot = founds::slot_at(&mut table.founds, table::told_by(crashed, found))?;
@@ -174,8 +182,7 @@ fn put_targets<M: SeqObject>(
     ensures put { OnOk result ((more : List (ℕ × ℕ))
         × AreTo table.new crashed outcomes.old.items more
         × (targets.new.items ≡ targets.old.items ++ more)) }
-    ensures widens { Widens table.old table.new }
-    ensures rows { rows_of table.new ≡ rows_of table.old }
+    ensures rows { KeepsRows table.old table.new }
 {
     while let Some((state, found)) = outcomes.pop() {
         let target = target_of::<M>(table, crashed, state, found)?;
@@ -214,25 +221,7 @@ fn move_to_one(
     move_to_last(targets, first)
 }
 
-// The move to these outcomes, whose targets are put behind the others.
-fn move_to_each<M: SeqObject>(
-    table: &mut Table<M::State>,
-    targets: &mut Vec<(usize, usize)>,
-    crashed: bool,
-    outcomes: &mut Vec<(M::State, Found)>,
-) -> Result<Move, AllocError>
-    ensures leads { IfOk result (LeadsTo table.new crashed outcomes.old.items targets.new.items) }
-    ensures more { OnOk result ((more : List (ℕ × ℕ))
-        × (targets.new.items ≡ targets.old.items ++ more)) }
-    ensures widens { Widens table.old table.new }
-    ensures rows { rows_of table.new ≡ rows_of table.old }
-{
-    let first = targets.len();
-    put_targets::<M>(table, targets, crashed, outcomes)?;
-    move_to_last(targets, first)
-}
-
-// The move to these outcomes. Where there is one, it mostly needs no place in the list of targets.
+// The move to these outcomes, whose targets are put behind the others. Where there is one, it mostly needs no place there.
 fn move_to<M: SeqObject>(
     table: &mut Table<M::State>,
     targets: &mut Vec<(usize, usize)>,
@@ -242,11 +231,12 @@ fn move_to<M: SeqObject>(
     ensures leads { IfOk result (LeadsTo table.new crashed outcomes.old.items targets.new.items) }
     ensures more { OnOk result ((more : List (ℕ × ℕ))
         × (targets.new.items ≡ targets.old.items ++ more)) }
-    ensures widens { Widens table.old table.new }
-    ensures rows { rows_of table.new ≡ rows_of table.old }
+    ensures rows { KeepsRows table.old table.new }
 {
     if outcomes.len() > 1 {
-        return move_to_each::<M>(table, targets, crashed, outcomes);
+        let first = targets.len();
+        put_targets::<M>(table, targets, crashed, outcomes)?;
+        return move_to_last(targets, first);
     }
     match outcomes.pop() {
         Some((state, found)) => {
@@ -297,7 +287,7 @@ pub fn note_likes<S>(moves: &mut Moves<S>, calls: &[PendingOp]) -> Result<(), Al
     Ok(())
 }
 
-// Which calls from this place on do the same, by which do from the next one on.
+// The run of equal calls that begins with the one at this place, by the run that begins with the next one.
 #[inline(always)]
 fn like_before(calls: &[PendingOp], at: usize, next: Like) -> Like
     requires within { at < length calls.now }
@@ -322,7 +312,7 @@ fn does_as(calls: &[PendingOp], at: usize, place: usize) -> bool
     place == at || place < at && is_alike(&calls[place], &calls[at])
 }
 
-// Which call does the same as the one at this place alone, looked for among the first few.
+// The call at this place as a run of its own, equal to a call that is looked for among the first few.
 #[inline(never)]
 fn like_anew(calls: &[PendingOp], at: usize) -> Like
     requires within { at < length calls.now }
@@ -332,7 +322,7 @@ fn like_anew(calls: &[PendingOp], at: usize) -> Like
     Like { place, run: 1 }
 }
 
-/// Which calls from this place on do the same. Takes constant time.
+/// The run of equal calls that begins with the one at this place. Takes constant time.
 pub fn alike_at<S>(moves: &Moves<S>, calls: &[PendingOp], at: usize) -> Like
     requires within { at < length calls.now }
     ensures within { result.place ≤ at }
@@ -360,18 +350,10 @@ pub fn stuck<S>(
     ensures stuck { AreAll calls.now at like → (i : ℕ) → i < result
         → IsStuck calls.now moves.now.known number (at + i) }
 {
-    if leads_nowhere(moves, number, like.place, calls.len()) {
-        like.run.min(calls.len() - at)
-    } else {
-        0
+    match known_of(&moves.known, number, like.place, calls.len()) {
+        Move::Nowhere => like.run.min(calls.len() - at),
+        _ => 0,
     }
-}
-
-// Whether the call at this place is known to lead nowhere from the state with this number.
-fn leads_nowhere<S>(moves: &Moves<S>, number: usize, at: usize, calls: usize) -> bool
-    ensures { IsTrue result → known_at moves.now.known calls number at ≡ Move.Nowhere }
-{
-    matches!(known_of(&moves.known, number, at, calls), Move::Nowhere)
 }
 
 /// What is known of the call at this place in the state with this number, where it was tried. Takes constant time.
@@ -394,7 +376,6 @@ pub fn recalled<S>(moves: &Moves<S>, number: usize, at: usize, calls: usize) -> 
 /// outcomes or for what is remembered. Takes one step, the time of looking its outcomes up, and that of the list of moves where
 /// this grows.
 pub fn tried<M: SeqObject>(
-    alloc: Global,
     table: &mut Table<M::State>,
     moves: &mut Moves<M::State>,
     number: usize,
@@ -412,12 +393,12 @@ pub fn tried<M: SeqObject>(
     ensures tries { OnlyTries table.old table.new applied.old applied.new }
     ensures cost { applied.new ≤ applied.old + 1 }
 {
-    forget_many(alloc, moves);
+    forget_many(table.alloc, moves);
     let call = &calls[at];
     let Some(state) = table.states.get(number) else {
         return Ok(Move::Nowhere);
     };
-    table::step::<M>(alloc, state, &call.op, &mut moves.outcomes, applied)?;
+    table::step::<M>(table.alloc, state, &call.op, &mut moves.outcomes, applied)?;
     let to = move_to::<M>(table, &mut moves.targets, call.crashed, &mut moves.outcomes)?;
     remember(&mut moves.known, number, at, calls.len(), to)?;
     Ok(to)

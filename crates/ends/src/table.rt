@@ -1,6 +1,6 @@
 //! Ends as rows of numbers.
-ghost use Rattle.std.specs.Prelude.{◌≡◌, ◌↔◌, ℕ, ◌+◌, ◌-◌, ◌^◌, ◌<◌, ◌≤◌, min, Some, slice_get, get_or, map, length};
-ghost use Rattle.std.specs.Prelude.{IfOk, OnOk, IsSome, IsSomeAnd, IsTrue, option_copied, List, [], ◌∷◌, ◌++◌};
+ghost use Rattle.std.specs.Prelude.{◌≡◌, ℕ, ◌+◌, ◌-◌, ◌^◌, ◌<◌, ◌≤◌, min, Some, slice_get, get_or, map, length};
+ghost use Rattle.std.specs.Prelude.{IfOk, OnOk, IsSome, IsSomeAnd, option_copied, List, [], ◌∷◌, ◌++◌};
 ghost use Rattle.models.specs.Objects.{of_table};
 ghost use Rattle.events.specs.Events.{IsFront};
 ghost use Rattle.linspec.specs.Ends.{End};
@@ -9,10 +9,10 @@ ghost use Rattle.ends.specs.EndSteps.{Along};
 ghost use Rattle.ends.specs.Moves.{AreMoves, IsAlike, IsKnown, KeepMoves, targets_of};
 ghost use Rattle.interned.specs.Numbers.{IsOnceIn, IsSlot};
 ghost use Rattle.ends.specs.Tables.{AreShown, HasEachOnce, IsThat, IsToldBefore, ShownWith, told_by};
-ghost use Rattle.ends.specs.Tables.{AreLed, OnlyTries, Shows, Widens, found_by, rows_of};
+ghost use Rattle.ends.specs.Tables.{AreLed, KeepsRows, OnlyTries, Shows, found_by, rows_of};
 
 use crate::kept_end::{KeptEnd, found_in, has};
-use crate::moves::{self, Move, Moves};
+use crate::moves::{self, Attempt, Move, Moves};
 use crate::pending_op::PendingOp;
 use interned::{Founds, States, founds, states};
 use models::{Found, Op, SeqObject};
@@ -25,8 +25,9 @@ const FEW_STATES: usize = 64;
 
 /// The ends that a frontier keeps, and while an ok works those too that it finds, each a row of numbers. The first says where
 /// its state stands; then comes one for each call: zero where it is not in, and else one more than where what it found stands.
-/// States and what was found stand once, so equal ends are equal rows.
+/// States and what was found stand once, so equal ends are equal rows. Its memory comes from `alloc`.
 pub struct Table<S: Hash + Drop> {
+    pub alloc: Global,
     pub states: States<S>,
     pub founds: Founds,
     pub rows: RowSet,
@@ -36,6 +37,7 @@ pub struct Table<S: Hash + Drop> {
 impl<S: Hash + Drop> Drop for Table<S> {
     fn drop(self) {
         let Table {
+            alloc: _alloc,
             states: _states,
             founds: _founds,
             rows: _rows,
@@ -55,7 +57,7 @@ fn slot_of(founds: &mut Founds, found: Option<Found>) -> Result<usize, AllocErro
     }
 }
 
-// What the call found in the end, if it is in it. A crashed one tells nothing.
+// What the end records of the call: nothing where the call is not in it, `Unit` where the call has crashed, and else what it found.
 fn found_by<S>(kept: &KeptEnd<S>, call: &PendingOp) -> Result<Option<Found>, AllocError>
     ensures { IfOk result (λ found. found ≡ found_by (end_kept kept.now) call.now) }
 {
@@ -75,18 +77,16 @@ fn found_by<S>(kept: &KeptEnd<S>, call: &PendingOp) -> Result<Option<Found>, All
 
 // The row of the end.
 fn row_of<M: SeqObject>(
-    alloc: Global,
     table: &mut Table<M::State>,
     kept: &KeptEnd<M::State>,
     calls: &[PendingOp],
 ) -> Result<Vec<usize>, AllocError>
     ensures shows { IsIncluded calls.now (end_kept kept.now)
         → IfOk result (λ row. Shows table.new calls.now row.items (end_kept kept.now)) }
-    ensures widens { Widens table.old table.new }
-    ensures rows { rows_of table.new ≡ rows_of table.old }
+    ensures rows { KeepsRows table.old table.new }
 {
-    let state = M::copy(alloc, &kept.state)?;
-    let mut row = Vec::with_capacity(alloc, calls.len().saturating_add(1))?;
+    let state = M::copy(table.alloc, &kept.state)?;
+    let mut row = Vec::with_capacity(table.alloc, calls.len().saturating_add(1))?;
     row.push(states::number_of::<M>(&mut table.states, state)?)?;
     for call in calls {
         let found = found_by(kept, call)?;
@@ -122,8 +122,8 @@ pub fn state_numbered<S: Hash + Drop>(table: &Table<S>, number: usize) -> Option
     table.states.get(number)
 }
 
-/// The number of the state of the first row, which is seldom above that of another one; or zero where there are few states, which
-/// come again and again. Takes constant time.
+/// From which state on what calls do is remembered: from that of the first row, since states before it are seldom those of a row;
+/// or from the first state on where there are few states, which come again and again. Takes constant time.
 pub fn first_number<S: Hash + Drop>(table: &Table<S>) -> usize {
     if table.states.len() > FEW_STATES {
         table.rows.number(0, 0)
@@ -132,45 +132,42 @@ pub fn first_number<S: Hash + Drop>(table: &Table<S>) -> usize {
     }
 }
 
-/// What is told of what the call found: of a crashed one nothing.
+/// What an end records of what a call found: `Unit` where the call has crashed.
 pub fn told_by(crashed: bool, found: Found) -> Found
     ensures { result ≡ told_by crashed found }
 {
     if crashed { Found::Unit } else { found }
 }
 
-/// Where the call at this place, which is not in it, leads from the end of the row, whose state has this number. The call at the
-/// other place does the same. Takes constant time where that is known, and else one step, and the time of looking its outcomes up.
+/// Where the call, which is not in it, leads from the end of the row. Takes constant time where that is known, and else one step,
+/// and the time of looking its outcomes up.
 pub fn led_to<M: SeqObject>(
-    alloc: Global,
     table: &mut Table<M::State>,
     moves: &mut Moves<M::State>,
-    number: usize,
     row: &Row,
     calls: &[PendingOp],
-    at: usize,
-    place: usize,
+    attempt: Attempt,
     applied: &mut u64,
 ) -> Result<Move, AllocError>
-    requires within { at < length calls.now }
-    requires before { place ≤ at }
-    requires number { number ≡ get_or row.now 0 0 }
-    requires zero_there { slice_get row.now (at + 1) ≡ Some 0 }
+    requires within { attempt.at < length calls.now }
+    requires before { attempt.place ≤ attempt.at }
+    requires zero_there { slice_get row.now (attempt.at + 1) ≡ Some 0 }
     ensures moves { OnOk result (KeepMoves M.apply_to calls.now table.old table.new moves.old moves.new) }
     ensures next { let object = of_table M.State M.start_state M.apply_to in
         AreMoves M.apply_to table.old calls.now moves.old.known moves.old.targets.items
-        → IsAlike calls.now at place → HasEachOnce calls.now
-        → (c : PendingOp) (e : End M.State) → slice_get calls.now at ≡ Some c
+        → IsAlike calls.now attempt.at attempt.place → HasEachOnce calls.now
+        → (c : PendingOp) (e : End M.State) → slice_get calls.now attempt.at ≡ Some c
         → Shows table.old calls.now row.now e
-        → IfOk result (λ to. AreLed object table.new calls.now row.now at e c
+        → IfOk result (λ to. AreLed object table.new calls.now row.now attempt.at e c
         (targets_of to moves.new.targets.items)) }
     ensures known { IfOk result (λ to. IsKnown to moves.new.targets.items) }
     ensures tries { OnlyTries table.old table.new applied.old applied.new }
     ensures cost { applied.new ≤ applied.old + 1 }
 {
-    match moves::recalled(moves, number, place, calls.len()) {
+    let number = row.first();
+    match moves::recalled(moves, number, attempt.place, calls.len()) {
         Some(to) => Ok(to),
-        None => moves::tried::<M>(alloc, table, moves, number, calls, place, applied),
+        None => moves::tried::<M>(table, moves, number, calls, attempt.place, applied),
     }
 }
 
@@ -179,6 +176,7 @@ pub fn empty<S: Hash + Drop>(alloc: Global) -> Table<S>
     ensures { rows_of result ≡ [] }
 {
     Table {
+        alloc,
         states: States::new(alloc),
         founds: Founds::new(alloc),
         rows: RowSet::new(alloc, 0),
@@ -199,7 +197,6 @@ pub fn clear<S: Hash + Drop>(table: &mut Table<S>)
 /// there is no memory for them: then some of them are there. Takes the time of a copy of each end's state, and of looking each
 /// call up in each end.
 pub fn refill<M: SeqObject>(
-    alloc: Global,
     table: &mut Table<M::State>,
     ends: &[KeptEnd<M::State>],
     calls: &[PendingOp],
@@ -211,7 +208,7 @@ pub fn refill<M: SeqObject>(
     table.founds.clear();
     table.rows.restart(calls.len().saturating_add(1));
     for kept in ends {
-        let row = row_of::<M>(alloc, table, kept, calls)?;
+        let row = row_of::<M>(table, kept, calls)?;
         table.rows.put(&row)?;
     }
     Ok(())
@@ -229,11 +226,11 @@ pub fn of_ends<M: SeqObject>(
         ShownWith table calls.now [] (Along IsThat (map end_kept ends.now))) }
 {
     let mut table = empty(alloc);
-    refill::<M>(alloc, &mut table, ends, calls)?;
+    refill::<M>(&mut table, ends, calls)?;
     Ok(table)
 }
 
-/// What the call at this place found, by the row that stands here, if it is in. Takes constant time.
+/// What the call at this place found, by the row at `from`, if the call is in it. Takes constant time.
 pub fn found_in_row<'a, S: Hash + Drop>(
     table: &'a Table<S>,
     from: usize,
@@ -278,9 +275,8 @@ fn include_at<S: Hash + Drop>(
     }
 }
 
-// The end that the row says that stands here.
+// The row at `from` as an end. None where the row has no state, which is not so of a row that stands for an end.
 fn kept_of<M: SeqObject>(
-    alloc: Global,
     table: &Table<M::State>,
     from: usize,
     calls: &[PendingOp],
@@ -293,9 +289,9 @@ fn kept_of<M: SeqObject>(
         return Ok(None);
     };
     let mut kept = KeptEnd {
-        state: M::copy(alloc, state)?,
-        pending: Vec::new(alloc),
-        crashed: Vec::new(alloc),
+        state: M::copy(table.alloc, state)?,
+        pending: Vec::new(table.alloc),
+        crashed: Vec::new(table.alloc),
     };
     for at in 0..calls.len() {
         include_at(&mut kept, table, from, calls, at)?;
@@ -303,30 +299,8 @@ fn kept_of<M: SeqObject>(
     Ok(Some(kept))
 }
 
-// Puts the end that the row says that stands here after the others.
-fn push_end<M: SeqObject>(
-    alloc: Global,
-    ends: &mut Vec<KeptEnd<M::State>>,
-    table: &Table<M::State>,
-    from: usize,
-    calls: &[PendingOp],
-) -> Result<(), AllocError>
-    ensures { let row = get_or (rows_of table.now) from [] in
-        HasEachOnce calls.now → (e : End M.State) → Shows table.now calls.now row e
-        → OnOk result (map end_kept ends.new.items ≡ map end_kept ends.old.items ++ e ∷ []) }
-{
-    match kept_of::<M>(alloc, table, from, calls)? {
-        Some(kept) => {
-            ends.push(kept)?;
-            Ok(())
-        }
-        None => Ok(()),
-    }
-}
-
 /// The ends that the rows say, in order. Takes the time of all numbers of the rows, and of a copy of each row's state.
 pub fn ends_of<M: SeqObject>(
-    alloc: Global,
     table: &Table<M::State>,
     calls: &[PendingOp],
 ) -> Result<Vec<KeptEnd<M::State>>, AllocError>
@@ -334,9 +308,11 @@ pub fn ends_of<M: SeqObject>(
         → AreShown table.now calls.now ends
         → IfOk result (λ kept. map end_kept kept.items ≡ ends) }
 {
-    let mut ends = Vec::with_capacity(alloc, table.rows.len())?;
+    let mut ends = Vec::with_capacity(table.alloc, table.rows.len())?;
     for from in 0..table.rows.len() {
-        push_end::<M>(alloc, &mut ends, table, from, calls)?;
+        if let Some(kept) = kept_of::<M>(table, from, calls)? {
+            ends.push(kept)?;
+        }
     }
     Ok(ends)
 }

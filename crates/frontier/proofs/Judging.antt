@@ -17,7 +17,7 @@ use Rattle.ends.specs.KeptEnds.{AreIncluded, ArePending, end_kept}
 use Rattle.ends.specs.EndSteps.{Along, AreClosed, Fails, ReachesMoreThan, is_other}
 use Rattle.frontier.specs.Kept.{IsListed, Lists, StandsFor, table_of}
 use Rattle.frontier.specs.Meaning.{Keeps, StepsOfOk}
-use Rattle.ends.specs.Tables.{AreShown, HasEachOnce, IsAdvanced, IsOpenAt, ShownWith}
+use Rattle.ends.specs.Tables.{AreShown, Asked, HasEachOnce, IsAdvanced, IsOpenAt, ShownWith}
 use Rattle.frontier.proofs.AfterEvents.{ends_after_ok}
 use Rattle.ends.proofs.Closing.{among_front, closed_after_fail, closed_after_ok, closed_fewer, one_fewer}
 use Rattle.ends.proofs.Growing.{cost_within}
@@ -28,13 +28,17 @@ use Rattle.frontier.proofs.Pending.{AreOnce, calls_after_fail, calls_after_ok, n
 use Rattle.frontier.proofs.Standing.{generates_of, stands_by}
 use Rattle.frontier.proofs.TheEnds.{AreTheEnds}
 
+-- what an ok asks, by its parts
+abbrev pub asked : List PendingOp → ℕ → ℕ → ℕ → Answer → Asked
+asked calls tried budget id answer = record { calls = calls; tried = tried; budget = budget; id = id; answer = answer }
+
 module _ {M : Type 0} (o : Object) (f : Frontier M o.State) (marks : List Mark) (stands : Lists o f marks) (budget : ℕ) where
   -- there are more than the budget
   pub too_many : ReachesMoreThan o f.calls.items stands.kept budget → HasMoreThan o marks budget
   too_many more = more_found o stands.kept f.calls.items marks stands.ends budget more
 
   -- all are found
-  module _ (t : Table o.State) (id : ℕ) (is_open : IsOpen marks id) (answer : Answer) (found : IsAdvanced o t f.calls.items stands.kept budget id answer) where
+  module _ (t : Table o.State) (id : ℕ) (is_open : IsOpen marks id) (answer : Answer) (found : IsAdvanced o t (asked f.calls.items f.tried budget id answer) stands.kept) where
     are : AreTheEnds o found.all marks
     are = all_found o stands.kept f.calls.items marks stands.ends found.all stands.well_kept.once found.adds
 
@@ -96,8 +100,8 @@ module _ {M : Type 0} (o : Object) (f : Frontier M o.State) (marks : List Mark) 
   its_tried : AreClosed o (take f.tried calls) stands.kept
   its_tried = subst (λ l. AreClosed o (take f.tried l) stands.kept) (sym same) stands.closed
 
-  pub advanced : (t : Table o.State) (budget id : ℕ) (answer : Answer) → (HasEachOnce calls → (ends : List (End o.State)) → AreShown (table_of f) calls ends → AreClosed o (take f.tried calls) ends → IsAdvanced o t calls ends budget id answer) → IsAdvanced o t f.calls.items stands.kept budget id answer
-  advanced t budget id answer h = subst (λ l. IsAdvanced o t l stands.kept budget id answer) same (h calls_once stands.kept its_rows its_tried)
+  pub advanced : (t : Table o.State) (budget id : ℕ) (answer : Answer) → (HasEachOnce calls → (ends : List (End o.State)) → AreShown (table_of f) calls ends → AreClosed o (take f.tried calls) ends → IsAdvanced o t (asked calls f.tried budget id answer) ends) → IsAdvanced o t (asked f.calls.items f.tried budget id answer) stands.kept
+  advanced t budget id answer h = subst (λ l. IsAdvanced o t (asked l f.tried budget id answer) stands.kept) same (h calls_once stands.kept its_rows its_tried)
 
   pub too_many_by : (budget : ℕ) → (HasEachOnce calls → (ends : List (End o.State)) → Pairwise (λ d e. d ≢ e) ends → AreShown (table_of f) calls ends → AreClosed o (take f.tried calls) ends → ReachesMoreThan o calls ends budget) → HasMoreThan o marks budget
   too_many_by budget h = too_many o f marks stands budget (subst (λ l. ReachesMoreThan o l stands.kept budget) same (h calls_once stands.kept stands.well_kept.once its_rows its_tried))

@@ -10,7 +10,7 @@ use Rattle.ends.specs.EndSteps.{AreClosed}
 use Rattle.ends.specs.Tables.{AreShown, rows_of, with_rows}
 use Rattle.ends.proofs.Closing.{tried_still}
 use Rattle.products.specs.Products.{Family, rows_in}
-use Rattle.frontier.specs.declared.as_products.AsProducts.{AsProducts}
+use Rattle.frontier.specs.declared.product_form.ProductForm.{ProductForm}
 use Rattle.frontier.specs.declared.change.Fresh.{Fresh}
 use Rattle.frontier.specs.declared.frontier.Frontier.{Frontier}
 use Rattle.frontier.specs.Kept.{IsIdle, IsListed, call_of, rows_by, table_of}
@@ -30,10 +30,10 @@ one_there (Some x) h = (x, refl)
 abbrev pub AreLonger : List (List ℕ) → List (List ℕ) → Type 0
 AreLonger old new = new ≡ map (λ row. row ++ 0 ∷ []) old
 
-pub rows_are_longer : {S : Type 0} (form : Option (Box (AsProducts S))) → form ≡ None → (old new : List (List ℕ)) → AreLonger old new → AreLonger (rows_by form old) (rows_by form new)
+pub rows_are_longer : {S : Type 0} (form : Option (Box (ProductForm S))) → form ≡ None → (old new : List (List ℕ)) → AreLonger old new → AreLonger (rows_by form old) (rows_by form new)
 rows_are_longer form none old new longer = subst (λ p. AreLonger (rows_by p old) (rows_by p new)) (sym none) longer
 
-pub products_are_longer : {S : Type 0} (form : Option (Box (AsProducts S))) (held : Box (AsProducts S)) (kept more : Family) → form ≡ Some held → kept ≡ held.value.kept
+pub products_are_longer : {S : Type 0} (form : Option (Box (ProductForm S))) (held : Box (ProductForm S)) (kept more : Family) → form ≡ Some held → kept ≡ held.value.kept
     → more ≡ (kept.0 + 1, map (λ product. (product.0, product.1 ++ 1 ∷ [])) kept.1) → (rows : List (List ℕ)) → AreLonger (rows_by form rows) (rows_in more.1)
 products_are_longer form held kept more is same longer rows =
     ap (λ (m : Family). rows_in m.1) longer ∙ rows_longer kept.1

@@ -16,7 +16,7 @@ use Rattle.ends.specs.Tables.{AreShown, IsThat, ShownWith, rows_of, with_rows}
 use Rattle.products.specs.Products.{IsInOne, rows_in}
 use Rattle.product_ends.proofs.RowsIn.{contains_rows_in}
 use Rattle.product_ends.proofs.Saying.{reordered}
-use Rattle.frontier.specs.declared.as_products.AsProducts.{AsProducts}
+use Rattle.frontier.specs.declared.product_form.ProductForm.{ProductForm}
 use Rattle.frontier.specs.declared.frontier.Frontier.{Frontier}
 use Rattle.frontier.specs.Kept.{IsIdle, Lists, rows_by, table_of}
 use Rattle.frontier.proofs.Preparing.{stands_to}
@@ -42,7 +42,7 @@ module _ {M : Type 0} (o : Object) (f g : Frontier M o.State) (calls : g.calls.i
   idle_again fresh next marks idle = record { nothing = next ∙ idle.nothing; stands = stands_to o f g lists_again fresh marks idle.stands }
 
 -- rows in the words of the code
-module _ {S : Type 0} (t : Table S) (form : Option (Box (AsProducts S))) (none : form ≡ None) (calls : List PendingOp) where
+module _ {S : Type 0} (t : Table S) (form : Option (Box (ProductForm S))) (none : form ≡ None) (calls : List PendingOp) where
   pub shown_rows : (ends : List (End S)) → AreShown (with_rows t (rows_by form (rows_of t))) calls ends → AreShown t calls ends
   shown_rows ends shown = subst (λ p. AreShown (with_rows t (rows_by p (rows_of t))) calls ends) none shown
 
@@ -50,11 +50,11 @@ module _ {S : Type 0} (t : Table S) (form : Option (Box (AsProducts S))) (none :
   shown_with_rows P shown = subst (λ p. ShownWith (with_rows t (rows_by p (rows_of t))) calls [] P) (sym none) shown
 
 -- products in the words of the code
-module _ {S : Type 0} (t : Table S) (form : Option (Box (AsProducts S))) (those : AsProducts S) (held : Box (AsProducts S)) (is : form ≡ Some held) (same : those ≡ held.value) (calls : List PendingOp) (ends : List (End S))
+module _ {S : Type 0} (t : Table S) (form : Option (Box (ProductForm S))) (those : ProductForm S) (held : Box (ProductForm S)) (is : form ≡ Some held) (same : those ≡ held.value) (calls : List PendingOp) (ends : List (End S))
     (shown : AreShown (with_rows t (rows_by form (rows_of t))) calls ends) where
   pub shown_products : AreShown (with_rows t (rows_in those.kept.1)) calls ends
   shown_products =
-      subst (λ (p : AsProducts S). AreShown (with_rows t (rows_in p.kept.1)) calls ends) (sym same)
+      subst (λ (p : ProductForm S). AreShown (with_rows t (rows_in p.kept.1)) calls ends) (sym same)
       (subst (λ p. AreShown (with_rows t (rows_by p (rows_of t))) calls ends) is shown)
 
   -- the rows of the products

@@ -1,5 +1,5 @@
 -- frontiers, by the ends that they keep, and the answers by how many are left
-use Rattle.std.proofs.Common.{◌≡◌, ◌≢◌, ◌↔◌, ℕ, ◌+◌, ◌≤◌, take, ⊎_elim, false, Option, Some, None, option_map, List, [], ◌∷◌, ◌++◌, map, length, slice_get, get_or, refl, sym, ap, ◌∙◌, subst, arith, length-append}
+use Rattle.std.proofs.Common.{◌≡◌, ◌≢◌, ◌↔◌, ℕ, ◌+◌, ◌<◌, ◌≤◌, take, ⊎_elim, Bool, true, false, Option, Some, None, option_map, List, [], ◌∷◌, ◌++◌, map, length, slice_get, get_or, refl, sym, ap, ◌∙◌, subst, arith, length-append}
 use Rattle.models.specs.Objects.{Object}
 use Rattle.events.specs.Events.{Mark}
 use Rattle.linspec.specs.Orders.{Pairwise}
@@ -16,6 +16,7 @@ use Rattle.ends.proofs.Showing.{included_shown}
 use Rattle.interned.proofs.Lists.{get_last, get_push, has_place, one_of, some_at}
 use Rattle.std.specs.FinMap as finmap
 use Rattle.std.specs.List.{Contains}
+use Rattle.std.proofs.lemmas.Bool.{true≢false}
 use Rattle.std.proofs.lemmas.List.{get_or_append_left, length-map}
 use Rattle.std.proofs.lemmas.Option.{get_or_from_slice_get, slice_get-map, slice_get_within}
 use Rattle.models.specs.declared.operation.Op.{Op}
@@ -131,17 +132,11 @@ shown_of t calls now ends kept a b h =
     subst (λ k. AreIncluded now (map end_kept k) → ShownWith t now [] (Along IsThat (map end_kept k))) b
     (subst (λ l. AreIncluded l (map end_kept ends) → ShownWith t l [] (Along IsThat (map end_kept ends))) a h)
 
--- the answer by the number of ends that are left
-module _ (o : Object) (ends : List (End o.State)) (n : ℕ) (long : n ≡ length ends) (marks : List Mark) (mark : Mark) (gen : Generates o ends (marks ++ mark ∷ [])) where
-  pub step_by : (budget : ℕ) → ¬ Blows o budget marks mark → (step : Step) → ((step ≡ Alive) ↔ (n ≢ 0)) → ((step ≡ Dead) ↔ (n ≡ 0)) → step ≢ Over → IsStep o budget marks mark step
-  step_by budget none Alive alive dead not_over = (none, some_left o ends (marks ++ mark ∷ []) gen (λ e. alive.0 refl (long ∙ e)))
-  step_by budget none Dead alive dead not_over = (none, none_left o ends (marks ++ mark ∷ []) gen (sym long ∙ dead.0 refl))
-  step_by budget none Over alive dead not_over = absurd (not_over refl)
-
--- the step by another number that is zero just where this one is
-pub same_step : (m n : ℕ) (step : Step) → ((m ≡ 0) ↔ (n ≡ 0)) → IsStepOf m step → IsStepOf n step
-same_step m n step same is = record {
-  alive = (λ a e. (is.alive.0 a) (same.1 e), λ some. is.alive.1 (λ e. some (same.0 e)));
-  dead = (λ d. same.0 (is.dead.0 d), λ e. is.dead.1 (same.1 e));
-  never_over = is.never_over;
-}
+-- the answer by whether ends are left
+module _ (o : Object) (ends : List (End o.State)) (n : ℕ) (long : n ≡ length ends) (some : Bool) (is_some : (some ≡ true) ↔ (0 < n)) (marks : List Mark) (mark : Mark) (gen : Generates o ends (marks ++ mark ∷ [])) where
+  pub step_by : (budget : ℕ) → ¬ Blows o budget marks mark → (step : Step) → IsStepOf some step → IsStep o budget marks mark step
+  step_by budget none Alive is =
+      (none, some_left o ends (marks ++ mark ∷ []) gen (λ e. let lt = is_some.0 (is.alive.0 refl) in absurd (omega (arith, lt, long, e))))
+  step_by budget none Dead is =
+      (none, none_left o ends (marks ++ mark ∷ []) gen (let no : ¬ (0 < n) = (λ lt. true≢false (sym (is_some.1 lt) ∙ is.dead.0 refl)) in omega (arith, no, long)))
+  step_by budget none Over is = absurd (is.never_over refl)

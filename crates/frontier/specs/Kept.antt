@@ -1,8 +1,9 @@
 -- Invariant: how a frontier keeps the ends of the histories of one key that it stands for. No layer above cites how:
 -- public clauses cite `view_of` alone
-use Rattle.std.specs.Prelude.{◌≡◌, ◌≢◌, ◌↔◌, ℕ, ◌≤◌, false, Option, Some, None, List, [], ◌∷◌, ◌++◌, length, take, Result, OnOk, OnErr}
+use Rattle.std.specs.Prelude.{◌≡◌, ◌≢◌, ◌↔◌, ℕ, ◌≤◌, Bool, true, false, Option, Some, None, List, [], ◌∷◌, ◌++◌, length, take, Result, OnOk, OnErr}
 use Rattle.std.specs.declared.alloc.AllocError.{AllocError}
 use Rattle.std.specs.List.{filter}
+use Rattle.models.specs.declared.finding.Answer.{Answer}
 use Rattle.models.specs.Objects.{Object}
 use Rattle.events.specs.Events.{Mark}
 use Rattle.events.specs.Events.Mark.{Invoked}
@@ -18,20 +19,20 @@ use Rattle.frontier.specs.declared.frontier.Frontier.{Frontier}
 use Rattle.frontier.specs.declared.frontier.Step.{Step}
 use Rattle.frontier.specs.declared.frontier.Step.TheVariants.{Alive, Dead, Over}
 use Rattle.ends.specs.KeptEnds.{IsWellKept}
-use Rattle.ends.specs.Tables.{AreShown, rows_of, with_rows}
+use Rattle.ends.specs.Tables.{AreShown, Asked, rows_of, with_rows}
 use Rattle.products.specs.Products.{rows_in}
 use Rattle.std.specs.Global.{Box}
-use Rattle.frontier.specs.declared.as_products.AsProducts.{AsProducts}
+use Rattle.frontier.specs.declared.product_form.ProductForm.{ProductForm}
 use Rattle.ends.specs.EndSteps.{AreClosed, IsReached, is_other}
 use Rattle.frontier.specs.Meaning.{FrontierView, Keeps}
 
 -- the rows of the kept products, where there are any, else these
-abbrev pub rows_by : {S : Type 0} → Option (Box (AsProducts S)) → List (List ℕ) → List (List ℕ)
+abbrev pub rows_by : {S : Type 0} → Option (Box (ProductForm S)) → List (List ℕ) → List (List ℕ)
 rows_by None rows = rows
 rows_by (Some those) rows = rows_in those.value.kept.1
 
 -- the rows of the products that are left after what is prepared, where products are kept, else these
-abbrev pub left_by : {S : Type 0} → Option (Box (AsProducts S)) → List (List ℕ) → List (List ℕ)
+abbrev pub left_by : {S : Type 0} → Option (Box (ProductForm S)) → List (List ℕ) → List (List ℕ)
 left_by None rows = rows
 left_by (Some those) rows = rows_in those.value.room.left.1
 
@@ -42,6 +43,16 @@ table_of f = with_rows f.table (rows_by f.products (rows_of f.table))
 -- the rows that are left
 abbrev pub left_of : {M S : Type 0} → Frontier M S → List (List ℕ)
 left_of f = left_by f.products f.room.rows
+
+-- what an ok with this answer asks
+abbrev pub asked_of : {M S : Type 0} → Frontier M S → ℕ → Answer → Asked
+asked_of f id answer = record {
+  calls = f.calls.items;
+  tried = f.tried;
+  budget = f.budget;
+  id = id;
+  answer = answer;
+}
 
 -- a frontier that keeps these ends represents the end: operations that may still take place lead to
 -- it, one after another, from an end that is kept (Lowe 2017)
@@ -114,10 +125,10 @@ pub record WillStandFor {M : Type 0} (o : Object) (f : Frontier M o.State) (mark
     : Type 0 where
   pub will : (g : Frontier M o.State) → Makes f.next f g → StandsFor o g marks
 
--- the step where so many ends are left: Alive where there are some, else Dead
-pub record IsStepOf (ends : ℕ) (step : Step) : Type 0 where
-  pub alive : (step ≡ Alive) ↔ (ends ≢ 0)
-  pub dead : (step ≡ Dead) ↔ (ends ≡ 0)
+-- the step by whether some end is left: Alive where there is one, else Dead
+pub record IsStepOf (some_left : Bool) (step : Step) : Type 0 where
+  pub alive : (step ≡ Alive) ↔ (some_left ≡ true)
+  pub dead : (step ≡ Dead) ↔ (some_left ≡ false)
   pub never_over : step ≢ Over
 
 -- the frontier stands for the history, and nothing is prepared

@@ -1,5 +1,5 @@
 //! Frontiers, and what each event does to one.
-ghost use Rattle.std.specs.Prelude.{◌≡◌, ◌≢◌, ◌↔◌, ◌<◌, ◌≤◌, ◌+◌, ◌*◌, ◌++◌, ◌∷◌, ℕ, List, Some, None, [], length, IfOk, IsSome, OnOk};
+ghost use Rattle.std.specs.Prelude.{◌≡◌, ◌≢◌, ◌↔◌, ◌<◌, ◌≤◌, ◌+◌, ◌++◌, ◌∷◌, ℕ, List, Some, None, [], length, IfOk, IsSome, IsTrue, OnOk};
 ghost use Rattle.std.specs.Global.{Box};
 ghost use Rattle.std.specs.Vec.{vec_capacity, vec_len};
 ghost use Rattle.std.specs.List.{filter};
@@ -7,14 +7,16 @@ ghost use Rattle.models.specs.Objects.{of_table};
 ghost use Rattle.events.specs.Events.Mark.{Invoked, Returned, Failed, Crashed};
 ghost use Rattle.linspec.specs.Ends.{End};
 ghost use Rattle.ends.specs.EndSteps.{Along, Fails, is_other};
-ghost use Rattle.ends.specs.Tables.{AreShown, FindsLeft, HasEachOnce, IsOpenAt, OnlyTries, ShowTheSame, ShownWith, rows_of, with_rows};
+ghost use Rattle.ends.specs.Tables.{AreShown, FindsLeft, HasEachOnce, IsOpenAt, OnlyTries, ShowTheSame, ShownWith};
+ghost use Rattle.ends.specs.Tables.{most_steps, rows_of, with_rows};
+ghost use Rattle.product_ends.specs.Deeds.{HasOneOutcome};
 ghost use Rattle.frontier.specs.Kept.{IsAlike, IsIdle, IsListed, IsOf, IsStepOf, HasCountsOf, ListsFresh, Reforms, StandsFor};
-ghost use Rattle.frontier.specs.Kept.{call_of, left_of, rows_by, table_of, view_of};
+ghost use Rattle.frontier.specs.Kept.{asked_of, call_of, left_of, rows_by, table_of, view_of};
 ghost use Rattle.frontier.specs.Meaning.{Commits, IsCopy, IsStart, Keeps, Observes, Prepares, TakesAlways, mark_by};
 
-use crate::as_products::{self, AsProducts};
 use crate::change::{self, AfterCrash, Change, Fresh};
-use ends::{KeptEnd, PendingOp, Room, Table};
+use crate::product_form::{self, ProductForm};
+use ends::{KeptEnd, PendingOp, Returning, Room, Table};
 use events::EventKind;
 use models::{Answer, Op, SeqObject};
 use rows::RowSet;
@@ -22,7 +24,7 @@ use std::alloc::{AllocError, Global};
 use std::hash::Hash;
 use std::mem::swap;
 
-// Two clients of a key have no more calls.
+// Room for so many calls is made at the start: two clients of a key have no more open at once.
 const FEW_CALLS: usize = 2;
 
 /// What an event leaves.
@@ -46,16 +48,27 @@ pub enum Step {
 pub struct Frontier<M: SeqObject> {
     alloc: Global,
     budget: u32,
+    /// So many steps were made.
     applied: u64,
+    /// The operations that may still take place, open ones and crashed ones, each with a place in the rows.
     calls: Vec<PendingOp>,
+    /// The operation that was invoked last, until the next event gives it its place among the calls.
     fresh: Option<Fresh>,
+    /// So many calls, the first ones, lead from the kept ends to no others.
     tried: usize,
+    /// The states, what was found, and the kept ends as rows; no rows where the ends are products.
     table: Table<M::State>,
+    /// The memory of the table before.
     spare: Option<Box<Table<M::State>>>,
+    /// Memory to work in, and the rows that a prepared ok or fail leaves.
     room: Room<M::State>,
-    products: Option<Box<AsProducts<M::State>>>,
+    /// The kept ends where they are products, with what a prepared ok or fail leaves of them.
+    products: Option<Box<ProductForm<M::State>>>,
+    /// What is prepared.
     next: Change,
+    /// The operation whose invocation is prepared: it is fresh after the commit.
     coming: Option<Fresh>,
+    /// The calls and the table after a crash that is prepared.
     after_crash: Option<Box<AfterCrash<M::State>>>,
 }
 
@@ -81,10 +94,10 @@ impl<M: SeqObject> Drop for Frontier<M> {
 }
 
 // Alive where some end is left, else Dead.
-fn step_of(ends: usize) -> Step
-    ensures { IsStepOf ends result }
+fn step_of(some_left: bool) -> Step
+    ensures { IsStepOf some_left result }
 {
-    if ends == 0 { Step::Dead } else { Step::Alive }
+    if some_left { Step::Alive } else { Step::Dead }
 }
 
 // The table that is kept for another one to be made in its memory, or a new one without ends. `AllocError` where there is no memory
@@ -206,7 +219,7 @@ impl<M: SeqObject> Frontier<M> {
         ensures counts { HasCountsOf self.old self.new }
     {
         match &mut self.products {
-            Some(those) => as_products::take_left(those),
+            Some(products) => product_form::take_left(products),
             None => self.table.rows.trade(&mut self.room.rows),
         }
     }
@@ -273,13 +286,13 @@ impl<M: SeqObject> Frontier<M> {
         ensures { let object = of_table M.State M.start_state M.apply_to in
             ListsFresh object self.old self.new (IsIdle object self.old) result }
     {
-        if let Some(those) = &mut self.products {
+        if let Some(products) = &mut self.products {
             self.calls.reserve(1)?;
-            as_products::lengthen(self.alloc, those)?;
+            product_form::lengthen(self.alloc, products)?;
             self.push_fresh();
             return Ok(());
         }
-        if self.is_crowded() {
+        if self.has_stale_states() {
             return self.list_anew();
         }
         self.calls.reserve(1)?;
@@ -321,12 +334,12 @@ impl<M: SeqObject> Frontier<M> {
             Reforms object self.old self.new }
     {
         match &self.products {
-            Some(those) if as_products::are_many(those) => self.make_rows(),
-            Some(those) if as_products::is_crowded(those, &self.table) => self.renumber(),
+            Some(products) if product_form::are_many(products) => self.make_rows(),
+            Some(products) if product_form::is_crowded(products, &self.table) => self.renumber(),
             Some(_) => Ok(()),
             None
                 if M::has_scalar_states()
-                    && as_products::may_be_few(&self.table, &self.calls, self.tried) => {
+                    && product_form::should_be_products(&self.table, &self.calls, self.tried) => {
                 self.make_products()
             }
             None => Ok(()),
@@ -340,9 +353,9 @@ impl<M: SeqObject> Frontier<M> {
         ensures { let object = of_table M.State M.start_state M.apply_to in
             Reforms object self.old self.new }
     {
-        let made = product_ends::as_products(self.alloc, &self.table, self.calls.len())?;
+        let made = product_ends::as_products(&self.table, self.calls.len())?;
         if let Some(kept) = made {
-            self.products = Some(as_products::of_kept(self.alloc, kept)?);
+            self.products = Some(product_form::of_kept(self.alloc, kept)?);
             self.table.rows = RowSet::new(self.alloc, 0);
         }
         Ok(())
@@ -355,8 +368,8 @@ impl<M: SeqObject> Frontier<M> {
             Reforms object self.old self.new }
         ensures rows { OnOk result (self.new.products ≡ None) }
     {
-        if let Some(those) = &self.products {
-            self.table.rows = product_ends::as_rows(self.alloc, &those.kept)?;
+        if let Some(products) = &self.products {
+            self.table.rows = product_ends::as_rows(self.alloc, &products.kept)?;
             self.products = None;
         }
         Ok(())
@@ -369,24 +382,24 @@ impl<M: SeqObject> Frontier<M> {
         ensures { let object = of_table M.State M.start_state M.apply_to in
             Reforms object self.old self.new }
     {
-        if let Some(those) = &mut self.products {
-            let other = product_ends::renumbered::<M>(self.alloc, &self.table, &those.kept)?;
+        if let Some(products) = &mut self.products {
+            let other = product_ends::renumbered::<M>(&self.table, &products.kept)?;
             let (most_found, most_states) = match &other {
-                Some((table, _)) => as_products::to_come(table),
-                None => as_products::to_come(&self.table),
+                Some((table, _)) => product_form::to_come(table),
+                None => product_form::to_come(&self.table),
             };
-            those.most_found = most_found;
-            those.most_states = most_states;
+            products.most_found = most_found;
+            products.most_states = most_states;
             if let Some((table, kept)) = other {
                 self.table = table;
-                those.kept = kept;
+                products.kept = kept;
             }
         }
         Ok(())
     }
 
-    // Whether nine of ten states of the table, or more, are no longer those of a row.
-    fn is_crowded(&self) -> bool {
+    // Whether the table has more than ten states for each row, and some eighty besides: most of them are those of no row any more.
+    fn has_stale_states(&self) -> bool {
         self.table.states.len() / 10 > self.table.rows.len().saturating_add(8)
     }
 
@@ -406,9 +419,9 @@ impl<M: SeqObject> Frontier<M> {
             op: fresh.op.copy()?,
             crashed: false,
         })?;
-        let ends = ends::ends_of::<M>(self.alloc, &self.table, &self.calls)?;
+        let ends = ends::ends_of::<M>(&self.table, &self.calls)?;
         let mut spare = spare_table(self.alloc, &mut self.spare)?;
-        ends::refill::<M>(self.alloc, &mut *spare, &ends, &calls)?;
+        ends::refill::<M>(&mut *spare, &ends, &calls)?;
         swap(&mut self.table, &mut *spare);
         ends::clear(&mut *spare);
         self.spare = Some(spare);
@@ -446,16 +459,15 @@ impl<M: SeqObject> Frontier<M> {
         }
         let tried = self.calls.len().saturating_sub(1);
         self.next = Change::Done(id, tried);
-        Ok(step_of(self.left()))
+        Ok(step_of(self.some_left()))
     }
 
-    // Products become rows where an operation may have several outcomes. On `AllocError` the frontier stands for what it stood
-    // for.
+    // Makes sure that products are kept of a kind alone in which an operation has at most one outcome in a state. None are made of
+    // another kind, so this makes no rows of products when it runs. On `AllocError` the frontier stands for what it stood for.
     fn suit_outcomes(&mut self) -> Result<(), AllocError>
         ensures keeps { let object = of_table M.State M.start_state M.apply_to in
             Keeps (IsListed object self.old) (IsListed object self.new) }
-        ensures single { OnOk result (self.new.products ≢ None →
-            (op : Op) (state : M.State) → length (M.apply_to op state) ≤ 1) }
+        ensures single { OnOk result (self.new.products ≢ None → HasOneOutcome M.apply_to) }
         ensures counts { HasCountsOf self.old self.new }
     {
         if M::has_scalar_states() {
@@ -468,56 +480,52 @@ impl<M: SeqObject> Frontier<M> {
     // Puts what is left of all ends after the ok into the room. False where there are more ends than the budget.
     #[inline(always)]
     fn advance(&mut self, id: u32, answer: &Answer) -> Result<bool, AllocError>
-        requires single { self.old.products ≢ None →
-            (op : Op) (state : M.State) → length (M.apply_to op state) ≤ 1 }
+        requires single { self.old.products ≢ None → HasOneOutcome M.apply_to }
         ensures found { let object = of_table M.State M.start_state M.apply_to in
             FindsLeft object (table_of self.old) (with_rows (table_of self.new) (left_of self.new))
-            self.old.calls.items self.old.tried self.old.budget id answer.now result }
+            (asked_of self.old id answer.now) result }
         ensures is { IsOf self.new (table_of self.new) self.old.calls.items self.old.tried self.old.fresh }
         ensures tries { OnlyTries (table_of self.old) (table_of self.new) self.old.applied self.new.applied }
         ensures next { self.new.next ≡ self.old.next }
         ensures budget { self.new.budget ≡ self.old.budget }
         ensures cost { self.new.applied
-            ≤ self.old.applied + (self.old.budget + 1) * length self.old.calls.items }
+            ≤ self.old.applied + most_steps (asked_of self.old id answer.now) }
     {
         let budget = self.budget;
+        let returning = Returning {
+            calls: &self.calls,
+            tried: self.tried,
+            budget,
+            id,
+            answer,
+        };
         match &mut self.products {
-            Some(those) => {
-                let those = &mut **those;
+            Some(products) => {
+                let products = &mut **products;
                 product_ends::advance::<M>(
-                    self.alloc,
                     &mut self.table,
-                    &those.kept,
-                    &mut those.room,
-                    &self.calls,
-                    self.tried,
-                    budget,
+                    &products.kept,
+                    &mut products.room,
+                    &returning,
                     &mut self.applied,
-                    id,
-                    answer,
                 )
             }
             None => ends::advance::<M>(
-                self.alloc,
                 &mut self.table,
                 &mut self.room,
-                &self.calls,
-                self.tried,
-                budget,
+                &returning,
                 &mut self.applied,
-                id,
-                answer,
             ),
         }
     }
 
-    // How many rows are left, or some number of them where they are products: zero where there are none.
-    fn left(&self) -> usize
-        ensures { (result ≡ 0) ↔ (length (left_of self.now) ≡ 0) }
+    // Whether some row is left, or some product.
+    fn some_left(&self) -> bool
+        ensures { IsTrue result ↔ (0 < length (left_of self.now)) }
     {
         match &self.products {
-            Some(those) => as_products::left(those),
-            None => self.room.rows.len(),
+            Some(products) => product_form::some_left(products),
+            None => self.room.rows.len() > 0,
         }
     }
 
@@ -551,7 +559,7 @@ impl<M: SeqObject> Frontier<M> {
         self.list_fresh()?;
         self.find_failed(id)?;
         self.next = Change::Done(id, self.tried.saturating_sub(1));
-        Ok(step_of(self.left()))
+        Ok(step_of(self.some_left()))
     }
 
     // Puts what is left of the ends after the fail into the room.
@@ -564,13 +572,12 @@ impl<M: SeqObject> Frontier<M> {
         ensures alike { IsAlike self.old self.new }
     {
         match &mut self.products {
-            Some(those) => {
-                let those = &mut **those;
+            Some(products) => {
+                let products = &mut **products;
                 product_ends::failed(
-                    self.alloc,
                     &self.table,
-                    &those.kept,
-                    &mut those.room,
+                    &products.kept,
+                    &mut products.room,
                     &self.calls,
                     id,
                 )
@@ -599,7 +606,7 @@ impl<M: SeqObject> Frontier<M> {
     {
         self.list_as_rows()?;
         let counts = !ends::is_read(&self.calls, id);
-        let ends = ends::ends_of::<M>(self.alloc, &self.table, &self.calls)?;
+        let ends = ends::ends_of::<M>(&self.table, &self.calls)?;
         let after = ends::crashed_ends::<M>(self.alloc, &ends, id, counts)?;
         let mut calls = ends::copy_calls(self.alloc, &self.calls)?;
         ends::crash_call(&mut calls, id, counts);
@@ -652,18 +659,18 @@ impl<M: SeqObject> Frontier<M> {
     // The table and the products, with memory of their own; of a table without products those states alone that its rows have.
     fn copied_form(
         &self,
-    ) -> Result<(Table<M::State>, Option<Box<AsProducts<M::State>>>), AllocError>
+    ) -> Result<(Table<M::State>, Option<Box<ProductForm<M::State>>>), AllocError>
         ensures { IfOk result (λ copy. ShowTheSame (table_of self.now)
             (with_rows copy.0 (rows_by copy.1 (rows_of copy.0)))) }
     {
         match &self.products {
-            Some(those) => {
-                let table = ends::copied_whole::<M>(self.alloc, &self.table)?;
-                let copy = as_products::copied(self.alloc, those)?;
+            Some(products) => {
+                let table = ends::copied_whole::<M>(&self.table)?;
+                let copy = product_form::copied(self.alloc, products)?;
                 Ok((table, Some(copy)))
             }
             None => {
-                let table = ends::copied::<M>(self.alloc, &self.table, &self.calls)?;
+                let table = ends::copied::<M>(&self.table, &self.calls)?;
                 Ok((table, None))
             }
         }

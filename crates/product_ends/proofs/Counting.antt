@@ -1,5 +1,5 @@
 -- how many rows products have, and what is paid for them
-use Rattle.std.proofs.Common.{◌≡◌, ⊎_elim, ℕ, suc, ◌+◌, ◌*◌, ◌<◌, ◌≤◌, Some, List, [], ◌∷◌, length, get_or, sym, ap, subst, arith}
+use Rattle.std.proofs.Common.{◌≡◌, ⊎_elim, ℕ, suc, ◌+◌, ◌-◌, ◌*◌, ◌<◌, ◌≤◌, Some, List, [], ◌∷◌, length, get_or, sym, ap, ◌∙◌, subst, arith}
 use Rattle.std.specs.List.{Contains}
 use Rattle.std.proofs.Math.Nat.{mul-le-mul_left}
 use Rattle.rows.proofs.Elements.{Contains-nil, Contains-cons_cases}
@@ -9,6 +9,10 @@ use Rattle.products.specs.Products.{AreApart, AreIn, Has, IsInOne, Product, numb
 use Rattle.products.proofs.Lists.{Once, fewer}
 use Rattle.products.proofs.Numbers.{contains_numbers}
 use Rattle.products.proofs.Sets.{are_in_at}
+use Rattle.ends.specs.declared.table.Table.{Table}
+use Rattle.ends.specs.Tables.{OnlyTries}
+use Rattle.ends.proofs.Showing.{tries_on}
+use Rattle.product_ends.specs.Deeds.{TriesAtMost}
 use Rattle.product_ends.specs.Growing.{IsPaid}
 use Rattle.product_ends.proofs.RowsIn.{contains_rows_in, rows_in_once}
 
@@ -71,3 +75,33 @@ module _ (old new : List Product) (apart : AreApart old) (kept : (row : List ℕ
 
 pub paid_then : (steps a b c : ℕ) (xs ys zs : List Product) → IsPaid steps a xs b ys → IsPaid steps b ys c zs → IsPaid steps a xs c zs
 paid_then steps a b c xs ys zs p q = omega (arith, p, q)
+
+-- ---- steps
+
+-- one step more
+module _ {S : Type 0} {t u v : Table S} {a b c : ℕ} where
+  pub tries_one_more : (n steps : ℕ) → OnlyTries t u a b → b ≤ a + n → OnlyTries u v b c → c ≤ b + 1 → n + 1 ≤ steps → TriesAtMost steps t v a c
+  tries_one_more n steps one paid more cost fits = record { tries = tries_on one more; cost = omega (arith, paid, cost, fits) }
+
+-- what one row more costs is within what all rows up to one more than the budget cost
+pub cost_within : (steps budget old rows a b c : ℕ) → b + steps * old ≤ a + steps * rows → old ≤ budget → rows ≤ budget → c ≤ b + steps → c ≤ a + steps * (budget + 1 - old)
+cost_within steps budget old rows a b c paid few within cost =
+    let most : steps * rows ≤ steps * budget = mul-le-mul_left steps within in
+    let whole : budget + 1 - old + old ≡ budget + 1 = omega (arith, few) in
+    let split : steps * (budget + 1 - old) + steps * old ≡ steps * (budget + 1) = (let s : steps * (budget + 1 - old + old) ≡ steps * (budget + 1 - old) + steps * old = grind arith in sym s ∙ ap (λ n. steps * n) whole) in
+    let one : steps * (budget + 1) ≡ steps * budget + steps = grind arith in
+    omega (arith, paid, most, split, one, cost)
+
+-- the same, where there were no rows
+pub cost_first : (steps budget rows a b c : ℕ) → b ≤ a + steps * rows → rows ≤ budget → c ≤ b + steps → c ≤ a + steps * (budget + 1)
+cost_first steps budget rows a b c paid within cost =
+    let most : steps * rows ≤ steps * budget = mul-le-mul_left steps within in
+    let one : steps * (budget + 1) ≡ steps * budget + steps = grind arith in
+    omega (arith, paid, most, one, cost)
+
+-- and so is what all rows more cost
+pub cost_rest : (steps budget rows a b c : ℕ) → b ≤ a + steps * rows → rows ≤ budget → c ≤ b + steps * (budget + 1 - rows) → c ≤ a + steps * (budget + 1)
+cost_rest steps budget rows a b c paid few cost =
+    let whole : budget + 1 - rows + rows ≡ budget + 1 = omega (arith, few) in
+    let split : steps * (budget + 1 - rows) + steps * rows ≡ steps * (budget + 1) = (let s : steps * (budget + 1 - rows + rows) ≡ steps * (budget + 1 - rows) + steps * rows = grind arith in sym s ∙ ap (λ n. steps * n) whole) in
+    omega (arith, paid, split, cost)

@@ -4,6 +4,7 @@ pub mod Beginning
 pub mod Closing
 pub mod Converting
 pub mod Counting
+pub mod Growing
 pub mod Led
 pub mod Left
 pub mod Putting

@@ -1,5 +1,5 @@
 -- a widened product that is put with those whose rows say ends that are reached
-use Rattle.std.proofs.Common.{◌≡◌, ⊎_elim, ℕ, zero, suc, ◌+◌, ◌-◌, ◌<◌, Some, List, [], ◌∷◌, length, slice_get, get_or, set, drop, sym, ap, ◌∙◌, subst, arith}
+use Rattle.std.proofs.Common.{◌≡◌, ⊎_elim, ℕ, zero, suc, ◌+◌, ◌-◌, ◌<◌, Some, List, [], ◌∷◌, length, slice_get, get_or, set, drop, refl, sym, ap, ◌∙◌, subst, arith}
 use Rattle.std.specs.List.{slice_range}
 use Rattle.std.proofs.lemmas.List.{set-get_or}
 use Rattle.std.proofs.lemmas.Option.{get_or_from_slice_get, none-some, slice_get-get_or}
@@ -12,12 +12,12 @@ use Rattle.ends.specs.declared.pending_op.PendingOp.{PendingOp}
 use Rattle.ends.specs.declared.table.Table.{Table}
 use Rattle.ends.specs.Tables.{HasEachOnce, Shows, Widens}
 use Rattle.ends.proofs.Showing.{shows_more}
-use Rattle.products.specs.Products.{Has, IsIn, IsInOne, Product, Puts}
+use Rattle.products.specs.Products.{Has, IsIn, IsInAt, IsInOne, Product, Puts}
 use Rattle.product_ends.specs.declared.deeds.Deed.{Deed}
 use Rattle.product_ends.specs.declared.deeds.Deed.TheVariants.{To}
 use Rattle.product_ends.specs.declared.deeds.Deeds.{Deeds}
 use Rattle.product_ends.specs.Deeds.{AreDeeds, AreStays, IsDeed, IsTried, deed_at, order_in, stay_at}
-use Rattle.product_ends.specs.Growing.{Gains, HoldReached, SaysReached, SayReached}
+use Rattle.product_ends.specs.Growing.{Gains, HoldReached, SaysReached, SayReached, StaysReached}
 use Rattle.product_ends.specs.Widening.{AreWidened, TakesIn, TakesOne}
 use Rattle.product_ends.proofs.Stepping.{led_reached}
 use Rattle.product_ends.proofs.Widening.{widened_from}
@@ -111,19 +111,51 @@ module _ (o : Object) (t u : Table o.State) (calls : List PendingOp) (ends : Lis
     each = λ row is. says_still row (hold.each row is);
   }
 
+-- ---- one product more
+
+module _ (o : Object) (t : Table o.State) (calls : List PendingOp) (start : List (End o.State)) (product : Product) (products : List Product) where
+  either : SayReached o t calls start product → HoldReached o t calls start products → (at : ℕ) (row : List ℕ) → IsInAt (product ∷ products) at row → SaysReached o t calls start row
+  either say hold zero row is = say row (subst (λ p. IsIn p row) (sym (one_of product is.0 is.1)) is.2)
+  either say hold (suc at) row is = hold.each row (at, is)
+
+  pub hold_with : SayReached o t calls start product → HoldReached o t calls start products → HoldReached o t calls start (product ∷ products)
+  hold_with say hold = record {
+    states_once = hold.states_once;
+    founds_once = hold.founds_once;
+    each = λ row is. either say hold is.0 row is.1;
+  }
+
+  pub hold_rest : HoldReached o t calls start (product ∷ products) → HoldReached o t calls start products
+  hold_rest hold = record {
+    states_once = hold.states_once;
+    founds_once = hold.founds_once;
+    each = λ row is. hold.each row (suc is.0, is.1);
+  }
+
+  pub say_first : HoldReached o t calls start (product ∷ products) → SayReached o t calls start product
+  say_first hold row is = hold.each row (0, (product, refl, is))
+
+-- where the source is one of these products, and is put with others as the target
+pub put_itself : (o : Object) (t u v : Table o.State) (calls : List PendingOp) (kept mid new : List Product) (at : ℕ) (product target : Product) → Widens t u → target ≡ product
+    → slice_get kept at ≡ Some product → StaysReached o t u calls kept mid → StaysReached o u v calls (target ∷ mid) new → StaysReached o t v calls kept new
+put_itself o t u v calls kept mid new at product target wide same there before after once start hold =
+    after once start
+    (subst (λ p. HoldReached o u calls start (p ∷ mid)) (sym same)
+    (hold_with o u calls start product mid (λ row is. says_still o t u calls start wide row (hold.each row (at, (product, there, is)))) (before once start hold)))
+
 -- ---- what is put
+
+pub first_of : (product : Product) (row : List ℕ) → IsIn product row → product.0 ≡ get_or row 0 0
+first_of product [] is = absurd is
+first_of product (n ∷ row) is = sym is.0
 
 module _ (number from : ℕ) (next : List ℕ) (old new : List Product) (puts : Puts (number, next) from old new) where
   pub put_gains : Gains from old new
   put_gains = record { front = puts.front; long = puts.long; kept = λ row is. (is.0, puts.kept is.0 row is.1) }
 
-  first_is : (row : List ℕ) → IsIn (number, next) row → number ≡ get_or row 0 0
-  first_is [] is = absurd is
-  first_is (n ∷ row) is = sym is.0
-
   pub put_tried : {S : Type 0} (d : Deeds S) → ((row : List ℕ) → IsInOne old row → IsTried d (get_or row 0 0)) → IsTried d number → (row : List ℕ) → IsInOne new row → IsTried d (get_or row 0 0)
   put_tried d tried now row is =
-      ⊎_elim (λ was. tried row (is.0, was)) (λ here. subst (IsTried d) (first_is row here) now) (puts.only is.0 row is.1)
+      ⊎_elim (λ was. tried row (is.0, was)) (λ here. subst (IsTried d) (first_of (number, next) row here) now) (puts.only is.0 row is.1)
 
   pub put_reached : (o : Object) (t : Table o.State) (calls : List PendingOp) (ends : List (End o.State)) → HoldReached o t calls ends old → SayReached o t calls ends (number, next) → HoldReached o t calls ends new
   put_reached o t calls ends hold say = record {

@@ -8,13 +8,17 @@ use Rattle.linspec.proofs.Lists.{Contains-nil}
 use Rattle.ends.specs.declared.pending_op.PendingOp.{PendingOp}
 use Rattle.ends.specs.declared.table.Table.{Table}
 use Rattle.ends.specs.EndSteps.{Along, AreClosed, IsReached, ReachesMoreThan, Settles, is_other}
-use Rattle.ends.specs.Tables.{AreShown, IsAdvanced, Shows, ShownWith, rows_of, with_rows}
+use Rattle.ends.specs.Tables.{AreShown, Asked, IsAdvanced, Shows, ShownWith, rows_of, with_rows}
 use Rattle.ends.proofs.Growing.{Grows-itself, grown_all}
 use Rattle.ends.proofs.Reaching.{reached_itself}
 use Rattle.std.specs.List.{filter}
 use Rattle.products.specs.Products.{AreApart, IsInOne, Product, rows_in}
 use Rattle.product_ends.specs.Growing.{HoldReached}
 use Rattle.product_ends.proofs.Saying.{shown_by_products}
+
+-- what an ok asks
+abbrev pub asked : List PendingOp → ℕ → ℕ → ℕ → Answer → Asked
+asked calls tried budget id answer = record { calls = calls; tried = tried; budget = budget; id = id; answer = answer }
 
 -- rows of products without a row in common say as many ends
 module _ (o : Object) (t : Table o.State) (calls : List PendingOp) (ends : List (End o.State)) (products : List Product) (apart : AreApart products) (hold : HoldReached o t calls ends products) where
@@ -39,10 +43,10 @@ module _ (o : Object) (t : Table o.State) (calls : List PendingOp) (ends : List 
     reached = shown_by_products t calls hold.states_once hold.founds_once products apart (IsReached o calls ends) hold.each all
 
     -- what an ok leaves of them
-    pub advanced : (budget id : ℕ) (answer : Answer) (rows : List (List ℕ)) → length (rows_in products) ≤ budget
+    pub advanced : (tried budget id : ℕ) (answer : Answer) (rows : List (List ℕ)) → length (rows_in products) ≤ budget
         → ((list : List (End o.State)) → AreShown (with_rows t (rows_in products)) calls list → ShownWith (with_rows t rows) (filter (is_other id) calls) [] (Along (Settles id answer) list))
-        → IsAdvanced o (with_rows t rows) calls ends budget id answer
-    advanced budget id answer rows few left = record {
+        → IsAdvanced o (with_rows t rows) (asked calls tried budget id answer) ends
+    advanced tried budget id answer rows few left = record {
       all = reached.more;
       adds = record {
         each = λ e. (
@@ -66,10 +70,10 @@ module _ (o : Object) (t : Table o.State) (calls : List PendingOp) (ends : List 
   }
 
   -- what an ok leaves of them
-  pub kept_advanced : AreClosed o calls ends → (budget id : ℕ) (answer : Answer) (rows : List (List ℕ)) → length (rows_of t) ≤ budget
+  pub kept_advanced : AreClosed o calls ends → (tried budget id : ℕ) (answer : Answer) (rows : List (List ℕ)) → length (rows_of t) ≤ budget
       → ShownWith (with_rows t rows) (filter (is_other id) calls) [] (Along (Settles id answer) ends)
-      → IsAdvanced o (with_rows t rows) calls ends budget id answer
-  kept_advanced closed budget id answer rows few left = record {
+      → IsAdvanced o (with_rows t rows) (asked calls tried budget id answer) ends
+  kept_advanced closed tried budget id answer rows few left = record {
     all = ends;
     adds = grown_all o calls ends ends (Grows-itself o calls ends) closed;
     within = (let long = shown.long in omega (arith, long, few));

@@ -23,9 +23,6 @@ use Rattle.product_ends.proofs.Saying.{end_in, row_in, shown_by_products}
 
 -- the number of one thing
 module _ (founds others : List Found) where
-  pub same_zero : IsSameFound founds others 0 0
-  same_zero = (None, refl, refl)
-
   pub same_some : (number at other : ℕ) (found : Found) → number ≡ at + 1 → slice_get founds at ≡ Some found → IsSlot others other (Some found) → IsSameFound founds others number other
   same_some number at other found is here slot = (Some found, (at, is, here), slot)
 

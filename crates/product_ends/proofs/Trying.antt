@@ -1,5 +1,5 @@
 -- what calls do in the states that were tried
-use Rattle.std.proofs.Common.{◌≡◌, ℕ, ◌+◌, ◌<◌, ⊎_elim, Some, List, [], ◌∷◌, ◌++◌, length, slice_get, get_or, sym, ap, ◌∙◌, subst, arith}
+use Rattle.std.proofs.Common.{◌≡◌, ℕ, ◌+◌, ◌<◌, inl, inr, ⊎_elim, Some, List, [], ◌∷◌, ◌++◌, length, slice_get, get_or, sym, ap, ◌∙◌, subst, arith}
 use Rattle.std.proofs.lemmas.Bool.{cases_eq}
 use Rattle.std.proofs.lemmas.List.{get_or_append_left}
 use Rattle.std.proofs.lemmas.Option.{get_or_from_slice_get, slice_get_within}
@@ -16,7 +16,7 @@ use Rattle.products.specs.Products.{Has}
 use Rattle.product_ends.specs.declared.deeds.Deed.{Deed}
 use Rattle.product_ends.specs.declared.deeds.Deed.TheVariants.{Nowhere, To}
 use Rattle.product_ends.specs.declared.deeds.Deeds.{Deeds}
-use Rattle.product_ends.specs.Deeds.{AreDeeds, AreStays, AreStaysTo, AreTriedTo, AreWithin, IsDeed, IsOrderWith, IsStay, order_in, stay_at}
+use Rattle.product_ends.specs.Deeds.{AreDeeds, AreStays, AreStaysTo, AreTriedTo, AreTriedToo, AreWithin, IsDeed, IsOrderWith, IsStay, IsTried, order_in, stay_at}
 
 module _ {S : Type 0} where
   -- a deed stays what it is in a table with more
@@ -69,6 +69,20 @@ module _ {S : Type 0} where
         let p = are n order at c deed was here (subst (λ x. slice_get old.deeds.items (order + at) ≡ Some x) same there.1) in
         (p.0, get_front t.states u.states n p.0 w.states p.1, deed_more t u c (apply c.op p.0) deed w p.2))
         (cases_eq n number)
+
+  -- in one state more the calls are tried
+  pub tried_too : (old new : Deeds S) (number order : ℕ) → IsOrderWith old.order.items new.order.items number order → AreTriedToo number old new
+  tried_too old new number order with_order =
+      let told = with_order.told in
+      record {
+        now = omega (arith, told);
+        kept = λ n was.
+            ⊎_elim
+            (λ same. subst (IsTried new) (sym same) (omega (arith, told)))
+            (λ other. subst (λ k. 0 < k) (sym (with_order.others n other)) was)
+            (cases_eq n number);
+        others = λ n is. ⊎_elim (λ same. inl same) (λ other. inr (subst (λ k. 0 < k) (with_order.others n other) is)) (cases_eq n number);
+      }
 
   -- the deeds of each state that was tried are still there, and so are those of one more
   pub within_with : (old new : Deeds S) (number calls : ℕ) → length new.deeds.items ≡ length old.deeds.items + calls

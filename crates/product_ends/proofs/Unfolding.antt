@@ -86,9 +86,6 @@ abbrev pub GoesBelow : List ℕ → ℕ → List ℕ → ℕ → List ℕ → Ty
 GoesBelow sets place front n row =
     (number : ℕ) × (number < n) × Has (get_or sets place 0) number × GoesBy sets place front number row
 
-pub below_none : (sets : List ℕ) (place : ℕ) (front : List ℕ) (rows : List (List ℕ)) → HasMore (GoesBelow sets place front 0) rows rows
-below_none sets place front rows row = (inl, ⊎_elim (λ h. h) (λ g. absurd (let lt = g.1 in omega (arith, lt))))
-
 -- one number more
 module _ (sets : List ℕ) (place : ℕ) (front : List ℕ) (n : ℕ) (old mid : List (List ℕ)) (so_far : HasMore (GoesBelow sets place front n) old mid) where
   last_or : (row : List ℕ) → GoesBelow sets place front (n + 1) row → GoesBelow sets place front n row ⊎ (Has (get_or sets place 0) n × GoesBy sets place front n row)

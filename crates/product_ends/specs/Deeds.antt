@@ -1,12 +1,12 @@
 -- Invariant: what each call does in the states that were tried, by numbers
-use Rattle.std.specs.Prelude.{◌≡◌, ◌≢◌, ◌↔◌, ◌<◌, ◌≤◌, ◌+◌, ℕ, Option, Some, List, [], ◌∷◌, length, slice_get, get_or}
+use Rattle.std.specs.Prelude.{◌≡◌, ◌≢◌, ◌↔◌, ◌⊎◌, ◌<◌, ◌≤◌, ◌+◌, ℕ, Bool, true, false, Option, Some, List, [], ◌∷◌, length, slice_get, get_or}
 use Rattle.models.specs.declared.operation.Op.{Op}
 use Rattle.models.specs.declared.finding.Found.{Found}
 use Rattle.interned.specs.Numbers.{IsSlot}
 use Rattle.ends.specs.declared.pending_op.PendingOp.{PendingOp}
 use Rattle.ends.specs.declared.table.Table.{Table}
-use Rattle.ends.specs.Tables.{told_by}
-use Rattle.products.specs.Products.{Has}
+use Rattle.ends.specs.Tables.{OnlyTries, told_by}
+use Rattle.products.specs.Products.{Has, IsIn, Product}
 use Rattle.product_ends.specs.declared.deeds.Deed.{Deed}
 use Rattle.product_ends.specs.declared.deeds.Deed.TheVariants.{Nowhere, To}
 use Rattle.product_ends.specs.declared.deeds.Deeds.{Deeds}
@@ -58,6 +58,35 @@ pub record AreStays {S : Type 0} (d : Deeds S) (calls : ℕ) : Type 0 where
   pub long : length d.stays.items ≡ length d.deeds.items
   pub each : (number order at slot : ℕ) → order_in d number ≡ order + 1 → at < calls
       → Has (stay_at d order at) slot → deed_at d order at ≡ Some (To number (stay_at d order at))
+
+-- what is remembered of calls in states is so: the deeds of each state that was tried are there, each is what its call does, and
+-- what stays in the state is told
+pub record AreSound {S : Type 0} (apply : Op → S → List (S × Found)) (t : Table S) (calls : List PendingOp) (d : Deeds S)
+    : Type 0 where
+  pub within : AreWithin d (length calls)
+  pub deeds : AreDeeds apply t calls d
+  pub stays : AreStays d (length calls)
+
+-- the calls are tried in the state with this number too, and else in those where they were
+pub record AreTriedToo {S : Type 0} (number : ℕ) (old new : Deeds S) : Type 0 where
+  pub now : IsTried new number
+  pub kept : (n : ℕ) → IsTried old n → IsTried new n
+  pub others : (n : ℕ) → IsTried new n → (n ≡ number) ⊎ IsTried old n
+
+-- the calls are tried in each state in which they were, and, if so it is told, in that of the product; else it has no row
+pub record AreTriedFor {S : Type 0} (product : Product) (old new : Deeds S) (some : Bool) : Type 0 where
+  pub kept : (n : ℕ) → IsTried old n → IsTried new n
+  pub tried : some ≡ true → IsTried new product.0
+  pub none : some ≡ false → (row : List ℕ) → ¬ IsIn product row
+
+-- an operation has at most one outcome in a state
+abbrev pub HasOneOutcome : {S : Type 0} → (Op → S → List (S × Found)) → Type 0
+HasOneOutcome {S} apply = (op : Op) (s : S) → length (apply op s) ≤ 1
+
+-- calls are tried and no more, in at most so many steps
+pub record TriesAtMost {S : Type 0} (steps : ℕ) (old new : Table S) (before after : ℕ) : Type 0 where
+  pub tries : OnlyTries old new before after
+  pub cost : after ≤ before + steps
 
 -- for the first n deeds from this place on, in the state with this number
 abbrev pub AreStaysTo : ℕ → List Deed → List ℕ → ℕ → ℕ → Type 0

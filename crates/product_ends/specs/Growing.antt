@@ -8,10 +8,68 @@ use Rattle.linspec.specs.Ends.{End}
 use Rattle.ends.specs.declared.pending_op.PendingOp.{PendingOp}
 use Rattle.ends.specs.declared.table.Table.{Table}
 use Rattle.ends.specs.EndSteps.{IsReached, TakesLast}
-use Rattle.ends.specs.Tables.{Shows}
+use Rattle.ends.specs.Tables.{AreShown, HasEachOnce, Shows, with_rows}
 use Rattle.products.specs.Products.{AreApart, IsIn, IsInAt, IsInOne, Product, rows_in}
-use Rattle.product_ends.specs.declared.deeds.Deeds.{Deeds}
-use Rattle.product_ends.specs.Deeds.{AreDeeds, AreStays, AreWithin, IsTried}
+use Rattle.product_ends.specs.declared.room.Work.{Work}
+use Rattle.product_ends.specs.Deeds.{AreSound, HasOneOutcome, IsTried}
+use Rattle.product_ends.specs.Widening.{product_in}
+
+-- ---- the work while products grow
+
+-- what the calls do in states is known, in the state of each row of the products, no two of which have a row in common
+pub record AreKnown {S : Type 0} (apply : Op → S → List (S × Found)) (t : Table S) (calls : List PendingOp) (w : Work S)
+    : Type 0 where
+  pub sound : AreSound apply t calls w.deeds
+  pub tried : (row : List ℕ) → IsInOne w.all.1 row → IsTried w.deeds (get_or row 0 0)
+  pub apart : AreApart w.all.1
+
+-- more may be put with the products: what calls do is known, an operation has at most one outcome in a state, and the rows are no
+-- more than the budget
+pub record MayGrow {S : Type 0} (apply : Op → S → List (S × Found)) (t : Table S) (calls : List PendingOp) (budget : ℕ) (w : Work S)
+    : Type 0 where
+  pub single : HasOneOutcome apply
+  pub known : AreKnown apply t calls w
+  pub few : length (rows_in w.all.1) ≤ budget
+
+-- each row of the product is one of the products
+abbrev pub HasRows : Product → List Product → Type 0
+HasRows product products = (row : List ℕ) → IsIn product row → IsInOne products row
+
+-- the source has so many sets as the products, and its rows are rows of them
+pub record HasSource {S : Type 0} (w : Work S) : Type 0 where
+  pub long : length w.source.sets.items ≡ w.all.0
+  pub there : HasRows (product_in w.source) w.all.1
+
+-- the source stays, and so does how many sets a product has
+pub record KeepsSource {S : Type 0} (old new : Work S) : Type 0 where
+  pub source : product_in new.source ≡ product_in old.source
+  pub places : new.all.0 ≡ old.all.0
+
+-- no row is lost
+abbrev pub LosesNoRow : List Product → List Product → Type 0
+LosesNoRow old new = (row : List ℕ) → IsInOne old row → IsInOne new row
+
+-- the products before that place stay as they were, and no product and no row is lost
+pub record Gains (from : ℕ) (old new : List Product) : Type 0 where
+  pub front : (at : ℕ) → at < from → at < length old → slice_get new at ≡ slice_get old at
+  pub long : length old ≤ length new
+  pub kept : LosesNoRow old new
+
+-- the steps that were made are no more than so many for each row that was added
+abbrev pub IsPaid : ℕ → ℕ → List Product → ℕ → List Product → Type 0
+IsPaid steps before old after new = after + steps * length (rows_in old) ≤ before + steps * length (rows_in new)
+
+-- products were put with others: none of those is lost, what calls do is known for all, the steps are paid, and it is told whether
+-- their rows are no more than the budget
+pub record AreGrown {S : Type 0} (apply : Op → S → List (S × Found)) (t : Table S) (calls : List PendingOp)
+    (from budget : ℕ) (old : List Product) (new : Work S) (before after : ℕ) (all : Bool) : Type 0 where
+  pub known : AreKnown apply t calls new
+  pub gains : Gains from old new.all.1
+  pub paid : IsPaid (length calls) before old after new.all.1
+  pub within : all ≡ true → length (rows_in new.all.1) ≤ budget
+  pub over : all ≡ false → budget < length (rows_in new.all.1)
+
+-- ---- rows that say ends which calls lead to
 
 -- the row says an end that calls lead to from these
 abbrev pub SaysReached : (o : Object) → Table o.State → List PendingOp → List (End o.State) → List ℕ → Type 0
@@ -28,34 +86,18 @@ pub record HoldReached (o : Object) (t : Table o.State) (calls : List PendingOp)
   pub founds_once : IsOnceIn t.founds
   pub each : (row : List ℕ) → IsInOne products row → SaysReached o t calls start row
 
--- what the calls do in states is known, in the state of each row of the products, no two of which have a row in common
-pub record AreKnown {S : Type 0} (apply : Op → S → List (S × Found)) (t : Table S) (calls : List PendingOp)
-    (d : Deeds S) (products : List Product) : Type 0 where
-  pub within : AreWithin d (length calls)
-  pub deeds : AreDeeds apply t calls d
-  pub stays : AreStays d (length calls)
-  pub tried : (row : List ℕ) → IsInOne products row → IsTried d (get_or row 0 0)
-  pub apart : AreApart products
+-- so it is for some ends, and each call is of another operation
+pub record AreReached (o : Object) (t : Table o.State) (calls : List PendingOp) (products : List Product) : Type 0 where
+  pub once : HasEachOnce calls
+  pub start : List (End o.State)
+  pub hold : HoldReached o t calls start products
 
--- the products before that place stay as they were, and no product and no row is lost
-pub record Gains (from : ℕ) (old new : List Product) : Type 0 where
-  pub front : (at : ℕ) → at < from → at < length old → slice_get new at ≡ slice_get old at
-  pub long : length old ≤ length new
-  pub kept : (row : List ℕ) → IsInOne old row → IsInOne new row
+-- from whatever ends the rows of the old products are reached, those of the new ones are reached from them, by the new table
+abbrev pub StaysReached : (o : Object) → Table o.State → Table o.State → List PendingOp → List Product → List Product → Type 0
+StaysReached o t u calls old new =
+    HasEachOnce calls → (start : List (End o.State)) → HoldReached o t calls start old → HoldReached o u calls start new
 
--- the steps that were made are no more than so many for each row that was added
-abbrev pub IsPaid : ℕ → ℕ → List Product → ℕ → List Product → Type 0
-IsPaid steps before old after new = after + steps * length (rows_in old) ≤ before + steps * length (rows_in new)
-
--- products were put with others: none of those is lost, what calls do is known for all, the steps are paid, and it is told whether
--- their rows are no more than the budget
-pub record AreGrown {S : Type 0} (apply : Op → S → List (S × Found)) (t : Table S) (calls : List PendingOp) (d : Deeds S)
-    (from budget : ℕ) (old new : List Product) (before after : ℕ) (all : Bool) : Type 0 where
-  pub known : AreKnown apply t calls d new
-  pub gains : Gains from old new
-  pub paid : IsPaid (length calls) before old after new
-  pub within : all ≡ true → length (rows_in new) ≤ budget
-  pub over : all ≡ false → budget < length (rows_in new)
+-- ---- products that have what calls lead to
 
 -- the row says an end, and what the call leads to from it is said by rows of the products
 abbrev pub Leads : (o : Object) → Table o.State → List PendingOp → List Product → PendingOp → List ℕ → Type 0
@@ -66,7 +108,28 @@ Leads o t calls products c row = (e : End o.State) × Shows t calls row e
 abbrev pub LeadsFrom : (o : Object) → Table o.State → List PendingOp → List Product → Product → PendingOp → Type 0
 LeadsFrom o t calls products product c = (row : List ℕ) → IsIn product row → Leads o t calls products c row
 
+-- and with the call at this place
+abbrev pub LeadsAt : (o : Object) → Table o.State → List PendingOp → List Product → Product → ℕ → Type 0
+LeadsAt o t calls products product at =
+    (c : PendingOp) → slice_get calls at ≡ Some c → LeadsFrom o t calls products product c
+
 -- so it is with each call and each row of the first n products
 abbrev pub AreClosedTo : (o : Object) → Table o.State → List PendingOp → List Product → ℕ → Type 0
 AreClosedTo o t calls products n = (at i : ℕ) (c : PendingOp) (row : List ℕ) → at < n → slice_get calls i ≡ Some c
     → IsInAt products at row → Leads o t calls products c row
+
+-- each end that calls lead to from these is said by a row of the products
+abbrev pub SayAll : (o : Object) → Table o.State → List PendingOp → List (End o.State) → List Product → Type 0
+SayAll o t calls start products =
+    (e : End o.State) → IsReached o calls start e → (row : List ℕ) × IsInOne products row × Shows t calls row e
+
+-- what the calls lead to from the kept products was found: no two products have a row in common, and each row says an end that is
+-- reached. Either they are all such ends, and no more than the budget, or the rows are more than it
+pub record AreFound (o : Object) (t u : Table o.State) (calls : List PendingOp) (budget : ℕ) (kept new : List Product) (told : Bool)
+    : Type 0 where
+  pub apart : AreApart new
+  pub reached : StaysReached o t u calls kept new
+  pub all : told ≡ true → HasEachOnce calls → (ends : List (End o.State)) → AreShown (with_rows t (rows_in kept)) calls ends
+      → SayAll o u calls ends new
+  pub within : told ≡ true → length (rows_in new) ≤ budget
+  pub over : told ≡ false → budget < length (rows_in new)

@@ -1,6 +1,15 @@
 -- Invariant: sets of a product with what calls find that stay in its state
 use Rattle.std.specs.Prelude.{◌≡◌, ◌↔◌, ◌<◌, ◌+◌, ◌⊎◌, ℕ, zero, suc, List, length, set, get_or}
-use Rattle.products.specs.Products.{Has}
+use Rattle.products.specs.Products.{Has, Product}
+use Rattle.product_ends.specs.declared.room.Source.{Source}
+use Rattle.product_ends.specs.declared.target.Target.{Target}
+
+-- the source's product, and the target's
+abbrev pub product_in : Source → Product
+product_in source = (source.number, source.sets.items)
+
+abbrev pub product_to : Source → Target → Product
+product_to source to = (to.number, set source.sets.items to.place to.set)
 
 -- the new set is the old one, or this has zero, and the new one has besides what the call finds
 abbrev pub IsWidened : ℕ → ℕ → ℕ → Type 0

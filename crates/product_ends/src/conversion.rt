@@ -14,8 +14,8 @@ ghost use Rattle.product_ends.specs.Deeds.{IsAlone};
 use ends::{PendingOp, Table};
 use interned::{Founds, States, founds, states};
 use models::SeqObject;
-use products::Products;
 use products::number_set::{HIGH, alone, has, joined};
+use products::{Products, Scratch};
 use rows::RowSet;
 use std::alloc::{AllocError, Global};
 use std::hash::Hash;
@@ -37,7 +37,6 @@ fn set_alone(row: &[usize], sets: &mut Vec<u64>) -> Result<(), AllocError>
 /// The rows of the table, each as a product of its own, with so many sets. None where a row has another length. `AllocError` where
 /// there is no memory for them, or a number has more than 63 bits. Takes the square of how many rows there are.
 pub fn as_products<S: Hash + Drop>(
-    alloc: Global,
     table: &Table<S>,
     places: usize,
 ) -> Result<Option<Products>, AllocError>
@@ -45,17 +44,17 @@ pub fn as_products<S: Hash + Drop>(
         → IfOk result (λ found. IfSome found (λ products.
         ShownWith (with_rows table.now (rows_in products.1)) calls [] (Along IsThat ends))) }
 {
+    let alloc = table.alloc;
     let mut products = Products::new(alloc, places);
     let mut row = Vec::new(alloc);
-    let mut sets = Vec::new(alloc);
-    let mut stack = Vec::new(alloc);
+    let mut scratch = Scratch::new(alloc);
     for at in 0..table.rows.len() {
         table.rows.read(at, &mut row)?;
         if row.is_empty() || row.len() - 1 != places {
             return Ok(None);
         }
-        set_alone(&row, &mut sets)?;
-        products.put(0, row[0], &sets, &mut stack)?;
+        set_alone(&row, &mut scratch.sets)?;
+        products.put(0, row[0], &scratch.sets, &mut scratch.stack)?;
     }
     // It says that no row is in two of them.
     let _rows = products.rows();
@@ -191,7 +190,6 @@ fn renumber_sets(
 /// numbers. None where a state, or what was found, is not in the table, or where a set of several numbers would get one above 62.
 /// Takes the time of a copy of each product's state, of its numbers, and of [`Products::put`] for each product.
 pub fn renumbered<M: SeqObject>(
-    alloc: Global,
     table: &Table<M::State>,
     kept: &Products,
 ) -> Result<Option<(Table<M::State>, Products)>, AllocError>
@@ -200,23 +198,29 @@ pub fn renumbered<M: SeqObject>(
         → IfOk result (λ found. IfSome found (λ other.
         ShownWith (with_rows other.0 (rows_in other.1.1)) calls [] (Along IsThat ends))) }
 {
+    let alloc = table.alloc;
     let mut other = Table {
+        alloc,
         states: States::new(alloc),
         founds: Founds::new(alloc),
         rows: RowSet::new(alloc, 0),
     };
     let mut products = Products::new(alloc, kept.places());
-    let mut sets = Vec::new(alloc);
-    let mut stack = Vec::new(alloc);
+    let mut scratch = Scratch::new(alloc);
     for at in 0..kept.len() {
         let Some(state) = table.states.get(kept.first(at)) else {
             return Ok(None);
         };
         let number = states::number_of::<M>(&mut other.states, M::copy(alloc, state)?)?;
-        if !renumber_sets(&table.founds, &mut other.founds, kept.sets(at), &mut sets)? {
+        if !renumber_sets(
+            &table.founds,
+            &mut other.founds,
+            kept.sets(at),
+            &mut scratch.sets,
+        )? {
             return Ok(None);
         }
-        products.put(0, number, &sets, &mut stack)?;
+        products.put(0, number, &scratch.sets, &mut scratch.stack)?;
     }
     // It says that no row is in two of them.
     let _rows = products.rows();

@@ -1,9 +1,8 @@
 //! What each call does in the states that were tried.
-ghost use Rattle.std.specs.Prelude.{◌≡◌, ◌<◌, ◌≤◌, ◌+◌, ◌^◌, ◌⊎◌, ℕ, List, [], IfOk, IfSome, IsSome, OnOk, Some, length, get_or, slice_get, slice_range};
+ghost use Rattle.std.specs.Prelude.{◌≡◌, ◌<◌, ◌≤◌, ◌+◌, ◌^◌, ℕ, IfOk, IfSome, IsSome, OnOk, Some, length, get_or, slice_get, slice_range};
 ghost use Rattle.models.specs.declared.finding.Found.{Found};
-ghost use Rattle.models.specs.declared.operation.Op.{Op};
 ghost use Rattle.ends.specs.Tables.{OnlyTries};
-ghost use Rattle.product_ends.specs.Deeds.{AreDeeds, AreStays, AreWithin, IsDeed, IsOrderWith, IsStay, IsTried, order_in};
+ghost use Rattle.product_ends.specs.Deeds.{AreSound, AreStays, AreTriedToo, AreWithin, HasOneOutcome, IsDeed, IsOrderWith, IsStay, IsTried, TriesAtMost, order_in};
 
 use ends::{PendingOp, Table, step, told_by};
 use interned::founds::slot_at;
@@ -95,14 +94,13 @@ pub fn stays_in<S>(deeds: &Deeds<S>, number: usize, calls: usize) -> Option<&[u6
 
 // What the call does in the state with this number: one step.
 fn tried<M: SeqObject>(
-    alloc: Global,
     table: &mut Table<M::State>,
     outcomes: &mut Vec<(M::State, Found)>,
     number: usize,
     call: &PendingOp,
     applied: &mut u64,
 ) -> Result<Deed, AllocError>
-    requires single { (op : Op) (s : M.State) → length (M.apply_to op s) ≤ 1 }
+    requires single { HasOneOutcome M.apply_to }
     ensures deed { IfOk result (λ deed. (s : M.State) × (slice_get table.new.states number ≡ Some s)
         × IsDeed table.new call.now (M.apply_to call.now.op s) deed) }
     ensures tries { OnlyTries table.old table.new applied.old applied.new }
@@ -111,7 +109,7 @@ fn tried<M: SeqObject>(
     let Some(state) = table.states.get(number) else {
         return Err(AllocError);
     };
-    step::<M>(alloc, state, &call.op, outcomes, applied)?;
+    step::<M>(table.alloc, state, &call.op, outcomes, applied)?;
     match outcomes.pop() {
         Some((state, found)) => {
             let to = number_of::<M>(&mut table.states, state)?;
@@ -152,28 +150,21 @@ fn tell(order: &mut Vec<usize>, number: usize, first: usize) -> Result<(), Alloc
 /// such state. Takes one step for each call.
 #[inline(never)]
 pub fn try_each<M: SeqObject>(
-    alloc: Global,
     table: &mut Table<M::State>,
     deeds: &mut Deeds<M::State>,
     number: usize,
     calls: &[PendingOp],
     applied: &mut u64,
 ) -> Result<(), AllocError>
-    requires single { (op : Op) (s : M.State) → length (M.apply_to op s) ≤ 1 }
-    ensures deeds { AreDeeds M.apply_to table.old calls.now deeds.old → AreWithin deeds.old (length calls.now)
-        → OnOk result (AreDeeds M.apply_to table.new calls.now deeds.new) }
-    ensures within { AreWithin deeds.old (length calls.now) → OnOk result (AreWithin deeds.new (length calls.now)) }
-    ensures stays { AreStays deeds.old (length calls.now) → AreWithin deeds.old (length calls.now)
-        → OnOk result (AreStays deeds.new (length calls.now)) }
-    ensures known { OnOk result (IsTried deeds.new number) }
-    ensures kept { (n : ℕ) → IsTried deeds.old n → OnOk result (IsTried deeds.new n) }
-    ensures others { (n : ℕ) → OnOk result (IsTried deeds.new n → (n ≡ number) ⊎ IsTried deeds.old n) }
-    ensures tries { OnlyTries table.old table.new applied.old applied.new }
-    ensures cost { applied.new ≤ applied.old + length calls.now }
+    requires single { HasOneOutcome M.apply_to }
+    ensures sound { AreSound M.apply_to table.old calls.now deeds.old
+        → OnOk result (AreSound M.apply_to table.new calls.now deeds.new) }
+    ensures tried { OnOk result (AreTriedToo number deeds.old deeds.new) }
+    ensures steps { TriesAtMost (length calls.now) table.old table.new applied.old applied.new }
 {
     let before = deeds.deeds.len();
     for call in calls {
-        let deed = tried::<M>(alloc, table, &mut deeds.outcomes, number, call, applied)?;
+        let deed = tried::<M>(table, &mut deeds.outcomes, number, call, applied)?;
         deeds.deeds.push(deed)?;
         deeds.stays.push(stay(deed, number))?;
     }

@@ -4,11 +4,11 @@ use Rattle.std.specs.Prelude.{Result, Ok, Err, OnErr, OnOk}
 use Rattle.std.specs.List.{slice_get, Contains}
 use Rattle.std.proofs.lemmas.List.{get_or_read, length-append, append_assoc, length-take, length-take-le, length-drop, length-map, length-set, append-nil, take-append-le, take_at, drop-append-le, drop_at, drop-drop, drop-set-lt, drop-set-add, take-set-le, take_all, nil_from_length}
 use Rattle.std.proofs.lemmas.List.Concat.{flat_map-append}
-use Rattle.std.proofs.lemmas.Option.{get_or_from_slice_get, same_Some, none-some, slice_get_within, slice_get-get_or}
+use Rattle.std.proofs.lemmas.Option.{same_Some, none-some}
 use Rattle.std.proofs.Math.Nat.{mul-le-mul_right}
-use Rattle.rows.proofs.Elements.{Contains-cons_cases, Contains-head, Contains-nil, from_map, to_map}
-use Rattle.products.proofs.Lists.{Once, from_flat_map, once_append, once_map, same_length, to_flat_map}
-use Rattle.products.proofs.Sets.{contains_rows, length_rows_push, rows_once}
+use Rattle.rows.proofs.Elements.{Contains-cons_cases, Contains-head, Contains-nil}
+use Rattle.products.proofs.Lists.{same_length}
+use Rattle.products.proofs.Sets.{length_rows_push}
 use Rattle.products.proofs.Numbers.{contains_numbers, has_zero_alone, numbers_once}
 use Rattle.products.specs.Products.{AreIn, numbers_of, IsIn, IsInAt, IsInOne, AreApart, Family, Product, laid_out, rows_in, rows_of_product, rows_of_sets}
 
@@ -418,45 +418,3 @@ view_sets places firsts words family view long at within product there =
     ap (λ (p : Product). length p.1) (view_product places firsts words family view at within product there)
     ∙ length-take places (drop (at * places) words)
     ∙ omega (arith, span, length-drop (at * places) words)
-
--- the rows of a product, in the list of them
-contains_product : (product : Product) (row : List ℕ) → Contains (rows_of_product product) row ↔ IsIn product row
-contains_product product row = (from row, to row)
-  where
-    from : (row : List ℕ) → Contains (rows_of_product product) row → IsIn product row
-    from row h =
-        let one = from_map (λ rest. product.0 ∷ rest) (rows_of_sets product.1) row h in
-        subst (IsIn product) one.2 (refl, (contains_rows product.1 one.0).0 one.1)
-
-    to : (row : List ℕ) → IsIn product row → Contains (rows_of_product product) row
-    to [] h = absurd h
-    to (number ∷ row) h =
-        subst (λ n. Contains (rows_of_product product) (n ∷ row)) (sym h.0)
-        (to_map (λ rest. product.0 ∷ rest) (rows_of_sets product.1) row ((contains_rows product.1 row).1 h.1))
-
--- the rows that a family has are those of one of its products
-pub contains_rows_in : (products : List Product) (row : List ℕ) → Contains (rows_in products) row ↔ IsInOne products row
-contains_rows_in products row = (from, to)
-  where
-    from : Contains (rows_in products) row → IsInOne products row
-    from h =
-        let one = from_flat_map rows_of_product products row h in
-        (one.1.0, (one.0, slice_get-get_or products one.1.0 one.0 one.1.1 ∙ ap (λ (p : Product). Some p) one.1.2, (contains_product one.0 row).0 one.2))
-
-    to : IsInOne products row → Contains (rows_in products) row
-    to h =
-        to_flat_map rows_of_product products h.1.0 row
-        (h.0, slice_get_within products h.0 h.1.0 h.1.1, get_or_from_slice_get products h.0 h.1.0 h.1.0 h.1.1) ((contains_product h.1.0 row).1 h.1.2)
-
--- each once, where no row is one of two products
-pub rows_in_once : (products : List Product) → AreApart products → Once (rows_in products)
-rows_in_once [] apart = tt
-rows_in_once (product ∷ products) apart =
-    once_append (rows_of_product product) (rows_in products)
-    (once_map (λ row. product.0 ∷ row) (λ one other same. cc) (rows_of_sets product.1) (rows_once product.1))
-    (rows_in_once products (λ i j row a b. let same = apart (suc i) (suc j) row a b in omega (arith, same)))
-    (λ row h k.
-    let one = (contains_product product row).0 h in
-    let other = (contains_rows_in products row).0 k in
-    let same = apart 0 (suc other.0) row (product, refl, one) other.1 in
-    absurd (omega (arith, same)))

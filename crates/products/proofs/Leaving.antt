@@ -241,29 +241,6 @@ covers_more others place at all sets here so k product lt there =
     (λ ne. covers_still all (get_or sets place 0) (get_or product.1 place 0) (so k product (omega (arith, lt, ne)) there))
     (cases_eq k at)
 
--- one number more
-pub found_first : (all n : ℕ) (marks : List Bool) → IsFound all marks n None → get_or marks n false ≡ true → IsFound all marks (n + 1) (Some n)
-found_first all n marks none mark = (
-  mark,
-  (λ k lt is has. ⊎_elim (λ same. same) (λ ne. absurd (none k (omega (arith, lt, ne)) is has)) (cases_eq k n)),
-)
-
-pub found_still : (all n : ℕ) (marks : List Bool) (found : Option ℕ) → IsFound all marks n found → (get_or marks n false ≡ true → Has all n → ⊥) → IsFound all marks (n + 1) found
-found_still all n marks None none not =
-    λ k lt is has.
-    ⊎_elim
-    (λ same. not (subst (λ j. get_or marks j false ≡ true) same is) (subst (Has all) same has))
-    (λ ne. none k (omega (arith, lt, ne)) is has)
-    (cases_eq k n)
-found_still all n marks (Some number) one not = (
-  one.0,
-  (λ k lt is has.
-      ⊎_elim
-      (λ same. absurd (not (subst (λ j. get_or marks j false ≡ true) same is) (subst (Has all) same has)))
-      (λ ne. one.1 k (omega (arith, lt, ne)) is has)
-      (cases_eq k n)),
-)
-
 marks_within : (marks : List Bool) (n : ℕ) → get_or marks n false ≡ true → n < length marks
 marks_within [] n is = absurd (true≢false (sym is))
 marks_within (m ∷ marks) zero is = omega arith

@@ -1,5 +1,5 @@
 -- Rows that are put with those of a family
-use Rattle.std.proofs.Common.{◌≡◌, ◌↔◌, ◌⊎◌, ◌≢◌, ◌<◌, ◌≤◌, ◌+◌, ◌∷◌, ◌++◌, [], ℕ, zero, suc, List, Some, ◌^◌, length, take, drop, set, get_or, refl, ap, sym, ◌∙◌, subst, inl, inr, arith}
+use Rattle.std.proofs.Common.{◌≡◌, ◌↔◌, ◌⊎◌, ◌≢◌, ◌<◌, ◌≤◌, ◌+◌, ◌∷◌, ◌++◌, [], ℕ, zero, suc, List, Some, ◌^◌, length, take, drop, set, get_or, ap, sym, ◌∙◌, subst, inl, inr, arith}
 use Rattle.std.specs.List.{slice_get}
 use Rattle.std.proofs.lemmas.List.{get_or_read, length-append, length-set, get_or-drop, get_or-set_same, get_or-set_other}
 use Rattle.std.proofs.lemmas.Option.{same_Some, slice_get_within, slice_get-get_or}
@@ -14,17 +14,6 @@ use Rattle.products.proofs.Families.{in_push, in_set, is_in_either, is_in_joined
 same_widens : (added old new : List ℕ) → new ≡ old → Widens added old new
 same_widens added old new same =
     subst (Widens added old) (sym same) (λ place number. ((λ h. h), (λ h. inl h)))
-
--- a product that stands already in one of the others
-pub puts_there : (product : Product) (from : ℕ) (old : List Product) → ((row : List ℕ) → IsIn product row → IsInOne old row) → Puts product from old old
-puts_there product from old there = record {
-  front = λ at before within. refl;
-  long = omega arith;
-  kept = λ at row h. h;
-  all = there;
-  only = λ at row h. inl h;
-  wider = λ at before after was is. same_widens product.1 before.1 after.1 (ap (λ (p : Product). p.1) (same_Some after before (sym is ∙ was)));
-}
 
 -- a product behind the others
 pub puts_pushed : (product : Product) (from : ℕ) (old : List Product) → Puts product from old (old ++ product ∷ [])
@@ -322,25 +311,25 @@ piece_within place sets others piece is k number h = elim (cases_order k place) 
 ]
 
 -- the rows of a piece stand before the product that it leaves
-pub piece_apart : (place first from begin at : ℕ) (sets piece : List ℕ) (old middle : List Product)
+pub piece_apart : (place first from at : ℕ) (sets piece : List ℕ) (old middle : List Product)
     → Brings (IsLeftFrom (place + 1) first sets (sets_at old at)) sets from old middle → IsAlike (place + 1) at (sets_at old at) middle
     → IsPiece place sets (sets_at middle at) piece → place < length sets → length (sets_at old at) ≡ length sets
     → slice_get old at ≡ Some (first, sets_at old at)
-    → ((i : ℕ) (row : List ℕ) → IsIn (first, sets) row → IsInAt old i row → (begin ≤ i) × (i ≤ at))
-    → (i : ℕ) (row : List ℕ) → IsIn (first, piece) row → IsInAt middle i row → (begin ≤ i) × (i < at)
-piece_apart place first from begin at sets piece old middle brings alike is within long there apart i [] h stands = absurd h
-piece_apart place first from begin at sets piece old middle brings alike is within long there apart i (number ∷ row) h stands =
+    → ((i : ℕ) (row : List ℕ) → IsIn (first, sets) row → IsInAt old i row → i ≤ at)
+    → (i : ℕ) (row : List ℕ) → IsIn (first, piece) row → IsInAt middle i row → i < at
+piece_apart place first from at sets piece old middle brings alike is within long there apart i [] h stands = absurd h
+piece_apart place first from at sets piece old middle brings alike is within long there apart i (number ∷ row) h stands =
     let others = sets_at old at in
     let leaves = piece_leaves place sets others piece row (piece_alike place at sets others piece middle alike is) within h.1 in
     elim (brings.only i (number ∷ row) stands) [
       | inl was ↦
-          let span = apart i (number ∷ row) (h.0, leaves.inside) was in
+          let upto = apart i (number ∷ row) (h.0, leaves.inside) was in
           elim (cases_eq i at) [
             | inl same ↦
                 let product = same_Some was.0 (first, others) (sym was.1 ∙ ap (slice_get old) same ∙ there) in
                 let inside : IsIn (first, others) (number ∷ row) = subst (λ (p : Product). IsIn p (number ∷ row)) product was.2 in
                 absurd (leaves_out place sets others row (omega (arith, long, within)) leaves inside.1)
-            | inr other ↦ (span.0, omega (arith, span, other))
+            | inr other ↦ omega (arith, upto, other)
           ]
       | inr more ↦
           let same = leaves_once place more.1.0 sets others row leaves more.1.3 in

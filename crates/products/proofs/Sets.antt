@@ -1,5 +1,5 @@
 -- the rows of sets, one for each place
-use Rattle.std.proofs.Common.{◌≡◌, ◌≢◌, ◌⊎◌, ◌↔◌, inl, inr, ⊎_elim, ℕ, zero, suc, ◌+◌, ◌-◌, ◌*◌, ◌^◌, ◌<◌, ◌≤◌, min, List, [], ◌∷◌, ◌++◌, map, length, get_or, set, take, length-append, length-set, set-set, get_or-set_same, get_or-set_other, refl, sym, ap, ◌∙◌, subst, arith, mul_assoc, mul-le-mul_right}
+use Rattle.std.proofs.Common.{◌≡◌, ◌≢◌, ◌⊎◌, ◌↔◌, inl, inr, ⊎_elim, ℕ, zero, suc, ◌+◌, ◌-◌, ◌*◌, ◌^◌, ◌<◌, ◌≤◌, min, List, [], ◌∷◌, ◌++◌, map, length, get_or, set, take, length-append, length-set, get_or-set_same, get_or-set_other, refl, sym, ap, ◌∙◌, subst, arith, mul_assoc, mul-le-mul_right}
 use Rattle.std.proofs.Math.Nat.{mul-le-mul_left}
 use Rattle.std.specs.List.{Contains}
 use Rattle.std.proofs.lemmas.Bool.{cases_eq, cases_lt}
@@ -190,23 +190,3 @@ rows_held sets place rows some after lt so_far size is =
     ∙ ap (λ n. min (length (rows_of_sets (take place sets)) * n) (2 ^ 64 - 1)) size
     ∙ ap (λ n. min n (2 ^ 64 - 1)) (sym (length_rows_push (take place sets) s))
     ∙ ap (λ xs. min (length (rows_of_sets xs)) (2 ^ 64 - 1)) (sym (take_more sets place 0 lt))
-
--- a set that two parts make up which have no number in common
-pub length_rows_union : (sets : List ℕ) (at one other both : ℕ) → at < length sets → ((n : ℕ) → Has both n ↔ (Has one n ⊎ Has other n)) → ((n : ℕ) → Has one n → ¬ Has other n)
-    → length (rows_of_sets (set sets at both)) ≡ length (rows_of_sets (set sets at other)) + length (rows_of_sets (set sets at one))
-length_rows_union sets at one other both lt is apart =
-    let firsts = set sets at one in
-    let seconds = set sets at other in
-    let l1 = length-set sets at one in
-    let l2 = length-set sets at other in
-    let here : get_or firsts at 0 ≡ one = get_or-set_same sets at one 0 lt in
-    let here2 : get_or seconds at 0 ≡ other = get_or-set_same sets at other 0 lt in
-    subst
-    (λ xs. length (rows_of_sets xs) ≡ length (rows_of_sets seconds) + length (rows_of_sets firsts))
-    (set-set sets at other both)
-    (length_rows_joined firsts seconds (set seconds at both)
-    (joined_rows firsts seconds at both (omega arith) (omega arith) (λ k less away. get_or-set_other sets at k one 0 away ∙ sym (get_or-set_other sets at k other 0 away))
-    (λ n. subst (λ a. Has both n ↔ (Has a n ⊎ Has (get_or seconds at 0) n)) (sym here) (subst (λ b. Has both n ↔ (Has one n ⊎ Has b n)) (sym here2) (is n))))
-    (λ row h k.
-    let n = get_or row at 0 in
-    apart n (subst (λ a. Has a n) here (are_in_at firsts row at (omega arith) h)) (subst (λ b. Has b n) here2 (are_in_at seconds row at (omega arith) k))))

@@ -1,5 +1,10 @@
 //! Products of sets of numbers, each of which stands for many rows.
 //!
+//! A product is a first number, and a set of numbers for each place after it. It stands for each row that has this first number and
+//! one number of each set. No row is in two products, so rows are counted by multiplying. A set is one word: numbers below 63 are
+//! its bits, and any other number stands alone in its set. A product that is put is taken apart at the last one that shares a row
+//! with it, and each piece joins one that differs from it at a single place, where there is one.
+//!
 //! A call takes memory only where its result can be `AllocError`, or a refusal for want of memory.
 #![tactic(auto)]
 
@@ -7,7 +12,9 @@ pub mod appending;
 pub mod number_set;
 mod product;
 mod products;
+mod scratch;
 mod taking;
 
 pub use products::Products;
+pub use scratch::Scratch;
 pub use taking::take_marked;

@@ -166,8 +166,8 @@ impl Products {
     }
 
     /// Puts the product, whose rows are not there, with the others: a product from which it differs at one place alone gets its
-    /// rows, or else it is put behind all. `AllocError` where there is no memory for it: then who calls it drops them all. Takes the
-    /// time of the products.
+    /// rows, or else it is put behind all. `AllocError` where there is no memory for it: then who calls it drops them all. Takes
+    /// the time of the products.
     pub(crate) fn join(&mut self, first: usize, sets: &[u64]) -> Result<(), AllocError>
         requires long { length sets.now ≡ self.old.0 }
         requires apart { (row : List ℕ) → IsIn (first, sets.now) row → ¬ IsInOne self.old.1 row }
@@ -197,18 +197,18 @@ impl Products {
         let len = self.firsts.len();
         stack.clear();
         append(stack, sets)?;
-        self.put_rest(0, len, from, first, stack, 0)
+        self.put_rest(len, from, first, stack, 0)
     }
 
-    // The last product from the first place up to the last one that shares a row with the product, or may do so, and whether it is told
-    // to have all its rows.
+    // The last product before this place that shares a row with the product, or may do so, and whether it is told to have all its
+    // rows.
     #[inline(never)]
-    fn meeting(&self, begin: usize, end: usize, first: usize, sets: &[u64]) -> Option<(usize, bool)>
+    fn meeting(&self, end: usize, first: usize, sets: &[u64]) -> Option<(usize, bool)>
         requires within { end ≤ length self.now.1 }
         requires long { length sets.now ≡ self.now.0 }
-        ensures none { result ≡ None → (at : ℕ) (row : List ℕ) → begin ≤ at → at < end
+        ensures none { result ≡ None → (at : ℕ) (row : List ℕ) → at < end
             → IsIn (first, sets.now) row → ¬ IsInAt self.now.1 at row }
-        ensures span { IfSome result (λ met. (begin ≤ met.0) × (met.0 < end)) }
+        ensures before { IfSome result (λ met. met.0 < end) }
         ensures same { IfSome result (λ met. (product : Product) → slice_get self.now.1 met.0 ≡ Some product
             → product.0 ≡ first) }
         ensures apart { IfSome result (λ met. (at : ℕ) (row : List ℕ) → met.0 < at → at < end
@@ -217,7 +217,7 @@ impl Products {
             → IsInOne self.now.1 row) }
     {
         let mut at = end;
-        while at > begin {
+        while at > 0 {
             at -= 1;
             if self.firsts[at] == first {
                 match lies_to(sets, self.sets(at)) {
@@ -230,52 +230,49 @@ impl Products {
         None
     }
 
-    // Puts the rows of the product on top of the stack that are in none of the products from the first to the last place.
+    // Puts the rows of the product on top of the stack that are in none of the products before this place; it shares none with
+    // those from there on.
     #[inline(never)]
     #[cycle(putting)]
     fn put_rest(
         &mut self,
-        begin: usize,
         end: usize,
         from: usize,
         first: usize,
         stack: &mut Vec<u64>,
         start: usize,
     ) -> Result<(), AllocError>
-        requires upto { begin ≤ end }
         requires within { end ≤ length self.old.1 }
         requires top { start + self.old.0 ≡ length stack.old.items }
         requires apart { (at : ℕ) (row : List ℕ) → IsIn (first, drop start stack.old.items) row
-            → IsInAt self.old.1 at row → (begin ≤ at) × (at < end) }
+            → IsInAt self.old.1 at row → at < end }
         ensures places { self.new.0 ≡ self.old.0 }
         ensures stack { OnOk result (stack.new.items ≡ stack.old.items) }
         ensures puts { OnOk result (Puts (first, drop start stack.old.items) from self.old.1 self.new.1) }
     {
-        match self.meeting(begin, end, first, &stack[start..]) {
+        match self.meeting(end, first, &stack[start..]) {
             None => self.join_from(from, first, &stack[start..]),
             Some((_, true)) => Ok(()),
-            Some((at, false)) => self.put_pieces(begin, at, from, first, stack, start),
+            Some((at, false)) => self.put_pieces(at, from, first, stack, start),
         }
     }
 
-    // The same, of the product on top of the stack without the rows that the one at this place has, which may share others with those
-    // before it alone: for each set those whose number there is outside the other's, and whose numbers before it are not.
+    // The same, of the product on top of the stack without the rows that the one at this place has, which may share others with
+    // those before it alone: for each set those whose number there is outside the other's, and whose numbers before it are not.
     #[cycle(putting)]
     fn put_pieces(
         &mut self,
-        begin: usize,
         at: usize,
         from: usize,
         first: usize,
         stack: &mut Vec<u64>,
         start: usize,
     ) -> Result<(), AllocError>
-        requires upto { begin ≤ at }
         requires within { at < length self.old.1 }
         requires top { start + self.old.0 ≡ length stack.old.items }
         requires same { (product : Product) → slice_get self.old.1 at ≡ Some product → product.0 ≡ first }
         requires apart { (i : ℕ) (row : List ℕ) → IsIn (first, drop start stack.old.items) row
-            → IsInAt self.old.1 i row → (begin ≤ i) × (i ≤ at) }
+            → IsInAt self.old.1 i row → i ≤ at }
         ensures places { self.new.0 ≡ self.old.0 }
         ensures stack { OnOk result (stack.new.items ≡ stack.old.items) }
         ensures puts { OnOk result (Puts (first, drop start stack.old.items) from self.old.1 self.new.1) }
@@ -286,15 +283,15 @@ impl Products {
             if left != 0 {
                 let top = stack.len();
                 push_piece(stack, start, self.sets(at), place, left)?;
-                self.put_rest(begin, at, from, first, stack, top)?;
+                self.put_rest(at, from, first, stack, top)?;
                 stack.truncate(top);
             }
         }
         Ok(())
     }
 
-    /// Each row gets a zero behind it. `AllocError` where there is no memory for it, or where the rows would have more places than a
-    /// `usize` tells: then they are as they were. Takes the time of the products.
+    /// Each row gets a zero behind it. `AllocError` where there is no memory for it, or where the rows would have more places than
+    /// a `usize` tells: then they are as they were. Takes the time of the products.
     pub fn lengthen(&mut self, alloc: Global) -> Result<(), AllocError>
         ensures longer { OnOk result (self.new ≡ (self.old.0 + 1, map (λ product. (product.0, product.1 ++ 1 ∷ [])) self.old.1)) }
         ensures err { OnErr result (self.new ≡ self.old) }

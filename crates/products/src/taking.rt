@@ -7,20 +7,20 @@ ghost use Rattle.products.specs.Taking.{IsLeftOf, IsOneMarked};
 use crate::appending::append;
 use crate::number_set::{HIGH, has};
 use crate::products::Products;
+use crate::scratch::Scratch;
 use std::alloc::AllocError;
 
 /// Puts each row of the other products whose number at this place is marked, without that number, in place of the rows that were
 /// there. The place is that in the row, whose first number is at 0: so place 1 is that of the first set. The marks are those of the
-/// numbers, from 0 on; a number beyond them has none. The list of what is left and the stack are memory to work in. `AllocError`
-/// where there is no memory for it: then some of the rows may be there. Compares each product that has a marked number with those
-/// that are left so far; where several numbers are marked, or one stands alone in its set, as [`Products::put`] does.
+/// numbers, from 0 on; a number beyond them has none. The scratch is memory to work in. `AllocError` where there is no memory for
+/// it: then some of the rows may be there. Compares each product that has a marked number with those that are left so far; where
+/// several numbers are marked, or one stands alone in its set, as [`Products::put`] does.
 pub fn take_marked(
     products: &mut Products,
     other: &Products,
     place: usize,
     marks: &[bool],
-    left: &mut Vec<u64>,
-    stack: &mut Vec<u64>,
+    scratch: &mut Scratch,
 ) -> Result<(), AllocError>
     requires after { 0 < place }
     requires within { place ≤ other.now.0 }
@@ -29,12 +29,13 @@ pub fn take_marked(
 {
     products.restart(other.places() - 1);
     match one_marked(other, place, marks) {
-        Some(number) => join_marked(products, other, place, number, left),
-        None => put_marked(products, other, place, marks, left, stack),
+        Some(number) => join_marked(products, other, place, number, &mut scratch.sets),
+        None => put_marked(products, other, place, marks, scratch),
     }
 }
 
-// The one marked number that the products have at this place, if it is the only one; none also where a set there has a number alone.
+// The one marked number that the products have at this place, if it is the only one; none also where a set there has a number
+// alone.
 fn one_marked(other: &Products, place: usize, marks: &[bool]) -> Option<usize>
     requires after { 0 < place }
     requires within { place ≤ other.now.0 }
@@ -69,8 +70,7 @@ fn join_marked(
 ) -> Result<(), AllocError>
     requires after { 0 < place }
     requires within { place ≤ other.now.0 }
-    requires places { products.old.0 ≡ other.now.0 - 1 }
-    requires none { products.old.1 ≡ [] }
+    requires none { products.old ≡ (other.now.0 - 1, []) }
     ensures places { products.new.0 ≡ other.now.0 - 1 }
     ensures left { OnOk result ((row : List ℕ) → IsInOne products.new.1 row ↔ IsLeftOf other.now.1 place number row) }
 {
@@ -92,21 +92,19 @@ fn put_marked(
     other: &Products,
     place: usize,
     marks: &[bool],
-    left: &mut Vec<u64>,
-    stack: &mut Vec<u64>,
+    scratch: &mut Scratch,
 ) -> Result<(), AllocError>
     requires after { 0 < place }
     requires within { place ≤ other.now.0 }
-    requires places { products.old.0 ≡ other.now.0 - 1 }
-    requires none { products.old.1 ≡ [] }
+    requires none { products.old ≡ (other.now.0 - 1, []) }
     ensures places { products.new.0 ≡ other.now.0 - 1 }
     ensures left { OnOk result ((row : List ℕ) → IsInOne products.new.1 row ↔ IsLeft other.now.1 place marks.now row) }
 {
     for at in 0..other.len() {
         let sets = other.sets(at);
         if has_marked(sets[place - 1], marks) {
-            rewrite_without(left, sets, place - 1)?;
-            products.put(0, other.first(at), left, stack)?;
+            rewrite_without(&mut scratch.sets, sets, place - 1)?;
+            products.put(0, other.first(at), &scratch.sets, &mut scratch.stack)?;
         }
     }
     Ok(())

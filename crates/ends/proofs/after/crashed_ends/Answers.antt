@@ -8,10 +8,10 @@ use Rattle.ends.proofs.after.crashed_ends.Goals as goal
 
 pub loop-kept-preserved : goal.loop-kept-preserved
 loop-kept-preserved g c =
-    let is = c.in_ok-crashed_end.ensures in
     let here = mapped_at end_kept c.args.ends.now c.loop-kept.kept-index c.kept-item.result (omega arith) c.kept-item.is in
     let crashed = λ (e : End g.row.M-State.Denot). after_crash c.args.counts e c.args.id in
-    ap (map end_kept) c.in_ok-push.ensures.items ∙ map_push end_kept c.loop-kept.after.items c.in_ok-crashed_end.field-0
+    let is = c.in_ok-crash.ensures ∙ ap crashed c.in_ok-end.ensures in
+    ap (map end_kept) c.in_ok-push.ensures.items ∙ map_push end_kept c.loop-kept.after.items c.crash.new.self
     ∙ (λ i. c.loop-kept.invariant i ++ is i ∷ [])
     ∙ sym (ap (map crashed) (taken_more (map end_kept c.args.ends.now) c.loop-kept.kept-index (end_kept c.kept-item.result) here) ∙ map_push crashed _ (end_kept c.kept-item.result))
 

@@ -13,7 +13,7 @@ pub returns-in_ok-mark_fitting-in-Some : goal.returns-in_ok-mark_fitting-in-Some
 returns-in_ok-mark_fitting-in-Some g c once ends shown =
     on_ok_weaker c.put_marked.result
     (λ puts.
-    left_settled c.args.table.now c.args.calls.now once c.in-Some.call c.args.id c.in-Some.ensures.there ends shown c.args.answer.now c.mark_fitting.new.marks.items
+    left_settled c.args.table.now c.args.returning.now.calls.now once c.in-Some.call c.args.returning.now.id c.in-Some.ensures.there ends shown c.args.returning.now.answer.now c.mark_fitting.new.marks.items
     c.in_ok-mark_fitting-in-Some.ensures c.restart_like.new.self c.put_marked.new.self c.restart_like.ensures
     (subst (λ (marks : List Bool). PutsMarked (c.in-Some.call + 1) marks c.args.table.now.rows (length c.args.table.now.rows) c.restart_like.new.self c.put_marked.new.self)
     c.deref.ensures.value puts))
@@ -22,7 +22,7 @@ returns-in_ok-mark_fitting-in-Some g c once ends shown =
 pub returns-in-None : goal.returns-in-None
 returns-in-None g c once ends shown = record {
   more = [];
-  shown = shown_no_rows c.args.calls.now (filter (is_other c.args.id) c.args.calls.now) c.args.table.now ends shown c.restart.new.self c.restart.ensures;
+  shown = shown_no_rows c.args.returning.now.calls.now (filter (is_other c.args.returning.now.id) c.args.returning.now.calls.now) c.args.table.now ends shown c.restart.new.self c.restart.ensures;
   front = IsFront-itself [];
-  adds = none_settles c.args.calls.now c.args.table.now ends shown c.args.id c.args.answer.now (c.place_of_open.ensures.none c.in-None.is);
+  adds = none_settles c.args.returning.now.calls.now c.args.table.now ends shown c.args.returning.now.id c.args.returning.now.answer.now (c.place_of_open.ensures.none c.in-None.is);
 }

@@ -11,12 +11,12 @@ use Rattle.ends.proofs.extend.grow.Given as goal
 abbrev pub invariant-loop-at : goal.invariant-loop-at
 invariant-loop-at g l =
     record {
-      moves : AreMoves g.M.SeqObject.apply_to l.table l.calls l.moves.known l.moves.targets.items;
-      alike : AreAlike l.calls l.moves.likes.items;
+      moves : AreMoves g.M.SeqObject.apply_to l.table l.returning.calls.now l.moves.known l.moves.targets.items;
+      alike : AreAlike l.returning.calls.now l.moves.likes.items;
       only_adds : OnlyAdds l.initial.table l.table l.initial.applied l.applied;
-      grown : HasEachOnce l.calls → (ends : List (End g.row.M-State.Denot)) → AreShown l.initial.table l.calls ends → AreClosed (of_table g.row.M-State.Denot g.M.SeqObject.start_state g.M.SeqObject.apply_to) (take l.tried l.calls) ends
-          → (more : List (End g.row.M-State.Denot)) × AreShown l.table l.calls more × Grows (of_table g.row.M-State.Denot g.M.SeqObject.start_state g.M.SeqObject.apply_to) l.calls ends more
-          × AreDone (of_table g.row.M-State.Denot g.M.SeqObject.start_state g.M.SeqObject.apply_to) l.calls more l.at
+      grown : HasEachOnce l.returning.calls.now → (ends : List (End g.row.M-State.Denot)) → AreShown l.initial.table l.returning.calls.now ends → AreClosed (of_table g.row.M-State.Denot g.M.SeqObject.start_state g.M.SeqObject.apply_to) (take l.returning.tried l.returning.calls.now) ends
+          → (more : List (End g.row.M-State.Denot)) × AreShown l.table l.returning.calls.now more × Grows (of_table g.row.M-State.Denot g.M.SeqObject.start_state g.M.SeqObject.apply_to) l.returning.calls.now ends more
+          × AreDone (of_table g.row.M-State.Denot g.M.SeqObject.start_state g.M.SeqObject.apply_to) l.returning.calls.now more l.at
           × IsFront ends more;
-      cost : l.applied ≤ l.initial.applied + l.at * length l.calls;
+      cost : l.applied ≤ l.initial.applied + l.at * length l.returning.calls.now;
     }

@@ -4,7 +4,7 @@ use Rattle.std.proofs.lemmas.List.Elements.{Contains-get_or}
 use Rattle.std.proofs.lemmas.Option.{get_or_from_slice_get, slice_get-get_or, slice_get_within}
 use Rattle.rows.specs.RowSets.{IsPut}
 use Rattle.ends.specs.EndSteps.{Along}
-use Rattle.ends.specs.Tables.{Shows, ShownWith, row_led, rows_of}
+use Rattle.ends.specs.Tables.{Shows, ShownWith, row_led, rows_of, with_rows}
 use Rattle.ends.proofs.Adding.{IsFront-trans}
 use Rattle.ends.proofs.Showing.{front_by, front_stays, front_within, led_more}
 use Rattle.ends.proofs.extend.put_each.Goals as goal
@@ -36,7 +36,7 @@ loop-at-preserved g c =
       within = front_within c.loop-at.table.rows c.put_next.new.self c.args.from i.within front;
       puts = λ calls ends shown each.
           let f = each to (Contains-get_or c.args.targets.now c.loop-at.at (0, 0) lt) in
-          led_more calls c.args.table.now c.loop-at.table (record { states = c.loop-at.table.states; founds = c.loop-at.table.founds; rows = c.put_next.new.self }) (get_or (rows_of c.args.table.now) c.args.from []) c.args.place c.args.targets.now c.loop-at.at to ends
+          led_more calls c.args.table.now c.loop-at.table (with_rows c.loop-at.table c.put_next.new.self) (get_or (rows_of c.args.table.now) c.args.from []) c.args.place c.args.targets.now c.loop-at.at to ends
           (slice_get-get_or c.args.targets.now c.loop-at.at (0, 0) lt) i.states i.founds refl refl f.0 f.1
           (subst (λ r. IsPut (row_led r c.args.place to) c.loop-at.table.rows c.put_next.new.self) i.here put) (i.puts calls ends shown each);
     }

@@ -5,7 +5,7 @@ use Rattle.std.proofs.lemmas.Option.{get_or_from_slice_get, slice_get_within}
 use Rattle.std.proofs.lemmas.Result.{on_ok_weaker}
 use Rattle.ends.specs.EndSteps.{Along}
 use Rattle.ends.specs.Moves.{targets_of}
-use Rattle.ends.specs.Tables.{Shows, ShownWith, row_led, rows_of}
+use Rattle.ends.specs.Tables.{Shows, ShownWith, row_led, rows_of, with_rows}
 use Rattle.ends.proofs.Showing.{led_one}
 use Rattle.ends.proofs.extend.put_led.Goals as goal
 
@@ -26,8 +26,8 @@ returns-in-To-clause-puts g c calls ends shown each =
     let to : ℕ × ℕ = (c.in-To.number, c.in-To.slot) in
     let f = each to (subst (λ m. Contains (targets_of m c.args.targets.now) to) (sym c.in-To.is) (Contains-push [] to)) in
     on_ok_weaker c.put_next.result
-    (λ put. subst (λ m. ShownWith (record { states = t.states; founds = t.founds; rows = c.put_next.new.self }) calls ends (Along (λ x g. Shows t calls (row_led row c.args.place x) g) (targets_of m c.args.targets.now))) (sym c.in-To.is)
-    (led_one calls t (record { states = t.states; founds = t.founds; rows = c.put_next.new.self }) row c.args.place to ends refl refl f.0 f.1 put shown))
+    (λ put. subst (λ m. ShownWith (with_rows t c.put_next.new.self) calls ends (Along (λ x g. Shows t calls (row_led row c.args.place x) g) (targets_of m c.args.targets.now))) (sym c.in-To.is)
+    (led_one calls t (with_rows t c.put_next.new.self) row c.args.place to ends refl refl f.0 f.1 put shown))
     c.put_next.ensures.put
 
 pub returns-in-ToEach-clause-puts : goal.returns-in-ToEach-clause-puts

@@ -1,8 +1,9 @@
-use Rattle.std.proofs.Common.{◌≡◌, ℕ, ◌∷◌, ◌++◌, [], sym, subst, arith, append-nil}
+use Rattle.std.proofs.Common.{rules, ◌≡◌, ℕ, ◌∷◌, ◌++◌, [], length, refl, sym, ap, ◌∙◌, subst, arith, append-nil}
 use Rattle.std.proofs.lemmas.Result.{IfOk-weaker}
 use Rattle.models.specs.declared.finding.Found.{Found}
+use Rattle.ends.specs.declared.moves.Move.TheVariants.{ToEach}
 use Rattle.ends.specs.Moves.{AreTo, IsKnown, LeadsTo, targets_of}
-use Rattle.ends.proofs.Moving.{are_to_none, are_to_with, alone}
+use Rattle.ends.proofs.Moving.{are_to_none, are_to_with, alone, leads_each, on_ok}
 use Rattle.ends.proofs.moves.move_to.Goals as goal
 
 pub returns-in_ok-number-in-Some-clause-leads : goal.returns-in_ok-number-in-Some-clause-leads
@@ -23,3 +24,18 @@ returns-in_ok-number-in-Some-clause-more g c = c.move_to_one.ensures.more
 
 pub returns-in-None-clause-more : goal.returns-in-None-clause-more
 returns-in-None-clause-more g c = ([], sym (append-nil c.args.targets.now.items))
+
+pub returns-then-len-gt1-clause-leads : goal.returns-then-len-gt1-clause-leads
+returns-then-len-gt1-clause-leads g c =
+    let put = c.in_ok-put_targets.ensures.put in
+    let t = c.put_targets.new.table in
+    let outcomes = c.args.outcomes.now.items in
+    let new = c.put_targets.new.targets.items in
+    let first = c.len-first.result in
+    IfOk-weaker c.move_to_last.result (λ to. to ≡ ToEach first (length c.deref.result.now)) (LeadsTo t c.args.crashed outcomes new)
+    (λ to is. subst (LeadsTo t c.args.crashed outcomes new) (sym (is ∙ ap (λ l. ToEach first (length l)) c.deref.ensures.value))
+    (leads_each t c.args.crashed outcomes c.args.targets.now.items put.0 new first (length new) put.1 put.2 (search rules) refl))
+    c.move_to_last.ensures
+
+pub returns-then-len-gt1-clause-more : goal.returns-then-len-gt1-clause-more
+returns-then-len-gt1-clause-more g c = let put = c.in_ok-put_targets.ensures.put in on_ok c.move_to_last.result (put.0, put.2)

@@ -25,8 +25,8 @@ returns-clause-moves g c =
       known = λ known.
           let kept : AreMoves apply t calls m.known m.targets.items =
           ⊎_elim (λ same. subst (λ x. AreMoves apply t calls x.known x.targets.items) (sym same) known) (λ none. moves_none apply calls t m.known m.targets.items none) c.forget_many.ensures.moves in
-          moves_with apply calls u c.args.number c.args.at call here s (get_front t.states u.states c.args.number s c.in_ok-to.ensures.widens.states state)
-          m.known c.remember.new.known targets to leads c.in_ok-remember.ensures (moves_more apply calls t u m.known m.targets.items more.0 targets c.in_ok-to.ensures.widens more.1 kept);
+          moves_with apply calls u c.args.number c.args.at call here s (get_front t.states u.states c.args.number s c.in_ok-to.ensures.rows.widens.states state)
+          m.known c.remember.new.known targets to leads c.in_ok-remember.ensures (moves_more apply calls t u m.known m.targets.items more.0 targets c.in_ok-to.ensures.rows.widens more.1 kept);
       likes = c.forget_many.ensures.likes;
     }
 

@@ -1,15 +1,23 @@
-use Rattle.std.proofs.Common.{◌∷◌, ◌++◌, [], get_or, sym, ap, ◌∙◌, arith}
-use Rattle.std.proofs.lemmas.List.{take_all}
+use Rattle.std.proofs.Common.{IsSomeAnd, ◌≡◌, ◌∷◌, ◌++◌, [], map, get_or, sym, ap, ◌∙◌, subst, arith}
+use Rattle.std.proofs.lemmas.List.{map_push, take_all}
 use Rattle.std.proofs.lemmas.Option.{slice_get-get_or}
 use Rattle.ends.proofs.Showing.{end_at}
 use Rattle.interned.proofs.Lists.{taken_more}
+use Rattle.ends.specs.KeptEnds.{end_kept}
 use Rattle.ends.specs.Tables.{rows_of}
 use Rattle.ends.proofs.table.ends_of.Goals as goal
+use Rattle.ends.proofs.table.ends_of.Goals.{in-Some+in_ok-push, in_default}
 
 pub loop-from-preserved : goal.loop-from-preserved
 loop-from-preserved g c once ends shown =
     let p = end_at c.args.calls.now c.args.table.now ends shown c.loop-from.from (get_or (rows_of c.args.table.now) c.loop-from.from []) (slice_get-get_or (rows_of c.args.table.now) c.loop-from.from [] (omega arith)) in
-    c.in_ok-push_end.ensures once p.0 p.2 ∙ ap (λ l. l ++ p.0 ∷ []) (c.loop-from.invariant once ends shown) ∙ sym (taken_more ends c.loop-from.from p.0 p.1)
+    let said = c.in_ok-kept.ensures once p.0 p.2 in
+    elim c.match-branch-3.branch [
+      | in-Some+in_ok-push w ↦ ap (λ all. map end_kept all.items) w.ends-is ∙ ap (map end_kept) w.in_ok-push.ensures.items ∙ map_push end_kept c.loop-from.ends.items w.in-Some.kept
+          ∙ ap (λ e. map end_kept c.loop-from.ends.items ++ e ∷ []) (subst (λ o. IsSomeAnd o (λ k. end_kept k ≡ p.0)) w.in-Some.is said)
+          ∙ ap (λ l. l ++ p.0 ∷ []) (c.loop-from.invariant once ends shown) ∙ sym (taken_more ends c.loop-from.from p.0 p.1)
+      | in_default w ↦ absurd (subst (λ o. IsSomeAnd o (λ k. end_kept k ≡ p.0)) w.in_default.is said)
+    ]
 
 pub returns : goal.returns
 returns g c once ends shown =

@@ -2,7 +2,7 @@ use Rattle.std.proofs.Common.{◌≡◌, [], map, length, refl, subst, arith}
 use Rattle.std.proofs.lemmas.List.{take_all, length-map}
 use Rattle.ends.specs.KeptEnds.{end_kept}
 use Rattle.ends.specs.EndSteps.{Along}
-use Rattle.ends.specs.Tables.{IsThat, ShownWith, rows_of}
+use Rattle.ends.specs.Tables.{IsThat, ShownWith, rows_of, with_rows}
 use Rattle.rows.specs.RowSets.{IsPut}
 use Rattle.interned.proofs.Lists.{has_place, mapped_at}
 use Rattle.ends.proofs.Showing.{shown_after, shown_first, shown_none, widens_rows}
@@ -14,9 +14,9 @@ loop-kept-init g c included = shown_first c.args.calls.now _ IsThat (shown_none 
 pub loop-kept-preserved : goal.loop-kept-preserved
 loop-kept-preserved g c included =
     let here = mapped_at end_kept c.args.ends.now c.loop-kept.kept-index c.kept-item.result (omega arith) c.kept-item.is in
-    shown_after c.args.calls.now c.loop-kept.table c.row_of.new.table (record { states = c.row_of.new.table.states; founds = c.row_of.new.table.founds; rows = c.put.new.self }) IsThat (map end_kept c.args.ends.now) c.loop-kept.kept-index (end_kept c.kept-item.result) (end_kept c.kept-item.result) c.in_ok-row.row.items
-    here (λ g q. q) (λ g q. q) c.in_ok-row.ensures.widens c.in_ok-row.ensures.rows (c.in_ok-row.ensures.shows (included (end_kept c.kept-item.result) (has_place (map end_kept c.args.ends.now) c.loop-kept.kept-index (end_kept c.kept-item.result) here)))
-    (widens_rows c.row_of.new.table (record { states = c.row_of.new.table.states; founds = c.row_of.new.table.founds; rows = c.put.new.self }) refl refl) (subst (λ r. IsPut r (rows_of c.row_of.new.table) (rows_of (record { states = c.row_of.new.table.states; founds = c.row_of.new.table.founds; rows = c.put.new.self }))) c.deref.ensures.value c.in_ok-put.ensures.put) (c.loop-kept.invariant included)
+    shown_after c.args.calls.now c.loop-kept.table c.row_of.new.table (with_rows c.row_of.new.table c.put.new.self) IsThat (map end_kept c.args.ends.now) c.loop-kept.kept-index (end_kept c.kept-item.result) (end_kept c.kept-item.result) c.in_ok-row.row.items
+    here (λ g q. q) (λ g q. q) c.in_ok-row.ensures.rows.widens c.in_ok-row.ensures.rows.rows (c.in_ok-row.ensures.shows (included (end_kept c.kept-item.result) (has_place (map end_kept c.args.ends.now) c.loop-kept.kept-index (end_kept c.kept-item.result) here)))
+    (widens_rows c.row_of.new.table (with_rows c.row_of.new.table c.put.new.self) refl refl) (subst (λ r. IsPut r (rows_of c.row_of.new.table) (rows_of (with_rows c.row_of.new.table c.put.new.self))) c.deref.ensures.value c.in_ok-put.ensures.put) (c.loop-kept.invariant included)
 
 pub returns : goal.returns
 returns g c included =

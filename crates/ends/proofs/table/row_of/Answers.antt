@@ -7,11 +7,11 @@ use Rattle.ends.proofs.Rows.{slots_more}
 use Rattle.ends.proofs.Showing.{widens_founds, widens_itself, widens_states}
 use Rattle.ends.proofs.table.row_of.Goals as goal
 
-pub returns-in_err-slot_of-clause-widens : goal.returns-in_err-slot_of-clause-widens
-returns-in_err-slot_of-clause-widens g c = widens_founds c.args.table.now c.loop-call.table c.slot_of.new.founds c.loop-call.invariant.widens c.in_err-slot_of.ensures.front c.in_err-slot_of.ensures.once
+pub returns-in_err-slot_of-clause-rows : goal.returns-in_err-slot_of-clause-rows
+returns-in_err-slot_of-clause-rows g c = record { widens = widens_founds c.args.table.now c.loop-call.table c.slot_of.new.founds c.loop-call.invariant.rows.widens c.in_err-slot_of.ensures.front c.in_err-slot_of.ensures.once; rows = c.loop-call.invariant.rows.rows }
 
-pub returns-in_err-push-2-clause-widens : goal.returns-in_err-push-2-clause-widens
-returns-in_err-push-2-clause-widens g c = widens_founds c.args.table.now c.loop-call.table c.slot_of.new.founds c.loop-call.invariant.widens c.in_ok-slot_of.ensures.front c.in_ok-slot_of.ensures.once
+pub returns-in_err-push-2-clause-rows : goal.returns-in_err-push-2-clause-rows
+returns-in_err-push-2-clause-rows g c = record { widens = widens_founds c.args.table.now c.loop-call.table c.slot_of.new.founds c.loop-call.invariant.rows.widens c.in_ok-slot_of.ensures.front c.in_ok-slot_of.ensures.once; rows = c.loop-call.invariant.rows.rows }
 
 pub loop-call-preserved : goal.loop-call-preserved
 loop-call-preserved g c =
@@ -25,8 +25,7 @@ loop-call-preserved g c =
       state = ap (slice_get c.loop-call.table.states) (ap (λ l. get_or l 0 0) longer ∙ get_or_append_left row (c.in_ok-slot_of.field-0 ∷ []) 0 0 (omega (arith, long))) ∙ c.loop-call.invariant.state;
       slots = slots_more c.loop-call.table.founds c.slot_of.new.founds c.args.calls.now (end_kept c.args.kept.now) row _ i c.in_ok-slot_of.field-0 c.call-item.result c.in_ok-slot_of.ensures.front long longer here
           (subst (IsSlot c.slot_of.new.founds c.in_ok-slot_of.field-0) c.in_ok-found.ensures c.in_ok-slot_of.ensures.slot) c.loop-call.invariant.slots;
-      widens = widens_founds c.args.table.now c.loop-call.table c.slot_of.new.founds c.loop-call.invariant.widens c.in_ok-slot_of.ensures.front c.in_ok-slot_of.ensures.once;
-      rows = c.loop-call.invariant.rows;
+      rows = record { widens = widens_founds c.args.table.now c.loop-call.table c.slot_of.new.founds c.loop-call.invariant.rows.widens c.in_ok-slot_of.ensures.front c.in_ok-slot_of.ensures.once; rows = c.loop-call.invariant.rows.rows };
     }
 
 pub returns-clause-shows : goal.returns-clause-shows
@@ -38,8 +37,8 @@ returns-clause-shows g c included =
       included = included;
     }
 
-pub returns-in_err-number_of-clause-widens : goal.returns-in_err-number_of-clause-widens
-returns-in_err-number_of-clause-widens g c = widens_states c.args.table.now c.args.table.now c.number_of.new.states (widens_itself c.args.table.now) c.in_err-number_of.ensures.front (λ _. c.in_err-number_of.ensures.once)
+pub returns-in_err-number_of-clause-rows : goal.returns-in_err-number_of-clause-rows
+returns-in_err-number_of-clause-rows g c = record { widens = widens_states c.args.table.now c.args.table.now c.number_of.new.states (widens_itself c.args.table.now) c.in_err-number_of.ensures.front (λ _. c.in_err-number_of.ensures.once); rows = refl }
 
 pub loop-call-init : goal.loop-call-init
 loop-call-init g c =
@@ -48,6 +47,5 @@ loop-call-init g c =
       long = ap length row;
       state = ap (slice_get c.number_of.new.states) (ap (λ l. get_or l 0 0) row) ∙ c.in_ok-number_of.ensures.there ∙ ap Some c.in_ok-state.ensures;
       slots = λ i d lt h. absurd (omega (arith, lt));
-      widens = widens_states c.args.table.now c.args.table.now c.number_of.new.states (widens_itself c.args.table.now) c.in_ok-number_of.ensures.front (λ _. c.in_ok-number_of.ensures.once);
-      rows = refl;
+      rows = record { widens = widens_states c.args.table.now c.args.table.now c.number_of.new.states (widens_itself c.args.table.now) c.in_ok-number_of.ensures.front (λ _. c.in_ok-number_of.ensures.once); rows = refl };
     }

@@ -1,7 +1,7 @@
 use Rattle.std.proofs.Common.{◌≡◌, ◌<◌, ◌+◌, ℕ, Some, slice_get, get_or, length}
 use Rattle.ends.specs.declared.pending_op.PendingOp.{PendingOp}
 use Rattle.ends.specs.KeptEnds.{end_kept}
-use Rattle.ends.specs.Tables.{Widens, found_by, rows_of}
+use Rattle.ends.specs.Tables.{KeepsRows, found_by}
 use Rattle.interned.specs.Numbers.{IsSlot}
 use Rattle.ends.proofs.table.row_of.Given as goal
 
@@ -11,6 +11,5 @@ invariant-loop-call g l =
       long : length l.row.items ≡ l.call-index + 1;
       state : slice_get l.table.states (get_or l.row.items 0 0) ≡ Some l.kept.state;
       slots : (i : ℕ) (c : PendingOp) → i < l.call-index → slice_get l.calls i ≡ Some c → IsSlot l.table.founds (get_or l.row.items (i + 1) 0) (found_by (end_kept l.kept) c);
-      widens : Widens l.fn.table l.table;
-      rows : rows_of l.table ≡ rows_of l.fn.table;
+      rows : KeepsRows l.fn.table l.table;
     }

@@ -9,17 +9,18 @@ use Rattle.ends.proofs.Showing.{tries_on}
 use Rattle.product_ends.specs.declared.deeds.Deed.{Deed}
 use Rattle.product_ends.specs.declared.deeds.Deeds.{Deeds}
 use Rattle.product_ends.specs.Deeds.{AreStaysTo, AreTriedTo, IsOrderWith}
-use Rattle.product_ends.proofs.Trying.{deeds_with, stays_more, stays_with, tried_more, within_with}
+use Rattle.product_ends.proofs.Trying.{deeds_with, stays_more, stays_with, tried_more, tried_too, within_with}
+use Rattle.product_ends.proofs.Counting.{tries_one_more}
 use Rattle.product_ends.proofs.deeds.try_each.Goals as goal
 
-pub returns-in_err-deed-clause-tries : goal.returns-in_err-deed-clause-tries
-returns-in_err-deed-clause-tries g c = tries_on c.loop-call.invariant.tries c.tried.ensures.tries
+pub returns-in_err-deed-clause-steps : goal.returns-in_err-deed-clause-steps
+returns-in_err-deed-clause-steps g c = tries_one_more c.loop-call.call-index (length c.args.calls.now) c.loop-call.invariant.tries c.loop-call.invariant.cost c.tried.ensures.tries c.tried.ensures.cost (omega arith)
 
-pub returns-in_err-push-clause-tries : goal.returns-in_err-push-clause-tries
-returns-in_err-push-clause-tries g c = tries_on c.loop-call.invariant.tries c.tried.ensures.tries
+pub returns-in_err-push-clause-steps : goal.returns-in_err-push-clause-steps
+returns-in_err-push-clause-steps g c = tries_one_more c.loop-call.call-index (length c.args.calls.now) c.loop-call.invariant.tries c.loop-call.invariant.cost c.tried.ensures.tries c.tried.ensures.cost (omega arith)
 
-pub returns-in_err-push-2-clause-tries : goal.returns-in_err-push-2-clause-tries
-returns-in_err-push-2-clause-tries g c = tries_on c.loop-call.invariant.tries c.tried.ensures.tries
+pub returns-in_err-push-2-clause-steps : goal.returns-in_err-push-2-clause-steps
+returns-in_err-push-2-clause-steps g c = tries_one_more c.loop-call.call-index (length c.args.calls.now) c.loop-call.invariant.tries c.loop-call.invariant.cost c.tried.ensures.tries c.tried.ensures.cost (omega arith)
 
 pub loop-call-preserved : goal.loop-call-preserved
 loop-call-preserved g c =
@@ -54,11 +55,12 @@ loop-call-preserved g c =
       cost = (let cost = c.tried.ensures.cost in omega arith);
     }
 
-pub returns-clause-deeds : goal.returns-clause-deeds
-returns-clause-deeds g c are within =
+pub returns-clause-sound : goal.returns-clause-sound
+returns-clause-sound g c sound =
     let apply = g.M.SeqObject.apply_to in
     let i = c.loop-call.invariant in
     let calls = c.args.calls.now in
+    let number = c.args.number in
     let old = c.args.deeds.now in
     let new : Deeds g.row.M-State.Denot = record {
       order = c.tell.new.order;
@@ -68,49 +70,33 @@ returns-clause-deeds g c are within =
     } in
     let end : c.loop-call.call-index ≡ length calls = omega arith in
     let before : c.len-before.result ≡ length old.deeds.items = omega arith in
-    on_ok_weaker c.tell.result
-    (λ h. deeds_with apply calls c.args.table.now c.loop-call.table old new c.args.number i.tries.widens i.front
-    (subst (λ k. IsOrderWith old.order.items new.order.items c.args.number k) before (subst (λ l. IsOrderWith l new.order.items c.args.number c.len-before.result) (ap (λ (v : Vec ℕ). v.items) i.order) h))
-    (subst (AreTriedTo apply c.loop-call.table calls c.args.number new.deeds.items (length old.deeds.items)) end i.tried) within are)
-    c.tell.ensures
-
-pub returns-clause-within : goal.returns-clause-within
-returns-clause-within g c within =
-    let i = c.loop-call.invariant in
-    let calls = c.args.calls.now in
-    let old = c.args.deeds.now in
-    let new : Deeds g.row.M-State.Denot = record {
-      order = c.tell.new.order;
-      deeds = c.loop-call.deeds.deeds;
-      stays = c.loop-call.deeds.stays;
-      outcomes = c.loop-call.deeds.outcomes;
-    } in
-    let before : c.len-before.result ≡ length old.deeds.items = omega arith in
-    let long : length new.deeds.items ≡ length old.deeds.items + length calls = omega arith in
-    on_ok_weaker c.tell.result
-    (λ h. within_with old new c.args.number (length calls) long
-    (subst (λ k. IsOrderWith old.order.items new.order.items c.args.number k) before (subst (λ l. IsOrderWith l new.order.items c.args.number c.len-before.result) (ap (λ (v : Vec ℕ). v.items) i.order) h))
-    within)
-    c.tell.ensures
-
-pub returns-clause-stays : goal.returns-clause-stays
-returns-clause-stays g c are within =
-    let i = c.loop-call.invariant in
-    let calls = c.args.calls.now in
-    let old = c.args.deeds.now in
-    let new : Deeds g.row.M-State.Denot = record {
-      order = c.tell.new.order;
-      deeds = c.loop-call.deeds.deeds;
-      stays = c.loop-call.deeds.stays;
-      outcomes = c.loop-call.deeds.outcomes;
-    } in
-    let end : c.loop-call.call-index ≡ length calls = omega arith in
-    let before : c.len-before.result ≡ length old.deeds.items = omega arith in
-    let same : length old.stays.items ≡ length old.deeds.items = are.long in
+    let same = sound.stays.long in
     let long = i.long in
     let as_many = i.as_many in
+    let more : length new.deeds.items ≡ length old.deeds.items + length calls = omega arith in
     on_ok_weaker c.tell.result
-    (λ h. stays_with old new c.args.number (length calls) i.front i.stays_front (omega (arith, long, as_many, same))
-    (subst (λ k. IsOrderWith old.order.items new.order.items c.args.number k) before (subst (λ l. IsOrderWith l new.order.items c.args.number c.len-before.result) (ap (λ (v : Vec ℕ). v.items) i.order) h))
-    (subst (AreStaysTo c.args.number new.deeds.items new.stays.items (length old.deeds.items)) end (i.stays same)) within are)
+    (λ h.
+    let order : IsOrderWith old.order.items new.order.items number (length old.deeds.items) =
+    subst (λ k. IsOrderWith old.order.items new.order.items number k) before (subst (λ l. IsOrderWith l new.order.items number c.len-before.result) (ap (λ (v : Vec ℕ). v.items) i.order) h) in
+    record {
+      within = within_with old new number (length calls) more order sound.within;
+      deeds = deeds_with apply calls c.args.table.now c.loop-call.table old new number i.tries.widens i.front order
+          (subst (AreTriedTo apply c.loop-call.table calls number new.deeds.items (length old.deeds.items)) end i.tried) sound.within sound.deeds;
+      stays = stays_with old new number (length calls) i.front i.stays_front (omega (arith, long, as_many, same)) order
+          (subst (AreStaysTo number new.deeds.items new.stays.items (length old.deeds.items)) end (i.stays same)) sound.within sound.stays;
+    })
+    c.tell.ensures
+
+pub returns-clause-tried : goal.returns-clause-tried
+returns-clause-tried g c =
+    let i = c.loop-call.invariant in
+    let old = c.args.deeds.now in
+    let new : Deeds g.row.M-State.Denot = record {
+      order = c.tell.new.order;
+      deeds = c.loop-call.deeds.deeds;
+      stays = c.loop-call.deeds.stays;
+      outcomes = c.loop-call.deeds.outcomes;
+    } in
+    on_ok_weaker c.tell.result
+    (λ h. tried_too old new c.args.number c.len-before.result (subst (λ l. IsOrderWith l new.order.items c.args.number c.len-before.result) (ap (λ (v : Vec ℕ). v.items) i.order) h))
     c.tell.ensures

@@ -10,95 +10,98 @@ use Rattle.product_ends.specs.declared.deeds.Deed.TheVariants.{Nowhere, To}
 use Rattle.product_ends.specs.Deeds.{IsTried}
 use Rattle.product_ends.specs.Growing.{Leads, LeadsFrom}
 use Rattle.product_ends.proofs.Led.{base_reached, leads_none, leads_nowhere, leads_still, leads_to}
-use Rattle.product_ends.proofs.Putting.{deed_of}
+use Rattle.product_ends.proofs.Putting.{deed_of, hold_with}
 use Rattle.product_ends.proofs.Stepping.{in_same, in_with, same_by}
 use Rattle.product_ends.proofs.growth.grow_at.Goals.{then-to-number, else-to-number}
 use Rattle.product_ends.proofs.growth.grow_at.Goals as goal
 
 pub returns-then-not-has-clause-leads : goal.returns-then-not-has-clause-leads
-returns-then-not-has-clause-leads g c once start hold call here =
-    let sets = c.args.room.now.source.items in
-    leads_none g.row.M-State.Denot g.M.SeqObject.start_state g.M.SeqObject.apply_to c.args.table.now c.args.calls.now once start c.args.number sets c.args.at c.requires.here call here
-    (λ row is. hold.each row (c.requires.there row is)) c.args.room.now.all.1
-    (λ has. true≢false (sym (c.has.ensures.1 (subst (λ w. Has w 0) (get_or_default sets c.args.at 0 c.index-own.result.now c.requires.here ∙ sym c.index-own.ensures) has)) ∙ c.if-not-has.true))
+returns-then-not-has-clause-leads g c r call here =
+    let sets = c.args.work.now.source.sets.items in
+    leads_none g.row.M-State.Denot g.M.SeqObject.start_state g.M.SeqObject.apply_to c.args.table.now c.args.calls.now r.once r.start c.args.work.now.source.number sets c.args.at c.requires.place call here
+    (λ row is. r.hold.each row (c.requires.source.there row is)) c.args.work.now.all.1
+    (λ has. true≢false (sym (c.has.ensures.1 (subst (λ w. Has w 0) (get_or_default sets c.args.at 0 c.index-own.result.now c.requires.place ∙ sym c.index-own.ensures) has)) ∙ c.if-not-has.true))
 
 pub returns-in-To-clause-reached : goal.returns-in-To-clause-reached
-returns-in-To-clause-reached g c once start hold =
-    let sets = c.args.room.now.source.items in
+returns-in-To-clause-reached g c =
+    let sets = c.args.work.now.source.sets.items in
     let calls = c.args.calls.now in
     let t = c.args.table.now in
-    let number = c.args.number in
+    let number = c.args.work.now.source.number in
     let at = c.args.at in
-    let call = some_at calls at c.requires.within in
+    let call = some_at calls at c.requires.call in
     let long = c.in-Some.ensures.some.3 in
-    let is : slice_get c.in-Some.deeds.now at ≡ Some (To c.in-To.to c.in-To.found) = slice_get-get_or c.in-Some.deeds.now at Nowhere (let lt = c.requires.within in omega (arith, long, lt)) ∙ ap Some c.in-To.is in
-    c.put_widened.ensures.reached once start hold
-    (base_reached g.row.M-State.Denot g.M.SeqObject.start_state g.M.SeqObject.apply_to t calls once start number sets at c.requires.here call.0 call.1
-    (λ row there. hold.each row (c.requires.there row there)) c.in-To.to c.in-To.found
-    (λ row e shows first. deed_of g.M.SeqObject.apply_to t calls c.args.room.now.deeds c.requires.known.deeds number (length calls) c.in-Some.deeds.now c.in-Some.ensures.some row e shows first at call.0 (To c.in-To.to c.in-To.found) call.1 is)
-    (subst (λ w. Has w 0) (c.index-own.ensures ∙ sym (get_or_default sets at 0 c.index-own.result.now c.requires.here)) (c.has.ensures.0 c.if-not-has.false)))
+    let is : slice_get c.in-Some.deeds.now at ≡ Some (To c.in-To.to c.in-To.found) = slice_get-get_or c.in-Some.deeds.now at Nowhere (let lt = c.requires.call in omega (arith, long, lt)) ∙ ap Some c.in-To.is in
+    on_ok_weaker c.put_widened.result
+    (λ stays once start hold.
+    stays once start (hold_with (of_table g.row.M-State.Denot g.M.SeqObject.start_state g.M.SeqObject.apply_to) t calls start _ c.args.work.now.all.1
+    (base_reached g.row.M-State.Denot g.M.SeqObject.start_state g.M.SeqObject.apply_to t calls once start number sets at c.requires.place call.0 call.1
+    (λ row there. hold.each row (c.requires.source.there row there)) c.in-To.to c.in-To.found
+    (λ row e shows first. deed_of g.M.SeqObject.apply_to t calls c.args.work.now.deeds c.requires.may_grow.known.sound.deeds number (length calls) c.in-Some.deeds.now c.in-Some.ensures.some row e shows first at call.0 (To c.in-To.to c.in-To.found) call.1 is)
+    (subst (λ w. Has w 0) (c.index-own.ensures ∙ sym (get_or_default sets at 0 c.index-own.result.now c.requires.place)) (c.has.ensures.0 c.if-not-has.false))) hold))
+    c.put_widened.ensures.reached
 
 pub returns-in-To-clause-leads : goal.returns-in-To-clause-leads
-returns-in-To-clause-leads g c once start hold call here =
+returns-in-To-clause-leads g c r =
     let o = of_table g.row.M-State.Denot g.M.SeqObject.start_state g.M.SeqObject.apply_to in
-    let sets = c.args.room.now.source.items in
+    let sets = c.args.work.now.source.sets.items in
     let calls = c.args.calls.now in
     let t = c.args.table.now in
-    let number = c.args.number in
+    let number = c.args.work.now.source.number in
     let at = c.args.at in
     let long = c.in-Some.ensures.some.3 in
-    let is : slice_get c.in-Some.deeds.now at ≡ Some (To c.in-To.to c.in-To.found) = slice_get-get_or c.in-Some.deeds.now at Nowhere (let lt = c.requires.within in omega (arith, long, lt)) ∙ ap Some c.in-To.is in
-    let new = c.put_widened.new.room.all.1 in
+    let is : slice_get c.in-Some.deeds.now at ≡ Some (To c.in-To.to c.in-To.found) = slice_get-get_or c.in-Some.deeds.now at Nowhere (let lt = c.requires.call in omega (arith, long, lt)) ∙ ap Some c.in-To.is in
+    let new = c.put_widened.new.work.all.1 in
     on_ok_weaker c.put_widened.result
-    (λ puts row there.
-    leads_still o t c.put_widened.new.table calls c.put_widened.ensures.tries.widens new new (λ r k. k) call row
-    (leads_to g.row.M-State.Denot g.M.SeqObject.start_state g.M.SeqObject.apply_to t calls once start number sets at c.requires.here call here
-    (λ r k. hold.each r (c.requires.there r k)) c.in-To.to c.in-To.found
-    (λ r e shows first. deed_of g.M.SeqObject.apply_to t calls c.args.room.now.deeds c.requires.known.deeds number (length calls) c.in-Some.deeds.now c.in-Some.ensures.some r e shows first at call (To c.in-To.to c.in-To.found) here is)
-    new (λ rest slot inside has zero. puts (c.in-To.to ∷ set rest at slot) (refl, in_with sets rest at c.in-To.found slot c.requires.here inside has)) row there))
+    (λ puts call here row there.
+    leads_still o t c.put_widened.new.table calls c.put_widened.ensures.steps.tries.widens new new (λ q k. k) call row
+    (leads_to g.row.M-State.Denot g.M.SeqObject.start_state g.M.SeqObject.apply_to t calls r.once r.start number sets at c.requires.place call here
+    (λ q k. r.hold.each q (c.requires.source.there q k)) c.in-To.to c.in-To.found
+    (λ q e shows first. deed_of g.M.SeqObject.apply_to t calls c.args.work.now.deeds c.requires.may_grow.known.sound.deeds number (length calls) c.in-Some.deeds.now c.in-Some.ensures.some q e shows first at call (To c.in-To.to c.in-To.found) here is)
+    new (λ rest slot inside has zero. puts (c.in-To.to ∷ set rest at slot) (refl, in_with sets rest at c.in-To.found slot c.requires.place inside has)) row there))
     c.put_widened.ensures.puts
 
 pub returns-in_default-deeds-clause-leads : goal.returns-in_default-deeds-clause-leads
-returns-in_default-deeds-clause-leads g c once start hold call here =
-    let sets = c.args.room.now.source.items in
+returns-in_default-deeds-clause-leads g c r call here =
+    let sets = c.args.work.now.source.sets.items in
     let calls = c.args.calls.now in
     let t = c.args.table.now in
-    let number = c.args.number in
+    let number = c.args.work.now.source.number in
     let at = c.args.at in
     let long = c.in-Some.ensures.some.3 in
-    let is : slice_get c.in-Some.deeds.now at ≡ Some (To c.in-To.to c.in-To.found) = slice_get-get_or c.in-Some.deeds.now at Nowhere (let lt = c.requires.within in omega (arith, long, lt)) ∙ ap Some c.in-To.is in
-    let own : c.index-own.result.now ≡ get_or sets at 0 = c.index-own.ensures ∙ sym (get_or_default sets at 0 c.index-own.result.now c.requires.here) in
+    let is : slice_get c.in-Some.deeds.now at ≡ Some (To c.in-To.to c.in-To.found) = slice_get-get_or c.in-Some.deeds.now at Nowhere (let lt = c.requires.call in omega (arith, long, lt)) ∙ ap Some c.in-To.is in
+    let own : c.index-own.result.now ≡ get_or sets at 0 = c.index-own.ensures ∙ sym (get_or_default sets at 0 c.index-own.result.now c.requires.place) in
     elim c.if-to-number.branch [
       | then-to-number w ↦
-          absurd {A = LeadsFrom (of_table g.row.M-State.Denot g.M.SeqObject.start_state g.M.SeqObject.apply_to) t calls c.args.room.now.all.1 (number, sets) call}
+          absurd {A = LeadsFrom (of_table g.row.M-State.Denot g.M.SeqObject.start_state g.M.SeqObject.apply_to) t calls c.args.work.now.all.1 (number, sets) call}
           (w.if-to-number.true (same_by c.in-To.to number c.if-to-number.value w.value-is c.if-common-found.false))
       | else-to-number w ↦
           let inside : w.common.result ≡ c.in-To.found = same_by w.common.result c.in-To.found c.if-to-number.value w.value-is c.if-common-found.false in
-          leads_to g.row.M-State.Denot g.M.SeqObject.start_state g.M.SeqObject.apply_to t calls once start number sets at c.requires.here call here
-          (λ r k. hold.each r (c.requires.there r k)) c.in-To.to c.in-To.found
-          (λ r e shows first. deed_of g.M.SeqObject.apply_to t calls c.args.room.now.deeds c.requires.known.deeds number (length calls) c.in-Some.deeds.now c.in-Some.ensures.some r e shows first at call (To c.in-To.to c.in-To.found) here is)
-          c.args.room.now.all.1
+          leads_to g.row.M-State.Denot g.M.SeqObject.start_state g.M.SeqObject.apply_to t calls r.once r.start number sets at c.requires.place call here
+          (λ q k. r.hold.each q (c.requires.source.there q k)) c.in-To.to c.in-To.found
+          (λ q e shows first. deed_of g.M.SeqObject.apply_to t calls c.args.work.now.deeds c.requires.may_grow.known.sound.deeds number (length calls) c.in-Some.deeds.now c.in-Some.ensures.some q e shows first at call (To c.in-To.to c.in-To.found) here is)
+          c.args.work.now.all.1
           (λ rest slot in_it has zero.
           let too : Has (get_or sets at 0) slot = subst (λ v. Has v slot) own ((w.common.ensures slot).0 (subst (λ v. Has v slot) (sym inside) has)).1 in
-          c.requires.there (c.in-To.to ∷ set rest at slot) (w.if-to-number.false, in_same sets rest at slot c.requires.here in_it too))
+          c.requires.source.there (c.in-To.to ∷ set rest at slot) (w.if-to-number.false, in_same sets rest at slot c.requires.place in_it too))
     ]
 
 pub returns-in_default-deeds-2-clause-leads : goal.returns-in_default-deeds-2-clause-leads
-returns-in_default-deeds-2-clause-leads g c once start hold call here =
-    let sets = c.args.room.now.source.items in
+returns-in_default-deeds-2-clause-leads g c r call here =
+    let sets = c.args.work.now.source.sets.items in
     let calls = c.args.calls.now in
     let t = c.args.table.now in
-    let number = c.args.number in
+    let number = c.args.work.now.source.number in
     let at = c.args.at in
     let long = c.in-Some.ensures.some.3 in
-    let is : slice_get c.in-Some.deeds.now at ≡ Some Nowhere = slice_get-get_or c.in-Some.deeds.now at Nowhere (let lt = c.requires.within in omega (arith, long, lt)) ∙ ap Some c.in_default-deeds.is in
-    leads_nowhere g.row.M-State.Denot g.M.SeqObject.start_state g.M.SeqObject.apply_to t calls once start number sets at c.requires.here call here
-    (λ r k. hold.each r (c.requires.there r k)) c.args.room.now.all.1
-    (λ r e shows first. deed_of g.M.SeqObject.apply_to t calls c.args.room.now.deeds c.requires.known.deeds number (length calls) c.in-Some.deeds.now c.in-Some.ensures.some r e shows first at call Nowhere here is)
+    let is : slice_get c.in-Some.deeds.now at ≡ Some Nowhere = slice_get-get_or c.in-Some.deeds.now at Nowhere (let lt = c.requires.call in omega (arith, long, lt)) ∙ ap Some c.in_default-deeds.is in
+    leads_nowhere g.row.M-State.Denot g.M.SeqObject.start_state g.M.SeqObject.apply_to t calls r.once r.start number sets at c.requires.place call here
+    (λ q k. r.hold.each q (c.requires.source.there q k)) c.args.work.now.all.1
+    (λ q e shows first. deed_of g.M.SeqObject.apply_to t calls c.args.work.now.deeds c.requires.may_grow.known.sound.deeds number (length calls) c.in-Some.deeds.now c.in-Some.ensures.some q e shows first at call Nowhere here is)
 
 pub returns-in_default-clause-leads : goal.returns-in_default-clause-leads
-returns-in_default-clause-leads g c once start hold call here [] is = absurd is
-returns-in_default-clause-leads g c once start hold call here (n ∷ row) is =
-    let tried = subst (IsTried c.args.room.now.deeds) is.0 (c.requires.known.tried (n ∷ row) (c.requires.there (n ∷ row) is)) in
-    absurd {A = Leads (of_table g.row.M-State.Denot g.M.SeqObject.start_state g.M.SeqObject.apply_to) c.args.table.now c.args.calls.now c.args.room.now.all.1 call (n ∷ row)}
-    (true≢false (sym (c.in_default.ensures.tried c.requires.known.within tried)))
+returns-in_default-clause-leads g c r call here [] is = absurd is
+returns-in_default-clause-leads g c r call here (n ∷ row) is =
+    let tried = subst (IsTried c.args.work.now.deeds) is.0 (c.requires.may_grow.known.tried (n ∷ row) (c.requires.source.there (n ∷ row) is)) in
+    absurd {A = Leads (of_table g.row.M-State.Denot g.M.SeqObject.start_state g.M.SeqObject.apply_to) c.args.table.now c.args.calls.now c.args.work.now.all.1 call (n ∷ row)}
+    (true≢false (sym (c.in_default.ensures.tried c.requires.may_grow.known.sound.within tried)))

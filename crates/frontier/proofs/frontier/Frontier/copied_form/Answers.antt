@@ -1,7 +1,11 @@
-use Rattle.std.proofs.Common.{sym, subst}
+use Rattle.std.proofs.Common.{rules, sym, subst}
 use Rattle.ends.specs.Tables.{ShowTheSame, rows_of, with_rows}
-use Rattle.frontier.specs.Kept.{rows_by}
+use Rattle.frontier.specs.Kept.{rows_by, table_of}
+use Rattle.ends.proofs.Renewing.{shown_same}
 use Rattle.frontier.proofs.frontier.Frontier.copied_form.Goals as goal
+
+pub returns-in_ok-copy-in-Some : goal.returns-in_ok-copy-in-Some
+returns-in_ok-copy-in-Some g c = shown_same (table_of c.args.self.now) _ (record { states = c.in_ok-table-in-Some.ensures.states; founds = c.in_ok-table-in-Some.ensures.founds; rows = search rules })
 
 pub returns-in_ok-table-in-None : goal.returns-in_ok-table-in-None
 returns-in_ok-table-in-None g c =

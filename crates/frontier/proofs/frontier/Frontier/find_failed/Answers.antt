@@ -15,7 +15,7 @@ returns-in-Some-clause-failed g c =
     subst (λ l. HasEachOnce l → (at : ℕ) → IsOpenAt l at id → (ends : List (End g.row.M-State.Denot)) → AreShown (table_of f) l ends
     → OnOk c.failed.result (ShownWith (with_rows (table_of f) (rows_in c.failed.new.room.left.1)) (filter (is_other id) l) [] (Along (Fails id) ends))) c.deref.ensures.value
     (λ once at is_open ends shown. c.failed.ensures once at is_open ends
-    (shown_products f.table f.products c.deref_mut-those.result.now c.in-Some.those c.in-Some.is c.deref_mut-those.ensures.value c.deref.result.now ends shown))
+    (shown_products f.table f.products c.deref_mut-products.result.now c.in-Some.products c.in-Some.is c.deref_mut-products.ensures.value c.deref.result.now ends shown))
 
 pub returns-in-None-clause-failed : goal.returns-in-None-clause-failed
 returns-in-None-clause-failed g c =

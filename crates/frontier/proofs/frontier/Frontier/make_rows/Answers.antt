@@ -10,7 +10,7 @@ returns-in_ok-self-clause-same g c =
     record {
       keeps = λ marks.
           idle_again o f _ refl refl
-          (λ ends shown. unfolded_again f.table f.products c.deref.result.now c.in-Some.those c.in-Some.is c.deref.ensures f.calls.items ends shown c.in_ok-self.field-0 c.in_ok-self.ensures.rows c.in_ok-self.ensures.once)
+          (λ ends shown. unfolded_again f.table f.products c.deref.result.now c.in-Some.products c.in-Some.is c.deref.ensures f.calls.items ends shown c.in_ok-self.field-0 c.in_ok-self.ensures.rows c.in_ok-self.ensures.once)
           refl refl marks;
       fresh = search rules;
       counts = search rules;

@@ -3,7 +3,7 @@ use Rattle.std.proofs.lemmas.Result.{err_from_is_err_and}
 use Rattle.models.specs.Objects.{of_table}
 use Rattle.ends.specs.Tables.{rows_of, with_rows}
 use Rattle.products.specs.Products.{Family, rows_in}
-use Rattle.frontier.specs.declared.as_products.AsProducts.{AsProducts}
+use Rattle.frontier.specs.declared.product_form.ProductForm.{ProductForm}
 use Rattle.frontier.specs.Kept.{IsIdle, IsListed, call_of, rows_by}
 use Rattle.frontier.proofs.Placing.{listed_longer, one_there, products_are_longer, rows_are_longer}
 use Rattle.frontier.proofs.Preparing.{err_keeps, idle_still, ok_keeps}
@@ -25,7 +25,7 @@ returns-in_err-lengthen g c =
     let o = of_table g.row.M-State.Denot g.M.SeqObject.start_state g.M.SeqObject.apply_to in
     let f = c.args.self.now in
     let p = err_from_is_err_and c.from_residual-in_err-lengthen.result c.from_residual-in_err-lengthen.ensures.1 in
-    let kept = c.in_err-lengthen.ensures.same ∙ ap (λ (p : AsProducts g.row.M-State.Denot). p.kept) c.deref_mut.ensures.value in
+    let kept = c.in_err-lengthen.ensures.same ∙ ap (λ (p : ProductForm g.row.M-State.Denot). p.kept) c.deref_mut.ensures.value in
     let table = ap (λ (k : Family). with_rows f.table (rows_in k.1)) kept ∙ ap (λ p. with_rows f.table (rows_by p (rows_of f.table))) (sym c.in-Some.is) in
     record {
       listed = search rules;
@@ -40,8 +40,8 @@ returns-in-Some g c =
     let fresh = one_there f.fresh c.requires.fresh in
     let pushed = c.push_fresh.ensures.is fresh.0 fresh.1 in
     record {
-      listed = listed_longer o g.met.M.SeqObject.reads f c.push_fresh.new.self fresh.0 fresh.1 (rows_in c.lengthen.new.those.kept.1)
-          (products_are_longer f.products c.in-Some.those c.deref_mut.result.now.kept c.lengthen.new.those.kept c.in-Some.is (ap (λ (p : AsProducts g.row.M-State.Denot). p.kept) c.deref_mut.ensures.value) c.in_ok-lengthen.ensures.longer (rows_of f.table))
+      listed = listed_longer o g.met.M.SeqObject.reads f c.push_fresh.new.self fresh.0 fresh.1 (rows_in c.lengthen.new.products.kept.1)
+          (products_are_longer f.products c.in-Some.products c.deref_mut.result.now.kept c.lengthen.new.products.kept c.in-Some.is (ap (λ (p : ProductForm g.row.M-State.Denot). p.kept) c.deref_mut.ensures.value) c.in_ok-lengthen.ensures.longer (rows_of f.table))
           pushed.0 (pushed.1 ∙ ap (λ l. l ++ call_of fresh.0 ∷ []) c.in_ok-reserve.ensures.items) pushed.2 pushed.3 c.push_fresh.ensures.next;
       nothing = search rules;
       counts = search rules;

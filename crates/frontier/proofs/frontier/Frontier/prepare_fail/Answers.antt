@@ -7,7 +7,7 @@ use Rattle.ends.specs.EndSteps.{is_other}
 use Rattle.ends.specs.Tables.{with_rows}
 use Rattle.frontier.specs.Kept.{StandsFor, left_of, table_of}
 use Rattle.frontier.specs.Meaning.{Answers}
-use Rattle.frontier.proofs.Standing.{same_step, step_by}
+use Rattle.frontier.proofs.Standing.{step_by}
 use Rattle.frontier.proofs.Judging.{failed_by, generates_failed, stands_failed}
 use Rattle.frontier.proofs.Preparing.{listed_stands, stands_like, will_by}
 use Rattle.frontier.proofs.frontier.Frontier.prepare_fail.Goals as goal
@@ -35,14 +35,13 @@ returns g c =
           let id = c.args.id in
           let left = left_of c.find_failed.new.self in
           let t = with_rows (table_of f) left in
-          let is = same_step c.left.result (length left) c.step_of.result c.left.ensures c.step_of.ensures in
           subst (λ b. Answers o b (StandsFor o c.args.self.now) (Failed id) c.step_of.result) c.in_ok-list_fresh.ensures.counts.budget
           (record {
             right = λ marks given is_open.
                 let l = c.in_ok-list_fresh.ensures.listed marks given in
                 let s = failed_by o f marks l.lists f.calls.items refl t id is_open c.in_ok-find_failed.ensures.failed in
-                step_by o s.more (length left) s.shown.long marks (Failed id) (generates_failed o f marks l.lists t id is_open s)
-                f.budget (λ none. none) _ is.alive is.dead is.never_over;
+                step_by o s.more (length left) s.shown.long c.some_left.result c.some_left.ensures marks (Failed id) (generates_failed o f marks l.lists t id is_open s)
+                f.budget (λ none. none) _ c.step_of.ensures;
             over_at_ok = λ over. absurd (c.step_of.ensures.never_over over);
           });
       now = λ marks given.

@@ -8,7 +8,7 @@ use Rattle.ends.specs.Tables.{with_rows}
 use Rattle.frontier.specs.declared.frontier.Step.TheVariants.{Over}
 use Rattle.frontier.specs.Kept.{StandsFor, left_of, table_of}
 use Rattle.frontier.specs.Meaning.{Answers}
-use Rattle.frontier.proofs.Standing.{same_step, step_by}
+use Rattle.frontier.proofs.Standing.{step_by}
 use Rattle.frontier.proofs.Judging.{advanced, generates_left, ok_costs, stands_after, too_many_by, within}
 use Rattle.frontier.proofs.Preparing.{idle_of, idle_will, listed_more, listed_stands, stands_like}
 use Rattle.frontier.proofs.frontier.Frontier.prepare_ok.Goals as goal
@@ -71,14 +71,13 @@ returns g c =
           let answer = c.args.answer.now in
           let left = left_of c.advance.new.self in
           let t = with_rows (table_of c.advance.new.self) left in
-          let is = same_step c.left.result (length left) c.step_of.result c.left.ensures c.step_of.ensures in
           subst (λ b. Answers o b (StandsFor o c.args.self.now) (Returned id answer) c.step_of.result) (c.suit_outcomes.ensures.counts.budget ∙ c.in_ok-list_fresh.ensures.counts.budget)
           (record {
             right = λ marks given is_open.
                 let l = c.suit_outcomes.ensures.keeps marks (c.in_ok-list_fresh.ensures.listed marks given) in
                 let found = advanced o f marks l.lists f.calls.items refl t f.budget id answer (λ once ends shown closed. c.in_ok-all.ensures.found.all once ends shown closed c.if-not-all.false) in
-                step_by o found.left.more (length left) found.left.shown.long marks (Returned id answer) (generates_left o f marks l.lists f.budget t id is_open answer found)
-                f.budget (within o f marks l.lists f.budget t id is_open answer found) c.step_of.result is.alive is.dead is.never_over;
+                step_by o found.left.more (length left) found.left.shown.long c.some_left.result c.some_left.ensures marks (Returned id answer) (generates_left o f marks l.lists f.budget t id is_open answer found)
+                f.budget (within o f marks l.lists f.budget t id is_open answer found) c.step_of.result c.step_of.ensures;
             over_at_ok = λ over. tt;
           });
       now = λ marks given.

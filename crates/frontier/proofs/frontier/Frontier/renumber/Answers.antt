@@ -17,7 +17,7 @@ returns-in-Some-other-2 g c =
           idle_again o f _ refl refl
           (λ ends shown.
           subst (λ found. IfSome found (λ (other : Table g.row.M-State.Denot × Family). ShownWith (with_rows other.0 (rows_in other.1.1)) f.calls.items [] (Along IsThat ends))) c.in-Some-other-2.is
-          (c.in_ok-other.ensures f.calls.items ends (shown_products f.table f.products c.deref.result.now c.in-Some.those c.in-Some.is c.deref.ensures f.calls.items ends shown)))
+          (c.in_ok-other.ensures f.calls.items ends (shown_products f.table f.products c.deref.result.now c.in-Some.products c.in-Some.is c.deref.ensures f.calls.items ends shown)))
           refl refl marks;
       fresh = search rules;
       counts = search rules;

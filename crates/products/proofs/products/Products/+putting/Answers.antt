@@ -22,14 +22,13 @@ put_pieces-put_rest-requires t c =
     let was = ap (λ (f : Family). f.0) c.self.view_is in
     let is = ap (λ (f : Family). f.0) c.self-in-loop-behind.view_is in
     let kept = c.loop-behind.invariant.places in
-    let upto = c.requires.upto in
     let within = c.requires.within in
     let top = c.requires.top in
     let longer = c.loop-behind.invariant.brings.long in
     let next : many - c.loop-behind.behind ≡ place + 1 = omega (arith, was, is, kept) in
     let long_sets : length sets ≡ many = omega (arith, length-drop c.args.start c.args.stack.now.items, top) in
     let inner : place < length sets = omega (arith, long_sets, next, was) in
-    let outer : at < length old = omega (arith, upto, within) in
+    let outer : at < length old = omega (arith, within) in
     let there = product_at old at c.args.first outer c.requires.same in
     let there_now = slice_get-get_or middle at (0, []) (omega (arith, outer, longer)) in
     let brings = subst (λ n. Brings (IsLeftFrom n c.args.first sets (sets_at old at)) sets c.args.from old middle) next c.loop-behind.invariant.brings in
@@ -40,21 +39,18 @@ put_pieces-put_rest-requires t c =
     let i = c.self.inside in
     let firsts = view_long i.places i.firsts.items i.words.items c.args.self.now c.self.view_is in
     let long_others = view_sets i.places i.firsts.items i.words.items c.args.self.now c.self.view_is c.self.invariant.0 at (omega (arith, firsts, outer)) (c.args.first, sets_at old at) there in
-    let fall : 2 * (at - c.args.begin) + 1 < t = (let before = c.decreases in omega (arith, before)) in
+    let fall : 2 * at + 1 < t = (let before = c.decreases in omega (arith, before)) in
     let below = ap length c.in_ok-push_piece.ensures.below in
     let one = length-take (length c.loop-behind.stack.items) c.push_piece.new.stack.items in
     let pushed = piece.long in
     let rest = length-drop c.len-top.result c.push_piece.new.stack.items in (
       fall,
       (
-        omega (arith, upto),
+        omega (arith, within, longer),
         (
-          omega (arith, within, longer),
-          (
-            omega (arith, height, below, one, pushed, rest, long_sets, kept),
-            piece_apart place c.args.first c.args.from c.args.begin at sets (drop c.len-top.result c.push_piece.new.stack.items) old middle brings alike piece inner
-                (omega (arith, long_others, long_sets, was)) there c.requires.apart,
-          ),
+          omega (arith, height, below, one, pushed, rest, long_sets, kept),
+          piece_apart place c.args.first c.args.from at sets (drop c.len-top.result c.push_piece.new.stack.items) old middle brings alike piece inner
+              (omega (arith, long_others, long_sets, was)) there c.requires.apart,
         ),
       ),
     )
@@ -70,14 +66,13 @@ put_pieces-loop-behind-preserved t c =
     let was = ap (λ (f : Family). f.0) c.self.view_is in
     let is = ap (λ (f : Family). f.0) c.self-in-loop-behind.view_is in
     let kept = c.loop-behind.invariant.places in
-    let upto = c.requires.upto in
     let within = c.requires.within in
     let top = c.requires.top in
     let longer = c.loop-behind.invariant.brings.long in
     let next : many - c.loop-behind.behind ≡ place + 1 = omega (arith, was, is, kept) in
     let long_sets : length sets ≡ many = omega (arith, length-drop c.args.start c.args.stack.now.items, top) in
     let inner : place < length sets = omega (arith, long_sets, next, was) in
-    let outer : at < length old = omega (arith, upto, within) in
+    let outer : at < length old = omega (arith, within) in
     let there = product_at old at c.args.first outer c.requires.same in
     let there_now = slice_get-get_or middle at (0, []) (omega (arith, outer, longer)) in
     let brings = subst (λ n. Brings (IsLeftFrom n c.args.first sets (sets_at old at)) sets c.args.from old middle) next c.loop-behind.invariant.brings in
@@ -124,10 +119,9 @@ put_pieces-returns-clause-puts t c =
     let at = c.args.at in
     let sets = drop c.args.start c.args.stack.now.items in
     let was = ap (λ (f : Family). f.0) c.self.view_is in
-    let upto = c.requires.upto in
     let within = c.requires.within in
     let top = c.requires.top in
-    let outer : at < length old = omega (arith, upto, within) in
+    let outer : at < length old = omega (arith, within) in
     let there = product_at old at c.args.first outer c.requires.same in
     let firsts = view_long i.places i.firsts.items i.words.items c.args.self.now c.self.view_is in
     let long_others = view_sets i.places i.firsts.items i.words.items c.args.self.now c.self.view_is c.self.invariant.0 at (omega (arith, firsts, outer)) (c.args.first, sets_at old at) there in
@@ -142,8 +136,7 @@ put_rest-join_from-requires-clause-apart t c row h o =
     let here = rest_is c.args.start c.deref-in-None.result.now stack stack c.deref-in-None.ensures.value refl in
     let there = rest_is c.args.start c.deref.result.now stack stack c.deref.ensures.value refl in
     let is = subst (λ s. IsIn (c.args.first, s) row) here h in
-    let span = c.requires.apart o.0 row is o.1 in
-    c.in-None.ensures.none refl o.0 row span.0 span.1 (subst (λ s. IsIn (c.args.first, s) row) (sym there) is) o.1
+    c.in-None.ensures.none refl o.0 row (c.requires.apart o.0 row is o.1) (subst (λ s. IsIn (c.args.first, s) row) (sym there) is) o.1
 
 pub put_rest-put_pieces-requires : goal.put_rest-put_pieces-requires
 put_rest-put_pieces-requires t c =
@@ -151,26 +144,22 @@ put_rest-put_pieces-requires t c =
     let there = rest_is c.args.start c.deref.result.now stack stack c.deref.ensures.value refl in
     let e = c.in-Some-default-false.ensures in
     let at = c.in-Some-default-false.at in
-    let span = e.span in
+    let lower = e.before in
     let within = c.requires.within in
     let top = c.requires.top in
-    let fall : 2 * (at - c.args.begin) + 2 < t = (let before = c.decreases in omega (arith, before, span)) in (
+    let fall : 2 * at + 2 < t = (let before = c.decreases in omega (arith, before, lower)) in (
       fall,
       (
-        span.0,
+        omega (arith, within, lower),
         (
-          omega (arith, within, span),
+          top,
           (
-            top,
-            (
-              e.same,
-              (λ i row h stands.
-                  let given = c.requires.apart i row h stands in
-                  elim (cases_lt at i) [
-                    | inl beyond ↦ absurd (e.apart i row beyond given.1 (subst (λ s. IsIn (c.args.first, s) row) (sym there) h) stands)
-                    | inr upto ↦ (given.0, upto)
-                  ]),
-            ),
+            e.same,
+            (λ i row h stands.
+                elim (cases_lt at i) [
+                  | inl beyond ↦ absurd (e.apart i row beyond (c.requires.apart i row h stands) (subst (λ s. IsIn (c.args.first, s) row) (sym there) h) stands)
+                  | inr upto ↦ upto
+                ]),
           ),
         ),
       ),

@@ -3,10 +3,10 @@ use Rattle.products.proofs.Putting.{Brings, IsAlike, IsLeftFrom, sets_at}
 use Rattle.products.proofs.products.Products.+putting.Given as goal
 
 abbrev pub decreases-put_rest : goal.decreases-put_rest
-decreases-put_rest l = 2 * (l.end - l.begin) + 1
+decreases-put_rest l = 2 * l.end + 1
 
 abbrev pub decreases-put_pieces : goal.decreases-put_pieces
-decreases-put_pieces l = 2 * (l.at - l.begin) + 2
+decreases-put_pieces l = 2 * l.at + 2
 
 -- The pieces for places behind those to come are put.
 abbrev pub invariant-put_pieces-loop-behind : goal.invariant-put_pieces-loop-behind

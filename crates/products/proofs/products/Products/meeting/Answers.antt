@@ -96,6 +96,6 @@ loop-at-preserved c =
     }
 
 pub returns-clause-none : goal.returns-clause-none
-returns-clause-none c _ i row lower =
+returns-clause-none c _ i row =
     let below = c.loop-at-test.false in
-    c.loop-at.invariant.apart i row (omega (arith, lower, below))
+    c.loop-at.invariant.apart i row (omega (arith, below))

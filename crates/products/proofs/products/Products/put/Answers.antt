@@ -14,4 +14,4 @@ put_rest-requires-clause-apart c k row h stands =
     let i = c.self.inside in
     let long = view_long i.places i.firsts.items i.words.items c.args.self.now c.self.view_is in
     let lower = slice_get_within c.args.self.now.1 k stands.0 stands.1 in
-    (omega arith, omega (arith, long, lower))
+    omega (arith, long, lower)

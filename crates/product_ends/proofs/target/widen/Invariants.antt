@@ -1,6 +1,6 @@
 use Rattle.std.proofs.Common.{◌≡◌, ◌<◌, ℕ, length, get_or}
 use Rattle.product_ends.specs.Widening.{IsWidened}
-use Rattle.product_ends.proofs.growth.widen.Given as goal
+use Rattle.product_ends.proofs.target.widen.Given as goal
 
 abbrev pub invariant-loop-at : goal.invariant-loop-at
 invariant-loop-at l =

@@ -1,6 +1,0 @@
-use Rattle.std.proofs.Common.{◌<◌, ℕ, get_or, length, set}
-use Rattle.products.specs.Products.{numbers_of}
-use Rattle.product_ends.proofs.growth.has_row.Given as goal
-
-abbrev pub invariant-loop-at : goal.invariant-loop-at
-invariant-loop-at l = (k : ℕ) → k < l.at → 0 < length (numbers_of (get_or (set l.sets l.place l.word) k 0))

@@ -1,0 +1,120 @@
+//! Oks and fails, of ends as products.
+ghost use Rattle.std.specs.Prelude.{◌≤◌, ◌+◌, ℕ, List, [], OnOk, length};
+ghost use Rattle.models.specs.Objects.{of_table};
+ghost use Rattle.linspec.specs.Ends.{End};
+ghost use Rattle.std.specs.List.{filter};
+ghost use Rattle.ends.specs.EndSteps.{Along, Fails, is_other};
+ghost use Rattle.ends.specs.Tables.{AreShown, FindsLeft, HasEachOnce, IsOpenAt, OnlyTries, ShownWith, asked_by, most_steps, with_rows};
+ghost use Rattle.products.specs.Products.{rows_in};
+ghost use Rattle.product_ends.specs.Deeds.{HasOneOutcome};
+
+use crate::after;
+use crate::growth::grow;
+use crate::room::{Room, Work, give_back, make};
+use ends::{PendingOp, Returning, Table};
+use models::SeqObject;
+use products::Products;
+use std::alloc::AllocError;
+use std::hash::Hash;
+
+// Puts the products of what the answer leaves of the kept ends, from which the calls lead to no others, in place of those that were
+// there. False where the kept ends are more than the budget.
+fn settle_kept<M: SeqObject>(
+    table: &Table<M::State>,
+    kept: &Products,
+    work: &mut Work<M::State>,
+    left: &mut Products,
+    returning: &Returning,
+) -> Result<bool, AllocError>
+    requires { length returning.now.calls.now ≤ returning.now.tried }
+    ensures { FindsLeft (of_table M.State M.start_state M.apply_to)
+        (with_rows table.now (rows_in kept.now.1)) (with_rows table.now (rows_in left.new.1)) (asked_by returning.now) result }
+{
+    if kept.rows() > returning.budget as u64 {
+        return Ok(false);
+    }
+    after::settled(
+        table,
+        kept,
+        left,
+        returning,
+        &mut work.marks,
+        &mut work.scratch,
+    )?;
+    Ok(true)
+}
+
+/// Puts the products of the ends that are left after the operation has returned into the room: of those where it is in and what it
+/// found fits the answer, each without it. False where all ends, these and what the calls lead to from them one after another, are
+/// more than the budget. This is so where each call is of another operation, and the calls that were tried already lead from the
+/// ends to no others. Each call has at most one outcome in a state. The rows of the table stay, and so do the kept products.
+///
+/// `AllocError` where there is no memory for them: the steps that were made stay counted, and the room may have some of what is
+/// left. It makes no step where all calls were tried, and then takes the time of the products. Else it makes at most one step for
+/// each call in each state, and compares each product that comes of one with all others: the square of the products at worst, and
+/// more where they are cut into pieces.
+pub fn advance<M: SeqObject>(
+    table: &mut Table<M::State>,
+    kept: &Products,
+    room: &mut Room<M::State>,
+    returning: &Returning,
+    applied: &mut u64,
+) -> Result<bool, AllocError>
+    requires single { HasOneOutcome M.apply_to }
+    ensures found { let object = of_table M.State M.start_state M.apply_to in
+        FindsLeft object (with_rows table.old (rows_in kept.now.1)) (with_rows table.new (rows_in room.new.left.1))
+        (asked_by returning.now) result }
+    ensures tries { OnlyTries table.old table.new applied.old applied.new }
+    ensures cost { applied.new ≤ applied.old + most_steps (asked_by returning.now) }
+{
+    make(table.alloc, &mut room.work)?;
+    let Some(work) = &mut room.work else {
+        unreachable!()
+    };
+    let work = &mut **work;
+    if returning.tried >= returning.calls.len() {
+        return settle_kept::<M>(table, kept, work, &mut room.left, returning);
+    }
+    if !grow::<M>(
+        table,
+        kept,
+        work,
+        returning.calls,
+        returning.budget,
+        applied,
+    )? {
+        return Ok(false);
+    }
+    after::settled(
+        table,
+        &work.all,
+        &mut room.left,
+        returning,
+        &mut work.marks,
+        &mut work.scratch,
+    )?;
+    give_back(&mut room.work);
+    Ok(true)
+}
+
+/// Puts the products after the operation, which is open, has failed into the room, of those ends that it is not in, each without
+/// its number. Leaves no products where the operation is not open. Takes the time of the products.
+pub fn failed<S: Hash + Drop>(
+    table: &Table<S>,
+    kept: &Products,
+    room: &mut Room<S>,
+    calls: &[PendingOp],
+    id: u32,
+) -> Result<(), AllocError>
+    ensures { HasEachOnce calls.now → (at : ℕ) → IsOpenAt calls.now at id
+        → (ends : List (End S)) → AreShown (with_rows table.now (rows_in kept.now.1)) calls.now ends → OnOk result
+        (ShownWith (with_rows table.now (rows_in room.new.left.1)) (filter (is_other id) calls.now) []
+        (Along (Fails id) ends)) }
+{
+    make(table.alloc, &mut room.work)?;
+    let Some(work) = &mut room.work else {
+        unreachable!()
+    };
+    let work = &mut **work;
+    after::failed(table, kept, &mut room.left, calls, id, &mut work.scratch)
+}

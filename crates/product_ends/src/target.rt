@@ -1,0 +1,148 @@
+//! A product that is put with others, and with it what calls find that stay in its state.
+ghost use Rattle.std.specs.Prelude.{◌≡◌, ◌⊎◌, ℕ, List, ◌∷◌, IfOk, OnOk, true, false, length, slice_set};
+ghost use Rattle.models.specs.Objects.{of_table};
+ghost use Rattle.products.specs.Products.{AreIn, IsIn};
+ghost use Rattle.product_ends.specs.Deeds.{AreSound, AreTriedFor, HasOneOutcome, IsTried, TriesAtMost};
+ghost use Rattle.product_ends.specs.Growing.{AreGrown, HasRows, KeepsSource, MayGrow, StaysReached};
+ghost use Rattle.product_ends.specs.Widening.{AreWidened, IsWidened, product_to};
+
+use crate::deeds::{Deeds, deeds_in, stays_in, try_each};
+use crate::room::{Source, Work};
+use ends::{PendingOp, Table};
+use models::SeqObject;
+use products::number_set::{has, joined, size};
+use std::alloc::AllocError;
+
+/// The product that a call leads to from the source: its first number, and a set in place of the source's at one place.
+#[derive(Clone, Copy)]
+pub struct Target {
+    pub number: usize,
+    pub place: usize,
+    pub set: u64,
+}
+
+// The set, and with it what its call would find where it leaves the state as it is (`stay`, zero where it does not). The set alone
+// where the call is in each row, or no one word has both.
+#[inline(always)]
+fn widened(set: u64, stay: u64) -> u64
+    ensures { IsWidened stay set result }
+{
+    if stay == 0 || !has(set, 0) {
+        return set;
+    }
+    match joined(set, stay) {
+        Some(both) => both,
+        None => set,
+    }
+}
+
+// Writes the sets, where the one at the place is another, each widened.
+#[inline(always)]
+fn widen(
+    sets: &[u64],
+    place: usize,
+    set: u64,
+    stays: &[u64],
+    next: &mut Vec<u64>,
+) -> Result<(), AllocError>
+    ensures { OnOk result (AreWidened stays.now (slice_set sets.now place set) next.new.items) }
+{
+    if next.len() != sets.len() {
+        next.resize(sets.len(), 0)?;
+    }
+    let both = sets.len().min(stays.len());
+    for at in 0..both {
+        next[at] = widened(sets[at], stays[at]);
+    }
+    for past in both..sets.len() {
+        next[past] = sets[past];
+    }
+    if place < sets.len() {
+        next[place] = match stays.get(place) {
+            Some(stay) => widened(set, *stay),
+            None => set,
+        };
+    }
+    Ok(())
+}
+
+// Whether the product of the sets, where the one at the place is another, has a row.
+fn has_row(sets: &[u64], place: usize, set: u64) -> bool
+    ensures some { result ≡ true → (row : List ℕ) × AreIn (slice_set sets.now place set) row }
+    ensures none { result ≡ false → (row : List ℕ) → ¬ AreIn (slice_set sets.now place set) row }
+{
+    for at in 0..sets.len() {
+        let own = if at == place { set } else { sets[at] };
+        if size(own) == 0 {
+            return false;
+        }
+    }
+    true
+}
+
+// Sees to it that the calls were tried in the target's state. False, with nothing tried, where they were not and the target has no
+// row: then they need not be.
+#[inline(always)]
+fn ready<M: SeqObject>(
+    table: &mut Table<M::State>,
+    deeds: &mut Deeds<M::State>,
+    calls: &[PendingOp],
+    source: &Source,
+    to: Target,
+    applied: &mut u64,
+) -> Result<bool, AllocError>
+    requires single { HasOneOutcome M.apply_to }
+    requires sound { AreSound M.apply_to table.old calls.now deeds.old }
+    ensures sound { OnOk result (AreSound M.apply_to table.new calls.now deeds.new) }
+    ensures tried { IfOk result (AreTriedFor (product_to source.now to) deeds.old deeds.new) }
+    ensures fresh { (applied.new ≡ applied.old)
+        ⊎ ((¬ IsTried deeds.old to.number) × ((row : List ℕ) × IsIn (product_to source.now to) row)) }
+    ensures steps { TriesAtMost (length calls.now) table.old table.new applied.old applied.new }
+{
+    if deeds_in(deeds, to.number, calls.len()).is_some() {
+        return Ok(true);
+    }
+    if !has_row(&source.sets, to.place, to.set) {
+        return Ok(false);
+    }
+    try_each::<M>(table, deeds, to.number, calls, applied)?;
+    Ok(true)
+}
+
+/// Puts the target, widened, with the others. Where the calls were not tried in its state, they are now, and its rows are new.
+/// Products before the one at `from` were gone through, and get no more rows. False where all rows are more than the budget.
+pub fn put_widened<M: SeqObject>(
+    table: &mut Table<M::State>,
+    work: &mut Work<M::State>,
+    calls: &[PendingOp],
+    to: Target,
+    from: usize,
+    budget: u32,
+    applied: &mut u64,
+) -> Result<bool, AllocError>
+    requires may_grow { MayGrow M.apply_to table.old calls.now budget work.old }
+    requires long { length work.old.source.sets.items ≡ work.old.all.0 }
+    ensures grown { IfOk result
+        (AreGrown M.apply_to table.new calls.now from budget work.old.all.1 work.new applied.old applied.new) }
+    ensures puts { OnOk result (HasRows (product_to work.old.source to) work.new.all.1) }
+    ensures reached { let object = of_table M.State M.start_state M.apply_to in OnOk result
+        (StaysReached object table.old table.new calls.now (product_to work.old.source to ∷ work.old.all.1) work.new.all.1) }
+    ensures source { KeepsSource work.old work.new }
+    ensures steps { TriesAtMost (length calls.now) table.old table.new applied.old applied.new }
+{
+    if !ready::<M>(table, &mut work.deeds, calls, &work.source, to, applied)? {
+        return Ok(true);
+    }
+    let Some(stays) = stays_in(&work.deeds, to.number, calls.len()) else {
+        unreachable!()
+    };
+    widen(
+        &work.source.sets,
+        to.place,
+        to.set,
+        stays,
+        &mut work.scratch.sets,
+    )?;
+    work.all.put(from, to.number, &work.scratch.sets, &mut work.scratch.stack)?;
+    Ok(work.all.rows() <= budget as u64)
+}
