@@ -1,7 +1,9 @@
 -- numbers, each once, where it stands first
-use Rattle.std.proofs.Common.{◌≡◌, ◌≢◌, ℕ, Bool, true, false, not, cond, nat_eq, List, [], ◌∷◌, ◌++◌, refl, sym, ap, ◌∙◌, subst, ⊎_elim}
+use Rattle.std.proofs.Common.{◌≡◌, ◌≢◌, ℕ, Bool, true, false, not, cond, nat_eq, List, [], ◌∷◌, ◌++◌, refl, sym, ap, ◌∙◌, subst, ⊎_elim, arith}
 use Rattle.std.specs.List.{filter, Contains}
-use Rattle.std.proofs.lemmas.Bool.{cases_Bool, cases_eq, eq-eqb, ne_eqb, false≢true}
+use Rattle.std.proofs.lemmas.Bool.{cases_eq, eq-eqb, ne_eqb, false≢true}
+use Rattle.std.proofs.lemmas.Bool.Decides.{nat_tests}
+use Rattle.std.proofs.lemmas.Grind.{common_steps}
 use Rattle.std.proofs.lemmas.List.{append-nil}
 use Rattle.std.proofs.lemmas.List.Elements.{filter-append}
 use Rattle.linspec.specs.Orders.{Pairwise}
@@ -9,32 +11,14 @@ use Rattle.linspec.proofs.Lists.{Contains-nil, Contains-head, Contains-tail, Con
 use Rattle.linspec.proofs.Filters.{filter-yes, filter-no, filter-all, from_filter, to_filter, Pairwise-filter}
 use Rattle.linspec.specs.JudgedHistory.{each_once}
 
--- what passes both tests
+-- what passes both tests, in either order
 pub filter-filter : {X : Type 0} (p q r : X → Bool) → ((x : X) → r x ≡ cond (p x) (q x) false) → (xs : List X) → filter p (filter q xs) ≡ filter r xs
 filter-filter p q r is [] = refl
-filter-filter p q r is (x ∷ xs) =
-    ⊎_elim
-    (λ yes. ap (filter p) (filter-yes q x xs yes)
-    ∙ ⊎_elim
-    (λ so. filter-yes p x (filter q xs) so ∙ ap (λ l. x ∷ l) (filter-filter p q r is xs) ∙ sym (filter-yes r x xs (is x ∙ ap (λ b. cond b (q x) false) so ∙ yes)))
-    (λ so. filter-no p x (filter q xs) so ∙ filter-filter p q r is xs ∙ sym (filter-no r x xs (is x ∙ ap (λ b. cond b (q x) false) so)))
-    (cases_Bool (p x)))
-    (λ no. ap (filter p) (filter-no q x xs no) ∙ filter-filter p q r is xs ∙ sym (filter-no r x xs (is x ∙ ap (λ b. cond (p x) b false) no ∙ none (p x))))
-    (cases_Bool (q x))
-  where
-    none : (b : Bool) → cond b false false ≡ false
-    none true = refl
-    none false = refl
+filter-filter p q r is (x ∷ xs) = grind (arith, is x, filter-filter p q r is xs)
 
--- the order of two tests does not matter
 pub filter-swap : {X : Type 0} (p q : X → Bool) (xs : List X) → filter p (filter q xs) ≡ filter q (filter p xs)
-filter-swap p q xs = filter-filter p q (λ x. cond (p x) (q x) false) (λ x. refl) xs ∙ sym (filter-filter q p (λ x. cond (p x) (q x) false) (λ x. both (p x) (q x)) xs)
-  where
-    both : (a b : Bool) → cond a b false ≡ cond b a false
-    both true true = refl
-    both true false = refl
-    both false true = refl
-    both false false = refl
+filter-swap p q [] = refl
+filter-swap p q (x ∷ xs) = grind (arith, filter-swap p q xs)
 
 -- other than k
 abbrev is_other : ℕ → ℕ → Bool
@@ -43,11 +27,8 @@ is_other k j = not (nat_eq j k)
 other : (k j : ℕ) → j ≢ k → is_other k j ≡ true
 other k j ne = ap not (ne_eqb j k ne)
 
-is_same : (k j : ℕ) → j ≡ k → is_other k j ≡ false
-is_same k j e = ap not (eq-eqb j k e)
-
 differs : (k j : ℕ) → is_other k j ≡ true → j ≢ k
-differs k j h e = false≢true (sym (is_same k j e) ∙ h)
+differs k j h e = false≢true (sym (ap not (eq-eqb j k e)) ∙ h)
 
 -- none of the numbers
 abbrev pub is_new : List ℕ → ℕ → Bool
@@ -56,15 +37,7 @@ is_new (x ∷ xs) k = cond (is_other x k) (is_new xs k) false
 
 pub is_new-known : (xs : List ℕ) (k : ℕ) → Contains xs k → is_new xs k ≡ false
 is_new-known [] k h = absurd (Contains-nil k h)
-is_new-known (x ∷ xs) k h =
-    ⊎_elim
-    (λ e. ap (λ b. cond b (is_new xs k) false) (is_same x k (sym e)))
-    (λ i. ap (λ b. cond (is_other x k) b false) (is_new-known xs k i) ∙ none (is_other x k))
-    (Contains-cons_cases x xs k h)
-  where
-    none : (b : Bool) → cond b false false ≡ false
-    none true = refl
-    none false = refl
+is_new-known (x ∷ xs) k h = grind (arith, nat_tests, common_steps, is_new-known xs k)
 
 pub is_new-absent : (xs : List ℕ) (k : ℕ) → ¬ Contains xs k → is_new xs k ≡ true
 is_new-absent [] k h = refl

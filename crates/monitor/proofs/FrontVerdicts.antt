@@ -31,7 +31,8 @@ use Rattle.linspec.specs.JudgedHistory.{JudgedHistory, IsVerdictOn, rewound, kin
 use Rattle.monitor.specs.Rows.{AreStatusesOf}
 use Rattle.monitor.specs.Judged.{rows_of}
 use Rattle.monitor.proofs.Statuses.{keys_apart}
-use Rattle.monitor.proofs.Verdicts.{Laws, statuses_of_keys, IsHistoryOf-take}
+use Rattle.history.proofs.Fronts.{history-take}
+use Rattle.monitor.proofs.Verdicts.{Laws, statuses_of_keys}
 
 -- fronts of fronts
 front_of_front : {X : Type 0} (xs ys zs : List X) → IsFront xs ys → IsFront ys zs → IsFront xs zs
@@ -198,7 +199,7 @@ entries_taken n events =
     (subst (λ l. IsFront (entries_of (indexed_from 0 (take n events))) (entries_of l)) front.1 (entries_front (λ _. 0) (indexed_from 0 (take n events)) front.0))
 
 -- every list of statuses has a join
-abbrev HasJoin : List (ℕ × KeyStatus) → Type 0
+abbrev pub HasJoin : List (ℕ × KeyStatus) → Type 0
 HasJoin statuses = (v : Verdict) × IsJoin statuses v
 
 join_more : (statuses : List (ℕ × KeyStatus)) (key : ℕ) (status : KeyStatus) (v : Verdict) → IsJoin statuses v → HasJoin (statuses ++ (key, status) ∷ [])
@@ -224,7 +225,7 @@ join_all done (s ∷ rest) j =
     let all = join_all (done ++ s ∷ []) rest (join_more done s.0 s.1 j.0 j.1) in
     (all.0, subst (λ l. IsJoin l all.0) (append_assoc done (s ∷ []) rest) all.1)
 
-has_join : (statuses : List (ℕ × KeyStatus)) → HasJoin statuses
+pub has_join : (statuses : List (ℕ × KeyStatus)) → HasJoin statuses
 has_join statuses = join_all [] statuses (Legal, IsJoin-none)
 
 -- so a history has a verdict at each length
@@ -232,7 +233,7 @@ pub verdict_at : Laws → (h : JudgedHistory) (statuses : List (ℕ × KeyStatus
     → (v : Verdict) × IsVerdictOn (rewound n h) v
 verdict_at laws h statuses may are n =
     let whole : IsHistory (indexed_from 0 h.events) = laws.rule h.concurrency h.events may in
-    let part : IsHistory (indexed_from 0 (take n h.events)) = laws.rule h.concurrency (take n h.events) (IsHistoryOf-take h.concurrency n h.events may) in
+    let part : IsHistory (indexed_from 0 (take n h.events)) = laws.rule h.concurrency (take n h.events) (history-take h.concurrency n h.events may) in
     let new = front_statuses is_no_read (kind_of h) (budget_of h) (entries_in (rewound n h)) (entries_in h) (entries_taken n h.events)
     (laws.keyed _ whole) (laws.well _ whole) (laws.rising _ whole) statuses (statuses_of_keys laws h statuses may are) in
     let join = has_join new.0 in

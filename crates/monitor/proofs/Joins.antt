@@ -1,5 +1,5 @@
 -- the verdict that joins how keys stand, kept up to date
-use Rattle.std.proofs.Common.{◌≡◌, ◌≢◌, ℕ, ◌+◌, ◌≤◌, Some, List, [], ◌∷◌, ◌++◌, length, take, slice_get, refl, sym, ap, subst, ◌∙◌, ⊎_elim, arith}
+use Rattle.std.proofs.Common.{◌≡◌, ◌≢◌, ℕ, ◌+◌, ◌≤◌, Some, List, [], ◌∷◌, ◌++◌, length, take, slice_get, sym, ap, subst, ◌∙◌, ⊎_elim, arith}
 use Rattle.std.specs.Option.{option_map}
 use Rattle.std.proofs.lemmas.Bool.{cases_eq}
 use Rattle.std.proofs.lemmas.Option.{slice_get-map}
@@ -10,20 +10,9 @@ use Rattle.linspec.specs.declared.verdict.Verdict.{Verdict}
 use Rattle.linspec.specs.Verdicts.{IsJoin}
 use Rattle.linspec.specs.KeyHistory.{KeyHistory, IsStatusOf}
 use Rattle.checkpoints.specs.KeyLineView.{KeyLineView}
-use Rattle.monitor.specs.Rows.{nows, AreStatusesOf, JoinsRows}
+use Rattle.monitor.specs.Rows.{nows, JoinsRows}
 use Rattle.monitor.proofs.Places.{read_written, others_stay, one_more_taken}
-
-AreStatusesOf-more : (rows : List (ℕ × KeyHistory)) (statuses : List (ℕ × KeyStatus)) (row : ℕ × KeyHistory) (s : ℕ × KeyStatus) → AreStatusesOf rows statuses → s.0 ≡ row.0 → IsStatusOf row.1 s.1 → AreStatusesOf (rows ++ row ∷ []) (statuses ++ s ∷ [])
-AreStatusesOf-more [] [] row s h key stands = (key, stands, tt)
-AreStatusesOf-more [] (t ∷ statuses) row s h key stands = absurd h
-AreStatusesOf-more (r ∷ rows) [] row s h key stands = absurd h
-AreStatusesOf-more (r ∷ rows) (t ∷ statuses) row s h key stands =
-    (h.0, h.1, AreStatusesOf-more rows statuses row s h.2 key stands)
-
--- one more key, by what joining promises
-pub JoinsRows-more : (rows : List (ℕ × KeyHistory)) (row : ℕ × KeyHistory) (s : ℕ × KeyStatus) (v w : Verdict) → JoinsRows rows v → s.0 ≡ row.0 → IsStatusOf row.1 s.1 → ((statuses : List (ℕ × KeyStatus)) → IsJoin statuses v → IsJoin (statuses ++ s ∷ []) w) → JoinsRows (rows ++ row ∷ []) w
-JoinsRows-more rows row s v w j key stands joins =
-    (j.0 ++ s ∷ [], AreStatusesOf-more rows j.0 row s j.1 key stands, joins j.0 j.2)
+use Rattle.monitor.proofs.Statuses.{joins_push}
 
 -- what a line has now, at its place
 pub now_read : (rows : List (ℕ × KeyLineView)) (place key : ℕ) (line : KeyLineView) → slice_get rows place ≡ Some (key, line) → slice_get (nows rows) place ≡ Some (key, line.now)
@@ -44,7 +33,7 @@ pub JoinsRows-more_with : (rows : List (ℕ × KeyLineView)) (place other key : 
 JoinsRows-more_with rows place other key line next status v w at here there joins j =
     let row = with_other rows place other key line next status at here there in
     let written = set_value_at (nows rows) place next in
-    subst (λ (l : List (ℕ × KeyHistory)). JoinsRows l w) (sym (one_more_taken written other (key, row.0) row.1)) (JoinsRows-more (take other written) (key, row.0) (key, status) v w j refl row.2 joins)
+    subst (λ (l : List (ℕ × KeyHistory)). JoinsRows l w) (sym (one_more_taken written other (key, row.0) row.1)) (joins_push (take other written) key row.0 status v w j row.2 joins)
 
 -- all have been joined
 pub JoinsRows-all_with : (es rows : List (ℕ × KeyLineView)) → es ≡ rows → (place other : ℕ) (next : KeyHistory) (v : Verdict) → length es ≤ other → JoinsRows (take other (set_value_at (nows rows) place next)) v → JoinsRows (set_value_at (nows rows) place next) v

@@ -1,13 +1,17 @@
 -- rows of keys that are apart: where a key stands, and the rows with another value for it
-use Rattle.std.proofs.Common.{◌≡◌, ◌≢◌, ℕ, ◌+◌, ◌<◌, Bool, true, false, not, cond, zero, suc, nat_eq, Option, Some, None, List, [], ◌∷◌, ◌++◌, length, map, get_or, slice_get, refl, sym, ap, ◌∙◌, subst, ⊎_elim, arith}
+use Rattle.std.proofs.Common.{◌≡◌, ◌≢◌, ℕ, ◌<◌, Bool, true, false, not, cond, zero, suc, nat_eq, Option, Some, None, List, [], ◌∷◌, ◌++◌, length, map, get_or, slice_get, refl, sym, ap, ◌∙◌, subst, arith}
 use Rattle.std.specs.List.{Contains, position, prefix_len, position_or_len}
 use Rattle.std.specs.Map.{keys_of}
-use Rattle.std.proofs.lemmas.Bool.{cases_eq, eq-eqb, ne_eqb, eqb-true, lt-ltb}
-use Rattle.std.proofs.lemmas.List.{map-append}
+use Rattle.std.proofs.lemmas.Bool.{eqb-true, lt-ltb}
+use Rattle.std.proofs.lemmas.Bool.Decides.{nat_tests}
+use Rattle.std.proofs.lemmas.Grind.{common_steps}
+use Rattle.std.proofs.lemmas.List.{map-append, length-map}
+use Rattle.std.proofs.lemmas.Option.{none-some, same_Some}
+use Rattle.std.proofs.lemmas.List.Elements.{Contains-append_right}
 use Rattle.std.proofs.lemmas.List.Quantifiers.{position-Some}
 use Rattle.indexmap.specs.Layout.{set_value_at}
 use Rattle.linspec.specs.Orders.{Pairwise}
-use Rattle.linspec.proofs.Lists.{Contains-nil, Contains-head, Contains-tail, Contains-cons_cases, Pairwise-across, Pairwise-right}
+use Rattle.linspec.proofs.Lists.{Contains-nil, Contains-head, Contains-tail, Pairwise-across, Pairwise-right}
 
 -- x stands at place i
 pub record IsAt {X : Type 0} (xs : List X) (i : ℕ) (x : X) : Type 0 where
@@ -31,15 +35,7 @@ position_at ks k i is =
 -- a key that is there has a place
 stops : (ks : List ℕ) (k : ℕ) → Contains ks k → prefix_len (λ x. not (nat_eq k x)) ks < length ks
 stops [] k h = absurd (Contains-nil k h)
-stops (x ∷ ks) k h =
-    ⊎_elim
-    (λ e. subst (λ (n : ℕ). n < length (x ∷ ks)) (sym (ap (λ (b : Bool). cond (not b) (1 + prefix_len (λ x. not (nat_eq k x)) ks) 0) (eq-eqb k x e))) (omega arith))
-    (λ ne. subst (λ (n : ℕ). n < length (x ∷ ks)) (sym (ap (λ (b : Bool). cond (not b) (1 + prefix_len (λ x. not (nat_eq k x)) ks) 0) (ne_eqb k x ne)))
-    (let rest : prefix_len (λ x. not (nat_eq k x)) ks < length ks = stops ks k (later ne) in omega arith))
-    (cases_eq k x)
-  where
-    later : k ≢ x → Contains ks k
-    later ne = ⊎_elim (λ e. absurd (ne (sym e))) (λ i. i) (Contains-cons_cases x ks k h)
+stops (x ∷ ks) k h = grind (arith, common_steps, nat_tests, stops ks k)
 
 pub position_none : (ks : List ℕ) (k : ℕ) → position (nat_eq k) ks ≡ None → ¬ Contains ks k
 position_none ks k is h =
@@ -47,6 +43,19 @@ position_none ks k is h =
   where
     clash : (n : ℕ) → ◌≡◌ {A = Option ℕ} (Some n) None → ⊥
     clash n e = cc
+
+-- a key that has a place is there, and one that is not there has none
+pub has_place : (ks : List ℕ) (k i : ℕ) → position (nat_eq k) ks ≡ Some i → Contains ks k
+has_place ks k i is =
+    let at : IsAt ks i k = position_at ks k i is in
+    subst (λ (l : List ℕ). Contains l k) (sym at.cut) (Contains-append_right at.before (k ∷ at.after) k (Contains-head k at.after))
+
+pub absent_position : (ks : List ℕ) (k : ℕ) → ¬ Contains ks k → position (nat_eq k) ks ≡ None
+absent_position ks k absent = by_place (position (nat_eq k) ks) refl
+  where
+    by_place : (o : Option ℕ) → position (nat_eq k) ks ≡ o → position (nat_eq k) ks ≡ None
+    by_place None is = is
+    by_place (Some i) is = absurd (absent (has_place ks k i is))
 
 -- the element at a place
 pub slice_get-at : {X : Type 0} (before after : List X) (x : X) → slice_get (before ++ x ∷ after) (length before) ≡ Some x
@@ -70,22 +79,22 @@ pub keys_of-rows_by : {X : Type 0} (f : ℕ → X) (ks : List ℕ) → keys_of (
 keys_of-rows_by f [] = refl
 keys_of-rows_by f (k ∷ ks) = ap (λ l. k ∷ l) (keys_of-rows_by f ks)
 
+-- the key at a place
+pub key_back : {X : Type 0} (f : ℕ → X) (ks : List ℕ) (i k : ℕ) (x : X) → slice_get (rows_by f ks) i ≡ Some (k, x) → (slice_get ks i ≡ Some k) × (x ≡ f k)
+key_back f [] i k x at = absurd (none-some (k, x) at)
+key_back {X} f (j ∷ ks) zero k x at =
+    let e : ◌≡◌ {A = ℕ × X} (j, f j) (k, x) = same_Some _ _ at in
+    (ap (λ (p : ℕ × X). Some p.0) e, sym (ap (λ (p : ℕ × X). p.1) e) ∙ ap (λ (p : ℕ × X). f p.0) e)
+key_back f (j ∷ ks) (suc i) k x at = key_back f ks i k x at
+
 -- the row of a key that stands at a place
 pub row_at : {X : Type 0} (f : ℕ → X) (ks : List ℕ) (k i : ℕ) → position (nat_eq k) ks ≡ Some i → slice_get (rows_by f ks) i ≡ Some (k, f k)
 row_at f ks k i is =
     let at : IsAt ks i k = position_at ks k i is in
     ap (λ l. slice_get (rows_by f l) i) at.cut
     ∙ ap (λ l. slice_get l i) (map-append (λ j. (j, f j)) at.before (k ∷ at.after))
-    ∙ ap (λ n. slice_get (rows_by f at.before ++ (k, f k) ∷ rows_by f at.after) n) (sym at.place ∙ sym (length_rows f at.before))
+    ∙ ap (λ n. slice_get (rows_by f at.before ++ (k, f k) ∷ rows_by f at.after) n) (sym at.place ∙ sym (length-map at.before (λ j. (j, f j))))
     ∙ slice_get-at (rows_by f at.before) (rows_by f at.after) (k, f k)
-  where
-    length_rows : {X : Type 0} (f : ℕ → X) (js : List ℕ) → length (rows_by f js) ≡ length js
-    length_rows f [] = refl
-    length_rows f (j ∷ js) = ap suc (length_rows f js)
-
-pub length-rows_by : {X : Type 0} (f : ℕ → X) (ks : List ℕ) → length (rows_by f ks) ≡ length ks
-length-rows_by f [] = refl
-length-rows_by f (k ∷ ks) = ap suc (length-rows_by f ks)
 
 -- two functions that agree at all keys but one
 module _ {X : Type 0} (f g : ℕ → X) (k : ℕ) (same : (j : ℕ) → j ≢ k → f j ≡ g j) where
@@ -105,7 +114,7 @@ module _ {X : Type 0} (f g : ℕ → X) (k : ℕ) (same : (j : ℕ) → j ≢ k 
         ap (rows_by g) at.cut ∙ map-append (λ j. (j, g j)) at.before (k ∷ at.after)
             ∙ ap (λ l. l ++ (k, g k) ∷ rows_by g at.after) (rows_without at.before (λ h. Pairwise-across (λ i j. i ≢ j) at.before (k ∷ at.after) cut k k h (Contains-head k at.after) refl))
             ∙ ap (λ l. rows_by f at.before ++ (k, g k) ∷ l) (rows_without at.after (λ h. (Pairwise-right (λ i j. i ≢ j) at.before (k ∷ at.after) cut).0 k h refl)),
-        length-rows_by f at.before ∙ at.place,
+        length-map at.before (λ j. (j, f j)) ∙ at.place,
       )
 
   pub rows_with : (ks : List ℕ) (i : ℕ) → Pairwise (λ i j. i ≢ j) ks → position (nat_eq k) ks ≡ Some i → rows_by g ks ≡ set_value_at (rows_by f ks) i (g k)

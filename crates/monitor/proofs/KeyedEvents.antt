@@ -1,5 +1,5 @@
 -- the keys of events, and the events of a key: with one more event, and of the first events alone
-use Rattle.std.proofs.Common.{◌≡◌, ◌≢◌, ℕ, ◌+◌, ◌<◌, ◌≤◌, true, false, zero, suc, nat_lt, Option, Some, None, option_map, List, [], ◌∷◌, ◌++◌, length, take, refl, sym, ap, ◌∙◌, subst, ⊎_elim, arith}
+use Rattle.std.proofs.Common.{◌≡◌, ◌≢◌, ℕ, ◌+◌, ◌<◌, ◌≤◌, Bool, true, false, nat_eq, zero, suc, nat_lt, Option, Some, None, option_map, List, [], ◌∷◌, ◌++◌, length, take, refl, sym, ap, ◌∙◌, subst, ⊎_elim, arith}
 use Rattle.std.specs.List.{filter_map, cons_option, Contains}
 use Rattle.std.proofs.lemmas.Bool.{cases_Bool, eq-eqb, ne_eqb, eqb-true, lt-ltb, le-ltb, false≢true}
 use Rattle.std.proofs.lemmas.List.{append-nil}
@@ -13,33 +13,32 @@ use Rattle.linspec.specs.JudgedHistory.{each_once, keys_in_order}
 use Rattle.monitor.proofs.EachOnce.{filter-swap, each_once-push_known, each_once-push_new, from_each_once, to_each_once}
 
 -- one event: whether it is of a key
-pub of_its_key : (k : ℕ) (e : Event) → key_of e ≡ Some k → is_event_of k e ≡ true
-of_its_key k e is = by_event (op_event e) is
+abbrev is_key : ℕ → Option ℕ → Bool
+is_key k None = false
+is_key k (Some j) = nat_eq j k
+
+by_key : (k : ℕ) (e : Event) → is_event_of k e ≡ is_key k (key_of e)
+by_key k e = by_event (op_event e)
   where
-    by_event : (o : Option OpEvent) → option_map (λ (x : OpEvent). x.key) o ≡ Some k → is_of_key k o ≡ true
-    by_event None h = cc
-    by_event (Some x) h = eq-eqb x.key k (let same : x.key ≡ k = cc in same)
+    by_event : (o : Option OpEvent) → is_of_key k o ≡ is_key k (option_map (λ (x : OpEvent). x.key) o)
+    by_event None = refl
+    by_event (Some x) = refl
+
+pub of_its_key : (k : ℕ) (e : Event) → key_of e ≡ Some k → is_event_of k e ≡ true
+of_its_key k e is = by_key k e ∙ ap (is_key k) is ∙ eq-eqb k k refl
 
 pub of_other_key : (k j : ℕ) (e : Event) → key_of e ≡ Some j → k ≢ j → is_event_of k e ≡ false
-of_other_key k j e is ne = by_event (op_event e) is
-  where
-    by_event : (o : Option OpEvent) → option_map (λ (x : OpEvent). x.key) o ≡ Some j → is_of_key k o ≡ false
-    by_event None h = cc
-    by_event (Some x) h = let same : x.key ≡ j = cc in ne_eqb x.key k (λ d. ne (sym d ∙ same))
+of_other_key k j e is ne = by_key k e ∙ ap (is_key k) is ∙ ne_eqb j k (λ d. ne (sym d))
 
 pub of_no_key : (k : ℕ) (e : Event) → key_of e ≡ None → is_event_of k e ≡ false
-of_no_key k e is = by_event (op_event e) is
-  where
-    by_event : (o : Option OpEvent) → option_map (λ (x : OpEvent). x.key) o ≡ None → is_of_key k o ≡ false
-    by_event None h = refl
-    by_event (Some x) h = cc
+of_no_key k e is = by_key k e ∙ ap (is_key k) is
 
 key_of_its : (k : ℕ) (e : Event) → is_event_of k e ≡ true → key_of e ≡ Some k
-key_of_its k e is = by_event (op_event e) is
+key_of_its k e is = back (key_of e) (sym (by_key k e) ∙ is)
   where
-    by_event : (o : Option OpEvent) → is_of_key k o ≡ true → option_map (λ (x : OpEvent). x.key) o ≡ Some k
-    by_event None h = absurd (false≢true h)
-    by_event (Some x) h = ap Some (eqb-true x.key k h)
+    back : (o : Option ℕ) → is_key k o ≡ true → o ≡ Some k
+    back None h = absurd (false≢true h)
+    back (Some j) h = ap Some (eqb-true j k h)
 
 -- the keys, with one more event
 pub keys-fault : (events : List Event) (e : Event) → key_of e ≡ None → keys_in_order (events ++ e ∷ []) ≡ keys_in_order events

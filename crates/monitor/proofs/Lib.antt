@@ -20,5 +20,6 @@ pub mod Prepared
 pub mod Preparing
 pub mod Replays
 pub mod RowsAfter
+pub mod SetKeys
 pub mod Statuses
 pub mod Verdicts

@@ -1,16 +1,17 @@
 -- the lines of pieces, one after the other
-use Rattle.std.proofs.Common.{◌≡◌, ◌≢◌, ℕ, zero, suc, ◌+◌, ◌<◌, ◌≤◌, nat_eq, ⊎_elim, Option, Some, None, List, [], ◌∷◌, ◌++◌, length, map, take, position, get_or, refl, sym, ap, ◌∙◌, subst, arith}
+use Rattle.std.proofs.Common.{◌≡◌, ◌≢◌, ℕ, zero, suc, ◌+◌, ◌<◌, ◌≤◌, nat_eq, ⊎_elim, None, List, [], ◌∷◌, ◌++◌, length, map, take, position, get_or, refl, sym, ap, ◌∙◌, subst, arith}
 use Rattle.std.specs.List.{Contains, filter_map}
 use Rattle.std.specs.Map.{keys_of}
+use Rattle.std.proofs.lemmas.Grind.{common_steps}
 use Rattle.std.proofs.lemmas.List.{take-map, take_more, length-map, length-take-le, get_or-map}
-use Rattle.std.proofs.lemmas.List.Elements.{Contains-append_right}
+use Rattle.std.proofs.lemmas.Map.Made.{keys_of-map_values}
 use Rattle.models.specs.declared.model_kind.ModelKind.{ModelKind}
 use Rattle.events.specs.declared.event.Event.{Event}
 use Rattle.events.specs.Events.{key_of}
 use Rattle.history.specs.WellFormed.{IsHistoryOf}
 use Rattle.linspec.specs.declared.verdict.Verdict.{Verdict}
 use Rattle.linspec.specs.Orders.{Pairwise}
-use Rattle.linspec.proofs.Lists.{Contains-nil, Contains-head, Contains-tail, Contains-cons_cases}
+use Rattle.linspec.proofs.Lists.{Contains-nil, Contains-cons_cases}
 use Rattle.linspec.specs.KeyHistory.{KeyHistory}
 use Rattle.checkpoints.specs.KeyLineView.{KeyLineView}
 use Rattle.parallel_recheck.specs.Pieces.{PieceView, piece_of, line_of}
@@ -20,23 +21,11 @@ use Rattle.monitor.specs.Judged.{IsJudged, rows_of}
 use Rattle.monitor.specs.Loading.{with_all, alone, pieces_of, row_of}
 use Rattle.monitor.proofs.Changes.{JudgingLaw}
 use Rattle.monitor.proofs.EachOnce.{each_once-apart}
-use Rattle.monitor.proofs.KeyPlaces.{position_at, keys_of-rows_by}
-
--- a key that is not there has no place
-absent_position : (ks : List ℕ) (k : ℕ) → ¬ Contains ks k → position (nat_eq k) ks ≡ None
-absent_position ks k absent = by_place (position (nat_eq k) ks) refl
-  where
-    by_place : (o : Option ℕ) → position (nat_eq k) ks ≡ o → position (nat_eq k) ks ≡ None
-    by_place None is = is
-    by_place (Some i) is =
-        let at = position_at ks k i is in
-        absurd (absent (subst (λ l. Contains l k) (sym at.cut) (Contains-append_right at.before (k ∷ at.after) k (Contains-head k at.after))))
+use Rattle.monitor.proofs.KeyPlaces.{absent_position, keys_of-rows_by}
 
 -- no element stands before itself
 there : (xs : List ℕ) (n x : ℕ) → n < length xs → get_or xs n x ≡ x → Contains xs x
-there [] n x lt at = absurd (omega arith)
-there (y ∷ xs) zero x lt at = subst (Contains (y ∷ xs)) at (Contains-head y xs)
-there (y ∷ xs) (suc n) x lt at = Contains-tail y xs x (there xs n x (omega arith) at)
+there xs n x lt at = grind (arith, common_steps)
 
 not_before : (ks : List ℕ) (n k : ℕ) → Pairwise (λ i j. i ≢ j) ks → n < length ks → get_or ks n k ≡ k → ¬ Contains (take n ks) k
 not_before [] n k apart lt at h = absurd (omega arith)
@@ -49,10 +38,6 @@ not_before (x ∷ ks) (suc n) k apart lt at h =
 
 abbrev pub key_in : PieceView → ℕ
 key_in piece = piece.key
-
-keys_of_nows : (rows : List (ℕ × KeyLineView)) → keys_of (nows rows) ≡ keys_of rows
-keys_of_nows [] = refl
-keys_of_nows (row ∷ rows) = ap (λ l. row.0 ∷ l) (keys_of_nows rows)
 
 keys_of_pieces : (pieces : List PieceView) → keys_of (map row_of pieces) ≡ map key_in pieces
 keys_of_pieces [] = refl
@@ -74,7 +59,7 @@ module _ (pieces : List PieceView) (n : ℕ) where
       where
         keys : keys_of rows ≡ take n (map key_in pieces)
         keys =
-            sym (keys_of_nows rows) ∙ ap keys_of (are ∙ take-map row_of n pieces)
+            sym (keys_of-map_values (λ (l : KeyLineView). l.now) rows) ∙ ap keys_of (are ∙ take-map row_of n pieces)
             ∙ keys_of_pieces (take n pieces) ∙ sym (take-map key_in n pieces)
 
         at : get_or (map key_in pieces) n piece.key ≡ piece.key

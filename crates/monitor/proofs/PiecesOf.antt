@@ -16,9 +16,10 @@ use Rattle.linspec.specs.JudgedHistory.{history_of_key, keys_in_order}
 use Rattle.monitor.specs.Judged.{rows_of}
 use Rattle.monitor.specs.Loading.{alone, rows_of_pieces}
 use Rattle.monitor.proofs.KeyPlaces.{keys_of-rows_by, row_at, position_none}
-use Rattle.monitor.proofs.KeyedEvents.{events-push, events-none, of_its_key}
+use Rattle.monitor.proofs.KeyedEvents.{events-none}
 use Rattle.monitor.proofs.RowsAfter.{rows_fault, rows_push, rows_first}
-use Rattle.monitor.proofs.Verdicts.{IsHistoryOf-take}
+use Rattle.history.proofs.Fronts.{history-take}
+use Rattle.monitor.proofs.Verdicts.{follows as next_of_key}
 
 abbrev pub as_piece : ℕ × KeyHistory → ℕ × PieceView
 as_piece row = (row.0, piece_of row.0 row.1)
@@ -53,15 +54,6 @@ module _ (kind : ModelKind) (budget : ℕ) (events : List Event) where
     with_first k is at =
         ap (map as_piece) (rows_first (alone kind budget events) e k is at)
         ∙ map-append as_piece (rows_of (alone kind budget events)) ((k, with_pushed (length events) e (without_events kind budget)) ∷ [])
-
-    -- the event may be the next one of its key
-    pub may_follow : ((c : ℕ) (events : List Event) → IsHistoryOf c events → IsHistory (indexed_from 0 events))
-        → ((key : ℕ) (events : List (ℕ × Event)) → IsHistory events → IsHistory (events_of_key key events))
-        → (c k : ℕ) → IsHistoryOf c (events ++ e ∷ []) → key_of e ≡ Some k
-        → IsHistory ((history_of_key (alone kind budget events) k).events ++ (length events, e) ∷ [])
-    may_follow rule of_key c k may is =
-        subst IsHistory (events-push k events e (of_its_key k e is))
-        (of_key k (indexed_from 0 (events ++ e ∷ [])) (rule c (events ++ e ∷ []) may))
 
 -- the event at an index is added to pieces of those before it
 one_more : (events : List Event) (i : ℕ) (e : Event) → i < length events → e ≡ slice_index_or events i e → take (i + 1) events ≡ take i events ++ e ∷ []
@@ -110,7 +102,7 @@ module _ (kind : ModelKind) (budget : ℕ) (events : List Event) (i : ℕ) (e : 
         (c : ℕ) (may : IsHistoryOf c events) where
       follows : IsHistory ((history_of_key (alone kind budget (take i events)) k).events ++ (i, e) ∷ [])
       follows = subst (λ n. IsHistory ((history_of_key (alone kind budget (take i events)) k).events ++ (n, e) ∷ [])) long
-          (may_follow kind budget (take i events) e rule of_key c k (subst (IsHistoryOf c) (one_more events i e lt is) (IsHistoryOf-take c (i + 1) events may)) key)
+          (next_of_key rule of_key c k (take i events) e (subst (IsHistoryOf c) (one_more events i e lt is) (history-take c (i + 1) events may)) key)
 
       pub extends : (place : ℕ) → Some place ≡ position (nat_eq k) (keys_of entries)
           → IsSomeAnd (slice_get entries place) (λ row. IsHistory (row.1.judged.events ++ (i, e) ∷ []))

@@ -77,28 +77,15 @@ module _ {X : Type 0} (first last : List X) (s t : X) where
 -- a key that was alive, or stays as it was: the status that it has now may be joined to the others
 pub same_bad_keys : (first last : List (ℕ × KeyStatus)) (k : ℕ) (s t : KeyStatus) → (s ≡ Alive) ⊎ (t ≡ s) → HaveSameBadKeys ((first ++ (k, s) ∷ last) ++ (k, t) ∷ []) (first ++ (k, t) ∷ last)
 same_bad_keys first last k s t was = record {
-  dead = λ j i. (to_replaced first last (k, s) (k, t) (j, Dead i) (dead j i), from_replaced first last (k, s) (k, t) (j, Dead i));
-  over = λ j i. (to_replaced first last (k, s) (k, t) (j, Over i) (over j i), from_replaced first last (k, s) (k, t) (j, Over i));
+  dead = λ j i. (to_replaced first last (k, s) (k, t) (j, Dead i) (stays j (Dead i) (λ e. cc)), from_replaced first last (k, s) (k, t) (j, Dead i));
+  over = λ j i. (to_replaced first last (k, s) (k, t) (j, Over i) (stays j (Over i) (λ e. cc)), from_replaced first last (k, s) (k, t) (j, Over i));
 }
   where
-    not_dead : (i : ℕ) → Alive ≡ Dead i → ⊥
-    not_dead i e = cc
-
-    not_over : (i : ℕ) → Alive ≡ Over i → ⊥
-    not_over i e = cc
-
-    dead : (j i : ℕ) → ◌≡◌ {A = ℕ × KeyStatus} (k, s) (j, Dead i) → ◌≡◌ {A = ℕ × KeyStatus} (k, t) (j, Dead i)
-    dead j i e =
+    stays : (j : ℕ) (bad : KeyStatus) → (Alive ≡ bad → ⊥) → ◌≡◌ {A = ℕ × KeyStatus} (k, s) (j, bad) → ◌≡◌ {A = ℕ × KeyStatus} (k, t) (j, bad)
+    stays j bad not e =
         ⊎_elim
-        (λ alive. absurd (not_dead i (sym alive ∙ ap (λ (p : ℕ × KeyStatus). p.1) e)))
-        (λ stays. ap (λ (x : KeyStatus). (k, x)) stays ∙ e)
-        was
-
-    over : (j i : ℕ) → ◌≡◌ {A = ℕ × KeyStatus} (k, s) (j, Over i) → ◌≡◌ {A = ℕ × KeyStatus} (k, t) (j, Over i)
-    over j i e =
-        ⊎_elim
-        (λ alive. absurd (not_over i (sym alive ∙ ap (λ (p : ℕ × KeyStatus). p.1) e)))
-        (λ stays. ap (λ (x : KeyStatus). (k, x)) stays ∙ e)
+        (λ alive. absurd (not (sym alive ∙ ap (λ (p : ℕ × KeyStatus). p.1) e)))
+        (λ same. ap (λ (x : KeyStatus). (k, x)) same ∙ e)
         was
 
 -- what joins a status to a verdict

@@ -1,19 +1,19 @@
 -- what joins how the keys stand is the verdict
-use Rattle.std.proofs.Common.{◌≡◌, ◌≢◌, ℕ, Some, List, [], ◌∷◌, ◌++◌, length, take, drop, sym, ap, ◌∙◌, subst, ⊎_elim, append_assoc}
+use Rattle.std.proofs.Common.{◌≡◌, ◌≢◌, ℕ, Some, List, [], ◌∷◌, ◌++◌, length, sym, ap, ◌∙◌, subst}
 use Rattle.std.specs.List.{Contains, filter_map}
-use Rattle.std.proofs.lemmas.List.{append-nil, take-append-drop}
 use Rattle.models.specs.declared.model_kind.ModelKind.{ModelKind}
 use Rattle.models.specs.Objects.{object_of}
 use Rattle.events.specs.declared.event.Event.{Event}
 use Rattle.events.specs.Events.{Entry, key_of, marks, of_key, entries_of, indexed_from, events_of_key}
 use Rattle.events.specs.ProcessRule.{IsHistory}
 use Rattle.history.specs.WellFormed.{IsWellFormed, IsHistoryOf}
+use Rattle.history.proofs.Kept.{history-push}
 use Rattle.linspec.specs.declared.verdict.KeyStatus.{KeyStatus}
 use Rattle.linspec.specs.declared.verdict.Verdict.{Verdict}
 use Rattle.linspec.specs.MarkRule.{IsKeyed, AreWellFormed}
 use Rattle.linspec.specs.Orders.{Pairwise}
 use Rattle.linspec.specs.Verdicts.{IsKeyStatus, IsVerdict, IsRising, AreStatuses, IsJoin}
-use Rattle.linspec.proofs.Lists.{Contains-nil, Contains-head, snoc_cut}
+use Rattle.linspec.proofs.Lists.{Contains-nil, Contains-head}
 use Rattle.std.proofs.lemmas.List.Elements.{Contains-append_right}
 use Rattle.linspec.proofs.Filters.{to_map, from_map}
 use Rattle.linspec.specs.KeyHistory.{KeyHistory, IsStatusOf}
@@ -67,29 +67,19 @@ judged laws h rows v may are joined =
           (statuses_of_keys laws h joined.0 may (subst (λ (l : List (ℕ × KeyHistory)). AreStatusesOf l joined.0) are joined.1)) joined.2;
     }
 
--- histories: of no events, with one event more, and the first events alone
+-- a history of no events
 pub IsHistoryOf-none : (c : ℕ) → IsHistoryOf c []
 IsHistoryOf-none c before after e cut = absurd (Contains-nil e (subst (λ (l : List Event). Contains l e) (sym cut) (Contains-append_right before (e ∷ after) e (Contains-head e after))))
 
-pub IsHistoryOf-push : (c : ℕ) (events : List Event) (e : Event) → IsHistoryOf c events → IsWellFormed c events e → IsHistoryOf c (events ++ e ∷ [])
-IsHistoryOf-push c events e may well before after x cut =
-    ⊎_elim (λ h. (let q : x ∷ after ≡ [] = h in cc)) (λ r. at_end r.0 r.1 r.2) (snoc_cut before (x ∷ after) events e (sym cut))
-  where
-    at_end : (rest : List Event) → x ∷ after ≡ rest ++ e ∷ [] → before ++ rest ≡ events → IsWellFormed c before x
-    at_end [] q r =
-        let is : e ≡ x = cc in
-        subst (IsWellFormed c before) is (subst (λ (l : List Event). IsWellFormed c l e) (sym (sym (append-nil before) ∙ r)) well)
-    at_end (y ∷ rest) q r = let is : y ≡ x = cc in subst (IsWellFormed c before) is (may before rest y (sym r))
+-- an event that comes next is the next one of its key, so one that may come next may be
+pub follows : ((c : ℕ) (events : List Event) → IsHistoryOf c events → IsHistory (indexed_from 0 events))
+    → ((key : ℕ) (events : List (ℕ × Event)) → IsHistory events → IsHistory (events_of_key key events))
+    → (c k : ℕ) (events : List Event) (e : Event) → IsHistoryOf c (events ++ e ∷ []) → key_of e ≡ Some k → IsHistory (events_of_key k (indexed_from 0 events) ++ (length events, e) ∷ [])
+follows rule of_key c k events e may is =
+    subst IsHistory (events-push k events e (of_its_key k e is)) (of_key k (indexed_from 0 (events ++ e ∷ [])) (rule c (events ++ e ∷ []) may))
 
-pub IsHistoryOf-take : (c n : ℕ) (events : List Event) → IsHistoryOf c events → IsHistoryOf c (take n events)
-IsHistoryOf-take c n events may before after e cut =
-    may before (after ++ drop n events) e (sym (take-append-drop n events) ∙ ap (λ (l : List Event). l ++ drop n events) cut ∙ append_assoc before (e ∷ after) (drop n events))
-
--- an event that may come next may be the next one of its key
 pub next_event : ((c : ℕ) (events : List Event) → IsHistoryOf c events → IsHistory (indexed_from 0 events))
     → ((key : ℕ) (events : List (ℕ × Event)) → IsHistory events → IsHistory (events_of_key key events))
     → (h : JudgedHistory) (e : Event) (k : ℕ) → IsHistoryOf h.concurrency h.events → IsWellFormed h.concurrency h.events e → key_of e ≡ Some k
     → IsHistory ((history_of_key h k).events ++ (length h.events, e) ∷ [])
-next_event rule of_key h e k may well is =
-    subst IsHistory (events-push k h.events e (of_its_key k e is))
-    (of_key k (indexed_from 0 (h.events ++ e ∷ [])) (rule h.concurrency (h.events ++ e ∷ []) (IsHistoryOf-push h.concurrency h.events e may well)))
+next_event rule of_key h e k may well is = follows rule of_key h.concurrency k h.events e (history-push h.concurrency h.events e may well) is

@@ -1,5 +1,5 @@
 -- Promise and invariant: the lines of the keys, of which public clauses cite what they have now and what a cut makes of them
-use Rattle.std.specs.Prelude.{◌≡◌, ℕ, true, false, if◌then◌else◌, Option, Some, None, IfSome, List, [], ◌∷◌, length, map, slice_get}
+use Rattle.std.specs.Prelude.{◌≡◌, ℕ, zero, suc, ◌≤◌, true, if◌then◌else◌, Option, Some, None, IfSome, Result, IfOk, OnOk, List, [], ◌∷◌, length, map, slice_get}
 use Rattle.std.specs.List.{filter, sum_by}
 use Rattle.events.specs.declared.event.Event.{Event}
 use Rattle.linspec.specs.declared.verdict.KeyStatus.{KeyStatus}
@@ -52,6 +52,12 @@ abbrev pub events_at : Option ℕ → List (ℕ × KeyHistory) → ℕ
 events_at None rows = 0
 events_at (Some place) rows = events_of_row (slice_get rows place)
 
+-- the line at the place is changed so
+abbrev pub change_at : ℕ → (KeyLineView → KeyLineView) → List (ℕ × KeyLineView) → List (ℕ × KeyLineView)
+change_at place change [] = []
+change_at zero change (row ∷ rows) = (row.0, change row.1) ∷ rows
+change_at (suc place) change (row ∷ rows) = row ∷ change_at place change rows
+
 -- each line is changed so
 abbrev pub each_line : (KeyLineView → KeyLineView) → List (ℕ × KeyLineView) → List (ℕ × KeyLineView)
 each_line change rows = map (λ row. (row.0, change row.1)) rows
@@ -76,8 +82,12 @@ IsCutAt n line = begins_below n line.now ≡ true
 abbrev pub AreCutAt : ℕ → List (ℕ × KeyLineView) → Type 0
 AreCutAt n rows = (place : ℕ) → IfSome (slice_get rows place) (λ row. IsCutAt n row.1)
 
--- how a key stands after a cut at n, if it has an event before it
-abbrev pub StandsAfter : ℕ → ℕ × KeyHistory → Option (ℕ × KeyStatus) → Type 0
-StandsAfter n row None = begins_below n row.1 ≡ false
-StandsAfter n row (Some s) =
-    (begins_below n row.1 ≡ true) × (s.0 ≡ row.0) × IsStatusOf (cut_at n row.1) s.1
+-- the line at the place has a change of its key prepared, which takes so many replays and brings this status, or memory was
+-- refused. What the lines have now stays
+pub record PreparesAt {E : Type 0} (place : ℕ) (change : KeyHistory → KeyHistory) (due : KeyHistory → ℕ) (old new : LinesView) (result : Result KeyStatus E)
+    : Type 0 where
+  pub status : IfOk result (λ status. IfSome (slice_get old.rows place) (λ row. IsStatusOf (change row.1.now) status))
+  pub next : OnOk result
+      (new.rows ≡ change_at place (λ line. with_next (change line.now) (due line.now) line) old.rows)
+  pub kept : nows new.rows ≡ nows old.rows
+  pub room : old.room ≤ new.room

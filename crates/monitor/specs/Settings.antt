@@ -1,12 +1,31 @@
 -- Invariant: what is set for keys
-use Rattle.std.specs.Prelude.{ℕ, List, nat_eq, unwrap_or}
-use Rattle.std.specs.Map.{lookup}
+use Rattle.std.specs.Prelude.{ℕ, List, nat_eq}
+use Rattle.indexmap.specs.IndexMap.{insert_entry}
+use Rattle.models.specs.declared.model_kind.ModelKind.{ModelKind}
+use Rattle.linspec.specs.JudgedHistory.{JudgedHistory}
+use Rattle.monitor.specs.declared.settings.Setting.{Setting}
+use Rattle.monitor.specs.declared.settings.Setting.TheVariants.{Kind, Budget}
 
--- what a key has for which nothing was set, what was set, and the room for more
-pub record SettingsView (T : Type 0) : Type 0 where
-  pub default : T
-  pub set : List (ℕ × T)
-  pub room : ℕ
+-- what is judged of no events, of how many threads tells nothing; and the room to set a kind, or a budget, for one more key
+pub record SettingsView : Type 0 where
+  pub opening : JudgedHistory
+  pub room_for_kind : ℕ
+  pub room_for_budget : ℕ
 
-abbrev pub setting_of : {T : Type 0} → SettingsView T → ℕ → T
-setting_of settings key = unwrap_or (lookup (nat_eq key) settings.set) settings.default
+abbrev pub room_for : Setting → SettingsView → ℕ
+room_for (Kind kind) settings = settings.room_for_kind
+room_for (Budget n) settings = settings.room_for_budget
+
+-- the kinds and the budgets that were set, once this is set for a key
+abbrev pub kinds_with : ℕ → Setting → List (ℕ × ModelKind) → List (ℕ × ModelKind)
+kinds_with key (Kind kind) kinds = insert_entry nat_eq kinds key kind
+kinds_with key (Budget n) kinds = kinds
+
+abbrev pub budgets_with : ℕ → Setting → List (ℕ × ℕ) → List (ℕ × ℕ)
+budgets_with key (Kind kind) budgets = budgets
+budgets_with key (Budget n) budgets = insert_entry nat_eq budgets key n
+
+-- what is then judged
+abbrev pub with_setting : ℕ → Setting → JudgedHistory → JudgedHistory
+with_setting key setting h =
+    record h { kinds = kinds_with key setting h.kinds; budgets = budgets_with key setting h.budgets }

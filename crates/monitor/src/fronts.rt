@@ -8,6 +8,7 @@ ghost use Rattle.linspec.specs.KeyHistory.{KeyHistory, IsStatusOf};
 ghost use Rattle.linspec.specs.JudgedHistory.{JudgedHistory, IsVerdictOn, rewound, keys_in_order, history_of_key};
 ghost use Rattle.monitor.specs.Judged.{IsJudged};
 
+use crate::laws::judging_law;
 use events::key_events_law;
 use history::process_rule_law;
 use linspec::laws::history_law;
@@ -23,10 +24,8 @@ pub fn some_verdict_law()
         → All (λ status. IsStatusOf (history_of_key h status.0) status.1) statuses
         → (v : Verdict) × IsVerdictOn (rewound n h) v }
 {
-    history_law();
-    join_law();
-    key_events_law();
-    process_rule_law();
+    judging_law();
+    judged_fronts_law();
 }
 
 /// A history that was judged has a verdict at each length.

@@ -1,5 +1,11 @@
 //! The live verdict on a history of many keys, each with its own kind of object and its own budget.
 //!
+//! An event is taken or refused by the history, and goes to the line of its key alone; the verdict joins how the lines stand. So an
+//! event costs what it costs its key, whatever the number of keys. A rewind drops the lines of the keys that lose all their events,
+//! and cuts every other one; the cut of a line that loses none copies nothing and judges nothing. Another kind or budget has the
+//! line of its key judged again; it is kept for a key without events too, and outlives a rewind. A history that is there already is
+//! loaded at once, its keys judged by workers.
+//!
 //! A call takes memory only where its result can be `AllocError`, or a refusal for want of memory.
 #![tactic(auto)]
 

@@ -1,5 +1,5 @@
 //! The lines of the keys that have events, in the order of their first events.
-ghost use Rattle.std.specs.Prelude.{◌≡◌, ◌≢◌, ℕ, ◌<◌, ◌≤◌, true, [], ◌∷◌, ◌++◌, Some, None, length, nat_eq, position, slice_get, take, IfOk, OnOk, OnErr, IfSome, IsSome, IsSomeAnd};
+ghost use Rattle.std.specs.Prelude.{◌≡◌, ◌<◌, ◌≤◌, [], ◌∷◌, ◌++◌, Some, None, length, nat_eq, position, slice_get, take, IfOk, OnOk, OnErr, IfSome, IsSome, IsSomeAnd};
 ghost use Rattle.std.specs.List.{filter};
 ghost use Rattle.std.specs.Map.{keys_of};
 ghost use Rattle.indexmap.specs.Layout.{set_value_at};
@@ -8,7 +8,7 @@ ghost use Rattle.events.specs.ProcessRule.{IsHistory};
 ghost use Rattle.linspec.specs.KeyHistory.{KeyHistory, IsStatusOf, with_pushed, judged_by, cut_at, begins_below};
 ghost use Rattle.checkpoints.specs.KeyLineView.{at_rest, with_next, replays_at, count_on};
 ghost use Rattle.checkpoints.specs.Lent.{AreLentBy};
-ghost use Rattle.monitor.specs.Rows.{nows, cut_rows, each_line, with_cut, cut_done, without_next, replays_in, JoinsRows, AreRowsLentBy, AreCutAt, StandsAfter};
+ghost use Rattle.monitor.specs.Rows.{nows, cut_rows, change_at, each_line, with_cut, cut_done, without_next, replays_in, JoinsRows, AreRowsLentBy, AreCutAt, PreparesAt};
 
 use checkpoints::KeyLine;
 use events::Event;
@@ -84,13 +84,7 @@ impl Lines {
     ) -> Result<KeyStatus, AllocError>
         requires { IsSomeAnd (slice_get self.old.rows place)
             (λ row. IsHistory (row.1.now.events ++ (index, event.now) ∷ [])) }
-        ensures status { IfOk result (λ status. IfSome (slice_get self.old.rows place)
-            (λ row. IsStatusOf (with_pushed index event.now row.1.now) status)) }
-        ensures next { OnOk result (IfSome (slice_get self.old.rows place) (λ row.
-            slice_get self.new.rows place
-            ≡ Some (row.0, with_next (with_pushed index event.now row.1.now) 1 row.1))) }
-        ensures kept { nows self.new.rows ≡ nows self.old.rows }
-        ensures room { self.old.room ≤ self.new.room }
+        ensures { PreparesAt place (with_pushed index event.now) (λ h. 1) self.old self.new result }
     {
         match self.map.get_index_mut(place) {
             Some(line) => line.prepare_push(index, event),
@@ -110,16 +104,8 @@ impl Lines {
     ) -> Result<KeyStatus, AllocError>
         requires within { place < length self.old.rows }
         requires lent { AreRowsLentBy lent.now (nows self.old.rows) }
-        ensures status { IfOk result (λ status. IfSome (slice_get self.old.rows place)
-            (λ row. IsStatusOf (judged_by kind budget row.1.now) status)) }
-        ensures next { OnOk result (IfSome (slice_get self.old.rows place) (λ row.
-            slice_get self.new.rows place
-            ≡ Some (
-              row.0,
-              with_next (judged_by kind budget row.1.now) (length row.1.now.events) row.1,
-            ))) }
-        ensures kept { nows self.new.rows ≡ nows self.old.rows }
-        ensures room { self.old.room ≤ self.new.room }
+        ensures { PreparesAt place (judged_by kind budget) (λ h. length h.events)
+            self.old self.new result }
     {
         match self.map.get_index_mut(place) {
             Some(line) => line.prepare_rebuild(kind, budget, lent),
@@ -149,13 +135,24 @@ impl Lines {
         ensures kept { nows self.new.rows ≡ nows self.old.rows }
         ensures room { self.old.room ≤ self.new.room }
     {
-        match self.prepare_each_cut(n, lent, again) {
-            Ok(cut) => Ok(cut),
-            Err(no_memory) => {
-                self.drop_prepared();
-                Err(no_memory)
+        no_keys_law();
+        let _so_far = *again;
+        let mut kept = 0;
+        let mut verdict = Verdict::Legal;
+        for place in 0..self.map.len() {
+            let (key, line) = self.at(place);
+            if !line.begins_below(n) {
+                continue;
             }
+            let Ok(status) = self.prepare_line_cut(place, n, lent) else {
+                self.drop_prepared();
+                return Err(AllocError);
+            };
+            *again = again.saturating_add(self.at(place).1.due());
+            verdict = join_with(verdict, key, status);
+            kept += 1;
         }
+        Ok((kept, verdict))
     }
 
     /// The verdict that joins how the keys stand, where the one at a place stands so. It takes no memory, and the time of all
@@ -242,88 +239,19 @@ impl Lines {
         }
     }
 
-    // Prepares a cut at `n` of each line that has an event before `n`.
-    fn prepare_each_cut(
-        &mut self,
-        n: u32,
-        lent: &[Event],
-        again: &mut u64,
-    ) -> Result<(usize, Verdict), AllocError>
-        requires { AreRowsLentBy lent.now (nows self.old.rows) }
-        ensures kept_lines { IfOk result (λ cut.
-            cut.0 ≡ length (filter (λ row. begins_below n row.1) (nows self.old.rows))) }
-        ensures verdict { IfOk result (λ cut.
-            JoinsRows (cut_rows n (filter (λ row. begins_below n row.1) (nows self.old.rows)))
-            cut.1) }
-        ensures next { OnOk result (self.new.rows ≡ each_line (with_cut n) self.old.rows) }
-        ensures counted { OnOk result
-            (again.new ≡ count_on again.old (replays_in n (nows self.old.rows))) }
-        ensures kept { nows self.new.rows ≡ nows self.old.rows }
-        ensures room { self.old.room ≤ self.new.room }
-    {
-        no_keys_law();
-        let _so_far = *again;
-        let mut kept = 0;
-        let mut verdict = Verdict::Legal;
-        for place in 0..self.map.len() {
-            if let Some((key, status)) = self.prepare_cut_at(place, n, lent, again)? {
-                verdict = join_with(verdict, key, status);
-                kept += 1;
-            }
-        }
-        Ok((kept, verdict))
-    }
-
-    // Prepares a cut at `n` of the line at a place, if it has an event before `n`. Gives its key and how it then stands.
-    fn prepare_cut_at(
-        &mut self,
-        place: usize,
-        n: u32,
-        lent: &[Event],
-        again: &mut u64,
-    ) -> Result<Option<(Key, KeyStatus)>, AllocError>
-        requires within { place < length self.old.rows }
-        requires lent { AreRowsLentBy lent.now (nows self.old.rows) }
-        ensures stands { IfOk result (λ stands. IfSome (slice_get self.old.rows place)
-            (λ row. StandsAfter n (row.0, row.1.now) stands)) }
-        ensures next { OnOk result (IfSome (slice_get self.old.rows place) (λ row.
-            self.new.rows ≡ set_value_at self.old.rows place (with_cut n row.1))) }
-        ensures counted { OnOk result (IfSome (slice_get self.old.rows place)
-            (λ row. again.new ≡ count_on again.old (replays_at n row.1.now))) }
-        ensures kept { nows self.new.rows ≡ nows self.old.rows }
-        ensures room { self.old.room ≤ self.new.room }
-    {
-        let _so_far = *again;
-        let (key, line) = self.at(place);
-        if !line.begins_below(n) {
-            return Ok(None);
-        }
-        let status = self.prepare_line_cut(place, n, lent, again)?;
-        Ok(Some((key, status)))
-    }
-
     // Prepares a cut at `n` of the line at a place, and gives the status that this brings.
     fn prepare_line_cut(
         &mut self,
         place: usize,
         n: u32,
         lent: &[Event],
-        again: &mut u64,
     ) -> Result<KeyStatus, AllocError>
         requires within { place < length self.old.rows }
         requires lent { AreRowsLentBy lent.now (nows self.old.rows) }
-        ensures status { IfOk result (λ status. IfSome (slice_get self.old.rows place)
-            (λ row. IsStatusOf (cut_at n row.1.now) status)) }
-        ensures next { OnOk result (IfSome (slice_get self.old.rows place) (λ row.
-            self.new.rows ≡ set_value_at self.old.rows place
-            (with_next (cut_at n row.1.now) (replays_at n row.1.now) row.1))) }
-        ensures counted { OnOk result (IfSome (slice_get self.old.rows place)
-            (λ row. again.new ≡ count_on again.old (replays_at n row.1.now))) }
-        ensures kept { nows self.new.rows ≡ nows self.old.rows }
-        ensures room { self.old.room ≤ self.new.room }
+        ensures { PreparesAt place (cut_at n) (replays_at n) self.old self.new result }
     {
         match self.map.get_index_mut(place) {
-            Some(line) => cut_on(line, n, lent, again),
+            Some(line) => line.prepare_cut(n, lent),
             None => unreachable!(),
         }
     }
@@ -341,8 +269,7 @@ impl Lines {
     // Drops what the line at a place has prepared.
     fn drop_prepared_at(&mut self, place: usize)
         requires { place < length self.old.rows }
-        ensures rows { IfSome (slice_get self.old.rows place) (λ row.
-            self.new.rows ≡ set_value_at self.old.rows place (without_next row.1)) }
+        ensures rows { self.new.rows ≡ change_at place without_next self.old.rows }
         ensures room { self.old.room ≤ self.new.room }
     {
         match self.map.get_index_mut(place) {
@@ -350,24 +277,4 @@ impl Lines {
             None => unreachable!(),
         }
     }
-}
-
-// Prepares a cut at `n` of a line, and gives the status that this brings. Each event that is judged again is counted.
-fn cut_on(
-    line: &mut KeyLine,
-    n: u32,
-    lent: &[Event],
-    again: &mut u64,
-) -> Result<KeyStatus, AllocError>
-    requires { AreLentBy lent.now line.old.now.events }
-    ensures status { IfOk result (IsStatusOf (cut_at n line.old.now)) }
-    ensures prepared { OnOk result
-        (line.new ≡ with_next (cut_at n line.old.now) (replays_at n line.old.now) line.old) }
-    ensures counted { OnOk result
-        (again.new ≡ count_on again.old (replays_at n line.old.now)) }
-    ensures err { OnErr result (line.new ≡ at_rest line.old.now line.old.replayed) }
-{
-    let status = line.prepare_cut(n, lent)?;
-    *again = again.saturating_add(line.due());
-    Ok(status)
 }

@@ -94,37 +94,11 @@ fn joined(
     let mut lines = Lines::new(alloc);
     let mut verdict = Verdict::Legal;
     for line in judged {
-        let piece = piece_at(pieces, lines.len());
+        let piece = &pieces[lines.len()];
         let key = piece.key();
-        let next = add_line(&mut lines, verdict, key, line)?;
-        verdict = next;
+        verdict = join_with(verdict, key, line.status());
+        lines.reserve()?;
+        lines.add(key, line);
     }
     Ok((lines, verdict))
-}
-
-// The piece at a place.
-fn piece_at<'a, 'b>(pieces: &'b [KeyEvents<'a>], place: usize) -> &'b KeyEvents<'a>
-    requires { place < length pieces.now }
-    ensures { slice_get pieces.now place ≡ Some result.now }
-{
-    &pieces[place]
-}
-
-// Adds the line of a key that has none yet, and gives the verdict that joins how it stands to this one.
-fn add_line(
-    lines: &mut Lines,
-    verdict: Verdict,
-    key: Key,
-    line: KeyLine,
-) -> Result<Verdict, AllocError>
-    requires { position (nat_eq key) (keys_of lines.old.rows) ≡ None }
-    ensures rows { OnOk result
-        (nows lines.new.rows ≡ nows lines.old.rows ++ (key, line.now) ∷ []) }
-    ensures joined { JoinsRows (nows lines.old.rows) verdict
-        → IfOk result (λ next. JoinsRows (nows lines.old.rows ++ (key, line.now) ∷ []) next) }
-{
-    let next = join_with(verdict, key, line.status());
-    lines.reserve()?;
-    lines.add(key, line);
-    Ok(next)
 }

@@ -9,12 +9,13 @@ ghost use Rattle.monitor.specs.Monitors.{at_rest, with_next, with_again, again_b
 ghost use Rattle.monitor.specs.Rows.{nows};
 ghost use Rattle.monitor.specs.Judged.{rows_of, IsJudged};
 ghost use Rattle.monitor.specs.Loading.{with_all};
+ghost use Rattle.monitor.specs.Settings.{with_setting};
 
 use crate::fronts::judged_fronts_law;
 use crate::laws::{judging_law, next_event_law};
 use crate::lines::Lines;
 use crate::parts::{commit_line, first_line, next_event, prepare_rebuild};
-use crate::settings::Settings;
+use crate::settings::{Setting, Settings};
 use checkpoints::KeyLine;
 use checkpoints::laws::settled_law;
 use edn::Refusal;
@@ -59,10 +60,8 @@ enum Change {
     Begin(Key, Box<KeyLine>),
     /// The history and the lines are cut at this length, after which so many lines are left.
     Rewind(u32, usize),
-    /// A key is of this kind, and so is the line at this place, if it has events.
-    Kind(Key, ModelKind, Option<usize>),
-    /// A key has this budget, and so has the line at this place, if it has events.
-    Budget(Key, u32, Option<usize>),
+    /// This is set for a key, and the line at this place, if it has events, is judged by it.
+    Set(Key, Setting, Option<usize>),
 }
 
 /// The live monitor of a history of many keys, each an object by itself: the verdict on the history as it stands, by the
@@ -76,8 +75,7 @@ enum Change {
 pub struct Monitor {
     alloc: Global,
     history: History,
-    kinds: Settings<ModelKind>,
-    budgets: Settings<u32>,
+    settings: Settings,
     lines: Lines,
     verdict: Verdict,
     again: u64,
@@ -85,21 +83,15 @@ pub struct Monitor {
 }
 
 impl Model for Monitor {
-    ghost use Rattle.std.specs.Option.{option_map};
     ghost use Rattle.monitor.specs.Monitors.{MonitorView};
-    ghost use Rattle.monitor.specs.SoundMonitor.{judged_by_parts, brought, IsSoundMonitor};
 
     ghost Value = { MonitorView };
 
-    ghost view = { λ a. record {
-      now = judged_by_parts a.history a.kinds a.budgets;
-      next = option_map
-          (brought (judged_by_parts a.history a.kinds a.budgets) a.history.next) a.prepared;
-      again = a.again;
-    } };
+    ghost use Rattle.monitor.specs.SoundMonitor.{monitor_view, IsSoundMonitor};
 
-    ghost invariant = { λ a.
-        IsSoundMonitor a.history a.kinds a.budgets a.lines a.verdict a.prepared };
+    ghost view = { monitor_view };
+
+    ghost invariant = { IsSoundMonitor };
 }
 
 // So that crates above give one back by one call.
@@ -108,8 +100,7 @@ impl Drop for Monitor {
         let Monitor {
             alloc: _alloc,
             history: _history,
-            kinds: _kinds,
-            budgets: _budgets,
+            settings: _settings,
             lines: _lines,
             verdict: _verdict,
             again: _again,
@@ -161,8 +152,7 @@ impl Monitor {
         Monitor {
             alloc,
             history,
-            kinds: Settings::new(alloc, kind),
-            budgets: Settings::new(alloc, budget),
+            settings: Settings::new(alloc, kind, budget),
             lines,
             verdict,
             again: 0,
@@ -212,7 +202,7 @@ impl Monitor {
             n ≤ length self.old.now.events }
         ensures err { OnErr result (self.new ≡ at_rest self.old.now self.old.again) }
     {
-        clear(&mut self.prepared);
+        self.prepared = None;
         judging_law();
         self.history.prepare_cut(n)?;
         let mut again = self.again;
@@ -220,7 +210,8 @@ impl Monitor {
             .lines
             .prepare_cut(n, self.history.events(), &mut again)?;
         self.again = again;
-        put(&mut self.prepared, Change::Rewind(n, kept), verdict);
+        let change = Change::Rewind(n, kept);
+        self.prepared = Some(Prepared { change, verdict });
         Ok(verdict)
     }
 
@@ -236,25 +227,7 @@ impl Monitor {
         ensures verdict { IfOk result (IsVerdictOn (with_kind key kind self.old.now)) }
         ensures err { OnErr result (self.new ≡ at_rest self.old.now self.old.again) }
     {
-        clear(&mut self.prepared);
-        judging_law();
-        self.kinds.reserve()?;
-        let place = self.lines.find(key);
-        let budget = self.budgets.of(key);
-        let lent = self.history.events();
-        let mut again = self.again;
-        let verdict = prepare_rebuild(
-            &mut self.lines,
-            self.verdict,
-            place,
-            kind,
-            budget,
-            lent,
-            &mut again,
-        )?;
-        self.again = again;
-        put(&mut self.prepared, Change::Kind(key, kind, place), verdict);
-        Ok(verdict)
+        self.prepare_set(key, Setting::Kind(kind))
     }
 
     /// Prepares that a key has this budget, and gives the verdict that [`commit`](Self::commit) will bring. It costs what
@@ -272,26 +245,9 @@ impl Monitor {
         ensures memory_last { IsErrOf result Refusal.NoMemory → IsBudget n }
         ensures err { OnErr result (self.new ≡ at_rest self.old.now self.old.again) }
     {
-        clear(&mut self.prepared);
-        judging_law();
+        self.prepared = None;
         test_budget(n)?;
-        self.budgets.reserve()?;
-        let place = self.lines.find(key);
-        let kind = self.kinds.of(key);
-        let lent = self.history.events();
-        let mut again = self.again;
-        let verdict = prepare_rebuild(
-            &mut self.lines,
-            self.verdict,
-            place,
-            kind,
-            n,
-            lent,
-            &mut again,
-        )?;
-        self.again = again;
-        put(&mut self.prepared, Change::Budget(key, n, place), verdict);
-        Ok(verdict)
+        Ok(self.prepare_set(key, Setting::Budget(n))?)
     }
 
     /// Carries out what is prepared. It takes no memory and cannot fail.
@@ -318,12 +274,8 @@ impl Monitor {
                 self.history.commit();
                 self.lines.commit_cut(n, kept);
             }
-            Change::Kind(key, kind, place) => {
-                self.kinds.put(key, kind);
-                commit_line(&mut self.lines, place);
-            }
-            Change::Budget(key, n, place) => {
-                self.budgets.put(key, n);
+            Change::Set(key, setting, place) => {
+                self.settings.put(key, setting);
                 commit_line(&mut self.lines, place);
             }
         }
@@ -453,8 +405,8 @@ impl Monitor {
         let (key, line) = self.lines.at(i);
         KeyRow {
             key,
-            kind: self.kinds.of(key),
-            budget: self.budgets.of(key),
+            kind: self.settings.kind_of(key),
+            budget: self.settings.budget_of(key),
             events: line.len(),
             status: line.status(),
         }
@@ -482,9 +434,9 @@ impl Monitor {
         }
     }
 
-    /// How many events were judged again so far, by changes that were prepared, whether they were carried out or dropped: by a rewind
-    /// fewer than 64 of each key that loses events, and none of others; by another kind or budget all of the key. A change for which
-    /// memory was refused is not counted. It stops at the greatest `u64`.
+    /// How many events were judged again so far, by changes that were prepared, whether they were carried out or dropped: by a
+    /// rewind fewer than 64 of each key that loses events, and none of others; by another kind or budget all of the key. A change
+    /// for which memory was refused is not counted. It stops at the greatest `u64`.
     pub fn judged_again(&self) -> u64
         ensures { result ≡ self.now.again }
     {
@@ -497,11 +449,12 @@ impl Monitor {
         requires { key_of event ≡ None }
         ensures { PreparesAppend self.old self.new event result }
     {
-        clear(&mut self.prepared);
+        self.prepared = None;
         judging_law();
         self.history.prepare_push(event)?;
-        put(&mut self.prepared, Change::Fault, self.verdict);
-        Ok(self.verdict)
+        let (change, verdict) = (Change::Fault, self.verdict);
+        self.prepared = Some(Prepared { change, verdict });
+        Ok(verdict)
     }
 
     // Prepares that an event comes next, of a key that has the line at this place.
@@ -510,7 +463,7 @@ impl Monitor {
         requires place { position (nat_eq key) (keys_in_order self.old.now.events) ≡ Some place }
         ensures { PreparesAppend self.old self.new event result }
     {
-        clear(&mut self.prepared);
+        self.prepared = None;
         judging_law();
         next_event_law();
         settled_law();
@@ -520,7 +473,8 @@ impl Monitor {
         let event = next_event(&self.history);
         let status = self.lines.prepare_push(place, index, event)?;
         let verdict = join_with(self.verdict, key, status);
-        put(&mut self.prepared, Change::Append(place), verdict);
+        let change = Change::Append(place);
+        self.prepared = Some(Prepared { change, verdict });
         Ok(verdict)
     }
 
@@ -530,18 +484,47 @@ impl Monitor {
         requires new { position (nat_eq key) (keys_in_order self.old.now.events) ≡ None }
         ensures { PreparesAppend self.old self.new event result }
     {
-        clear(&mut self.prepared);
+        self.prepared = None;
         judging_law();
         next_event_law();
-        let kind = self.kinds.of(key);
-        let budget = self.budgets.of(key);
+        let kind = self.settings.kind_of(key);
+        let budget = self.settings.budget_of(key);
         let index = self.history.len();
         self.history.prepare_push(event)?;
         self.lines.reserve()?;
         let event = next_event(&self.history);
         let line = first_line(self.alloc, kind, budget, index, event)?;
         let verdict = join_with(self.verdict, key, line.status());
-        put(&mut self.prepared, Change::Begin(key, line), verdict);
+        let change = Change::Begin(key, line);
+        self.prepared = Some(Prepared { change, verdict });
+        Ok(verdict)
+    }
+
+    // Prepares that this is set for a key.
+    fn prepare_set(&mut self, key: Key, setting: Setting) -> Result<Verdict, AllocError>
+        ensures prepared { OnOk result (self.new ≡ with_next (with_setting key setting self.old.now)
+            (with_again (length (history_of_key self.old.now key).events) self.old)) }
+        ensures verdict { IfOk result (IsVerdictOn (with_setting key setting self.old.now)) }
+        ensures err { OnErr result (self.new ≡ at_rest self.old.now self.old.again) }
+    {
+        self.prepared = None;
+        judging_law();
+        let (kind, budget) = self.settings.prepare(key, setting)?;
+        let place = self.lines.find(key);
+        let lent = self.history.events();
+        let mut again = self.again;
+        let verdict = prepare_rebuild(
+            &mut self.lines,
+            self.verdict,
+            place,
+            kind,
+            budget,
+            lent,
+            &mut again,
+        )?;
+        self.again = again;
+        let change = Change::Set(key, setting, place);
+        self.prepared = Some(Prepared { change, verdict });
         Ok(verdict)
     }
 }
@@ -556,18 +539,4 @@ pub(crate) fn test_budget(budget: u32) -> Result<(), Refusal>
         return Err(Refusal::BadBudget);
     }
     Ok(())
-}
-
-// Drops what is prepared.
-fn clear(prepared: &mut Option<Prepared>)
-    ensures { prepared.new ≡ None }
-{
-    *prepared = None;
-}
-
-// Keeps this change as what is prepared, in place of what was.
-fn put(prepared: &mut Option<Prepared>, change: Change, verdict: Verdict)
-    ensures { prepared.new ≡ Some (record { change = change; verdict = verdict }) }
-{
-    *prepared = Some(Prepared { change, verdict });
 }

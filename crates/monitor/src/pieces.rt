@@ -65,17 +65,10 @@ impl<'a> Pieces<'a> {
         let Some(key) = event.key() else {
             return Ok(());
         };
-        match self.find(key) {
+        match self.map.get_index_of(&key) {
             Some(place) => self.extend(place, index, event),
             None => self.begin(alloc, key, kind, budget, index, event),
         }
-    }
-
-    // The place of a key's piece.
-    fn find(&self, key: Key) -> Option<usize>
-        ensures { result ≡ position (nat_eq key) (keys_of self.now.map.entries) }
-    {
-        self.map.get_index_of(&key)
     }
 
     // Adds an event to the piece at a place.

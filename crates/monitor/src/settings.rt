@@ -1,69 +1,127 @@
 //! What is set for keys.
-ghost use Rattle.std.specs.Prelude.{◌≡◌, ◌<◌, [], nat_eq, OnOk};
-ghost use Rattle.indexmap.specs.IndexMap.{insert_entry};
-ghost use Rattle.monitor.specs.Settings.{setting_of};
+ghost use Rattle.std.specs.Prelude.{◌≡◌, ◌<◌, IfOk, OnOk};
+ghost use Rattle.linspec.specs.JudgedHistory.{opening_of, kind_of, budget_of};
+ghost use Rattle.monitor.specs.Settings.{room_for, with_setting};
 
 use indexmap::IndexMap;
-use models::Key;
+use models::{Key, ModelKind};
 use std::alloc::{AllocError, Global};
 use std::marker::Model;
 
-/// What each key has of something: what was set for it, else the default. A key is found in constant time.
-#[derive(Drop)]
-pub(crate) struct Settings<T: Copy> {
-    default: T,
-    set: IndexMap<Key, T>,
+/// What can be set for a key.
+#[derive(Clone, Copy)]
+pub(crate) enum Setting {
+    /// It is an object of this kind.
+    Kind(ModelKind),
+    /// An ok may find at most so many ends of it.
+    Budget(u32),
 }
 
-impl<T: Copy> Model for Settings<T> {
+/// The kind and the budget of each key: what was set for it, else the default. A key is found in constant time.
+#[derive(Drop)]
+pub(crate) struct Settings {
+    kind: ModelKind,
+    budget: u32,
+    kinds: IndexMap<Key, ModelKind>,
+    budgets: IndexMap<Key, u32>,
+}
+
+impl Model for Settings {
+    ghost use Rattle.std.specs.Prelude.{[]};
     ghost use Rattle.indexmap.specs.IndexMap.{spare};
     ghost use Rattle.monitor.specs.Settings.{SettingsView};
 
-    ghost Value = { SettingsView T };
+    ghost Value = { SettingsView };
 
-    ghost view = { λ a. record { default = a.default; set = a.set.entries; room = spare a.set } };
+    ghost view = { λ a. record {
+      opening = record {
+        concurrency = 1;
+        kind = a.kind;
+        budget = a.budget;
+        kinds = a.kinds.entries;
+        budgets = a.budgets.entries;
+        events = [];
+      };
+      room_for_kind = spare a.kinds;
+      room_for_budget = spare a.budgets;
+    } };
 }
 
-impl<T: Copy> Settings<T> {
-    /// The default for every key.
-    pub(crate) fn new(alloc: Global, default: T) -> Settings<T>
-        ensures default { result.default ≡ default }
-        ensures none { result.set ≡ [] }
+impl Settings {
+    /// The defaults for every key.
+    pub(crate) fn new(alloc: Global, kind: ModelKind, budget: u32) -> Settings
+        ensures { result.opening ≡ opening_of 1 kind budget }
     {
         Settings {
-            default,
-            set: IndexMap::new(alloc),
+            kind,
+            budget,
+            kinds: IndexMap::new(alloc),
+            budgets: IndexMap::new(alloc),
         }
     }
 
-    /// What the key has. Takes constant time.
-    pub(crate) fn of(&self, key: Key) -> T
-        ensures { result ≡ setting_of self.now key }
+    /// The key's kind. Takes constant time.
+    pub(crate) fn kind_of(&self, key: Key) -> ModelKind
+        ensures { result ≡ kind_of self.now.opening key }
     {
-        match self.set.get(&key) {
-            Some(value) => *value,
-            None => self.default,
+        match self.kinds.get(&key) {
+            Some(kind) => *kind,
+            None => self.kind,
         }
     }
 
-    /// Makes room for one more key. `AllocError` where memory was refused: then what is set is as it was.
-    pub(crate) fn reserve(&mut self) -> Result<(), AllocError>
-        ensures default { self.new.default ≡ self.old.default }
-        ensures same { self.new.set ≡ self.old.set }
-        ensures room { OnOk result (0 < self.new.room) }
+    /// The key's budget. Takes constant time.
+    pub(crate) fn budget_of(&self, key: Key) -> u32
+        ensures { result ≡ budget_of self.now.opening key }
     {
-        self.set.reserve(1)
+        match self.budgets.get(&key) {
+            Some(budget) => *budget,
+            None => self.budget,
+        }
     }
 
-    /// Sets what the key has.
-    pub(crate) fn put(&mut self, key: Key, value: T)
-        requires { 0 < self.old.room }
-        ensures default { self.new.default ≡ self.old.default }
-        ensures set { self.new.set ≡ insert_entry nat_eq self.old.set key value }
+    /// Makes room to set this for one more key, and gives the kind and the budget that the key then has. Nothing is set yet.
+    /// `AllocError` where memory was refused.
+    pub(crate) fn prepare(
+        &mut self,
+        key: Key,
+        setting: Setting,
+    ) -> Result<(ModelKind, u32), AllocError>
+        ensures same { self.new.opening ≡ self.old.opening }
+        ensures room { OnOk result (0 < room_for setting self.new) }
+        ensures kind { IfOk result
+            (λ then. then.0 ≡ kind_of (with_setting key setting self.old.opening) key) }
+        ensures budget { IfOk result
+            (λ then. then.1 ≡ budget_of (with_setting key setting self.old.opening) key) }
     {
-        match self.set.insert(key, value) {
-            Ok(_old) => (),
-            Err(_full) => unreachable!(),
+        match setting {
+            Setting::Kind(kind) => {
+                self.kinds.reserve(1)?;
+                Ok((kind, self.budget_of(key)))
+            }
+            Setting::Budget(n) => {
+                self.budgets.reserve(1)?;
+                Ok((self.kind_of(key), n))
+            }
+        }
+    }
+
+    /// Sets this for a key.
+    pub(crate) fn put(&mut self, key: Key, setting: Setting)
+        requires { 0 < room_for setting self.old }
+        ensures { self.new.opening ≡ with_setting key setting self.old.opening }
+    {
+        match setting {
+            Setting::Kind(kind) => {
+                let Ok(_old) = self.kinds.insert(key, kind) else {
+                    unreachable!()
+                };
+            }
+            Setting::Budget(n) => {
+                let Ok(_old) = self.budgets.insert(key, n) else {
+                    unreachable!()
+                };
+            }
         }
     }
 }

@@ -1,13 +1,9 @@
-use Rattle.monitor.proofs.FrontVerdicts.{verdict_at, statuses_of_rows}
+use Rattle.std.proofs.Common.{refl}
+use Rattle.monitor.specs.Judged.{rows_of}
+use Rattle.monitor.proofs.FrontVerdicts.{has_join, statuses_of_rows}
 use Rattle.monitor.proofs.fronts.some_verdict_law.Goals as goal
 
 pub returns : goal.returns
 returns c h statuses n may keys each =
-    verdict_at (record {
-      rule = c.process_rule_law.ensures;
-      entries = c.key_events_law.ensures.entries;
-      keyed = c.history_law.ensures.keyed;
-      well = c.history_law.ensures.well;
-      rising = c.history_law.ensures.rising;
-      join = c.join_law.ensures;
-    }) h statuses may (statuses_of_rows h statuses each keys) n
+    let join = has_join statuses in
+    c.judged_fronts_law.ensures h (rows_of h) join.0 n (c.judging_law.ensures h (rows_of h) join.0 may refl (statuses, statuses_of_rows h statuses each keys, join.1))

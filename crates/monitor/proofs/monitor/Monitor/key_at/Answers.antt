@@ -2,26 +2,20 @@ use Rattle.std.proofs.Common.{◌≡◌, Some, length, slice_get, ap, ◌∙◌,
 use Rattle.linspec.specs.KeyHistory.{KeyHistory, IsStatusOf}
 use Rattle.linspec.specs.JudgedHistory.{keys_in_order, history_of_key}
 use Rattle.monitor.specs.Monitors.{MonitorView}
-use Rattle.monitor.specs.SoundMonitor.{judged_by_parts}
 use Rattle.monitor.proofs.Changes.{place_seen}
 use Rattle.monitor.proofs.monitor.Monitor.key_at.Goals as goal
 
 pub returns-clause-key : goal.returns-clause-key
 returns-clause-key c =
     subst (λ (s : MonitorView). slice_get (keys_in_order s.now.events) c.args.i ≡ Some c.at-key.result.0) c.self.view_is
-    (place_seen (judged_by_parts c.self.inside.history c.self.inside.kinds c.self.inside.budgets) c.self.inside.lines.rows c.args.i c.at-key.result.0 c.at-key.result.1.now
-    c.self.invariant.now.rows_are c.at-key.ensures).0
+    (place_seen c.self.inside.lines.rows c.self.invariant.now c.args.i c.at-key.result.0 c.at-key.result.1.now c.at-key.ensures).0
 
 pub returns-clause-events : goal.returns-clause-events
 returns-clause-events c =
     subst (λ (s : MonitorView). c.len.result ≡ length (history_of_key s.now c.at-key.result.0).events) c.self.view_is
-    (c.len.ensures ∙ ap (λ (x : KeyHistory). length x.events)
-    (place_seen (judged_by_parts c.self.inside.history c.self.inside.kinds c.self.inside.budgets) c.self.inside.lines.rows c.args.i c.at-key.result.0 c.at-key.result.1.now
-    c.self.invariant.now.rows_are c.at-key.ensures).1)
+    (c.len.ensures ∙ ap (λ (x : KeyHistory). length x.events) (place_seen c.self.inside.lines.rows c.self.invariant.now c.args.i c.at-key.result.0 c.at-key.result.1.now c.at-key.ensures).1)
 
 pub returns-clause-status : goal.returns-clause-status
 returns-clause-status c =
     subst (λ (s : MonitorView). IsStatusOf (history_of_key s.now c.at-key.result.0) c.status.result) c.self.view_is
-    (subst (λ (x : KeyHistory). IsStatusOf x c.status.result)
-    (place_seen (judged_by_parts c.self.inside.history c.self.inside.kinds c.self.inside.budgets) c.self.inside.lines.rows c.args.i c.at-key.result.0 c.at-key.result.1.now
-    c.self.invariant.now.rows_are c.at-key.ensures).1 c.status.ensures)
+    (subst (λ (x : KeyHistory). IsStatusOf x c.status.result) (place_seen c.self.inside.lines.rows c.self.invariant.now c.args.i c.at-key.result.0 c.at-key.result.1.now c.at-key.ensures).1 c.status.ensures)

@@ -1,28 +1,20 @@
 use Rattle.std.proofs.Common.{subst, rules}
 use Rattle.linspec.specs.JudgedHistory.{IsVerdictOn, with_event}
 use Rattle.monitor.specs.Monitors.{MonitorView}
-use Rattle.monitor.specs.SoundMonitor.{judged_by_parts}
 use Rattle.monitor.proofs.Changes.{fault_judged}
-use Rattle.monitor.proofs.Carried.{renamed}
 use Rattle.monitor.proofs.Prepared.{fault_ready}
 use Rattle.monitor.proofs.monitor.Monitor.prepare_fault.Goals as goal
 
 pub invariant_of-self-2 : goal.invariant_of-self-2
-invariant_of-self-2 c =
-    renamed c.put.ensures
-    (fault_ready c.judging_law.ensures c.self.inside.history c.prepare_push.new.self c.self.inside.kinds c.self.inside.budgets c.self.inside.lines c.self.inside.verdict c.self.inside.prepared
-    c.args.event c.self.invariant c.in_ok-prepare_push.ensures.prepared c.in_ok-prepare_push.ensures.well_formed c.requires)
+invariant_of-self-2 c = fault_ready c.judging_law.ensures c.self.invariant c.args.event c.in_ok-prepare_push.ensures.prepared c.in_ok-prepare_push.ensures.well_formed c.requires
 
 pub returns : goal.returns
-returns c =
-    record {
-      well_formed = search rules;
-      prepared = search rules;
-      verdict =
-          subst (λ (s : MonitorView). IsVerdictOn (with_event c.args.event s.now) c.self.inside.verdict) c.self.view_is
-          (fault_judged c.judging_law.ensures (judged_by_parts c.self.inside.history c.self.inside.kinds c.self.inside.budgets) _ c.self.inside.verdict c.args.event
-          c.self.invariant.now c.in_ok-prepare_push.ensures.well_formed c.requires).is_verdict;
-      refused = search rules;
-      memory_last = search rules;
-      err = search rules;
-    }
+returns c = record {
+  well_formed = search rules;
+  prepared = search rules;
+  verdict = subst (λ (s : MonitorView). IsVerdictOn (with_event c.args.event s.now) c.self.inside.verdict) c.self.view_is
+      (fault_judged c.judging_law.ensures c.self.invariant.now c.args.event c.in_ok-prepare_push.ensures.well_formed c.requires).is_verdict;
+  refused = search rules;
+  memory_last = search rules;
+  err = search rules;
+}

@@ -1,36 +1,29 @@
-use Rattle.std.proofs.Common.{ℕ, ◌+◌, ◌*◌, ◌≤◌, List, length, ap, ◌∙◌, subst}
+use Rattle.std.proofs.Common.{◌+◌, ◌*◌, ◌≤◌, ℕ, List, length, ap, ◌∙◌, subst, arith}
 use Rattle.linspec.specs.KeyHistory.{KeyHistory}
 use Rattle.monitor.specs.Judged.{rows_of}
 use Rattle.history.specs.WellFormed.{HistoryView}
 use Rattle.linspec.specs.JudgedHistory.{IsVerdictOn, rewound}
 use Rattle.monitor.specs.Monitors.{MonitorView}
-use Rattle.monitor.specs.SoundMonitor.{judged_by_parts}
 use Rattle.monitor.specs.Rows.{nows, losing}
-use Rattle.monitor.proofs.Again.{few_more}
+use Rattle.monitor.proofs.Again.{few_in}
 use Rattle.monitor.proofs.Changes.{cut_judged}
-use Rattle.monitor.proofs.Carried.{renamed}
 use Rattle.monitor.proofs.Cutting.{are_cut}
 use Rattle.monitor.proofs.Lent.{judged_lent}
 use Rattle.monitor.proofs.Prepared.{rewind_ready}
 use Rattle.monitor.proofs.monitor.Monitor.prepare_rewind.Goals as goal
 
 pub prepare_cut-requires-2 : goal.prepare_cut-requires-2
-prepare_cut-requires-2 c =
-    judged_lent (judged_by_parts c.self.inside.history c.self.inside.kinds c.self.inside.budgets) (nows c.self.inside.lines.rows) c.self.inside.verdict c.self.invariant.now c.events.result.now
-    (c.events.ensures ∙ ap (λ (x : HistoryView). x.events) c.in_ok-prepare_cut.ensures.prepared)
+prepare_cut-requires-2 c = judged_lent c.self.invariant.now c.events.result.now (c.events.ensures ∙ ap (λ (x : HistoryView). x.events) c.in_ok-prepare_cut.ensures.prepared)
 
 pub invariant_of-self-2 : goal.invariant_of-self-2
 invariant_of-self-2 c =
-    renamed c.put.ensures
-    (rewind_ready c.judging_law.ensures c.self.inside.history c.prepare_cut.new.self c.self.inside.kinds c.self.inside.budgets c.self.inside.lines c.prepare_cut-2.new.self c.self.inside.verdict
-    c.self.inside.prepared c.args.n c.in_ok-kept.kept c.in_ok-kept.verdict c.self.invariant c.in_ok-prepare_cut.ensures.within c.in_ok-prepare_cut.ensures.prepared c.in_ok-kept.ensures.kept_lines c.in_ok-kept.ensures.verdict
-    (are_cut c.args.n c.self.inside.lines.rows c.prepare_cut-2.new.self.rows c.in_ok-kept.ensures.next) c.in_ok-kept.ensures.kept)
+    rewind_ready c.judging_law.ensures c.self.invariant c.args.n c.in_ok-kept.kept c.in_ok-prepare_cut.ensures.within c.in_ok-prepare_cut.ensures.prepared
+    c.in_ok-kept.ensures.kept_lines c.in_ok-kept.ensures.verdict (are_cut c.args.n c.self.inside.lines.rows c.in_ok-kept.ensures.next) c.in_ok-kept.ensures.kept
 
 pub returns-clause-verdict : goal.returns-clause-verdict
 returns-clause-verdict c =
     subst (λ (s : MonitorView). IsVerdictOn (rewound c.args.n s.now) c.in_ok-kept.verdict) c.self.view_is
-    (cut_judged c.judging_law.ensures (judged_by_parts c.self.inside.history c.self.inside.kinds c.self.inside.budgets) (nows c.self.inside.lines.rows) c.self.inside.verdict c.args.n c.in_ok-kept.kept c.in_ok-kept.verdict
-    c.self.invariant.now c.in_ok-kept.ensures.kept_lines c.in_ok-kept.ensures.verdict).is_verdict
+    (cut_judged c.judging_law.ensures c.self.invariant.now c.args.n c.in_ok-kept.kept c.in_ok-kept.ensures.kept_lines c.in_ok-kept.ensures.verdict).is_verdict
 
 pub returns-clause-few : goal.returns-clause-few
 returns-clause-few c =
@@ -38,4 +31,4 @@ returns-clause-few c =
     let again = c.prepare_cut-2.new.again in
     subst (λ (s : MonitorView). again ≤ s.again + 63 * length (losing c.args.n (rows_of s.now))) c.self.view_is
     (subst (λ (l : List (ℕ × KeyHistory)). again ≤ a.again + 63 * length (losing c.args.n l)) c.self.invariant.now.rows_are
-    (few_more c.args.n a.again again (nows a.lines.rows) c.in_ok-kept.ensures.counted))
+    (let few = few_in c.args.n (nows a.lines.rows) in omega (arith, few, c.in_ok-kept.ensures.counted)))
