@@ -1,4 +1,7 @@
-//! Where things stand, by buckets.
+//! Where things stand, by buckets: the index of a list that grows and shrinks at its end.
+//!
+//! A bucket has the place of its last thing, and each thing that of the one before it in its bucket. So a look goes back through
+//! one bucket, and the last thing is taken away in constant time. Things are words or hashes ([`Bucketed`]).
 //!
 //! A call takes memory only where its result can be `AllocError`.
 #![tactic(auto)]

@@ -8,7 +8,6 @@ pub mod Judging
 pub mod Noted
 pub mod Noting
 pub mod Preparing
-pub mod Copies
 pub mod Cutting
 pub mod Lending
 pub mod Settled

@@ -1,5 +1,5 @@
 -- which index is noted for a process, where one is noted, forgotten or looked for
-use Rattle.std.proofs.Common.{◌≡◌, ◌≢◌, ℕ, zero, suc, ⊎_elim, ◌≤◌, cond, nat_eq, Option, Some, None, List, [], ◌∷◌, ◌++◌, refl, sym, ap, ◌∙◌, subst, set, take, length, slice_get, arith}
+use Rattle.std.proofs.Common.{◌≡◌, ◌≢◌, ℕ, zero, suc, ⊎_elim, cond, nat_eq, Option, Some, None, List, [], ◌∷◌, ◌++◌, sym, ap, ◌∙◌, subst, set, take, slice_get}
 use Rattle.std.proofs.lemmas.Bool.{cases_eq}
 use Rattle.std.specs.List.{remove}
 use Rattle.linspec.proofs.Histories.{cond_same, cond_other}
@@ -19,14 +19,6 @@ passed_over (y ∷ xs) zero p none x is ne = (let same : y ≡ x = cc in cond_ot
 passed_over (y ∷ xs) (suc k) p none x is ne =
     cond_other y.0 p (Some y.1) (noted_of (take (suc k) xs) p) (other y (noted_of (take k xs) p) p none)
     ∙ passed_over xs k p (left y (noted_of (take k xs) p) p none) x is ne
-
--- all pairs were looked at
-pub none_noted : (xs : List (ℕ × ℕ)) (k p : ℕ) → length xs ≤ k → noted_of (take k xs) p ≡ None → noted_of xs p ≡ None
-none_noted [] k p all none = refl
-none_noted (y ∷ xs) zero p all none = absurd (omega arith)
-none_noted (y ∷ xs) (suc k) p all none =
-    cond_other y.0 p (Some y.1) (noted_of xs p) (other y (noted_of (take k xs) p) p none)
-    ∙ none_noted xs k p (omega arith) (left y (noted_of (take k xs) p) p none)
 
 -- what is noted is in the first pair that names the process
 pub noted_here : (xs : List (ℕ × ℕ)) (k p i : ℕ) → noted_of (take k xs) p ≡ None → slice_get xs k ≡ Some (p, i) → noted_of xs p ≡ Some i

@@ -53,6 +53,7 @@ impl Invocations {
 
     /// Notes the index for the process, in place of the one that was noted. `AllocError` where there is no memory for it: then
     /// all is as it was.
+    #[tactic(auto, using(crate::proofs::Noted::noted_set))]
     pub(crate) fn note(&mut self, process: u32, index: u32) -> Result<(), AllocError>
         ensures noted { OnOk result ((q : ℕ) → noted_of self.new q
             ≡ (if nat_eq q process then Some index else noted_of self.old q)) }

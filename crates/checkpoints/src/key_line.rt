@@ -13,7 +13,7 @@ ghost use Rattle.checkpoints.specs.Lent.{AreLentBy, places_of};
 use crate::key_state::KeyState;
 use crate::next::Next;
 use crate::saving::{Saves, gone_back, judged_anew, keep_or_renew, prepare_event};
-use crate::told::Told;
+use crate::told::{Told, tell};
 use events::Event;
 use linspec::KeyStatus;
 use models::ModelKind;
@@ -23,22 +23,27 @@ use std::marker::Model;
 /// What may be committed.
 #[derive(Drop)]
 enum Prepared {
-    /// One event more, at this place of the history: the line was told these then, and this becomes of the key.
+    /// One event more: its place in the history, all events that the line then has, and what becomes of the key.
     Push(u32, Told, Next),
     /// A change of another sort. It is large, and rare, so it stands apart.
     Change(Box<Change>),
 }
 
-/// The first so many events stay, the line was told these then, and this becomes of the key, which is then judged by this kind
-/// and budget. It took so many replays.
+/// A change but a push.
 #[derive(Drop)]
 struct Change {
+    /// By these the key is then judged.
     kind: ModelKind,
     budget: u32,
+    /// So many events stay, the first ones.
     kept: usize,
+    /// All events that the line then has: for proofs alone, no byte of memory.
     told: Told,
+    /// What becomes of the key.
     next: Next,
+    /// What becomes of the saved states.
     saves: Saves,
+    /// So many events were judged again for it.
     replays: u64,
 }
 
@@ -117,7 +122,7 @@ impl KeyLine {
             kind,
             budget,
             places: Vec::new(alloc),
-            told: Told::new(),
+            told: tell(),
             state,
             saved: Vec::new(alloc),
             replayed: 0,
@@ -361,7 +366,8 @@ impl KeyLine {
         count
     }
 
-    /// How many replays the prepared change took, and 0 where none is prepared.
+    /// How many replays the prepared change took, which [`commit`](Self::commit) adds to those of the changes before; and 0 where
+    /// none is prepared.
     pub fn due(&self) -> u64
         ensures { result ≡ self.now.due }
     {

@@ -38,8 +38,8 @@ pub(crate) fn keep_or_renew(saved: &mut Vec<KeyState>, kept: usize, saves: Saves
     }
 }
 
-/// Prepares one more event of a key that has so many, and says what becomes of the key. Where a 64th event is the last one, a
-/// copy of how the key stands after it is saved before. The event is prepared on the key itself.
+/// Prepares one more event of a key that has so many, and says what becomes of the key. Where these are a multiple of 64, a copy
+/// of how the key stands after them is saved first, unless there is one. The event is prepared on the key itself.
 pub(crate) fn prepare_event(
     state: &mut KeyState,
     saved: &mut Vec<KeyState>,
@@ -68,8 +68,8 @@ pub(crate) fn prepare_event(
     state.prepare(index, event)
 }
 
-// Saves a copy of the state after so many events where the last one is a 64th one, unless that was done. All that is to be saved
-// of them is then saved, whatever event follows.
+// Saves a copy of the state after so many events where one is missing: there is to be one for each 64 events. All that is to be
+// saved of these events is then saved, whatever event follows.
 fn save(saved: &mut Vec<KeyState>, state: &KeyState, events: usize) -> Result<(), AllocError>
     ensures saved { (kind : ModelKind) (budget : ℕ) (before : List (ℕ × Event))
         → length before ≡ events → IsKeyState kind budget before state.now

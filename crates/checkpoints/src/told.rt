@@ -1,5 +1,5 @@
 //! The events of a line, for proofs alone.
-ghost use Rattle.std.specs.Prelude.{◌≡◌, ℕ, List, [], ◌∷◌, ◌++◌, take};
+ghost use Rattle.std.specs.Prelude.{◌≡◌, ℕ, List};
 ghost use Rattle.std.specs.Borrow.{ftrue};
 ghost use Rattle.events.specs.declared.event.Event.{Event};
 
@@ -7,7 +7,7 @@ use events::Event;
 use std::marker::Model;
 
 /// The events of a line with their indices, in the order in which they came. Only proofs read them: this takes no memory, and
-/// its functions do nothing when they run.
+/// its functions do nothing when they run. Whoever calls one picks the events, in a proof.
 #[derive(Drop)]
 pub(crate) struct Told {
     pub(crate) ghost events: { List (ℕ × Event) },
@@ -22,25 +22,29 @@ unsafe impl Send for Told {}
 
 unsafe impl Sync for Told {}
 
+/// These events.
+#[inline(always)]
+pub(crate) fn tell() -> Told
+    ghost picked: { List (ℕ × Event) }
+    ensures { result.events ≡ picked }
+{
+    Told {}
+}
+
 impl Told {
-    /// No events.
-    pub(crate) fn new() -> Told
-        ensures { result.events ≡ [] }
-    {
-        Told {}
-    }
-
-    /// These events, and one more.
+    /// Events that are picked by these and one more.
     pub(crate) fn with(&self, _index: &u32, _event: &Event) -> Told
-        ensures { result.events ≡ self.now.events ++ (_index.now, _event.now) ∷ [] }
+        ghost picked: { List (ℕ × Event) }
+        ensures { result.events ≡ picked }
     {
-        Told {}
+        tell()
     }
 
-    /// The first so many of these events.
+    /// Events that are picked by these and a count.
     pub(crate) fn first(&self, _count: &usize) -> Told
-        ensures { result.events ≡ take _count.now self.now.events }
+        ghost picked: { List (ℕ × Event) }
+        ensures { result.events ≡ picked }
     {
-        Told {}
+        tell()
     }
 }

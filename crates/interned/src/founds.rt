@@ -1,5 +1,5 @@
 //! What was found, by number.
-ghost use Rattle.std.specs.Prelude.{◌≡◌, ◌≢◌, ◌↔◌, ◌≤◌, ◌<◌, ◌++◌, ◌∷◌, [], ℕ, List, Some, None};
+ghost use Rattle.std.specs.Prelude.{◌≡◌, ◌≢◌, ◌↔◌, ◌<◌, ◌++◌, ◌∷◌, [], ℕ, List, Some, None};
 ghost use Rattle.std.specs.Prelude.{length, IsTrue, slice_get, option_copied, IfOk, OnOk, OnErr, IfSome};
 ghost use Rattle.events.specs.Events.{IsFront};
 ghost use Rattle.interned.specs.FoundKeys.{found_of};

@@ -12,6 +12,7 @@ use std::hash::{FoldHasher, Hash, Hasher};
 const MANY: usize = 1073741820;
 
 /// The hash of the value. Takes the time of what the value feeds.
+#[tactic(auto, unfolding(crate::specs::Index::hash_by))]
 pub fn hash_of<T: Hash>(value: &T) -> u64
     ensures { result ≡ hash_by T.hash_input value.now }
 {

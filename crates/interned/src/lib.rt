@@ -1,5 +1,8 @@
-//! Values by small numbers: each different state, and each thing that was found, stands once and has a number, so that ends are rows
-//! of numbers.
+//! Values by small numbers: each different state, and each thing that was found, stands once and has a number, so that ends are
+//! rows of numbers.
+//!
+//! A state is found by an index of the states' hashes, and compared where the hash is the same. Of what was found the first
+//! thirty-two are compared in turn, and more are looked up by an order.
 //!
 //! A call takes memory only where its result can be `AllocError`, or a refusal for want of memory.
 #![tactic(auto)]

@@ -1,9 +1,8 @@
 -- what workers give, one line after the other and one worker after the other
 use Rattle.std.proofs.Common.{◌≡◌, ◌≢◌, ℕ, ◌+◌, ◌<◌, ◌≤◌, ◌%◌, ⊎_elim, List, [], ◌∷◌, ◌++◌, slice_get, Some, sym, ap, ◌∙◌, subst, arith}
 use Rattle.std.specs.List.{All}
-use Rattle.std.proofs.Math.Nat.{mod-lt}
 use Rattle.std.proofs.lemmas.Bool.{cases_eq}
-use Rattle.std.proofs.lemmas.List.Elements.{All-nil, All-push, All-append, All-weaker, All-contains, Contains-append_left, Contains-append_right, Contains-push}
+use Rattle.std.proofs.lemmas.List.Elements.{All-push, All-append, All-weaker, All-contains, Contains-append_left, Contains-append_right, Contains-push}
 use Rattle.linspec.proofs.Lists.{Contains-nil, Contains-cons_cases, Pairwise-append}
 use Rattle.checkpoints.specs.KeyLineView.{KeyLineView}
 use Rattle.parallel_recheck.specs.declared.workers.Placed.{Placed}
@@ -27,23 +26,8 @@ differ : (worker workers a b : ℕ) → a % workers ≡ worker → worker + 1 �
 differ worker workers a b own later = λ same. (let moved : a % workers ≡ b % workers = ap (λ (n : ℕ). n % workers) same in omega (arith, own, later, moved))
 
 module _ (lines : List KeyLineView) where
-  pub share_none : (IsTheirs : ℕ → Type 0) → IsShare lines IsTheirs 0 []
-  share_none IsTheirs = record { among = All-nil (IsAmong lines); all = λ place lt theirs. absurd (omega arith); own = All-nil (IsOfTheirs IsTheirs 0); apart = tt }
-
   of_more : (IsTheirs : ℕ → Type 0) (count : ℕ) (xs : List Placed) → All (IsOfTheirs IsTheirs count) xs → All (IsOfTheirs IsTheirs (count + 1)) xs
   of_more IsTheirs count xs own = All-weaker (IsOfTheirs IsTheirs count) (IsOfTheirs IsTheirs (count + 1)) (λ p h. (omega (arith, h.0), h.1)) xs own
-
-  -- the next place is not theirs; or it is, and its line is there
-  pub share_skip : (IsTheirs : ℕ → Type 0) (count : ℕ) (xs : List Placed) → ¬ IsTheirs count → IsShare lines IsTheirs count xs → IsShare lines IsTheirs (count + 1) xs
-  share_skip IsTheirs count xs not share = record {
-    among = share.among;
-    all = λ place lt theirs. ⊎_elim
-        (λ (e : place ≡ count). absurd (not (subst IsTheirs e theirs)))
-        (λ (ne : place ≢ count). share.all place (omega arith) theirs)
-        (cases_eq place count);
-    own = of_more IsTheirs count xs share.own;
-    apart = share.apart;
-  }
 
   pub share_more : (IsTheirs : ℕ → Type 0) (count : ℕ) (xs : List Placed) (x : Placed) → x.place ≡ count → slice_get lines count ≡ Some x.line → IsTheirs count → IsShare lines IsTheirs count xs
       → IsShare lines IsTheirs (count + 1) (xs ++ x ∷ [])
@@ -65,16 +49,6 @@ module _ (lines : List KeyLineView) where
   of_later : (worker workers count : ℕ) (xs : List Placed) → All (IsOfTheirs (IsOwnOrLater (worker + 1) workers) count) xs → All (IsOfTheirs (IsOwnOrLater worker workers) count) xs
   of_later worker workers count xs later =
       All-weaker (IsOfTheirs (IsOwnOrLater (worker + 1) workers) count) (IsOfTheirs (IsOwnOrLater worker workers) count) (λ p h. (h.0, omega (arith, h.1))) xs later
-
-  -- the last worker; a worker and those after it
-  pub share_last : (worker workers count : ℕ) (xs : List Placed) → worker + 1 ≡ workers → IsShare lines (IsOwn worker workers) count xs
-      → IsShare lines (IsOwnOrLater worker workers) count xs
-  share_last worker workers count xs last share = record {
-    among = share.among;
-    all = λ place lt theirs. share.all place lt (omega (arith, mod-lt place {m = workers} (omega arith)));
-    own = of_own worker workers count xs share.own;
-    apart = share.apart;
-  }
 
   pub share_both : (worker workers count : ℕ) (xs ys : List Placed) → IsShare lines (IsOwn worker workers) count xs → IsShare lines (IsOwnOrLater (worker + 1) workers) count ys
       → IsShare lines (IsOwnOrLater worker workers) count (xs ++ ys)

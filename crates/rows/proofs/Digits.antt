@@ -1,9 +1,9 @@
 -- rows of numbers as words
-use Rattle.std.proofs.Common.{◌≡◌, ℕ, zero, suc, ◌+◌, ◌*◌, ◌^◌, ◌/◌, ◌%◌, ◌<◌, ◌≤◌, ◌-◌, ⊎_elim, List, [], ◌∷◌, ◌++◌, drop, length, get_or, set, refl, sym, ap, ◌∙◌, subst, arith, add-one, append_assoc}
+use Rattle.std.proofs.Common.{◌≡◌, ℕ, zero, suc, ◌+◌, ◌*◌, ◌^◌, ◌/◌, ◌%◌, ◌<◌, ◌≤◌, ◌-◌, ⊎_elim, List, [], ◌∷◌, ◌++◌, take, drop, length, get_or, set, refl, sym, ap, ◌∙◌, subst, arith, add-one, append_assoc}
 use Rattle.std.proofs.Math.Nat.{add-mul-mod_self_left, mod-eq_of_lt, mod-lt, add-mul-div_left, div-eq_of_lt, mul-le-mul_left, mul-le-mul_right, pow-le-pow_right, pow-zero, pow-suc, mul-zero, mul_comm, mul-one, zero-mul, mod-le, zero-add, div-one, div-div-eq-div-mul, mod-one}
 use Rattle.std.proofs.lemmas.Nat.{pow-add, pow_pos}
 use Rattle.std.proofs.lemmas.Bool.{cases_eq}
-use Rattle.std.proofs.lemmas.List.{drop_more, get_or-set_same, get_or-set_other, length-set, length-drop}
+use Rattle.std.proofs.lemmas.List.{drop_more, take_more_set, get_or-set_same, get_or-set_other, length-set, length-drop}
 use Rattle.rows.specs.Words.{IsWordOf, digits, value}
 
 -- a power of a power
@@ -94,15 +94,22 @@ module _ (bits long : ℕ) (room : bits * long ≤ 128) where
       let one : (word + 1) * 2 ^ bits ≡ word * 2 ^ bits + 2 ^ bits = grind arith in
       omega (arith, fits, pow, more, one, less)
 
--- numbers that are read one after another
-pub read_more : (base long place rest now : ℕ) (row more all : List ℕ) → place < long → more ≡ row ++ (rest % base) ∷ [] → now ≡ rest / base
-    → row ++ digits base (long - place) rest ≡ all → more ++ digits base (long - (place + 1)) now ≡ all
-read_more base long place rest now row more all lt push next so_far =
-    let left : long - place ≡ suc (long - (place + 1)) = omega (arith, lt) in
-    (λ i. push i ++ digits base (long - (place + 1)) (next i)) ∙ append_assoc row (rest % base ∷ []) (digits base (long - (place + 1)) (rest / base))
-    ∙ ap (λ n. row ++ digits base n rest) (sym left) ∙ so_far
+-- the numbers before a place are read, and the others are in the rest of the word
+pub record AreRead (base word all place rest : ℕ) (row : List ℕ) : Type 0 where
+  pub long : length row ≡ all
+  pub left : take place row ++ digits base (all - place) rest ≡ digits base all word
 
--- and that are packed, from the last to the first
+pub read_next : (base word all place rest number now : ℕ) (row : List ℕ) → AreRead base word all place rest row → place < all → number ≡ rest % base → now ≡ rest / base
+    → AreRead base word all (place + 1) now (set row place number)
+read_next base word all place rest number now row so lt is next = record {
+  long = length-set row place number ∙ so.long;
+  left =
+      let one : all - place ≡ suc (all - (place + 1)) = omega (arith, lt) in
+      (λ i. (take_more_set row place number (omega (arith, so.long)) ∙ ap (λ (x : ℕ). take place row ++ x ∷ []) is) i ++ digits base (all - (place + 1)) (next i))
+      ∙ append_assoc (take place row) (rest % base ∷ []) (digits base (all - (place + 1)) (rest / base)) ∙ ap (λ n. take place row ++ digits base n rest) (sym one) ∙ so.left;
+}
+
+-- numbers that are packed, from the last to the first
 module _ (base : ℕ) (some : 0 < base) (row : List ℕ) (at number : ℕ) (lt : at < length row) (here : number ≡ get_or row (length row - 1 - at) number) where
   one_more : drop (length row - (at + 1)) row ≡ number ∷ drop (length row - at) row
   one_more =

@@ -1,5 +1,5 @@
 -- elements of lists
-use Rattle.std.proofs.Common.{◌≡◌, ◌⊎◌, inl, inr, ⊎_elim, ℕ, ◌+◌, Option, Some, None, unwrap_or, List, [], ◌∷◌, ◌++◌, map, take, slice_get, ap, ◌∙◌, subst, arith}
+use Rattle.std.proofs.Common.{◌≡◌, ◌⊎◌, inl, inr, ⊎_elim, ℕ, ◌+◌, Some, List, [], ◌∷◌, ◌++◌, map, take, slice_get, ap, ◌∙◌, subst, arith}
 use Rattle.std.specs.List.{Contains}
 use Rattle.std.proofs.lemmas.List.{take_more}
 use Rattle.std.proofs.lemmas.List.Elements.{Contains-append_left, Contains-append_right, Contains-push, Contains-push_cases, Contains-append_cases}
@@ -35,12 +35,6 @@ from_map f (x ∷ xs) y h =
     (λ e. (x, Contains-head x xs, e))
     (λ k. let {- the same in the rest -} r = from_map f xs y k in (r.0, Contains-tail x xs r.0 r.1, r.2))
     (Contains-cons_cases (f x) (map f xs) y h)
-
-pub clash : {X : Type 0} (x : X) (r : Option X) → r ≡ None → r ≡ Some x → ⊥
-clash x r e f = cc
-
-pub one_of : {X : Type 0} (x y : X) → Some x ≡ Some y → x ≡ y
-one_of x y e = ap (λ r. unwrap_or r x) e
 
 pub has_place : {X : Type 0} (xs : List X) (i : ℕ) (x : X) → slice_get xs i ≡ Some x → Contains xs x
 has_place xs i x e = (i, slice_get_within xs i x e, get_or_from_slice_get xs i x x e)

@@ -1,5 +1,5 @@
 -- rows that are looked at
-use Rattle.std.proofs.Common.{◌≡◌, ℕ, zero, suc, ◌^◌, ◌/◌, ◌%◌, ◌<◌, ◌≤◌, List, [], Some, slice_get, refl, sym, ap, ◌∙◌, arith}
+use Rattle.std.proofs.Common.{◌≡◌, ℕ, zero, suc, ◌^◌, ◌/◌, ◌%◌, ◌<◌, ◌≤◌, List, Some, slice_get, refl, sym, ap, ◌∙◌, arith}
 use Rattle.std.proofs.lemmas.Option.{get_or_from_slice_get, slice_get-get_or, slice_get_within}
 use Rattle.rows.specs.Words.{digits, row_in}
 use Rattle.rows.proofs.Digits.{digit_at, length-digits}
@@ -8,11 +8,6 @@ use Rattle.rows.proofs.Digits.{digit_at, length-digits}
 pub row_half : (long bits word : ℕ) (other : List ℕ) → 0 < long → row_in long bits word other ≡ digits (2 ^ bits) long word
 row_half zero bits word other some = absurd (omega (arith, some))
 row_half (suc n) bits word other some = refl
-
--- with no other numbers the word is the row, also where it has none
-pub row_alone : (long bits word : ℕ) (other : List ℕ) → other ≡ [] → row_in long bits word other ≡ digits (2 ^ bits) long word
-row_alone zero bits word other none = none
-row_alone (suc n) bits word other none = refl
 
 -- the number at a place is zero, or a row has none there
 module _ (base n w p : ℕ) where
@@ -28,3 +23,5 @@ module _ (base n w p : ℕ) where
       let lt = slice_get_within (digits base n w) p 0 there in
       let l = length-digits base n w in
       omega (arith, l, lt, le)
+
+pub ruleset looked = (is_zero, not_behind, row_half, zero_there)

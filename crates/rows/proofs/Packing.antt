@@ -1,5 +1,5 @@
 -- words put with others, by the rows that they stand for
-use Rattle.std.proofs.Common.{◌≡◌, inl, inr, ⊎_elim, ℕ, ◌+◌, ◌*◌, ◌/◌, ◌%◌, ◌^◌, ◌<◌, ◌≤◌, Bool, true, false, List, [], ◌∷◌, ◌++◌, map, length, take, drop, slice_get, Some, None, option_map, Result, Ok, Err, OnOk, OnErr, zero, suc, get_or, Vec, Global, refl, sym, ap, ◌∙◌, subst, arith, add-one}
+use Rattle.std.proofs.Common.{◌≡◌, inl, inr, ⊎_elim, ℕ, ◌+◌, ◌*◌, ◌/◌, ◌%◌, ◌^◌, ◌<◌, ◌≤◌, Bool, false, List, [], ◌∷◌, ◌++◌, map, length, take, drop, slice_get, Some, None, option_map, Result, Ok, Err, OnOk, OnErr, zero, suc, get_or, Vec, Global, refl, sym, ap, ◌∙◌, subst, arith, add-one}
 use Rattle.std.specs.List.{AllZip, Contains, each_same}
 use Rattle.std.proofs.lemmas.List.{get_or-take, length-take, map_push, take-append-drop}
 use Rattle.std.proofs.lemmas.Grind.{get_or_default_zero}
@@ -8,11 +8,12 @@ use Rattle.rows.specs.Lists.{items_of}
 use Rattle.rows.specs.RowSets.{IsPut}
 use Rattle.rows.specs.Words.{AreApart, ArePacked, IsWordOf, digits, rows_in, value}
 use Rattle.std.specs.Vec.{vec_len}
-use Rattle.std.proofs.Math.Nat.{mod-add-div, mul-div_cancel_left, mul-zero, zero-mod, zero-mul}
-use Rattle.std.proofs.lemmas.Nat.{div-add-mod', mod_below, pow_pos}
+use Rattle.std.proofs.Math.Nat.{mod-add-div, mul-zero, zero-mod}
+use Rattle.std.proofs.lemmas.Nat.{pow_pos}
 use Rattle.std.proofs.lemmas.Option.{get_or_from_slice_get, slice_get-map, slice_get_within}
 use Rattle.rows.proofs.Digits.{length-digits}
-use Rattle.rows.proofs.Elements.{Contains-head, Contains-nil, Contains-tail, from_map, has_place, taken_more, to_map}
+use Rattle.rows.proofs.Without.{rest_exact}
+use Rattle.rows.proofs.Elements.{Contains-head, Contains-tail, from_map, has_place, taken_more, to_map}
 
 module _ (bits long : ℕ) (row : List ℕ) (w : ℕ) (is_long : length row ≡ long) (is_word : IsWordOf (2 ^ bits) row w) where
   its_digits : digits (2 ^ bits) long w ≡ row
@@ -50,13 +51,6 @@ module _ (bits long : ℕ) (row : List ℕ) (w : ℕ) (is_long : length row ≡ 
   pub packed_after : {E : Type 0} (r : Result (Unit {0}) E) (ws now : List ℕ) → ArePacked bits long ws → OnOk r (IsPut w ws now) → OnErr r (now ≡ ws) → ArePacked bits long now
   packed_after (Ok _) ws now are put kept = packed_still ws now are put
   packed_after (Err _) ws now are put kept = subst (ArePacked bits long) (sym kept) are
-
-pub packed_none : (bits long : ℕ) (ws : List ℕ) → ws ≡ [] → bits ≤ 32 → bits * long ≤ 128 → ArePacked bits long ws
-packed_none bits long ws none few room = record {
-  few = few;
-  room = room;
-  exact = λ w h. absurd (Contains-nil w (subst (λ l. Contains l w) none h));
-}
 
 -- words that are made lists, one after another
 not_before : (ws : List ℕ) → AreApart ws → (i x : ℕ) → slice_get ws i ≡ Some x → ¬ Contains (take i ws) x
@@ -101,14 +95,6 @@ row_long bits long at words rows is lt =
     each_long (w ∷ ws) zero lt = length-digits (2 ^ bits) long w
     each_long (w ∷ ws) (suc at) lt = each_long ws at (omega (arith, lt))
 
-pub below_by : (n bits : ℕ) → n / 2 ^ bits ≡ 0 → n < 2 ^ bits
-below_by n bits e =
-    let some = pow_pos bits in
-    let all = div-add-mod' n (2 ^ bits) in
-    let rest = mod_below n (2 ^ bits) some in
-    let none : n / 2 ^ bits * 2 ^ bits ≡ 0 = ap (λ x. x * 2 ^ bits) e ∙ zero-mul (2 ^ bits) in
-    omega (arith, all, rest, none)
-
 -- rows with a zero more, fewer rows, and copies of rows
 zeros_more : (base n w : ℕ) → 0 < base → value base (digits base n w) ≡ w → (digits base (suc n) w ≡ digits base n w ++ 0 ∷ []) × (value base (digits base (suc n) w) ≡ w)
 zeros_more base zero w some is =
@@ -117,16 +103,11 @@ zeros_more base zero w some is =
     let first : w % base ≡ 0 = ap (λ x. x % base) none ∙ zero' in
     ((λ i. first i ∷ []), (let m : base * 0 ≡ 0 = mul-zero base in let v : w % base + base * 0 ≡ w = omega (arith, first, m, none) in v))
 zeros_more base (suc n) w some is =
-    let rest : value base (digits base n (w / base)) ≡ w / base = rest_exact base (w % base) (w / base) (value base (digits base n (w / base))) w some (mod-add-div w base) is in
+    let rest : value base (digits base n (w / base)) ≡ w / base = rest_exact base some n w is in
     let r = zeros_more base n (w / base) some rest in (
       ap (λ l. w % base ∷ l) r.0,
       ap (λ v. w % base + base * v) r.1 ∙ mod-add-div w base,
     )
-  where
-    rest_exact : (base r q v w : ℕ) → 0 < base → r + base * q ≡ w → r + base * v ≡ w → v ≡ q
-    rest_exact base r q v w some a b =
-        let same : base * v ≡ base * q = omega (arith, a, b) in
-        sym (mul-div_cancel_left v some) ∙ ap (λ x. x / base) same ∙ mul-div_cancel_left q some
 
 pub longer_rows : (bits long : ℕ) (ws : List ℕ) → ((w : ℕ) → Contains ws w → value (2 ^ bits) (digits (2 ^ bits) long w) ≡ w) → map (digits (2 ^ bits) (long + 1)) ws ≡ map (λ row. row ++ 0 ∷ []) (map (digits (2 ^ bits) long) ws)
 longer_rows bits long [] exact = refl
@@ -139,23 +120,6 @@ packed_longer bits long ws room are = record {
   room = room;
   exact = λ w h. ap (λ n. value (2 ^ bits) (digits (2 ^ bits) n w)) (add-one long) ∙ (zeros_more (2 ^ bits) long w (pow_pos bits) (are.exact w h)).1;
 }
-
-pub packed_fewer : (bits long n : ℕ) (ws now : List ℕ) → now ≡ take n ws → ArePacked bits long ws → ArePacked bits long now
-packed_fewer bits long n ws now is are = record {
-  few = are.few;
-  room = are.room;
-  exact = λ w h. are.exact w (subst (λ l. Contains l w) (take-append-drop n ws) (Contains-append_left (take n ws) (drop n ws) w (subst (λ l. Contains l w) is h)));
-}
-
-pub packed_same : (bits long : ℕ) (ws now : List ℕ) → now ≡ ws → ArePacked bits long ws → ArePacked bits long now
-packed_same bits long ws now is are = subst (ArePacked bits long) (sym is) are
-
-pub shows_lists : (wide : Bool) (bits long : ℕ) (words : List ℕ) (lists : List (List ℕ)) → wide ≡ true → rows_in wide bits long words lists ≡ lists
-shows_lists wide bits long words lists e = ap (λ b. rows_in b bits long words lists) e
-
-pub copied_rows : (wide : Bool) (bits long : ℕ) (words : List ℕ) (lists : List (List ℕ)) (ws : List ℕ) (ls : List (List ℕ)) → ws ≡ words → ls ≡ lists → rows_in wide bits long ws ls ≡ rows_in wide bits long words lists
-copied_rows true bits long words lists ws ls a b = b
-copied_rows false bits long words lists ws ls a b = ap (map (digits (2 ^ bits) long)) a
 
 pub copied_lists : (ls now : List (Vec ℕ Global)) → AllZip (λ (v w : Vec ℕ Global). AllZip (λ (x y : ℕ). y ≡ x) v.items w.items × (vec_len w ≡ vec_len v)) ls now → map items_of now ≡ map items_of ls
 copied_lists [] [] h = refl

@@ -1,11 +1,11 @@
 -- a word without one of its numbers
-use Rattle.std.proofs.Common.{◌≡◌, ℕ, zero, suc, ◌+◌, ◌*◌, ◌^◌, ◌/◌, ◌%◌, ◌<◌, ◌-◌, List, [], ◌∷◌, length, sym, ap, ◌∙◌, arith, add-one}
+use Rattle.std.proofs.Common.{◌≡◌, ℕ, zero, suc, ◌+◌, ◌*◌, ◌^◌, ◌/◌, ◌%◌, ◌<◌, ◌-◌, List, [], ◌∷◌, sym, ap, ◌∙◌, arith}
 use Rattle.std.proofs.Math.Nat.{zero-add, mod-eq-sub-div-mul, mod-add-div, mul-div_cancel_left, mul_comm, pow-zero, pow-suc, mod-one, div-one, div-div-eq-div-mul}
 use Rattle.std.proofs.Math.Arith.{mod-mul}
 use Rattle.std.proofs.lemmas.Nat.{mul-lt, pow_pos}
 use Rattle.std.specs.List.{remove}
 use Rattle.rows.specs.Words.{IsWordOf, digits, value}
-use Rattle.rows.proofs.Digits.{AreBelow, below_digits, is_word, length-digits, pow_of}
+use Rattle.rows.proofs.Digits.{AreBelow, below_digits, is_word, pow_of}
 
 module _ (base : ℕ) (some : 0 < base) where
   pub rest_exact : (n w : ℕ) → value base (digits base (suc n) w) ≡ w → value base (digits base n (w / base)) ≡ w / base
@@ -55,11 +55,6 @@ below_remove base some [] (suc p) below i = below i
 below_remove base some (d ∷ ds) zero below i = below (suc i)
 below_remove base some (d ∷ ds) (suc p) below zero = below 0
 below_remove base some (d ∷ ds) (suc p) below (suc i) = below_remove base some ds p (λ j. below (suc j)) i
-
-length_remove : (base n w p : ℕ) → p < n → length (remove (digits base n w) p) + 1 ≡ n
-length_remove base zero w p lt = absurd (omega (arith, lt))
-length_remove base (suc n) w zero lt = ap (λ x. x + 1) (length-digits base n (w / base)) ∙ add-one n
-length_remove base (suc n) w (suc p) lt = (let h = length_remove base n (w / base) p (omega (arith, lt)) in omega (arith, h))
 
 pub without_word : (base : ℕ) (some : 0 < base) (n w p word : ℕ) → p < n → value base (digits base n w) ≡ w → word ≡ left_of base some w p → IsWordOf base (remove (digits base n w) p) word
 without_word base some n w p word lt exact is =

@@ -38,6 +38,7 @@ fn take_lists(
 }
 
 // Puts the list with the others, if it is not there.
+#[tactic(auto, using(crate::proofs::Putting::is_put))]
 fn put_list(lists: &mut IndexSet<Vec<usize>>, list: Vec<usize>) -> Result<(), AllocError>
     ensures put { let old = map items_of lists.old.keys in let new = map items_of lists.new.keys in
         OnOk result (IsPut list.items old new) }

@@ -78,6 +78,7 @@ impl LongRow {
 
     /// Whether it has a zero at this place, and not only no number. Takes constant time.
     #[inline(always)]
+    #[tactic(auto, using(crate::proofs::Looking::looked))]
     pub fn has_zero(&self, place: usize) -> bool
         ensures { IsTrue result ↔ (slice_get self.now place ≡ Some 0) }
     {

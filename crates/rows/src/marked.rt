@@ -1,5 +1,5 @@
 //! Rows that are taken over from others, where their number at one place is marked.
-ghost use Rattle.std.specs.Prelude.{◌≡◌, ◌↔◌, ◌<◌, ◌+◌, ◌^◌, Bool, false, get_or, length, map, IsTrue, OnOk};
+ghost use Rattle.std.specs.Prelude.{◌≡◌, ◌<◌, ◌+◌, ◌^◌, false, get_or, length, map, OnOk};
 ghost use Rattle.rows.specs.RowSets.{PutsMarked};
 ghost use Rattle.rows.specs.Words.{ArePacked, digits};
 

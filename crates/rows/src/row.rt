@@ -100,6 +100,7 @@ impl Row {
 
     /// Whether it has a zero at this place, and not only no number. Takes constant time.
     #[inline(always)]
+    #[tactic(auto, using(crate::proofs::Looking::looked))]
     pub fn has_zero(&self, place: usize) -> bool
         ensures { IsTrue result ↔ (slice_get self.now place ≡ Some 0) }
     {

@@ -1,5 +1,5 @@
 //! Rows of numbers, each once.
-ghost use Rattle.std.specs.Prelude.{◌≡◌, ◌↔◌, ◌<◌, ◌≤◌, ◌*◌, ◌^◌, [], ◌∷◌, ◌++◌, true, false, Some, IsTrue, map, take, length, get_or, set, slice_get, IfOk, IfSome, OnOk, OnErr};
+ghost use Rattle.std.specs.Prelude.{◌≡◌, ◌<◌, ◌≤◌, ◌*◌, ◌^◌, [], ◌∷◌, ◌++◌, true, false, Some, IsTrue, map, take, length, get_or, set, slice_get, IfOk, IfSome, OnOk, OnErr};
 ghost use Rattle.std.specs.List.{remove};
 ghost use Rattle.rows.specs.Words.{ArePacked, digits};
 ghost use Rattle.rows.specs.RowSets.{IsPut, PutsMarked, is_marked};
@@ -17,9 +17,13 @@ use std::mem::swap;
 /// their numbers small, each is one word, of which at first half is used; else each is a list of its own.
 pub struct RowSet {
     alloc: Global,
+    /// How many numbers a row has that is a word.
     long: usize,
+    /// How many bits each number of a word has; zero where a row has too many numbers for a word.
     bits: u32,
+    /// Whether the words were made anew with as many bits as a whole word allows.
     whole: bool,
+    /// Whether some row fits no word, so that all rows are lists.
     wide: bool,
     words: WordSet,
     lists: ListSet,
@@ -51,7 +55,9 @@ impl Drop for RowSet {
     }
 }
 
-// How many bits each number has, where so many stand in a word, with room for two more: in the whole of it or in half of it.
+// How many bits each number of a row gets, where a row has so many numbers: the bits of a whole word, or of half a word, shared out
+// among them and two more, so that rows can grow. A row of more than 30 numbers gets the whole word. One of more than 126 gets no
+// bits, since it is a list.
 fn bits_for(long: usize, whole: bool) -> u32
     ensures few { result ≤ 32 }
     ensures room { result * long ≤ 128 }
@@ -65,7 +71,7 @@ fn bits_for(long: usize, whole: bool) -> u32
     }
 }
 
-// Writes the numbers of the row in place of those that were there.
+// Writes the numbers of the row into `next`, in place of its own.
 #[inline(never)]
 fn rewrite(next: &mut Vec<usize>, row: &[usize]) -> Result<(), AllocError>
     ensures { OnOk result (next.new.items ≡ row.now) }
@@ -239,8 +245,8 @@ impl RowSet {
         }
     }
 
-    /// Writes the row at this place, in place of what was there. `AllocError` where there is no memory for it: then nothing is
-    /// said of what is written. Takes the time of its numbers.
+    /// Writes the numbers of the row at this place into `row`, in place of what `row` had. `AllocError` where there is no memory
+    /// for them: then nothing is said of what `row` has. Takes the time of the numbers.
     #[inline(never)]
     pub fn read(&self, at: usize, row: &mut Vec<usize>) -> Result<(), AllocError>
         requires { at < length self.now }
@@ -259,7 +265,7 @@ impl RowSet {
         }
     }
 
-    /// The number at this place of the row that stands here, and zero where there is none. Takes constant time.
+    /// The number at a place of the row at `at`, and zero where there is none. Takes constant time.
     pub fn number(&self, at: usize, place: usize) -> usize
         ensures { result ≡ get_or (get_or self.now at []) place 0 }
     {
@@ -270,7 +276,7 @@ impl RowSet {
         }
     }
 
-    // How many numbers the row that stands here has.
+    // How many numbers the row at `at` has.
     fn long_at(&self, at: usize) -> usize
         requires { at < length self.now }
         ensures { result ≡ length (get_or self.now at []) }
@@ -315,7 +321,8 @@ impl RowSet {
         Ok(false)
     }
 
-    // Gives each row the whole of a word, and tells whether it had half of one.
+    // Makes all rows anew, with as many bits for a number as a whole word allows. False where this was done before, where rows are
+    // lists, and where a number would not fit: then nothing is done.
     fn widen(&mut self) -> Result<bool, AllocError>
         ensures { self.new ≡ self.old }
     {
@@ -347,8 +354,9 @@ impl RowSet {
         self.lists.put(self.alloc, list)
     }
 
-    /// Puts the row at a place with this first number, and with this number where it has zero, if that is not there.
-    /// `AllocError` where memory was refused: then the rows are as they were. Takes the time of [`put`](Self::put).
+    /// Adds a copy of the row at `from` that has `to` as its first number, and `slot` at the place `at`, where the row has zero;
+    /// unless that row is there. `AllocError` where memory was refused: then the rows are as they were. Takes the time of
+    /// [`put`](Self::put).
     #[inline(never)]
     pub fn put_next(
         &mut self,
@@ -448,7 +456,7 @@ impl RowSet {
         Ok(())
     }
 
-    // Whether the row that stands here has a number at this place, and the number a mark.
+    // Whether the row at `at` has a number at this place, and the number a mark.
     fn has_marked(&self, at: usize, place: usize, marks: &[bool]) -> bool
         requires { at < length self.now }
         ensures marked { result ≡ is_marked place marks.now (get_or self.now at []) }
@@ -457,7 +465,7 @@ impl RowSet {
         place < self.long_at(at) && has_mark(marks, self.number(at, place))
     }
 
-    // Puts the row of the other set that stands here without the number at this place, if that is not there, by way of a list.
+    // Puts the row at `from` of the other set, without its number at this place, if that is not there, by way of a list.
     #[inline(never)]
     fn put_without_by_list(
         &mut self,

@@ -1,6 +1,5 @@
 //! Words, none twice.
 ghost use Rattle.std.specs.Prelude.{◌≡◌, [], take, length, slice_get, IfOk, OnOk, OnErr};
-ghost use Rattle.std.specs.List.{Contains};
 ghost use Rattle.rows.specs.RowSets.{IsPut};
 ghost use Rattle.rows.specs.Words.{AreApart};
 

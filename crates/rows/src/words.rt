@@ -5,7 +5,7 @@ ghost use Rattle.rows.specs.Words.{IsWordOf, digits, value};
 
 use std::alloc::AllocError;
 
-// The number of numbers of so many bits.
+// How many numbers have so many bits at most.
 fn base_of(bits: u32) -> u128
     requires { bits ≤ 32 }
     ensures is { result ≡ 2 ^ bits }
@@ -39,6 +39,7 @@ pub fn first_of(word: u128, bits: u32) -> usize
 }
 
 // The number at this place.
+#[tactic(auto, using(crate::proofs::Digits::pow_of, crate::proofs::Digits::shifted_fits))]
 fn placed(number: usize, bits: u32, at: usize) -> u128
     requires number { number < 2 ^ bits }
     requires some { 0 < bits }
@@ -49,6 +50,7 @@ fn placed(number: usize, bits: u32, at: usize) -> u128
 }
 
 /// The number at this place of the word. Takes constant time.
+#[tactic(auto, using(crate::proofs::Digits::pow_of))]
 pub fn number_at(word: u128, bits: u32, at: usize) -> usize
     requires bits { bits ≤ 32 }
     requires some { 0 < bits }
@@ -60,6 +62,7 @@ pub fn number_at(word: u128, bits: u32, at: usize) -> usize
 
 /// The first number of the word, which is of 64 bits, by the largest number. Takes constant time.
 #[inline(always)]
+#[tactic(auto, using(std::proofs::lemmas::Nat::and_mask))]
 pub fn first_in_half(word: u64, largest: u64) -> usize
     ensures { (bits : ℕ) → largest ≡ 2 ^ bits - 1 → result ≡ word % 2 ^ bits }
 {
@@ -68,6 +71,7 @@ pub fn first_in_half(word: u64, largest: u64) -> usize
 
 /// Whether zero stands at this place of the word, which is of 64 bits, by the largest number. Takes constant time.
 #[inline(always)]
+#[tactic(auto, using(crate::proofs::Digits::pow_of))]
 pub fn has_zero_in_half(word: u64, bits: u32, largest: u64, at: usize) -> bool
     requires bits { bits ≤ 32 }
     requires some { 0 < bits }
@@ -88,7 +92,7 @@ pub fn has_zero_in_whole(word: u128, bits: u32, at: usize) -> bool
     bits == 0 || number_at(word, bits, at) == 0
 }
 
-// Writes the numbers of the word, which is of 64 bits.
+// Writes the numbers of the word, which is of 64 bits, into the row.
 #[inline(always)]
 fn unpack_half(word: u64, bits: u32, row: &mut [usize])
     requires { bits ≤ 32 }
@@ -102,7 +106,7 @@ fn unpack_half(word: u64, bits: u32, row: &mut [usize])
     }
 }
 
-// Writes the numbers of the word.
+// Writes the numbers of the word into the row.
 #[inline(never)]
 fn unpack_whole(word: u128, bits: u32, row: &mut [usize])
     requires { bits ≤ 32 }
@@ -123,7 +127,8 @@ fn lengthen(row: &mut Vec<usize>, long: usize) -> Result<(), AllocError>
     row.resize(long, 0)
 }
 
-/// Writes the numbers of the word: so many, each of so many bits, the first from the lowest. Takes the time of the numbers.
+/// Writes the numbers of the word into `row`: so many, each of so many bits, the first from the lowest. Takes the time of the
+/// numbers.
 #[inline(always)]
 pub fn unpack(word: u128, bits: u32, long: usize, row: &mut Vec<usize>) -> Result<(), AllocError>
     requires { bits ≤ 32 }
@@ -139,7 +144,7 @@ pub fn unpack(word: u128, bits: u32, long: usize, row: &mut Vec<usize>) -> Resul
     Ok(())
 }
 
-// The word, which is of 64 bits, without so many bits behind these.
+// The word, which is of 64 bits, without the `bits` bits from bit `shift` on; those above them move down.
 #[inline(always)]
 fn without_in_half(word: u64, bits: u32, shift: u32) -> u64
     requires bits { bits ≤ 32 }
@@ -151,7 +156,7 @@ fn without_in_half(word: u64, bits: u32, shift: u32) -> u64
     word - (rest << shift) + (rest >> bits << shift)
 }
 
-// The word without so many bits behind these.
+// The word without the `bits` bits from bit `shift` on; those above them move down.
 #[inline(always)]
 fn without_in_whole(word: u128, bits: u32, shift: u32) -> u128
     requires bits { bits ≤ 32 }
@@ -198,7 +203,7 @@ pub fn packed(row: &[usize], bits: u32) -> Option<u128>
     Some(word)
 }
 
-/// The word with this first number, and with this number at a place where zero stands. Takes constant time.
+/// The word with `to` as its first number, and `slot` at the place `at`, where zero stands. Takes constant time.
 pub fn changed(word: u128, bits: u32, long: usize, to: usize, at: usize, slot: usize) -> u128
     requires bits { bits ≤ 32 }
     requires some { 0 < bits }

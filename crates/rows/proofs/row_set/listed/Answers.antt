@@ -1,6 +1,4 @@
-use Rattle.std.proofs.Common.{◌^◌, map, sym, ap, ◌∙◌, arith}
-use Rattle.std.proofs.lemmas.List.{take_all}
-use Rattle.rows.specs.Words.{digits}
+use Rattle.std.proofs.Common.{sym}
 use Rattle.rows.proofs.Packing.{listed_more}
 use Rattle.rows.proofs.row_set.listed.Goals as goal
 
@@ -8,6 +6,3 @@ pub loop-at-preserved : goal.loop-at-preserved
 loop-at-preserved c =
     listed_more c.args.bits c.args.long c.args.words.now c.requires c.len-at-end.ensures.apart c.loop-at.at c.in-Some.word (sym c.in-Some.ensures)
     c.unpack.new.row.items c.in_ok-unpack.ensures c.loop-at.lists c.put.new.self c.in_ok-put.ensures.put c.loop-at.invariant
-
-pub returns : goal.returns
-returns c = c.loop-at.invariant ∙ ap (map (digits (2 ^ c.args.bits) c.args.long)) (take_all c.loop-at.at c.args.words.now (omega arith))

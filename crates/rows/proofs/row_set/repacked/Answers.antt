@@ -1,13 +1,12 @@
-use Rattle.std.proofs.Common.{◌≤◌, ◌*◌, ◌^◌, map, length, sym, ap, ◌∙◌, subst}
+use Rattle.std.proofs.Common.{◌^◌, map, length, sym, ap, ◌∙◌, arith}
 use Rattle.rows.specs.Words.{digits}
 use Rattle.rows.proofs.Digits.{length-digits}
 use Rattle.rows.proofs.Packing.{listed_more, packed_still, put_word}
+use Rattle.std.proofs.lemmas.Grind.{common_steps}
 use Rattle.rows.proofs.row_set.repacked.Goals as goal
 
 pub packed-requires-clause-room : goal.packed-requires-clause-room
-packed-requires-clause-room c =
-    let long = ap length (c.deref.ensures.value ∙ c.in_ok-unpack.ensures) ∙ length-digits (2 ^ c.args.bits) c.args.long c.in-Some.word in
-    subst (λ n. c.args.more * n ≤ 128) (sym long) c.requires.room
+packed-requires-clause-room c = grind (arith, common_steps, length-digits)
 
 pub loop-at-preserved : goal.loop-at-preserved
 loop-at-preserved c =

@@ -10,12 +10,7 @@ overflow_add-result c =
     omega (arith, lt, first)
 
 pub overflow_add-result-2 : goal.overflow_add-result-2
-overflow_add-result-2 c =
-    let r = c.requires in
-    let lt = row_lt c.args.bits c.args.long c.args.word c.args.to c.args.at c.args.slot r.some r.room r.exact r.to r.after r.within r.zero_there r.slot in
-    let first = c.first_of.ensures in
-    let there = c.placed.ensures in
-    omega (arith, lt, first, there)
+overflow_add-result-2 c = grind (arith, row_lt)
 
 pub returns : goal.returns
 returns c =

@@ -1,19 +1,10 @@
-use Rattle.std.proofs.Common.{◌≡◌, ◌<◌, ◌≤◌, ◌+◌, ◌-◌, ◌*◌, ◌%◌, ◌^◌, drop, length, get_or, sym, ap, ◌∙◌, subst, arith}
+use Rattle.std.proofs.Common.{◌≡◌, ◌<◌, ◌≤◌, ◌+◌, ◌-◌, ◌*◌, ◌%◌, ◌^◌, length, get_or, ap, subst, arith}
 use Rattle.std.proofs.Math.Nat.{mod-eq_of_lt, mod-le}
 use Rattle.std.proofs.lemmas.Nat.{pow_pos}
-use Rattle.std.proofs.lemmas.List.{drop_all, get_or_default}
-use Rattle.rows.specs.Words.{value}
-use Rattle.rows.proofs.Digits.{AreBelow, below_none, below_one_more, is_word, one_fits, packed_lt, packed_more}
+use Rattle.std.proofs.lemmas.List.{get_or_default}
+use Rattle.rows.proofs.Digits.{AreBelow, below_one_more, is_word, one_fits, packed_lt, packed_more}
+use Rattle.std.proofs.lemmas.Grind.{common_steps}
 use Rattle.rows.proofs.words.packed.Goals as goal
-
-pub loop-at-init : goal.loop-at-init
-loop-at-init c =
-    let none = drop_all (length c.args.row.now - 0) c.args.row.now (omega arith) in
-    record {
-      base = c.base_of-base.ensures.is;
-      word = sym (ap (value (2 ^ c.args.bits)) none);
-      below = subst (AreBelow (2 ^ c.args.bits) (pow_pos c.args.bits)) (sym none) (below_none (2 ^ c.args.bits) (pow_pos c.args.bits));
-    }
 
 pub overflow_add-word : goal.overflow_add-word
 overflow_add-word c =
@@ -40,9 +31,4 @@ loop-at-preserved c =
     }
 
 pub returns : goal.returns
-returns c =
-    let none : length c.args.row.now - c.loop-at.at ≡ 0 = omega arith in
-    let all : drop (length c.args.row.now - c.loop-at.at) c.args.row.now ≡ c.args.row.now = ap (λ n. drop n c.args.row.now) none in
-    is_word (2 ^ c.args.bits) (pow_pos c.args.bits) c.args.row.now c.loop-at.word
-    (subst (AreBelow (2 ^ c.args.bits) (pow_pos c.args.bits)) all c.loop-at.invariant.below)
-    (c.loop-at.invariant.word ∙ ap (value (2 ^ c.args.bits)) all)
+returns c = grind (arith, common_steps, pow_pos, AreBelow, is_word)

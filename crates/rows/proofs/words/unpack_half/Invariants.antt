@@ -1,10 +1,6 @@
-use Rattle.std.proofs.Common.{◌≡◌, ◌-◌, ◌^◌, ◌++◌, length, take}
-use Rattle.rows.specs.Words.{digits}
+use Rattle.std.proofs.Common.{◌^◌, length}
+use Rattle.rows.proofs.Digits.{AreRead}
 use Rattle.rows.proofs.words.unpack_half.Given as goal
 
 abbrev pub invariant-loop-place : goal.invariant-loop-place
-invariant-loop-place l =
-    record {
-      long : length l.row ≡ length l.initial.row;
-      rest : take l.place l.row ++ digits (2 ^ l.bits) (length l.initial.row - l.place) l.rest ≡ digits (2 ^ l.bits) (length l.initial.row) l.word;
-    }
+invariant-loop-place l = AreRead (2 ^ l.bits) l.word (length l.initial.row) l.place l.rest l.row

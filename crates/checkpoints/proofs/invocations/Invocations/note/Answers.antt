@@ -1,14 +1,7 @@
 use Rattle.std.proofs.Common.{◌≡◌, ℕ, cond, nat_eq, List, Some, None, refl, ap, ◌∙◌, ◌++◌, ◌∷◌, [], subst}
-use Rattle.checkpoints.specs.Noted.{IsNotedAt, noted_of}
-use Rattle.checkpoints.proofs.Noted.{noted_set, noted_more}
+use Rattle.checkpoints.specs.Noted.{noted_of}
+use Rattle.checkpoints.proofs.Noted.{noted_more}
 use Rattle.checkpoints.proofs.invocations.Invocations.note.Goals as goal
-
-pub returns-in-Some-clause-noted : goal.returns-in-Some-clause-noted
-returns-in-Some-clause-noted c q =
-    let xs : List (ℕ × ℕ) = c.self.inside.noted.items in
-    let there : IsNotedAt xs c.args.process c.in-Some.at = subst (λ l. IsNotedAt l c.args.process c.in-Some.at) c.deref.ensures.value c.in-Some.ensures.there in
-    noted_set xs c.in-Some.at c.args.process there.index there.first there.is c.args.index q
-    ∙ ap (λ l. cond (nat_eq q c.args.process) (Some c.args.index) (noted_of l q)) c.self.view_is
 
 pub returns-in_ok-push-in-None-clause-noted : goal.returns-in_ok-push-in-None-clause-noted
 returns-in_ok-push-in-None-clause-noted c q =

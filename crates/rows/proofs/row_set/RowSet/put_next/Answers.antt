@@ -1,10 +1,11 @@
-use Rattle.std.proofs.Common.{◌≡◌, ◌^◌, map, length, get_or, set, sym, ap, ◌∙◌, subst, arith}
+use Rattle.std.proofs.Common.{◌^◌, map, length, set, sym, ap, ◌∙◌, subst, arith}
 use Rattle.std.proofs.lemmas.List.{length-set}
-use Rattle.std.proofs.lemmas.Result.{on_err_weaker, on_ok_weaker}
+use Rattle.std.proofs.lemmas.Result.{on_ok_weaker}
 use Rattle.rows.specs.RowSets.{IsPut}
 use Rattle.rows.specs.Words.{digits, rows_in}
 use Rattle.rows.proofs.Digits.{length-digits}
 use Rattle.rows.proofs.Packing.{packed_after, put_word, row_there, shows_words}
+use Rattle.std.proofs.lemmas.Grind.{common_steps}
 use Rattle.rows.proofs.row_set.RowSet.put_next.Goals as goal
 
 pub changed-next-requires-clause-within : goal.changed-next-requires-clause-within
@@ -17,19 +18,10 @@ changed-next-requires-clause-within c =
     omega (arith, long, within)
 
 pub changed-next-requires-clause-zero_there : goal.changed-next-requires-clause-zero_there
-changed-next-requires-clause-zero_there c =
-    let i = c.self.inside in
-    let rows = sym (shows_words i.wide i.bits i.long i.words i.lists c.if-not-self.true) ∙ c.self.view_is in
-    let there = row_there c.args.self.now i.bits i.long c.args.from c.in-Some.word i.words rows (sym c.in-Some.ensures) in
-    ap (λ l. get_or l c.args.at 0) (sym there) ∙ c.requires.zero_there
+changed-next-requires-clause-zero_there c = grind (arith, common_steps, row_there, shows_words)
 
 pub invariant_of-self : goal.invariant_of-self
-invariant_of-self c =
-    let i = c.self.inside in
-    let row = digits (2 ^ i.bits) i.long c.in-Some.word in
-    packed_after i.bits i.long (set (set row 0 c.args.to) c.args.at c.args.slot) c.changed-next.result
-    (length-set (set row 0 c.args.to) c.args.at c.args.slot ∙ length-set row 0 c.args.to ∙ length-digits (2 ^ i.bits) i.long c.in-Some.word)
-    c.changed-next.ensures c.put.result i.words c.put.new.self c.self.invariant c.put.ensures.put c.put.ensures.err
+invariant_of-self c = grind (arith, common_steps, length-set, length-digits, packed_after)
 
 pub returns-then-slot-self-eq0-clause-put : goal.returns-then-slot-self-eq0-clause-put
 returns-then-slot-self-eq0-clause-put c =
@@ -47,10 +39,3 @@ returns-then-slot-self-eq0-clause-put c =
     (length-set (set row 0 c.args.to) c.args.at c.args.slot ∙ length-set row 0 c.args.to ∙ length-digits (2 ^ i.bits) i.long c.in-Some.word)
     c.changed-next.ensures i.words c.put.new.self c.self.invariant put))))
     c.put.ensures.put
-
-pub returns-then-slot-self-eq0-clause-err : goal.returns-then-slot-self-eq0-clause-err
-returns-then-slot-self-eq0-clause-err c =
-    let i = c.self.inside in
-    on_err_weaker c.put.result
-    (λ (kept : c.put.new.self ≡ i.words). ap (λ l. rows_in i.wide i.bits i.long l i.lists) kept ∙ c.self.view_is)
-    c.put.ensures.err

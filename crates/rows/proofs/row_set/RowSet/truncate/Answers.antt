@@ -1,14 +1,8 @@
 use Rattle.std.proofs.Common.{◌^◌, map, take, ap, sym, ◌∙◌}
 use Rattle.std.specs.List.{take-map}
 use Rattle.rows.specs.Words.{digits}
-use Rattle.rows.proofs.Packing.{shows_lists, shows_words}
+use Rattle.rows.proofs.Packing.{shows_words}
 use Rattle.rows.proofs.row_set.RowSet.truncate.Goals as goal
-
-pub returns-then-self : goal.returns-then-self
-returns-then-self c =
-    let i = c.self.inside in
-    shows_lists i.wide i.bits i.long i.words _ c.if-self.true ∙ c.truncate.ensures
-    ∙ ap (take c.args.len) (sym (shows_lists i.wide i.bits i.long i.words i.lists c.if-self.true) ∙ c.self.view_is)
 
 pub returns-else-self : goal.returns-else-self
 returns-else-self c =

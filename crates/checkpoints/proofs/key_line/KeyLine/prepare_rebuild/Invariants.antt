@@ -1,0 +1,5 @@
+use Rattle.std.proofs.Common.{take}
+use Rattle.checkpoints.proofs.key_line.KeyLine.prepare_rebuild.Given as goal
+
+abbrev pub ghost-first : goal.ghost-first
+ghost-first a = take a._count.now a.self.now.events
