@@ -1,4 +1,5 @@
-//! How many events a monitor judges again, counted by hand: of each key that loses events those behind its last 64th one that stays.
+//! How many events a monitor judges again, counted by hand: of each key that loses events those behind its last 64th one that
+//! stays.
 
 use edn::Refusal;
 use events::{Body, Event, EventKind, Process};

@@ -303,6 +303,3 @@ module _ {E : Type 0} where
       let all : tape_of e.tape new ≡ tape_of e.tape both ++ e.entry ∷ [] = subst (λ (a : BookLine E). tape_of a.tape new ≡ tape_of a.tape both ++ a.entry ∷ []) is then.1 in
       let on : next_of e.tape new ≡ Some e.next = subst (λ (a : BookLine E). next_of a.tape new ≡ Some a.next) is then.2 in
       (all ∙ ap (λ w. w ++ e.entry ∷ []) (sym done.0), on, done.1)
-
-pub first_stays : {E : Type 0} (t : List (BookLine E)) → StaysHome t 0
-first_stays t cells log kept pre = kept.first

@@ -1,5 +1,9 @@
 //! One monitor that many threads share: a lock round the one-thread object, one tape of its calls, glances that take no lock.
 //!
+//! Under the lock a call goes four steps: it is prepared, which alone may want memory; entered on the tape; carried out; and
+//! published. What is published stands in two copies, of which readers have one while the writer fills the other, so a glance waits
+//! for nobody. A seat keeps the newest publication that it has seen, and with it knows how the tape begins.
+//!
 //! A call takes memory only where its result can be `AllocError`, or a refusal for want of memory.
 #![tactic(auto)]
 

@@ -25,10 +25,11 @@ const MOST_ENTRIES: u64 = (1 << 32) - 1;
 pub struct Locked<X: OneThread, B: Tag, T: HoldsPublished<Published<X, B>>> {
     pub(crate) object: X,
     pub(crate) tape: WholeTape<X, B>,
-    // A call has it while it publishes.
+    // The two copies of what is published. None while a call publishes.
     pub(crate) writer: Option<Writer<T, (), (), Unruled>>,
+    // How many calls there were: a ledger, of which each seat has the share that it made. For proofs alone.
     pub(crate) calls: Book<B>,
-    // It has no part.
+    // What no seat has of that ledger: nothing. Seats' shares are added to it as the board ends.
     pub(crate) rest: Share<B>,
 }
 
@@ -86,7 +87,9 @@ fn published_by<P: Drop, T: HoldsPublished<P>>(writer: &Option<Writer<T, (), (),
 }
 
 impl<X: OneThread, B: Tag, T: HoldsPublished<Published<X, B>>> Locked<X, B, T> {
-    /// Carries out a command of the seat. What the seat has then seen is what readers see.
+    /// Carries out a command of the seat, in four steps: it is prepared, entered on the tape, carried out and published. The word
+    /// of the board that counts the calls (`tape_length`) goes on with the tape. What the seat has then seen is what readers see;
+    /// where the command is refused for want of memory it has seen what it had seen before.
     pub(crate) fn call<G: Gate, R: Wait>(
         &mut self,
         rt: &R,
@@ -139,7 +142,8 @@ impl<X: OneThread, B: Tag, T: HoldsPublished<Published<X, B>>> Locked<X, B, T> {
     }
 }
 
-// Proves that the tape begins with what these seats have seen, and counts their calls.
+// Takes the seats back, as the board ends. What it does is for its clauses alone: the tape begins with what each seat has seen, and
+// the seats' calls are all there were.
 pub(crate) fn gather<X: OneThread, B: Tag, T: HoldsPublished<Published<X, B>>>(
     tape_length: &TapeLength<X, B>,
     object: &X,

@@ -1,6 +1,6 @@
 //! The events of a recorded history, as they are read.
-ghost use Rattle.std.specs.Prelude.{◌≡◌, ◌≢◌, ◌<◌, Some, length, IfOk, IfErr, IfSome, IfNone, OnOk, OnErr};
-ghost use Rattle.edn.specs.Value.{Value, Values, none, more, joined};
+ghost use Rattle.std.specs.Prelude.{◌≡◌, ◌≢◌, ◌<◌, Some, IfOk, IfErr, IfSome, IfNone, OnOk, OnErr};
+ghost use Rattle.edn.specs.Value.{Value, Values, none};
 ghost use Rattle.edn.specs.Text.{IsText};
 ghost use Rattle.edn.specs.Elements.{IsLeftBehind};
 ghost use Rattle.edn.specs.Refusals.{IsWhy};

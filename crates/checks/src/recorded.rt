@@ -36,11 +36,11 @@ pub enum Findings {
 /// Judges a text whose elements are events, in turn, up to the first that is refused. What [`Config::check`] refuses is
 /// found before anything is read.
 ///
-/// Where the bytes are no text, that is what is found, even if an element before that place would be refused. The bytes are
-/// read once, and one element of them is held at a time. Where all are taken, so many workers, 1 to 64, judge the keys, at
-/// the cost of [`Monitor::load`]; the calling thread is one of them, and waits for the others. What is found is the same by
-/// any number of them. The onlooker is told on the way how many events are taken, and when they are judged. What was judged stays in
-/// memory until the process ends.
+/// Where the bytes are no text, that is what is found, even if an element before that place would be refused. The bytes are read
+/// once, and one element of them is held at a time. Where all are taken, so many workers, 1 to 64, judge the keys, at the cost of
+/// [`Monitor::load`]; the calling thread is one of them, and waits for the others. What is found is the same by any number of them.
+/// The onlooker is told on the way how many events are taken, and when they are judged. What was judged stays in memory until the
+/// process ends.
 pub fn judge_text<X: Threads + Sync, L: Onlooker>(
     rt: &X,
     alloc: Global,

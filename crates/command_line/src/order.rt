@@ -92,8 +92,8 @@ pub fn order_of(alloc: Global, words: &[String]) -> Result<Order, Stop>
     order_by(alloc, name, options)
 }
 
-/// The order of the command of this name, by what was found of its options: of `run`, of `check`, of `confirm`, else of `script`. It
-/// takes memory for the parts of a run, for the path of a file, and for a usage fault.
+/// The order of the command of this name, by what was found of its options: of `run`, of `check`, of `confirm`, else of `script`.
+/// It takes memory for the parts of a run, for the path of a file, and for a usage fault.
 ///
 /// # Errors
 ///

@@ -9,8 +9,8 @@ ghost use Rattle.confirms.specs.Found.{ComesTo, IsWhole};
 ghost use Rattle.confirms.specs.declared.found.Found.{Found};
 
 /// The bytes of a history and those of an order determine the events and the order, whether it is one, and else the place that is
-/// told. So no input is said to be linearizable and no order, and what [`confirm_text`](crate::confirm_text) says is said of all that
-/// was read.
+/// told. So no input is said to be linearizable and no order, and what [`confirm_text`](crate::confirm_text) says is said of all
+/// that was read.
 pub fn one_answer()
     ensures history { (c : ℕ) (bytes : List ℕ) (events others : List Event) →
         IsWhole c bytes events → IsWhole c bytes others → events ≡ others }

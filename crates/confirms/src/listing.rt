@@ -1,5 +1,5 @@
 //! The order of operations that a text lists.
-ghost use Rattle.std.specs.Prelude.{◌≡◌, ◌^◌, ℕ, List, ◌++◌, IfOk, IfErr, true, false};
+ghost use Rattle.std.specs.Prelude.{◌^◌, IfOk, IfErr, true, false};
 ghost use Rattle.edn.specs.Refusals.{IsWhy};
 ghost use Rattle.edn.specs.View.{value_of, values_of};
 ghost use Rattle.models.specs.Names.{Finds};

@@ -1,6 +1,6 @@
 -- An element by its first byte
 use Rattle.std.proofs.Common.{◌≡◌, ℕ, ◌+◌, ◌<◌, ◌≤◌, Bool, true, false, List, [], ◌∷◌, ◌++◌, length, refl, sym, ap, ap₂, ◌∙◌, subst, arith}
-use Rattle.edn.specs.Value.{Value, text, vector, pairs, members, Values, Pairs, in_text, keys, AreDistinct}
+use Rattle.edn.specs.Value.{Value, pairs, members, Values, Pairs, in_text, keys, AreDistinct}
 use Rattle.edn.specs.Bytes.{is_white, IsAtom, MayFollowAtom}
 use Rattle.edn.specs.Reading.{closes, IsToken}
 use Rattle.edn.specs.Text.{SkipsLine, SkipsGap, ReadsString, Reads, ReadsAll}
@@ -9,7 +9,6 @@ use Rattle.edn.proofs.Spellings.{no_atom, atom_token, one_token}
 use Rattle.edn.specs.Bytes.{SpellsByte}
 use Rattle.edn.specs.Bytes.SpellsByte.{itself, escaped}
 use Rattle.edn.specs.Text.ReadsString.{closing, one_byte}
-use Rattle.std.specs.Str.{IsUtf8}
 use Rattle.edn.specs.Text.SkipsLine.{at_end, at_line_feed, over}
 use Rattle.edn.specs.Text.SkipsGap.{no_gap, white, comment, discard}
 use Rattle.edn.specs.Text.ReadsAll.{no_more, one_more}
@@ -18,17 +17,9 @@ use Rattle.std.specs.Prelude.{◌||◌, ◌&&◌, ◌==◌}
 use Rattle.edn.proofs.Spellings.{begins_gap, begins_with, or_false, atom_starts}
 use Rattle.edn.proofs.Unique.{one_list}
 
-pub bracket_off : {d : ℕ} {t r : List ℕ} {v : Value} → Reads d (91 ∷ t) v r → (vs : Values) × (v ≡ vector vs) × (d < 32) × ReadsAll (d + 1) t vs (93 ∷ r)
-bracket_off (atom i f e) = absurd (no_atom 91 _ _ refl i e)
-bracket_off (in_brackets m h) = (_, refl, m, h)
-
 pub brace_off : {d : ℕ} {t r : List ℕ} {v : Value} → Reads d (123 ∷ t) v r → (ps : Pairs) × (v ≡ pairs ps) × (d < 32) × ReadsAll (d + 1) t (in_text ps) (125 ∷ r) × AreDistinct (keys ps)
 brace_off (atom i f e) = absurd (no_atom 123 _ _ refl i e)
 brace_off (in_braces m h x) = (_, refl, m, h, x)
-
-pub quote_off : {d : ℕ} {t r : List ℕ} {v : Value} → Reads d (34 ∷ t) v r → (s : List ℕ) × (v ≡ text s) × ReadsString t s r × IsUtf8 s
-quote_off (atom i f e) = absurd (no_atom 34 _ _ refl i e)
-quote_off (in_quotes h u) = (_, refl, h, u)
 
 pub hash_brace_off : {d : ℕ} {t r : List ℕ} {v : Value} → Reads d (35 ∷ 123 ∷ t) v r → (vs : Values) × (v ≡ members vs) × (d < 32) × ReadsAll (d + 1) t vs (125 ∷ r) × AreDistinct vs
 hash_brace_off (atom i f e) = absurd (no_atom 35 _ _ refl i e)

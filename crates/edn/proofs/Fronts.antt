@@ -377,41 +377,6 @@ pub record PlaceSoFar (bytes : List ℕ) (owed : ℕ) (rest : List ℕ) (best : 
   pub complete : (m : ℕ) → Ends 0 bytes m → (m ≤ best) ⊎ ((j : ℕ) × (m + length rest ≡ length bytes + j) × Ends owed rest j)
   pub is_end : Ends 0 bytes best
 
-pub place_start : (bytes : List ℕ) → PlaceSoFar bytes 0 bytes 0
-place_start bytes = record {
-  within = omega arith;
-  sound = λ m h. subst (Ends 0 bytes) (omega arith) h;
-  complete = λ m h. inr (m, omega arith, h);
-  is_end = ends_at_once bytes;
-}
-
--- A step over the front of what is left. The fronts that end inside the step end with it at the latest, and then nothing is owed behind it.
-pub place_step : (bytes : List ℕ) (owed next_owed : ℕ) (rest next : List ℕ) (best next_best : ℕ) →
-    length next < length rest →
-    ((m : ℕ) → Ends next_owed next m → Ends owed rest (m + (length rest - length next))) →
-    ((m : ℕ) → 0 < m → Ends owed rest m → ((next_owed ≡ 0) × (m + length next ≤ length rest)) ⊎ ((j : ℕ) × (m + length next ≡ length rest + j) × Ends next_owed next j)) →
-    best ≤ next_best → ((owed ≡ 0) → length bytes ≤ next_best + length rest) → ((next_owed ≡ 0) → length bytes ≤ next_best + length next) → Ends 0 bytes next_best →
-    PlaceSoFar bytes owed rest best → PlaceSoFar bytes next_owed next next_best
-place_step bytes owed next_owed rest next best next_best less on back up here there is_end p = record {
-  within = omega (arith, p.within);
-  sound = λ m h. let w = p.within in subst (Ends 0 bytes) (omega arith) (p.sound (m + (length rest - length next)) (on m h));
-  complete = λ m h. go m (p.complete m h);
-  is_end = is_end;
-}
-  where
-    later : (m j : ℕ) → m + length rest ≡ length bytes + j → ((next_owed ≡ 0) × (j + length next ≤ length rest)) ⊎ ((i : ℕ) × (j + length next ≡ length rest + i) × Ends next_owed next i) →
-        (m ≤ next_best) ⊎ ((i : ℕ) × (m + length next ≡ length bytes + i) × Ends next_owed next i)
-    later m j e (inl q) = let k = there q.0 in inl (omega (arith, q.1))
-    later m j e (inr q) = inr (q.0, omega (arith, q.1), q.2)
-
-    at : (m j : ℕ) → m + length rest ≡ length bytes + j → Ends owed rest j → (m ≤ next_best) ⊎ ((i : ℕ) × (m + length next ≡ length bytes + i) × Ends next_owed next i)
-    at m zero e h = let k = here (ends_only_paid owed rest h) in inl (omega arith)
-    at m (suc j) e h = later m (suc j) e (back (suc j) (omega arith) h)
-
-    go : (m : ℕ) → (m ≤ best) ⊎ ((j : ℕ) × (m + length rest ≡ length bytes + j) × Ends owed rest j) → (m ≤ next_best) ⊎ ((i : ℕ) × (m + length next ≡ length bytes + i) × Ends next_owed next i)
-    go m (inl q) = inl (omega arith)
-    go m (inr q) = at m q.0 q.1 q.2
-
 -- At the head of the reader's loop: the place where it stands is a front too where nothing is owed
 pub record AtHead (bytes : List ℕ) (owed : ℕ) (rest : List ℕ) (best : ℕ) : Type 0 where
   pub within : length rest ≤ length bytes

@@ -79,10 +79,6 @@ name_found text rest name left h stop e f = record {
     not_more : (m n : ℕ) → (n < m → ⊥) → m ≤ n
     not_more m n p = grind arith
 
-pub no_name : (text : List ℕ) → ((b : ℕ) (t : List ℕ) → text ≡ b ∷ t → IsTrue (is_letter b) → ⊥) → HasNone IsName text
-no_name text stop [] z w i e = absurd i.0
-no_name text stop (b ∷ a) z w i e = stop b (a ++ z) e i.0.0
-
 -- a name is ASCII
 
 or_small : (n : ℕ) (p q : Bool) → (p ≡ true → n < 128) → (q ≡ true → n < 128) → (p || q) ≡ true → n < 128

@@ -3,7 +3,7 @@ use Rattle.std.proofs.Common.{◌≡◌, ℕ, ◌+◌, ◌<◌, Option, Some, No
 use Rattle.edn.specs.Value.{Value, Values, none, more, joined}
 use Rattle.edn.specs.Text.{SkipsGap, IsText}
 use Rattle.edn.specs.Text.ReadsAll.{no_more, one_more}
-use Rattle.edn.specs.Reading.{HasNoInside, FindsNext}
+use Rattle.edn.specs.Reading.{FindsNext}
 use Rattle.edn.specs.Elements.{IsLeftBehind, count_of}
 use Rattle.edn.specs.View.{value_of}
 use Rattle.edn.specs.declared.value.Edn.{Edn}
@@ -61,10 +61,6 @@ pub found_end : (bytes left rest : List ℕ) (found : Option Edn) → FindsNext 
     IfNone found ((given : Values) → IsLeftBehind bytes given left → IsText bytes given)
 found_end bytes left rest (Some e) f n = tt
 found_end bytes left rest None f n = λ given h. left_done bytes given left rest f n h
-
--- an input of which the rest is no text
-pub left_stuck : (bytes : List ℕ) (given : Values) (left : List ℕ) → HasNoInside 0 left → IsLeftBehind bytes given left → (values : Values) → IsText bytes values → ⊥
-left_stuck bytes given left n h values t = let a = h.complete values t in n a.0 [] refl a.2
 
 pub left_closed : (bytes : List ℕ) (given : Values) (left rest : List ℕ) → FindsNext 0 left None rest → (length rest ≡ 0 → ⊥) → IsLeftBehind bytes given left → (values : Values) → IsText bytes values → ⊥
 left_closed bytes given left rest f n h values t =

@@ -105,9 +105,6 @@ so_far_next d text read t w v f h = so_far_kept d text read f.0 w v f.2 (so_far_
 pub so_far_done : (d : ℕ) (text : List ℕ) (read : Values) (t w : List ℕ) → FindsNext d t None w → SoFar d text read t → ReadsAll d text read w
 so_far_done d text read t w f h = subst (λ x. ReadsAll d text x w) (joined_none read) (h.sound none w f.1 (no_more f.0))
 
-pub so_far_stuck : (d : ℕ) (text : List ℕ) (read : Values) (t : List ℕ) → HasNoInside d t → SoFar d text read t → HasNoInside d text
-so_far_stuck d text read t n h vs r c q = let a = h.complete vs r c q in n a.0 r c a.2
-
 -- A gap that is read on: so many elements are owed to discards first
 abbrev pub OwesGap : ℕ → ℕ → List ℕ → List ℕ → Type 0
 OwesGap d zero t u = SkipsGap d t u
@@ -116,9 +113,6 @@ OwesGap d (suc k) t u = (x y : List ℕ) × (v : Value) × SkipsGap d t x × Rea
 pub record GapSoFar (d : ℕ) (text : List ℕ) (k : ℕ) (rest : List ℕ) : Type 0 where
   pub sound : (u : List ℕ) → begins_gap u ≡ false → OwesGap d k rest u → SkipsGap d text u
   pub complete : (u : List ℕ) → begins_gap u ≡ false → SkipsGap d text u → OwesGap d k rest u
-
-pub gap_start : (d : ℕ) (t : List ℕ) → GapSoFar d t 0 t
-gap_start d t = record { sound = λ u s g. g; complete = λ u s g. g }
 
 owed_moved : (d k : ℕ) (t s : List ℕ) → ((u : List ℕ) → begins_gap u ≡ false → SkipsGap d t u → SkipsGap d s u) → (u : List ℕ) → begins_gap u ≡ false → OwesGap d k t u → OwesGap d k s u
 owed_moved d zero t s f u end g = f u end g

@@ -11,9 +11,6 @@ pub record StringSoFar (text read rest : List ℕ) : Type 0 where
   pub sound : (s r : List ℕ) → ReadsString rest s r → ReadsString text (read ++ s) r
   pub complete : (s r : List ℕ) → ReadsString text s r → (left : List ℕ) × ReadsString rest left r
 
-pub string_start : (t : List ℕ) → StringSoFar t [] t
-string_start t = record { sound = λ s r h. h; complete = λ s r h. (s, h) }
-
 after_byte : {t u s r : List ℕ} {b : ℕ} → SpellsByte t b u → ReadsString t s r → (left : List ℕ) × ReadsString u left r
 after_byte i closing = absurd (no_spelled_quote i)
 after_byte {r = r} i (one_byte {s = s} j h) = let same = one_spelled i j in (s, subst (λ x. ReadsString x s r) (sym same.1) h)

@@ -125,8 +125,9 @@ fn is_new_collection<T: Keyed>(
 const FEW: usize = 8;
 
 /// Whether no two of the items have the same key; `AllocError` where there is no memory to find it. The time grows with the
-/// logarithm of their number for each item, and with their number for a collection alone that is told from an earlier one by no number
-/// ([`digest`]). Of at most 8 items, each is compared with those before it; integers that rise are looked at once, and take no memory.
+/// logarithm of their number for each item, and with their number for a collection alone that is told from an earlier one by no
+/// number ([`digest`]). Of at most 8 items, each is compared with those before it; integers that rise are looked at once, and take
+/// no memory.
 pub fn are_distinct<T: Keyed>(alloc: Global, items: &[T]) -> Result<bool, AllocError>
     ensures { IfOk result
         (λ yes. IsTrue yes ↔ AreDistinct (list_of (map T.key_value items.now))) }

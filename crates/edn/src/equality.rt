@@ -3,8 +3,8 @@
 //! Two sets are the same where each member of the one has among the members of the other more that are the same as it
 //! than stand before it in its own set. So nothing has to be marked as taken, and no memory is needed.
 
-ghost use Rattle.std.specs.Prelude.{◌≡◌, ℕ, ◌+◌, ◌↔◌, IsTrue, IfSome, IfNone};
-ghost use Rattle.edn.specs.Value.{Value, Values, Pairs, Same, SameInOrder, SameMembers, SamePairs, vector, pairs, members};
+ghost use Rattle.std.specs.Prelude.{◌+◌, ◌↔◌, IsTrue};
+ghost use Rattle.edn.specs.Value.{Same, SameInOrder, SameMembers, SamePairs, pairs, members};
 ghost use Rattle.edn.specs.Counts.{CountsSame, HasSame, CountsSamePair, HasSamePair};
 ghost use Rattle.edn.specs.View.{value_of, values_of, entries_of};
 

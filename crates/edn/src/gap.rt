@@ -1,6 +1,6 @@
 //! What may stand between elements, and where elements end.
 
-ghost use Rattle.std.specs.Prelude.{◌≡◌, ℕ, ◌++◌, ◌∷◌, true, false, List, IfSome, IfNone};
+ghost use Rattle.std.specs.Prelude.{◌≡◌, ℕ, ◌∷◌, true, false, List, IfSome, IfNone};
 ghost use Rattle.edn.specs.Bytes.{is_white};
 ghost use Rattle.edn.specs.Text.{SkipsLine};
 ghost use Rattle.edn.specs.Reading.{closes};

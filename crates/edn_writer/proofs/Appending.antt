@@ -13,9 +13,6 @@ use Rattle.edn.specs.declared.value.Edn.{Edn}
 pub begins_after : (old mid new bytes : List ℕ) → mid ≡ old ++ bytes → BeginsWith mid new → BeginsWith old new
 begins_after old mid new bytes e b = (bytes ++ b.0, b.1 ∙ ap (λ t. t ++ b.0) e ∙ append_assoc old bytes b.0)
 
-pub begins_same : (old new : List ℕ) → new ≡ old → BeginsWith old new
-begins_same old new e = ([], e ∙ sym (append-nil old))
-
 pub then_more : (old mid new a b : List ℕ) → mid ≡ old ++ a → new ≡ mid ++ b → new ≡ old ++ (a ++ b)
 then_more old mid new a b e f = f ∙ ap (λ t. t ++ b) e ∙ append_assoc old a b
 

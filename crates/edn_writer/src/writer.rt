@@ -1,7 +1,7 @@
 //! The writer: each function appends a part of a canonical text. Where memory runs out, what it has appended by then stays,
 //! and [`write`] takes it off.
 
-ghost use Rattle.std.specs.Prelude.{◌≡◌, ◌==◌, [], ◌∷◌, ◌++◌, is_ok, if◌then◌else◌, string_bytes, IfSome, IfNone, IfErr};
+ghost use Rattle.std.specs.Prelude.{◌≡◌, ◌==◌, [], ◌∷◌, ◌++◌, is_ok, if◌then◌else◌, IfSome, IfNone, IfErr};
 ghost use Rattle.std.specs.Fmt.{signed_decimal};
 ghost use Rattle.std.specs.List.{flat_map};
 ghost use Rattle.edn.specs.Value.{vector, members, pairs};

@@ -1,5 +1,5 @@
 -- What the elements of a collection are, read one after another; and what is known of integers put in their places
-use Rattle.std.proofs.Common.{◌≡◌, ◌↔◌, ℕ, ◌+◌, ◌<◌, ◌≤◌, ℤ, Option, Some, None, is_some, List, [], ◌∷◌, ◌++◌, length, drop, get_or, option_map, refl, sym, ap, ◌∙◌, subst, append_assoc, drop-cons, add-one, ⊎_elim, ◌⊎◌, inl, inr, arith, Result, Ok, Err, IfOk}
+use Rattle.std.proofs.Common.{◌≡◌, ◌↔◌, ℕ, ◌+◌, ◌<◌, ◌≤◌, ℤ, Option, Some, None, List, [], ◌∷◌, ◌++◌, length, drop, get_or, option_map, refl, sym, ap, ◌∙◌, subst, append_assoc, drop-cons, add-one, ⊎_elim, ◌⊎◌, inl, inr, arith, Result, Ok, Err, IfOk}
 use Rattle.std.specs.Prelude.{IsSomeAnd}
 use Rattle.std.proofs.lemmas.List.{append-nil, drop_all}
 use Rattle.std.specs.List.{Contains}
@@ -28,17 +28,9 @@ read_step read vs i v h is =
 pub read_none : {X : Type 0} (read : Value → Option X) (vs : List Edn) (i : ℕ) → length vs ≤ i → read_from read vs i ≡ Some []
 read_none read vs i h = ap (λ l. each_in read (values_of l)) (drop_all i vs h)
 
-pub after_nothing : {X : Type 0} (o : Option (List X)) → o ≡ after [] o
-after_nothing None = refl
-after_nothing (Some ys) = refl
-
 pub after_first : {X : Type 0} (xs : List X) (x : X) (o : Option (List X)) → after xs (with_first (Some x) o) ≡ after (xs ++ x ∷ []) o
 after_first xs x None = refl
 after_first xs x (Some ys) = ap Some (sym (append_assoc xs (x ∷ []) ys))
-
-pub is_some_first : {X : Type 0} (x : X) (o : Option (List X)) → is_some (with_first (Some x) o) ≡ is_some o
-is_some_first x None = refl
-is_some_first x (Some ys) = refl
 
 -- what is read of all is what was read so far, what the next is, and what is read of the rest
 pub split_at : {X : Type 0} (whole : Option (List X)) (xs : List X) (o : Option X) (rest : Option (List X)) (all : List X)

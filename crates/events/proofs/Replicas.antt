@@ -21,9 +21,6 @@ one_if-le : (b : Bool) → one_if b ≤ 1
 one_if-le true = omega arith
 one_if-le false = omega arith
 
-pub seen_none : (seen : List Bool) → length seen ≡ 7 → ((r : ℕ) → get_or seen r false ≡ false) → HasSeen seen []
-seen_none seen len none = record { len = len; replicas = λ k d h. absurd (omega arith); counts = λ r. sym (ap one_if (none r)) }
-
 -- a new number is marked
 pub seen_more : (seen : List Bool) (numbers : List ℕ) (x : ℕ) → HasSeen seen numbers → x < 7 → get_or seen x false ≡ false → HasSeen (slice_set seen x true) (numbers ++ x ∷ [])
 seen_more seen numbers x h below new = record {

@@ -1,8 +1,8 @@
 -- What the elements of a vector are, and what spells no part
-use Rattle.std.proofs.Common.{◌≡◌, ◌≢◌, ℤ, true, is_some, Option, Some, None, List, [], ◌∷◌, length, get_or, refl, sym, ap, ◌∙◌, arith}
+use Rattle.std.proofs.Common.{◌≡◌, ◌≢◌, ℤ, true, is_some, Option, Some, None, List, [], ◌∷◌, length, refl, sym, ap, ◌∙◌}
 use Rattle.edn.specs.Value.{Value, nil, int, vector, none, more}
 use Rattle.edn.specs.Parts.{int_in}
-use Rattle.edn.specs.View.{value_of, values_of}
+use Rattle.edn.specs.View.{values_of}
 use Rattle.edn.specs.declared.value.Edn.{Edn}
 use Rattle.models.specs.declared.operation.Part.{Part}
 use Rattle.models.specs.declared.operation.Part.TheVariants.{Nil, Int, Pair, Set}
@@ -17,12 +17,6 @@ not_two [] h = refl
 not_two (x ∷ []) h = refl
 not_two (x ∷ y ∷ []) h = absurd (h refl)
 not_two (x ∷ y ∷ z ∷ rest) h = refl
-
-pub are_two : (vs : List Edn) (v w : Edn) → length vs ≡ 2 → v ≡ get_or vs 0 v → w ≡ get_or vs 1 w → Some (value_of v, value_of w) ≡ two_in (vector (values_of vs))
-are_two [] v w h first second = absurd (omega arith)
-are_two (x ∷ []) v w h first second = absurd (omega arith)
-are_two (x ∷ y ∷ []) v w h first second = ap (λ a. Some (value_of a, value_of w)) first ∙ ap (λ a. Some (value_of x, value_of a)) second
-are_two (x ∷ y ∷ z ∷ rest) v w h first second = absurd (omega arith)
 
 -- what is not nil, no integer, no vector of two integers and no set of them that may be there spells no part that may
 pub no_part : (kind : EventKind) (name : Name) (v : Value) → v ≢ nil → int_in v ≡ None → ((p : ℤ × ℤ) → v ≢ vector (more (int p.0) (more (int p.1) none)))

@@ -1,5 +1,5 @@
 -- What an event is written as spells the event
-use Rattle.std.proofs.Common.{◌≡◌, ℕ, suc, ℤ, ◌+◌, ◌<◌, ◌≤◌, ◌^◌, true, false, cond, Bool, Option, Some, None, IfSome, Result, Ok, Err, IfOk, Vec, ◌<ℤ◌, ⊎_elim, Global, List, [], ◌∷◌, ◌++◌, length, map, take, get_or, option_map, refl, sym, ap, ◌∙◌, subst, rules, arith}
+use Rattle.std.proofs.Common.{◌≡◌, ℕ, suc, ℤ, ◌+◌, ◌<◌, ◌≤◌, ◌^◌, true, false, cond, Option, Some, None, Vec, ◌<ℤ◌, ⊎_elim, Global, List, [], ◌∷◌, ◌++◌, length, map, take, get_or, option_map, refl, sym, ap, ◌∙◌, subst, rules, arith}
 use Rattle.std.specs.Prelude.{int_lt}
 use Rattle.std.specs.declared.cmp.Ordering.TheVariants.{Less, Equal, Greater}
 use Rattle.std.proofs.lemmas.Bool.{lt-ltb, cases_Bool}

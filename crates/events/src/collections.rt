@@ -1,5 +1,5 @@
 //! What vectors and sets of a text are.
-ghost use Rattle.std.specs.Prelude.{◌≡◌, ◌^◌, ◌↔◌, ◌++◌, ℕ, List, Some, IsTrue, IsSome, IsSomeAnd, IsErr, IfOk, MatchBool, option_map, map, length};
+ghost use Rattle.std.specs.Prelude.{◌≡◌, ◌^◌, ◌↔◌, ◌++◌, ℕ, List, Some, IsTrue, IsSome, IsSomeAnd, IsErr, IfOk, MatchBool, option_map, length};
 ghost use Rattle.edn.specs.View.{value_of, values_of};
 ghost use Rattle.edn.specs.Parts.{int_in};
 ghost use Rattle.events.specs.Replicas.{AreApart, AreGroups, HasSeen};

@@ -2,7 +2,7 @@
 ghost use Rattle.std.specs.Prelude.{◌≡◌, ◌^◌, IfOk, OnOk, map};
 ghost use Rattle.edn.specs.Value.{int, keyword, vector, more, none};
 ghost use Rattle.edn.specs.View.{value_of};
-ghost use Rattle.events.specs.Spelling.{text_of_kind, text_of_fault, SpellsProcess, SpellsPart, SpellsKeyed, number_in, numbers_in, groups_in, fault_by, Spells};
+ghost use Rattle.events.specs.Spelling.{text_of_kind, SpellsProcess, SpellsPart, SpellsKeyed, number_in, numbers_in, groups_in, fault_by, Spells};
 ghost use Rattle.events.specs.Tables.{IsInTables};
 ghost use Rattle.events.specs.EventMap.{number, numbers, process_value, part_value, kind_of_fault, fault_value, name_of_body, body_value, event_value, map_of, with_index, IsToldBy, IsPairBehind};
 

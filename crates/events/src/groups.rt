@@ -1,5 +1,5 @@
 //! The groups of a partition.
-ghost use Rattle.std.specs.Prelude.{◌≡◌, ◌≢◌, ◌↔◌, ℕ, List, ◌++◌, length, map, IsTrue, IfOk, MatchBool};
+ghost use Rattle.std.specs.Prelude.{◌≡◌, ◌↔◌, ℕ, List, ◌++◌, length, map, IsTrue, IfOk, MatchBool};
 ghost use Rattle.events.specs.Replicas.{AreApart, AreGroups, HasSeen};
 
 use std::alloc::AllocError;

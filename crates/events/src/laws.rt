@@ -5,7 +5,7 @@ ghost use Rattle.values.specs.Members.{IsAscending};
 ghost use Rattle.edn.specs.Value.{Value};
 ghost use Rattle.events.specs.Spelling.{ascending, Spells};
 ghost use Rattle.events.specs.declared.event.Event.{Event};
-ghost use Rattle.events.specs.Events.{entries_of, indexed_from, events_of_key, of_key};
+ghost use Rattle.events.specs.Events.{entries_of, events_of_key, of_key};
 ghost use Rattle.events.specs.ProcessRule.{IsHistory};
 
 /// The events of one key are a history by themselves, and their entries are the key's entries: what became of a key's

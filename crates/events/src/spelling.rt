@@ -1,5 +1,5 @@
 //! Events as they are spelled in texts.
-ghost use Rattle.std.specs.Prelude.{◌≡◌, ◌↔◌, codes, option_map, IsTrue, IsErr, IfOk, IfErr, IsErrOf};
+ghost use Rattle.std.specs.Prelude.{◌≡◌, ◌↔◌, option_map, IsTrue, IsErr, IfOk, IfErr, IsErrOf};
 ghost use Rattle.std.specs.Option.{option_copied};
 ghost use Rattle.edn.specs.View.{value_of};
 ghost use Rattle.edn.specs.Value.{keyword};

@@ -1,7 +1,6 @@
 -- Forms that ask their first child that is not over
-use Rattle.std.proofs.Common.{◌≡◌, ℕ, ◌+◌, ◌<◌, ◌≤◌, Bool, true, false, ◌&&◌, ◌||◌, List, [], ◌∷◌, length, get_or, drop, sym, subst, arith}
-use Rattle.std.specs.Prelude.{not}
-use Rattle.std.proofs.lemmas.List.{at_drop_more, at_drop_all}
+use Rattle.std.proofs.Common.{◌≡◌, ℕ, ◌+◌, ◌<◌, Bool, true, false, ◌||◌, List, [], ◌∷◌, length, get_or, drop, sym, subst, arith}
+use Rattle.std.proofs.lemmas.List.{at_drop_more}
 use Rattle.generators.specs.declared.search_result.SearchResult.{SearchResult}
 use Rattle.generators.specs.declared.search_result.SearchResult.TheVariants.{Gives, Declines}
 use Rattle.generators.specs.declared.form.Gen.{Gen}
@@ -46,24 +45,6 @@ module _ (words : ℕ → ℕ) (ask : Ask) where
   pub record PassedTo (passing : Bool) (p : ℕ) (xs : List Gen) (i : ℕ) : Type 0 where
     pub passed : (form : Generators → Generator) → DrawsFirst words ask form passing → (o : DrawOutcome Generator)
         → Draws words ask (form (generators_of (drop i xs))) p o → Draws words ask (form (generators_of xs)) p o
-
-  pub passed_none : (passing : Bool) (p : ℕ) (xs : List Gen) → PassedTo passing p xs 0
-  passed_none passing p xs = record { passed = λ form f o k. k }
-
-  pub passed_more : (passing : Bool) (p : ℕ) (xs : List Gen) (i : ℕ) (d : Gen) → i < length xs
-      → is_over (generator_of (get_or xs i d)) ≡ true → is_some (generators_of (drop (i + 1) xs)) && not passing ≡ false
-      → PassedTo passing p xs i → PassedTo passing p xs (i + 1)
-  passed_more passing p xs i d h over free before = record {
-    passed = λ form f o k.
-        let next = f.passes (generator_of (get_or xs i d)) (generators_of (drop (i + 1) xs)) p o over free k in
-        before.passed form f o (subst (λ gs. Draws words ask (form gs) p o) (sym (at_drop_more generators_of xs i d h)) next);
-  }
-
-  pub passed_all : (passing : Bool) (p : ℕ) (xs : List Gen) (i : ℕ) → length xs ≤ i → PassedTo passing p xs i
-      → (form : Generators → Generator) → DrawsFirst words ask form passing → Draws words ask (form (generators_of xs)) p (declines false p)
-  passed_all passing p xs i h before form f =
-      before.passed form f (declines false p)
-      (subst (λ gs. Draws words ask (form gs) p (declines false p)) (sym (at_drop_all generators_of xs i h)) (f.of_none p))
 
   pub waits_here : (passing : Bool) (p : ℕ) (xs : List Gen) (i : ℕ) (d : Gen) → i + 1 < length xs
       → is_over (generator_of (get_or xs i d)) ≡ true → passing ≡ false → PassedTo passing p xs i

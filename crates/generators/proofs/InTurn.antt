@@ -51,12 +51,6 @@ module _ (words : ℕ → ℕ) (ask : Ask) where
     pub declining : (others : Bool) (q : ℕ) → DrawsInTurn words ask (generators_of (drop i xs)) p (declines others q)
         → DrawsInTurn words ask (generators_of xs) p0 (declines (later || others) q)
 
-  pub vain_none : (p : ℕ) (xs : List Gen) → VainTo p p xs 0 false
-  vain_none p xs = record {
-    giving = λ x j path q k. let e : 0 + j ≡ j = omega arith in subst (λ n. DrawsInTurn words ask (generators_of xs) p (gives x (moved_at (generators_of xs) n path) q)) (sym e) k;
-    declining = λ others q k. k;
-  }
-
   pub vain_more : (p0 p p' : ℕ) (xs : List Gen) (i : ℕ) (d : Gen) (later pending : Bool) → i < length xs
       → Draws words ask (generator_of (get_or xs i d)) p (declines pending p') → VainTo p0 p xs i later
       → VainTo p0 p' xs (i + 1) (later || pending)

@@ -1,41 +1,27 @@
 -- What commit brings
-use Rattle.std.proofs.Common.{◌≡◌, ℕ, zero, suc, ◌<◌, Option, Some, None, IfSome, IsSome, option_map, option_and_then, List, [], ◌∷◌, ◌++◌, length, get_or, slice_get, map, refl, sym, ap, ◌∙◌, subst, arith}
+use Rattle.std.proofs.Common.{◌≡◌, ℕ, zero, suc, ◌<◌, Option, Some, None, IfSome, IsSome, option_map, List, [], ◌∷◌, length, get_or, slice_get, refl, sym, ap, ◌∙◌, subst, arith}
 use Rattle.std.proofs.Math.ListN.{set}
 use Rattle.std.specs.declared.boxed.Box.{Box}
 use Rattle.std.specs.Global.{Global}
 use Rattle.events.specs.declared.event.Fault.{Fault}
-use Rattle.nemesis.specs.Schedules.{after_first}
-use Rattle.generators.specs.Sources.{SourceView, upcoming, committed}
+use Rattle.generators.specs.Sources.{SourceView}
 use Rattle.test_store.specs.declared.outcome.Outcome.{Outcome}
 use Rattle.test_store.specs.Store.{Cluster, StoreView}
 use Rattle.test_store.specs.Store.{at_rest as store_at_rest}
 use Rattle.machine.specs.declared.ticket.Ticket.{Ticket}
 use Rattle.machine.specs.Trials.{served_as}
-use Rattle.linspec.specs.JudgedHistory.{JudgedHistory}
 use Rattle.monitor.specs.Monitors.{MonitorView}
-use Rattle.monitor.specs.Monitors.{at_rest as monitor_at_rest}
-use Rattle.machine.specs.Machine.{Machine, stale_from}
+use Rattle.machine.specs.Machine.{Machine}
 use Rattle.harness.specs.declared.change.Change.{Change}
-use Rattle.harness.specs.declared.change.Change.TheVariants.{Nothing, Judged, Rewind as Cut, Draw as Invoke, Serve as Serving, StrikeDue, StrikeDrawn}
+use Rattle.harness.specs.declared.change.Change.TheVariants.{Nothing, Serve as Serving}
 use Rattle.harness.specs.CoreView.{CoreView, at_rest}
-use Rattle.harness.specs.SoundCore.{machine_of, judged_as, moved_on, struck_as, served_at, with_outcome, next_of, IsSoundMachine, IsSoundCore}
+use Rattle.harness.specs.SoundCore.{machine_of, served_at, with_outcome, next_of, IsSoundMachine, IsSoundCore}
 use Rattle.harness.proofs.Preparing.{seen}
 
 -- the machine is then what the prepared change led to
 pub brings : {X : Type 0} (o : Option X) (f : X → Machine) (new : CoreView) → ((x : X) → o ≡ Some x → new ≡ at_rest (f x)) → IfSome (option_map f o) (λ next. new ≡ at_rest next)
 brings None f new k = tt
 brings (Some x) f new k = k x refl
-
--- the same of two parts
-pub brings_both : {X Y : Type 0} (o : Option X) (p : Option Y) (f : X → Y → Machine) (new : CoreView) → ((x : X) (y : Y) → o ≡ Some x → p ≡ Some y → new ≡ at_rest (f x y))
-    → IfSome (option_and_then (λ (x : X). option_map (f x) p) o) (λ next. new ≡ at_rest next)
-brings_both None p f new k = tt
-brings_both (Some x) None f new k = tt
-brings_both (Some x) (Some y) f new k = k x y refl refl
-
--- a part that commits
-pub monitor_done : (monitor monitor' : MonitorView) (h : JudgedHistory) → IfSome monitor.next (λ (next : JudgedHistory). monitor' ≡ monitor_at_rest next monitor.again) → monitor.next ≡ Some h → monitor' ≡ monitor_at_rest h monitor.again
-monitor_done monitor monitor' h done is = subst (λ (o : Option JudgedHistory). IfSome o (λ (next : JudgedHistory). monitor' ≡ monitor_at_rest next monitor.again)) is done
 
 pub store_done : (store store' : StoreView) (s : Cluster) → IfSome store.next (λ (next : Cluster). store' ≡ store_at_rest next) → store.next ≡ Some s → store' ≡ store_at_rest s
 store_done store store' s done is = subst (λ (o : Option Cluster). IfSome o (λ (next : Cluster). store' ≡ store_at_rest next)) is done
@@ -50,45 +36,11 @@ module _ (monitor monitor' : MonitorView) (source source' : SourceView) (schedul
   to_change : (other : Change) (new : CoreView) → change ≡ other → IfSome (next_of monitor source store old other) (λ (next : Machine). new ≡ at_rest next) → Brings new
   to_change other new is h = subst (λ (x : Change). IfSome (next_of monitor source store old x) (λ (next : Machine). new ≡ at_rest next)) (sym is) h
 
-  pub judged_done : change ≡ Judged → IfSome monitor.next (λ (next : JudgedHistory). monitor' ≡ monitor_at_rest next monitor.again) → Brings (seen monitor' source schedule store tickets Nothing)
-  judged_done is done = to_change Judged (seen monitor' source schedule store tickets Nothing) is
-      (brings monitor.next (judged_as old) (seen monitor' source schedule store tickets Nothing)
-      (λ h e. ap (λ (x : MonitorView). seen x source schedule store tickets Nothing) (monitor_done monitor monitor' h done e)))
-
-  pub rewind_done : (n : ℕ) → change ≡ Cut n → IfSome monitor.next (λ (next : JudgedHistory). monitor' ≡ monitor_at_rest next monitor.again) → tickets' ≡ map (stale_from n) tickets → Brings (seen monitor' source schedule store tickets' Nothing)
-  rewind_done n is done stale = to_change (Cut n) (seen monitor' source schedule store tickets' Nothing) is
-      (brings monitor.next (λ h. record old { judged = h; tickets = map (stale_from n) tickets }) (seen monitor' source schedule store tickets' Nothing)
-      (λ h e. ap (λ (x : MonitorView). seen x source schedule store tickets' Nothing) (monitor_done monitor monitor' h done e)
-      ∙ ap (λ (l : List Ticket). seen (monitor_at_rest h monitor.again) source schedule store l Nothing) stale))
-
-  pub draw_done : (t : Box Ticket Global) → change ≡ Invoke t → IfSome monitor.next (λ (next : JudgedHistory). monitor' ≡ monitor_at_rest next monitor.again) → source' ≡ committed source → tickets' ≡ tickets ++ t.value ∷ [] → Brings (seen monitor' source' schedule store tickets' Nothing)
-  draw_done t is done moved pushed = to_change (Invoke t) (seen monitor' source' schedule store tickets' Nothing) is
-      (brings monitor.next (λ h. moved_on (upcoming source) (record old { judged = h; tickets = tickets ++ t.value ∷ [] })) (seen monitor' source' schedule store tickets' Nothing)
-      (λ h e. ap (λ (x : MonitorView). seen x source' schedule store tickets' Nothing) (monitor_done monitor monitor' h done e)
-      ∙ ap (λ (x : SourceView). seen (monitor_at_rest h monitor.again) x schedule store tickets' Nothing) moved
-      ∙ ap (λ (l : List Ticket). seen (monitor_at_rest h monitor.again) (committed source) schedule store l Nothing) pushed))
-
   pub serve_done : (number : ℕ) (outcome : Box Outcome Global) → change ≡ Serving number outcome → IfSome store.next (λ (next : Cluster). store' ≡ store_at_rest next) → tickets' ≡ with_outcome number outcome.value tickets → Brings (seen monitor source schedule store' tickets' Nothing)
   serve_done number outcome is done noted = to_change (Serving number outcome) (seen monitor source schedule store' tickets' Nothing) is
       (brings store.next (λ after. record old { store = after; tickets = with_outcome number outcome.value tickets }) (seen monitor source schedule store' tickets' Nothing)
       (λ s e. ap (λ (x : StoreView). seen monitor source schedule x tickets' Nothing) (store_done store store' s done e)
       ∙ ap (λ (l : List Ticket). seen monitor source schedule (store_at_rest s) l Nothing) noted))
-
-  pub due_done : change ≡ StrikeDue → IfSome monitor.next (λ (next : JudgedHistory). monitor' ≡ monitor_at_rest next monitor.again) → IfSome store.next (λ (next : Cluster). store' ≡ store_at_rest next) → schedule' ≡ after_first schedule
-      → Brings (seen monitor' source schedule' store' tickets Nothing)
-  due_done is done struck moved = to_change StrikeDue (seen monitor' source schedule' store' tickets Nothing) is
-      (brings_both monitor.next store.next (λ h after. record (struck_as old h after) { schedule = after_first schedule }) (seen monitor' source schedule' store' tickets Nothing)
-      (λ h s e f. ap (λ (x : MonitorView). seen x source schedule' store' tickets Nothing) (monitor_done monitor monitor' h done e)
-      ∙ ap (λ (x : StoreView). seen (monitor_at_rest h monitor.again) source schedule' x tickets Nothing) (store_done store store' s struck f)
-      ∙ ap (λ (l : List (ℕ × Fault)). seen (monitor_at_rest h monitor.again) source l (store_at_rest s) tickets Nothing) moved))
-
-  pub drawn_done : change ≡ StrikeDrawn → IfSome monitor.next (λ (next : JudgedHistory). monitor' ≡ monitor_at_rest next monitor.again) → IfSome store.next (λ (next : Cluster). store' ≡ store_at_rest next) → source' ≡ committed source
-      → Brings (seen monitor' source' schedule store' tickets Nothing)
-  drawn_done is done struck moved = to_change StrikeDrawn (seen monitor' source' schedule store' tickets Nothing) is
-      (brings_both monitor.next store.next (λ h after. moved_on (upcoming source) (struck_as old h after)) (seen monitor' source' schedule store' tickets Nothing)
-      (λ h s e f. ap (λ (x : MonitorView). seen x source' schedule store' tickets Nothing) (monitor_done monitor monitor' h done e)
-      ∙ ap (λ (x : StoreView). seen (monitor_at_rest h monitor.again) source' schedule x tickets Nothing) (store_done store store' s struck f)
-      ∙ ap (λ (x : SourceView). seen (monitor_at_rest h monitor.again) x schedule (store_at_rest s) tickets Nothing) moved))
 
 -- and it is sound
 pub sound_done : (next : Option Machine) (new : CoreView) (room : ℕ) → IsSome next → IfSome next IsSoundMachine → IfSome next (λ (n : Machine). new ≡ at_rest n) → IsSoundCore new.machine None room Nothing

@@ -1,21 +1,13 @@
 -- The opening
 use Rattle.std.proofs.Common.{◌≡◌, ℕ, None, IfErr, Result, Err, sym, subst}
 use Rattle.edn.specs.declared.refusal.Refusal.{Refusal}
-use Rattle.edn.specs.declared.refusal.Refusal.TheVariants.{BadBudget, BadConcurrency, NoMemory, NoSuchReplica}
+use Rattle.edn.specs.declared.refusal.Refusal.TheVariants.{NoSuchReplica}
 use Rattle.test_store.specs.Store.{MayNotOpenStore}
-use Rattle.monitor.specs.Monitors.{MayNotBegin}
 use Rattle.machine.specs.Machine.{Machine, Setup, opening}
 use Rattle.harness.specs.declared.change.Change.TheVariants.{Nothing}
 use Rattle.harness.specs.Setups.{IsSetup, MayNotOpen}
 use Rattle.harness.specs.SoundCore.{IsSoundMachine, IsSoundCore}
 use Rattle.harness.proofs.Sound.{sound_opening}
-
--- once all tests are passed, only memory can be wanted
-pub not_begun : (setup : Setup) (why : Refusal) → IsSetup setup → MayNotBegin setup.concurrency setup.budget why → MayNotOpen setup why
-not_begun setup BadBudget is h = absurd (h is.0)
-not_begun setup BadConcurrency is h = absurd (h.1 is.1)
-not_begun setup NoMemory is h = is
-not_begun setup why is h = absurd h
 
 pub not_stored : (setup : Setup) (why : Refusal) → IsSetup setup → MayNotOpenStore setup.replicas why → MayNotOpen setup why
 not_stored setup NoSuchReplica is h = absurd (h is.2.0)

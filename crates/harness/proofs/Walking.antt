@@ -16,9 +16,6 @@ comes_on A B C P c s p = ((λ x. c.0 (s.1 (p, x))), (λ b. (s.0 (c.1 b)).1))
 pub comes_not : (A B C P : Type 0) → Comes A B → Comes A (P × C) → ¬ P → ¬ B
 comes_not A B C P c s denied b = denied (s.0 (c.1 b)).0
 
-pub same_type : (A B : Type 0) → A → B → Comes A B
-same_type A B a b = ((λ _. b), (λ _. a))
-
 -- the element at an index, and those behind it
 pub drop_at : {X : Type 0} (xs : List X) (i : ℕ) (x : X) → i < length xs → x ≡ get_or xs i x → drop i xs ≡ x ∷ drop (i + 1) xs
 drop_at xs i x l is = rw add-one (drop-cons xs i x l ∙ ap (λ y. y ∷ drop (suc i) xs) (sym is))

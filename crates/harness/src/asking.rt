@@ -1,6 +1,5 @@
 //! What a generator is asked, and what it answers.
-ghost use Rattle.std.specs.Prelude.{◌≡◌, ◌<◌, ◌≤◌, IfOk, OnErr, length, take, IsSome};
-ghost use Rattle.history.specs.WellFormed.{HistoryView};
+ghost use Rattle.std.specs.Prelude.{◌≡◌, ◌<◌, IfOk, OnErr, length, take};
 ghost use Rattle.generators.specs.declared.item.Asker.{Asker};
 ghost use Rattle.generators.specs.Sources.{upcoming};
 ghost use Rattle.machine.specs.Machine.{idle_from};

@@ -190,7 +190,7 @@ impl Core {
     }
 
     /// Carries out a command, and gives its reply, as [`prepare`](Core::prepare) and [`commit`](Core::commit) do, in the time
-    /// of both. An event is appended with nothing to be kept between the two.
+    /// of both. An event goes to [`Monitor::append`], so that only the monitor notes what it prepares.
     ///
     /// # Errors
     /// Those of [`prepare`](Core::prepare); the machine then stays as it was.
@@ -242,7 +242,7 @@ impl Core {
         Ok(reply)
     }
 
-    // Appends an event, with nothing to be kept between the halves.
+    // Appends an event, of which the monitor alone notes what it prepares.
     fn append(&mut self, event: Event) -> Result<Reply, Refusal>
         ensures { MayCarryOut self.old.machine (Command.Append event) result self.new }
     {

@@ -1,5 +1,9 @@
-//! The one-thread object: commands in, verdicts out. A history under a monitor, a generator of operations and faults, a
-//! schedule of faults, a replicated store in the process, and tickets.
+//! The code of the one-thread object, whose commands and laws are `machine`'s: commands in, verdicts out. It has a history under a
+//! monitor, a generator of operations and faults, a schedule of faults, a replicated store, and a ticket for each operation that
+//! was drawn.
+//!
+//! Each command is prepared, which may be refused and changes nothing that is seen, and then committed, which takes no memory. So a
+//! board can enter a command on its tape between the two.
 //!
 //! A call takes memory only where its result can be `AllocError`, or a refusal for want of memory.
 #![tactic(auto)]

@@ -1,5 +1,5 @@
 //! The steps that change history, store and tickets together.
-ghost use Rattle.std.specs.Prelude.{◌≡◌, ◌<◌, ◌∷◌, [], Some, IfOk, OnOk, OnErr, vec_len, vec_capacity};
+ghost use Rattle.std.specs.Prelude.{◌≡◌, ◌<◌, Some, IfOk, OnOk, OnErr, vec_len, vec_capacity};
 ghost use Rattle.processes.specs.MoveRule.{current_of};
 ghost use Rattle.history.specs.WellFormed.{moves_of};
 ghost use Rattle.test_store.specs.Store.{MayStrike, after_fault};

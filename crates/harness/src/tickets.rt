@@ -1,6 +1,5 @@
 //! Tickets: which of them a command may be about, and what becomes of them.
-ghost use Rattle.std.specs.Prelude.{◌≡◌, ◌↔◌, ◌%◌, ◌<◌, ◌≤◌, Some, None, IsTrue, IsSome, IfOk, IfErr, OnOk, MatchOption, map, length};
-ghost use Rattle.history.specs.WellFormed.{HasRoom};
+ghost use Rattle.std.specs.Prelude.{◌≡◌, ◌↔◌, ◌%◌, ◌<◌, Some, None, IsTrue, IfOk, IfErr, OnOk, MatchOption, map};
 ghost use Rattle.test_store.specs.Store.{IsCount};
 ghost use Rattle.test_store.specs.declared.outcome.Outcome.{Outcome};
 ghost use Rattle.machine.specs.Trials.{IsStillOpen, served_as, completion, part_of};

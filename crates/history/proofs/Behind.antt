@@ -19,10 +19,6 @@ none_behind c n events (Cut k clients) h ready = cc
 pub take_behind : (n : ℕ) (events : List Event) (e : Event) → length events ≡ n → take n (events ++ e ∷ []) ≡ take n events
 take_behind n events e len = take-append-le n events (e ∷ []) (omega arith)
 
--- and it is their next one
-pub next_behind : (n : ℕ) (events : List Event) (e : Event) → length events ≡ n → events ++ e ∷ [] ≡ take n events ++ e ∷ []
-next_behind n events e len = ap (λ l. l ++ e ∷ []) (sym (take_all n events (omega arith)))
-
 pub ready_push : (c n : ℕ) (events events' : List Event) (threads : List Thread) (opened : List (Option ℕ)) (e : Event) → IsSoundHistory c (take n events) threads opened → length events ≡ n → IsWellFormed c (take n events) e
     → events' ≡ events ++ e ∷ [] → IsSoundHistory c (take n events') threads opened × IsReady c n events' Push
 ready_push c n events events' threads opened e sound len well more = (

@@ -1,5 +1,5 @@
 -- What an event of a history is written as, and the events of a key among the first ones
-use Rattle.std.proofs.Common.{◌≡◌, ℕ, suc, ℤ, ◌+◌, ◌<◌, ◌≤◌, ◌^◌, true, false, cond, Bool, Option, Some, None, IfSome, Result, Ok, Err, IfOk, Vec, ◌<ℤ◌, ⊎_elim, Global, List, [], ◌∷◌, ◌++◌, length, map, take, get_or, option_map, refl, sym, ap, ◌∙◌, subst, rules, arith}
+use Rattle.std.proofs.Common.{◌≡◌, ℕ, ◌+◌, ◌<◌, true, false, cond, Bool, Option, Some, IfSome, Result, Ok, Err, IfOk, List, [], ◌∷◌, ◌++◌, length, take, get_or, sym, ap, ◌∙◌, subst, arith}
 use Rattle.std.proofs.lemmas.List.{take_more, append-nil, length-take-le}
 use Rattle.std.proofs.lemmas.List.Elements.{filter-append}
 use Rattle.edn.specs.declared.value.Edn.{Edn}

@@ -13,9 +13,9 @@ use Rattle.events.specs.Tables.{IsInTables, Completes}
 use Rattle.events.specs.declared.event.EventKind.{EventKind}
 use Rattle.events.specs.declared.event.EventKind.TheVariants.{Invoke, Ok, Fail, Info}
 use Rattle.events.specs.declared.event.Process.{Process}
-use Rattle.events.specs.declared.event.Process.TheVariants.{Client, Nemesis}
+use Rattle.events.specs.declared.event.Process.TheVariants.{Client}
 use Rattle.events.specs.declared.event.Body.{Body}
-use Rattle.events.specs.declared.event.Body.TheVariants.{Op as AnOp, Fault as AFault}
+use Rattle.events.specs.declared.event.Body.TheVariants.{Op as AnOp}
 use Rattle.events.specs.declared.event.Event.{Event}
 
 -- Processes and threads

@@ -1,5 +1,5 @@
 //! What a history keeps of its clients.
-ghost use Rattle.std.specs.Prelude.{◌≡◌, ℕ, ◌+◌, ◌<◌, ◌≤◌, ◌^◌, [], Some, None, length, slice_get, slice_set, IfOk, IfErr, OnOk};
+ghost use Rattle.std.specs.Prelude.{◌≡◌, ℕ, ◌+◌, ◌<◌, ◌≤◌, ◌^◌, [], Some, None, length, slice_get, IfOk, IfErr, OnOk};
 ghost use Rattle.processes.specs.MoveRule.{IsConcurrency};
 ghost use Rattle.processes.specs.Threads.{StandAfter, MayNotStart};
 ghost use Rattle.history.specs.WellFormed.{move_by, IsHistoryOf};

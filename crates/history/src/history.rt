@@ -1,5 +1,5 @@
 //! Histories: events in order, each well-formed after those before it.
-ghost use Rattle.std.specs.Prelude.{◌≡◌, ℕ, Some, ◌<◌, ◌≤◌, ◌++◌, ◌∷◌, ◌^◌, ◌↔◌, [], take, length, slice_get, IsTrue, IsSome, IfSome, option_map, OnOk, IfOk, IfErr, OnErr, IsErrOf};
+ghost use Rattle.std.specs.Prelude.{◌≡◌, Some, ◌<◌, ◌≤◌, ◌++◌, ◌∷◌, ◌^◌, ◌↔◌, [], take, length, slice_get, IsTrue, IsSome, IfSome, option_map, OnOk, IfOk, IfErr, OnErr, IsErrOf};
 ghost use Rattle.std.specs.Option.{option_copied};
 ghost use Rattle.history.specs.WellFormed.{IsConcurrency, no_events, Admits, MayNotCut, idle, with_next, with_events, IsWellFormed, MayRefuse, IsHistoryOf, moves_of, open_of, open_index, FollowsRule, BreaksRule, Refuses};
 ghost use Rattle.edn.specs.View.{value_of};

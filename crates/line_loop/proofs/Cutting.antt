@@ -53,13 +53,6 @@ cuts_more (b ∷ bs) seen lines rest h = elim (eqb_tells b 10) as (λ _. CutMore
       record { extra = next.extra; rest = next.rest; cut = cuts_along (append_assoc seen (b ∷ []) bs) refl next.cut }
 ]
 
--- what is held is the whole line where it is within the limit
-pub clip_whole : (n : ℕ) (held rest : List ℕ) → held ≡ take (n + 1) rest → length held ≤ n → held ≡ rest
-clip_whole n held rest e h =
-    let cut : length held ≡ length (take (n + 1) rest) = ap length e in
-    let short : length rest ≤ n + 1 = omega (arith, length-take (n + 1) rest) in
-    e ∙ take_all (n + 1) rest short
-
 -- and the line is over the limit where what is held is
 pub clip_over : (n : ℕ) (held rest : List ℕ) → held ≡ take (n + 1) rest → n < length rest → n < length held
 clip_over n held rest e h =

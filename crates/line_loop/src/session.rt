@@ -1,7 +1,6 @@
 //! What stands between two reads.
-ghost use Rattle.std.specs.Prelude.{◌≡◌, ◌+◌, ◌-◌, ◌<◌, ℕ, List, [], ◌∷◌, ◌++◌, take, length, Option, OnOk, OnErr, IfErr, IfSome, IfNone, true, false};
+ghost use Rattle.std.specs.Prelude.{◌≡◌, ◌+◌, ◌-◌, ◌<◌, ℕ, List, [], ◌++◌, take, length, Option, OnOk, OnErr, IfErr, IfSome, IfNone, true, false};
 ghost use Rattle.line_loop.specs.Lines.{IsLine, ended};
-ghost use Rattle.line_loop.specs.ReplyText.{line_limit};
 ghost use Rattle.line_loop.specs.BetweenReads.{Reading, between, MayStopWriting, IsAnsweredFor, LineIsAnswered, GoesOn, StopsIn, Ends, StopsAtEnd};
 ghost use Rattle.std.specs.Io.KnownBytes.{Appends, append_known};
 

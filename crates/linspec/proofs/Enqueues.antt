@@ -19,9 +19,6 @@ use Rattle.linspec.proofs.Counts.{no_longer_than}
 abbrev H : List Mark
 H = key_marks 1 two_enqueues
 
-is_H : H ≡ Invoked 0 (enqueue 1 (pos 5)) ∷ Invoked 1 (enqueue 1 (pos 6)) ∷ []
-is_H = refl
-
 of_two : (m : Mark) → Contains H m → (m ≡ Invoked 0 (enqueue 1 (pos 5))) ⊎ (m ≡ Invoked 1 (enqueue 1 (pos 6)))
 of_two m h = ⊎_elim (λ e. inl (sym e)) (λ k. ⊎_elim (λ e. inr (sym e)) (λ n. absurd (Contains-nil m n)) (Contains-cons_cases (Invoked 1 (enqueue 1 (pos 6))) [] m k)) (Contains-cons_cases (Invoked 0 (enqueue 1 (pos 5))) (Invoked 1 (enqueue 1 (pos 6)) ∷ []) m h)
 

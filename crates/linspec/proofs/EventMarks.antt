@@ -1,5 +1,5 @@
 -- the marks of a history's events, one event after another
-use Rattle.std.proofs.Common.{◌≡◌, cond, ◌&&◌, nat_eq, Option, Some, None, ℕ, ◌+◌, ◌<◌, List, [], ◌∷◌, ◌++◌, length, take, drop, get_or, refl, sym, ap, ◌∙◌, append_assoc, arith, add-one, drop-cons, ⊎_elim}
+use Rattle.std.proofs.Common.{◌≡◌, cond, ◌&&◌, nat_eq, Option, Some, None, ℕ, ◌+◌, ◌<◌, List, [], ◌∷◌, ◌++◌, length, take, drop, get_or, refl, sym, ap, ◌∙◌, append_assoc, arith, add-one, drop-cons}
 use Rattle.std.proofs.lemmas.List.{append-nil, take_more, length-take-le, map-append, get_or_default}
 use Rattle.events.specs.declared.event.Event.{Event}
 use Rattle.events.specs.Events.{Act, OpEvent, op_event, Entry, entries_by, last_by, last_after, entries_from, entries_of, indexed_from, marks}

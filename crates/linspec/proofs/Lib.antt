@@ -14,7 +14,6 @@ pub mod Filters
 pub mod Keyed
 pub mod Counts
 pub mod Histories
-pub mod KeyEvents
 pub mod Enqueues
 pub mod LegalOrders
 pub mod RegisterReads

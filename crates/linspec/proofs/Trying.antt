@@ -3,7 +3,7 @@ use Rattle.std.proofs.Common.{◌≡◌, ◌↔◌, ◌⊎◌, inl, inr, ℕ, �
 use Rattle.std.specs.List.{Contains}
 use Rattle.std.proofs.lemmas.Bool.{cases_Bool, cases_eq, eq-eqb, ne_eqb, true≢false}
 use Rattle.std.proofs.lemmas.List.{take_more, map-append}
-use Rattle.std.proofs.lemmas.List.Elements.{Contains-append_left, Contains-push, Contains-push_cases, Contains-get_or}
+use Rattle.std.proofs.lemmas.List.Elements.{Contains-append_left, Contains-push, Contains-push_cases}
 use Rattle.models.specs.declared.operation.Op.{Op}
 use Rattle.models.specs.declared.finding.Found.{Found}
 use Rattle.models.specs.declared.finding.Answer.{Answer}
@@ -19,7 +19,6 @@ use Rattle.linspec.specs.Attempts.{Keyed, LeadTo, Steps, AttemptView, FollowsBy,
 use Rattle.models.specs.declared.any_state.AnyState.{AnyState}
 use Rattle.linspec.proofs.Steps.{in_listed, listed_in}
 use Rattle.linspec.proofs.Lists.{Contains-nil, Contains-head, Contains-tail, Contains-cons_cases}
-use Rattle.linspec.proofs.Filters.{to_map}
 
 -- how many marks invoke operations that are not taken
 is_in : List ℕ → ℕ → Bool
@@ -135,9 +134,6 @@ module _ (marks : List Mark) (front : AttemptView) where
           (rest, f.1.2)
 
 module _ (marks : List kept.KeptMark) (front : AttemptView) (at : ℕ) (m : kept.KeptMark) (l : at < length marks) (is : m ≡ get_or marks at m) where
-  pub here_in : Contains (marks_of_kept marks) (mark_of m)
-  here_in = to_map mark_of marks m (subst (Contains marks) (sym is) (Contains-get_or marks at m l))
-
   -- what follows by one mark more
   pub follows_more : (after : AttemptView) → FollowsSome (marks_of_kept marks) front (marks_of_kept (take (at + 1) marks)) after ↔ (FollowsSome (marks_of_kept marks) front (marks_of_kept (take at marks)) after ⊎ Follows (marks_of_kept marks) front (mark_of m) after)
   follows_more after =

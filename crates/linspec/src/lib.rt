@@ -1,4 +1,9 @@
-//! What it means that a history is linearizable: the definitions, and laws that show them to be right.
+//! What it means that a history is linearizable: the definitions, and laws that show them to be right. Every verdict is proved by
+//! these.
+//!
+//! `specs/Orders.antt` has legal orders and linearizability, of one object and of many; `Ends.antt` what legal orders leave of one
+//! key, and when they are more than a budget; `Verdicts.antt` how a key stands and what joins the keys; `JudgedHistory.antt` all of
+//! this of a history of many keys with its kinds and budgets. [`brute`] computes linearizability by trying orders, for tests.
 //!
 //! A call takes memory only where its result can be `AllocError`, or a refusal for want of memory.
 #![tactic(auto)]

@@ -12,7 +12,7 @@ use Rattle.test_store.specs.declared.outcome.Outcome.TheVariants.{Done, Refused,
 use Rattle.test_store.specs.Copies.{fresh_row, taken_over}
 use Rattle.test_store.specs.Reach.{all_up}
 use Rattle.test_store.specs.Store as store
-use Rattle.test_store.specs.Store.{Cluster, servers, TakesPlace, MayServe, after_fault, with_row, first_of, ComesTo}
+use Rattle.test_store.specs.Store.{Cluster, servers, TakesPlace, after_fault, with_row, ComesTo}
 use Rattle.machine.specs.declared.ticket.Ticket.{Ticket}
 use Rattle.machine.specs.Trials.{Trial, invocation, completion, strike}
 use Rattle.machine.specs.Examples.{write, IsDoneTrial, IsLostTrial, IsRefusedTrial}

@@ -1,5 +1,6 @@
-//! The one-thread object with all its commands, as a relation, and below it what clients and faults do to history, store and tickets:
-//! trials. Laws of both, of which one is that a strict store raises no false alarm. Types and laws alone.
+//! Types and laws of the one-thread object, without its code, which `harness` has: all its commands and replies, as a relation, and
+//! below it what clients and faults do to history, store and tickets (trials). Among the laws: one outcome a command, and a strict
+//! store raises no false alarm.
 #![tactic(auto)]
 
 pub mod command;

@@ -1,32 +1,13 @@
 -- how many different values there are
-use Rattle.std.proofs.Common.{◌≡◌, ◌≢◌, ℕ, ◌+◌, ◌<◌, ◌≤◌, ℤ, ◌<ℤ◌, ⊎_elim, int_lt, List, [], ◌∷◌, length, get_or, take, drop, sym, ap, ◌∙◌, subst, arith}
+use Rattle.std.proofs.Common.{◌≡◌, ◌≢◌, ℕ, ◌+◌, ◌<◌, ◌≤◌, ℤ, ◌<ℤ◌, ⊎_elim, List, [], ◌∷◌, length, get_or, take, drop, sym, ap, ◌∙◌, subst, arith}
 use Rattle.std.specs.List.{Contains}
-use Rattle.std.proofs.lemmas.Bool.{cases_Bool}
-use Rattle.std.proofs.lemmas.List.{length-append, length-map, take-append-drop}
+use Rattle.std.proofs.lemmas.List.{length-append, take-append-drop}
 use Rattle.std.proofs.lemmas.List.Elements.{Contains-append_left}
-use Rattle.models.specs.declared.finding.Found.TheVariants.{Item}
-use Rattle.values.specs.Members.{IsAscending, put_in}
-use Rattle.values.specs.Multisets.{NeverFalls, without_one, values_of}
-use Rattle.models.specs.Objects.{taken_from}
-use Rattle.values.proofs.PutIn.{no_member, first_member, later_member, member_cases, below_all, not_below, put_in-first, put_in-later, put_in-there}
+use Rattle.values.specs.Members.{IsAscending}
+use Rattle.values.specs.Multisets.{NeverFalls, values_of}
+use Rattle.values.proofs.PutIn.{no_member, first_member, later_member, member_cases, below_all, not_below}
 use Rattle.values.proofs.Bags.{Contains-values_of, IsAscending-values_of}
-use Rattle.values.proofs.Firsts.{values_new, values_old}
-
--- no more than the values
-length-put_in : (v : ℤ) (xs : List ℤ) → length (put_in v xs) ≤ length xs + 1
-length-put_in v [] = omega arith
-length-put_in v (x ∷ xs) =
-    ⊎_elim
-    (λ e. let long = ap length (put_in-first v x xs e) in omega (arith, long))
-    (λ e. ⊎_elim
-    (λ f. let long = ap length (put_in-later v x xs e f) in let rest = length-put_in v xs in omega (arith, long, rest))
-    (λ f. let long = ap length (put_in-there v x xs e f) in omega (arith, long))
-    (cases_Bool (int_lt x v)))
-    (cases_Bool (int_lt v x))
-
-pub length-values_of : (xs : List ℤ) → length (values_of xs) ≤ length xs
-length-values_of [] = omega arith
-length-values_of (x ∷ xs) = let rest = length-values_of xs in let one = length-put_in x (values_of xs) in omega (arith, rest, one)
+use Rattle.values.proofs.Firsts.{values_new}
 
 -- an ascending list whose members another one has is no longer
 no_longer : (xs ys : List ℤ) → IsAscending xs → IsAscending ys → ((v : ℤ) → Contains xs v → Contains ys v) → length xs ≤ length ys
@@ -56,11 +37,3 @@ fewer_at_first xs n = no_longer (values_of (take n xs)) (values_of xs) (IsAscend
 pub one_different : (s : List ℤ) (at : ℕ) (d : ℤ) → at < length s → NeverFalls s → ((p : ℕ) (e : ℤ) → p + 1 ≡ at → get_or s p e ≢ get_or s at e)
     → length (values_of (take (at + 1) s)) ≡ length (values_of (take at s)) + 1
 one_different s at d fits is new = ap length (values_new s at d fits is new) ∙ length-append (values_of (take at s)) (get_or s at d ∷ [])
-
-pub none_different : (s : List ℤ) (at : ℕ) (d : ℤ) → at < length s → NeverFalls s → (p : ℕ) → p + 1 ≡ at → get_or s p d ≡ get_or s at d
-    → length (values_of (take (at + 1) s)) ≡ length (values_of (take at s))
-none_different s at d fits is p before equal = ap length (values_old s at d fits is p before equal)
-
--- so many outcomes has a dequeue
-pub outcomes_are : (s values : List ℤ) → length (taken_from s values) ≡ length values
-outcomes_are s values = length-map values (λ v. (without_one v s, Item v))

@@ -1,17 +1,10 @@
 -- the outcomes of a dequeue that keeps no order, one after another
-use Rattle.std.proofs.Common.{◌≡◌, ◌≢◌, ℕ, zero, suc, ◌+◌, ◌<◌, ℤ, ◌<ℤ◌, ◌≤ℤ◌, ⊎_elim, List, [], ◌∷◌, ◌++◌, length, get_or, take, remove, sym, ap, ◌∙◌, subst, arith, eq-or-lt_of_le}
-use Rattle.std.specs.List.{Contains}
-use Rattle.std.proofs.lemmas.Int.{ints, by_lt_z}
-use Rattle.std.proofs.lemmas.List.{map-append, get_or_default, get_or-take, length-take, take_more}
-use Rattle.std.proofs.lemmas.List.Elements.{Contains-append_left, Contains-push, Contains-push_cases, Contains-get_or}
+use Rattle.std.proofs.Common.{◌≡◌, ◌≢◌, ℕ, ◌+◌, ◌<◌, ℤ, List, [], ◌∷◌, ◌++◌, length, get_or, take, remove, ap, ◌∙◌}
+use Rattle.std.proofs.lemmas.List.{map-append}
 use Rattle.models.specs.declared.finding.Found.TheVariants.{Item}
-use Rattle.values.specs.Members.{IsAscending}
 use Rattle.values.specs.Multisets.{NeverFalls, without_one, values_of}
 use Rattle.models.specs.Objects.{taken_from}
 use Rattle.values.proofs.Firsts.{values_new, values_old, first_is_taken}
-use Rattle.values.proofs.PutIn.{no_member, first_member, later_member}
-use Rattle.values.proofs.Sorting.{one_ascending}
-use Rattle.values.proofs.Bags.{without_one-place, Contains-values_of, IsAscending-values_of}
 
 module _ (s : List ℤ) (at : ℕ) (d : ℤ) (fits : at < length s) (is : NeverFalls s) where
   -- a value that was not there

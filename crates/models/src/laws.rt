@@ -1,5 +1,5 @@
 //! Laws that show that the tables say what they should.
-ghost use Rattle.std.specs.Prelude.{◌≡◌, ◌≢◌, ◌↔◌, ◌+◌, ◌⊎◌, ℕ, ℤ, Bool, Some, Option, List, [], ◌++◌, map};
+ghost use Rattle.std.specs.Prelude.{◌≡◌, ◌≢◌, ◌↔◌, ◌+◌, ℕ, ℤ, Bool, Some, Option, List, [], ◌++◌, map};
 ghost use Rattle.std.specs.List.{AllPairs, Contains};
 ghost use Rattle.std.specs.List.Sorted.{IsPermutation};
 ghost use Rattle.models.specs.declared.operation.Name.TheVariants.{Acquire, Cas, Dequeue};

@@ -1,5 +1,9 @@
 //! The sequential objects: operations, what they find, and what answers say of it.
 //!
+//! An object is a table ([`SeqObject`]): a state to start with, and for each operation in a state the outcomes, each a state after
+//! it and what it finds; no outcome where it can't take place. [`fits`] says whether an answer is one of what was found. The kinds
+//! and the names of operations stand in one list each, and what tells them apart are macros over these lists.
+//!
 //! A call takes memory only where its result can be `AllocError`, or a refusal for want of memory.
 #![tactic(auto)]
 

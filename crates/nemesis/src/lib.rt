@@ -1,4 +1,5 @@
-//! Schedules of faults: which fault the nemesis lets strike, and at which length of the history.
+//! Schedules of faults: which fault is due at a length of the history. A schedule is a list whose lengths never fall, and how many
+//! of its faults were taken.
 #![tactic(auto)]
 
 mod schedule;

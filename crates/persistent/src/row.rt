@@ -1,5 +1,5 @@
 //! Values in a row: a few in place, some more in a list, and many in a tree whose parts are shared.
-ghost use Rattle.std.specs.Prelude.{◌≡◌, ◌↔◌, ◌+◌, ◌<◌, ◌≤◌, ℕ, IfOk, OnOk, IsTrue};
+ghost use Rattle.std.specs.Prelude.{◌≡◌, ◌↔◌, ◌+◌, ◌<◌, ◌≤◌, ℕ, IfOk, IsTrue};
 ghost use Rattle.std.specs.Prelude.{[], ◌∷◌, ◌++◌, get_or, length, take, drop, ◌<ℤ◌, ◌≤ℤ◌};
 ghost use Rattle.std.specs.List.{insert, remove};
 ghost use Rattle.persistent.specs.Shown.{IsShown};
@@ -15,9 +15,9 @@ use std::marker::Model;
 /// A row with more values than this is a tree.
 pub const FLAT: usize = 128;
 
-/// Values in a row, each by its place. A change gives another row. A few values lie in place, and are copied; so are some more, which
-/// lie in a list; of many the other row shares all but what is on the way to the place, which grows with the logarithm of how many
-/// there are, and a copy shares all.
+/// Values in a row, each by its place. A change gives another row. A few values lie in place, and are copied; so are some more,
+/// which lie in a list; of many the other row shares all but what is on the way to the place, which grows with the logarithm of how
+/// many there are, and a copy shares all.
 #[derive(Drop)]
 pub struct Row<T: Copy> {
     form: Form<T>,
@@ -158,8 +158,8 @@ impl<T: Copy> Row<T> {
         }
     }
 
-    /// The same values. Takes the time and the memory of the values in a list, and else constant time and no memory; `AllocError` too
-    /// where as many share them as can be counted.
+    /// The same values. Takes the time and the memory of the values in a list, and else constant time and no memory; `AllocError`
+    /// too where as many share them as can be counted.
     pub fn copy(&self) -> Result<Row<T>, AllocError>
         ensures { IfOk result (λ row. row ≡ self.now) }
     {
@@ -174,8 +174,8 @@ impl<T: Copy> Row<T> {
         Ok(Row { form })
     }
 
-    /// The values with one more at this place. Takes the time and the memory of the values in a list, and else those of the way to the
-    /// place, which grow with the logarithm of how many values there are.
+    /// The values with one more at this place. Takes the time and the memory of the values in a list, and else those of the way to
+    /// the place, which grow with the logarithm of how many values there are.
     pub fn with(&self, alloc: Global, at: usize, value: T) -> Result<Row<T>, AllocError>
         requires { at ≤ length self.now }
         ensures { IfOk result (λ row. row ≡ insert self.now at value) }
@@ -213,7 +213,8 @@ impl<T: Copy> Row<T> {
         }
     }
 
-    /// The values with this one in place of those from one place up to another, which are two at most. Takes time and memory as above.
+    /// The values with this one in place of those from one place up to another, which are two at most. Takes time and memory as
+    /// above.
     pub fn spliced(
         &self,
         alloc: Global,

@@ -1,5 +1,5 @@
 //! Values in a row, as a tree whose parts are shared.
-ghost use Rattle.std.specs.Prelude.{◌≡◌, ◌↔◌, ◌+◌, ◌<◌, ◌≤◌, ℕ, ℤ, pos, IfOk, OnOk, IsTrue};
+ghost use Rattle.std.specs.Prelude.{◌≡◌, ◌↔◌, ◌+◌, ◌<◌, ◌≤◌, ℕ, ℤ, IfOk, OnOk, IsTrue};
 ghost use Rattle.std.specs.Prelude.{[], ◌∷◌, ◌++◌, ◌-◌, get_or, length, take, drop, ◌<ℤ◌, ◌≤ℤ◌};
 ghost use Rattle.std.specs.List.{insert, remove};
 
@@ -13,8 +13,8 @@ use std::sync::Arc;
 // So many values lie in one piece of memory at most, once a change has come there.
 const MOST: usize = 64;
 
-/// Many values in a row, each by its place. A change gives another tree, which shares with this one all but what is on the way to the
-/// place: that grows with the logarithm of how many values there are. A copy shares all.
+/// Many values in a row, each by its place. A change gives another tree, which shares with this one all but what is on the way to
+/// the place: that grows with the logarithm of how many values there are. A copy shares all.
 #[cycle(tree)]
 #[derive(Drop)]
 pub struct Tree<T: Copy> {
@@ -404,7 +404,8 @@ impl<T: Copy> Tree<T> {
         }
     }
 
-    /// The values with this one in place of those from one place up to another, which are two at most. Takes time and memory as above.
+    /// The values with this one in place of those from one place up to another, which are two at most. Takes time and memory as
+    /// above.
     pub fn spliced(
         &self,
         alloc: Global,

@@ -1,9 +1,9 @@
 -- Values that are passed over
 use Rattle.std.proofs.Common.{◌≡◌, ℕ, ◌+◌, ◌<◌, List, ◌∷◌, sym, subst, length, arith}
-use Rattle.edn.specs.Value.{Value, text, vector, pairs, Values, none, more, no_pairs}
+use Rattle.edn.specs.Value.{Value, text, vector, Values, none, more}
 use Rattle.edn.specs.Text.{SkipsGap, Reads, ReadsAll}
 use Rattle.edn.specs.Text.SkipsGap.{no_gap}
-use Rattle.edn.specs.Text.Reads.{in_quotes, in_brackets, in_braces}
+use Rattle.edn.specs.Text.Reads.{in_quotes, in_brackets}
 use Rattle.edn.specs.Text.ReadsAll.{no_more}
 use Rattle.edn.proofs.Beginnings.{gap_shorter, reads_shorter}
 use Rattle.plain_events.specs.Fronts.{IsByteAt, IsElementAt}
@@ -19,9 +19,6 @@ string_scalar front inner behind rest e h gap = (
     gap = gap d;
   },
 )
-
-pub passed_by : (d : ℕ) (front again rest : List ℕ) → front ≡ again → IsPassedAt d again rest → IsPassedAt d front rest
-passed_by d front again rest e h = subst (λ t. IsPassedAt d t rest) (sym e) h
 
 pub element_shorter : (d : ℕ) (front : List ℕ) (v : Value) (rest : List ℕ) → IsElementAt d front v rest → length rest < length front
 element_shorter d front v rest h =

@@ -1,18 +1,17 @@
 -- Pairs of a map, one after the other
-use Rattle.std.proofs.Common.{◌≡◌, ℕ, ◌+◌, ◌<◌, Bool, true, false, cond, Option, Some, None, List, [], ◌∷◌, ◌++◌, refl, sym, ap, ◌∙◌, subst, arith}
-use Rattle.std.specs.Bool.{Decides}
+use Rattle.std.proofs.Common.{◌≡◌, ℕ, ◌+◌, ◌<◌, Bool, true, false, cond, Option, Some, None, List, [], ◌∷◌, ◌++◌, refl, sym, ap, ◌∙◌, subst}
 use Rattle.std.specs.List.{Contains}
 use Rattle.std.specs.Str.{bytes_eq}
 use Rattle.std.proofs.lemmas.List.Elements.{Contains-append_left, Contains-push}
 use Rattle.std.proofs.lemmas.Slice.Eq.{bytes_eq-Decides}
-use Rattle.edn.specs.Value.{Value, nil, bool, int, text, keyword, vector, pairs, members, Values, Pairs, no_pairs, pair, in_text, keys, Same, IsNotAmong, AreDistinct}
+use Rattle.edn.specs.Value.{Value, nil, bool, int, text, keyword, vector, pairs, members, Pairs, no_pairs, pair, in_text, keys, Same, IsNotAmong, AreDistinct}
 use Rattle.edn.specs.Parts.{is_keyword, value_at}
-use Rattle.edn.specs.Text.{SkipsGap, Reads, ReadsAll}
+use Rattle.edn.specs.Text.{SkipsGap, ReadsAll}
 use Rattle.edn.specs.Text.SkipsGap.{no_gap}
 use Rattle.edn.specs.Text.Reads.{in_braces}
 use Rattle.edn.specs.Text.ReadsAll.{no_more}
 use Rattle.plain_events.specs.Fronts.{IsByteAt, IsElementAt}
-use Rattle.plain_events.specs.Keys.{mark_of, followed_by, push, IsNewKeyAt, ArePairsAt, AreMarked}
+use Rattle.plain_events.specs.Keys.{mark_of, followed_by, push, ArePairsAt, AreMarked}
 use Rattle.plain_events.specs.Passed.{IsPassedAt}
 use Rattle.plain_events.proofs.Elements.{all_after, element_then}
 

@@ -72,12 +72,6 @@ integers_more : (text rest behind : List ℕ) (xs : List ℤ) (n : ℤ) → AreI
 integers_more text rest behind xs n are a d vs end all =
     subst (λ ws. ReadsAll d text ws end) (joined_push xs n vs) (are d (more (int n) vs) end (element_then (a d) all))
 
-pub none_found : (text : List ℕ) (xs : List ℤ) → xs ≡ [] → AreIntegersAt text xs text
-none_found text xs e = subst (λ l. AreIntegersAt text l text) (sym e) (no_integers text)
-
-pub none_ascend : (xs : List ℤ) → xs ≡ [] → IsAscending xs
-none_ascend xs e = subst IsAscending (sym e) tt
-
 pub one_found : (text behind : List ℕ) (n m : ℤ) (xs : List ℤ) → m ≡ n → xs ≡ n ∷ [] → IsAtomAt text (int n) behind → AreIntegersAt text xs behind × AscendTo xs m
 one_found text behind n m xs same e a =
     subst (λ k. AreIntegersAt text xs behind × AscendTo xs k) (sym same)

@@ -7,7 +7,7 @@ use Rattle.edn.specs.Text.SkipsGap.{no_gap}
 use Rattle.edn.specs.Text.ReadsAll.{no_more, one_more}
 use Rattle.models.specs.declared.operation.Name.{Name}
 use Rattle.models.specs.declared.operation.Part.{Part}
-use Rattle.models.specs.declared.operation.Part.TheVariants.{Nil, Int, Pair}
+use Rattle.models.specs.declared.operation.Part.TheVariants.{Nil, Pair}
 use Rattle.models.specs.declared.operation.Op.{Op}
 use Rattle.models.specs.Names.{text_of}
 use Rattle.events.specs.declared.event.EventKind.{EventKind}
@@ -27,9 +27,6 @@ use Rattle.plain_events.proofs.Elements.{element_then, pair_then, atom_at, brack
 
 pub nil_part : (text rest : List ℕ) → IsWordAt text (110 ∷ 105 ∷ 108 ∷ []) rest → IsPartAt text Nil rest
 nil_part text rest w = record { value = nil; element = atom_at spelled_nil w 2; spells = refl }
-
-pub int_part : (text : List ℕ) (a : ℤ) (rest : List ℕ) → IsAtomAt text (int a) rest → IsPartAt text (Int a) rest
-int_part text a rest h = record { value = int a; element = h 2; spells = refl }
 
 pair_part : (text inner : List ℕ) (a b : ℤ) (rest : List ℕ) → IsByteAt text 91 inner → AreTwoAt inner a b rest → IsPartAt text (Pair a b) rest
 pair_part text inner a b rest o h = record {

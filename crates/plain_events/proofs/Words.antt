@@ -1,14 +1,11 @@
 -- What calls of the functions below give, as what their callers give
-use Rattle.std.proofs.Common.{◌≡◌, ℕ, ◌+◌, ◌<◌, ◌≤◌, List, [], ◌∷◌, ◌++◌, length, take, get_or, Option, Some, None, Bor, IfSome, sym, ap, ◌∙◌, subst, append_assoc, IsTrue}
+use Rattle.std.proofs.Common.{◌≡◌, ℕ, ◌+◌, ◌<◌, ◌≤◌, List, [], ◌∷◌, ◌++◌, length, take, get_or, Option, Some, None, Bor, IfSome, sym, ap, ◌∙◌, subst, append_assoc}
 use Rattle.std.proofs.lemmas.List.{take_more, take_all}
 use Rattle.edn.specs.Value.{Value, keyword}
-use Rattle.edn.specs.Bytes.{ends_atom, MayFollowAtom, IsKeywordText}
+use Rattle.edn.specs.Bytes.{MayFollowAtom, IsKeywordText}
 use Rattle.edn.specs.Text.{SkipsGap}
 use Rattle.plain_events.specs.Fronts.{IsWordAt, IsAtomAt, IsPairAt}
 use Rattle.plain_events.proofs.Elements.{keyword_at}
-
-pub may_follow : (text : List ℕ) (b : ℕ) (rest : List ℕ) → text ≡ b ∷ rest → IsTrue (ends_atom b) → MayFollowAtom text
-may_follow text b rest e on = subst MayFollowAtom (sym e) on
 
 -- bytes that stand in front, one after the other
 pub bytes_more : (text bytes rest behind : List ℕ) (i b : ℕ) → i < length bytes → get_or bytes i 0 ≡ b → text ≡ take i bytes ++ rest → rest ≡ b ∷ behind → text ≡ take (i + 1) bytes ++ behind

@@ -1,5 +1,5 @@
 -- Invariant: what was found at the keys of an event, in any order
-use Rattle.std.specs.Prelude.{◌≡◌, ℕ, ◌<◌, ◌^◌, Option, Some, None, List, [], ◌∷◌, codes}
+use Rattle.std.specs.Prelude.{◌≡◌, ℕ, ◌^◌, Option, Some, None, List, ◌∷◌, codes}
 use Rattle.std.specs.List.{Contains}
 use Rattle.edn.specs.Value.{Value, Pairs, in_text, keys, AreDistinct}
 use Rattle.edn.specs.Parts.{value_at}
@@ -10,7 +10,7 @@ use Rattle.events.specs.declared.event.Event.{Event}
 use Rattle.events.specs.Spelling.{IsNumber, SpellsKind, SpellsName, SpellsKeyed}
 use Rattle.plain_events.specs.declared.found.Found.{Found}
 use Rattle.plain_events.specs.Fronts.{IsPairAt, IsEventBy}
-use Rattle.plain_events.specs.Keys.{mark_of, IsFurther, push, ArePairsAt}
+use Rattle.plain_events.specs.Keys.{mark_of, IsFurther, push}
 
 -- what a map has at a key is what was found there, if anything is
 abbrev pub Tells : {X : Type 0} → (Value → X → Type 0) → Option Value → Option X → Type 0

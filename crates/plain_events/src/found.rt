@@ -1,5 +1,5 @@
 //! What is found at the keys of an event, in any order.
-ghost use Rattle.std.specs.Prelude.{◌≡◌, ◌^◌, codes, IfSome};
+ghost use Rattle.std.specs.Prelude.{◌^◌, codes, IfSome};
 ghost use Rattle.edn.specs.Value.{Value, no_pairs};
 ghost use Rattle.events.specs.Spelling.{IsNumber, SpellsKind, SpellsName, SpellsKeyed};
 ghost use Rattle.plain_events.specs.Fronts.{IsEventBy};

@@ -1,5 +1,5 @@
 //! Values of keys that an event is not read by, which are passed over.
-ghost use Rattle.std.specs.Prelude.{◌≡◌, ◌∷◌, IfSome};
+ghost use Rattle.std.specs.Prelude.{◌∷◌, IfSome};
 ghost use Rattle.plain_events.specs.Passed.{IsPassedAt, IsScalarAt};
 
 use crate::keys::{Marks, keyword_at, past_new_key};

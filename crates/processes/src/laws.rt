@@ -2,7 +2,7 @@
 ghost use Rattle.std.specs.Prelude.{◌≡◌, ℕ, ◌<◌, ◌↔◌, true, List, ◌∷◌, ◌++◌};
 ghost use Rattle.edn.specs.declared.refusal.Refusal.{Refusal};
 ghost use Rattle.processes.specs.MoveRule.{Move, current_of, thread_of, is_busy, IsCurrent, MayMove, RefusesMove, FollowMoveRule, HasInvoked};
-ghost use Rattle.processes.specs.MoveRule.Move.{Invokes, Completes, Crashes};
+ghost use Rattle.processes.specs.MoveRule.Move.{Invokes, Crashes};
 
 /// A process that crashed never invokes again.
 pub fn crashed_process_stays_away()

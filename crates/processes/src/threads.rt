@@ -1,5 +1,5 @@
 //! Threads, each with its current process.
-ghost use Rattle.std.specs.Prelude.{◌≡◌, ℕ, ◌+◌, ◌<◌, ◌≤◌, ◌^◌, ◌%◌, false, List, [], length, slice_get, IsTrue, IfOk, IfErr, OnOk, OnErr};
+ghost use Rattle.std.specs.Prelude.{◌≡◌, ℕ, ◌+◌, ◌<◌, ◌^◌, ◌%◌, false, List, [], length, slice_get, IfOk, IfErr, OnOk, OnErr};
 ghost use Rattle.processes.specs.MoveRule.{Move, IsConcurrency, current_of};
 ghost use Rattle.processes.specs.MoveRule.Move.{Invokes, Completes, Crashes};
 ghost use Rattle.processes.specs.Threads.{StandAfter, HaveMoves, Moves, Allows, Forbids, MayNotStart, thread_after};

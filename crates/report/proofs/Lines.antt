@@ -1,14 +1,12 @@
 -- The lines of some keys, and of one more.
-use Rattle.std.proofs.Common.{◌≡◌, ℕ, zero, suc, ◌+◌, ◌<◌, ◌≤◌, List, [], ◌∷◌, ◌++◌, length, take, get_or, map, Some, Result, Ok, Err, OnOk, is_ok, if◌then◌else◌, refl, sym, ap, subst, ◌∙◌, arith, append_assoc, append-nil}
+use Rattle.std.proofs.Common.{◌≡◌, ℕ, zero, suc, ◌+◌, List, [], ◌∷◌, ◌++◌, take, Some, Result, Ok, Err, OnOk, is_ok, if◌then◌else◌, refl, sym, ap, ◌∙◌, arith, append_assoc, append-nil}
 use Rattle.std.specs.Prelude.{slice_get}
-use Rattle.std.specs.List.{All}
-use Rattle.std.proofs.lemmas.List.{take_all, take_more, map-append}
+use Rattle.std.proofs.lemmas.List.{take_more, map-append}
 use Rattle.std.proofs.lemmas.List.Elements.{All-append}
 use Rattle.std.proofs.lemmas.Option.{slice_get_within, get_or_from_slice_get}
 use Rattle.linspec.specs.declared.verdict.KeyStatus.{KeyStatus}
 use Rattle.linspec.specs.KeyHistory.{IsStatusOf}
-use Rattle.linspec.specs.JudgedHistory.{JudgedHistory, history_of_key, kind_of, budget_of}
-use Rattle.report.specs.KeyLine.{key_line}
+use Rattle.linspec.specs.JudgedHistory.{JudgedHistory, history_of_key}
 use Rattle.report.specs.Report.{line_in, lines_in, Stand, IsRows}
 
 one_stands : (h : JudgedHistory) (row : ℕ × KeyStatus) → IsStatusOf (history_of_key h row.0) row.1 → Stand h (row ∷ [])
@@ -18,12 +16,6 @@ one_stands h row is (suc k) d within = absurd (omega (arith, within))
 lines_append : (h : JudgedHistory) (xs ys : List (ℕ × KeyStatus)) → lines_in h (xs ++ ys) ≡ lines_in h xs ++ lines_in h ys
 lines_append h [] ys = refl
 lines_append h (x ∷ xs) ys = ap (λ t. line_in h x ++ t) (lines_append h xs ys) ∙ sym (append_assoc (line_in h x) (lines_in h xs) (lines_in h ys))
-
-pub no_rows : (h : JudgedHistory) (keys : List ℕ) → IsRows h (take 0 keys) []
-no_rows h keys = record { rows = []; keys_are = sym (nothing keys); stand = λ k d within. absurd (omega (arith, within)); text_is = refl } where
-  nothing : (keys : List ℕ) → take 0 keys ≡ []
-  nothing [] = refl
-  nothing (k ∷ ks) = refl
 
 -- one key more
 pub one_more : (h : JudgedHistory) (keys text line : List ℕ) (place key : ℕ) (status : KeyStatus)
@@ -43,9 +35,6 @@ one_more h keys text line place key status is at stands line_is = record {
 
   together : text ++ line ≡ lines_in h (is.rows ++ (key, status) ∷ [])
   together = ap (λ t. t ++ line) is.text_is ∙ (ap (λ t. lines_in h is.rows ++ t) (sym last) ∙ sym (lines_append h is.rows ((key, status) ∷ [])))
-
-pub all_rows : (h : JudgedHistory) (keys text : List ℕ) (place : ℕ) → length keys ≤ place → IsRows h (take place keys) text → IsRows h keys text
-all_rows h keys text place long is = subst (λ l. IsRows h l text) (take_all place keys long) is
 
 -- what follows where bytes have grown
 pub on_grown : {A E Q : Type 0} (r : Result A E) (new grown old : List ℕ) → new ≡ (if is_ok r then grown else old) → (new ≡ grown → Q) → OnOk r Q

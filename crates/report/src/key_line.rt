@@ -1,5 +1,5 @@
 //! The line that says what is known of a key.
-ghost use Rattle.std.specs.Prelude.{◌≡◌, ◌++◌, IfOk, OnOk, OnErr, string_bytes};
+ghost use Rattle.std.specs.Prelude.{◌≡◌, IfOk, string_bytes};
 ghost use Rattle.report.specs.KeyLine.{key_line, status_text};
 
 use linspec::KeyStatus;

@@ -1,5 +1,7 @@
 //! What a monitor knows, as text: a line for each key that has events, and the line of the verdict.
 //!
+//! `script` answers by the line of the verdict alone; a check and a run write a whole report, whose last line it is.
+//!
 //! A call takes memory only where its result can be `AllocError`, or a refusal for want of memory.
 #![tactic(auto)]
 

@@ -1,5 +1,5 @@
 //! A run of clients against the store in the process, from its configuration to the text that says what it came to: the report, or
-//! the line of a refusal.
+//! the line of a refusal. The clients and the nemesis are those of `clients`; of the object that they leave the report is made.
 //!
 //! A call takes memory only where its result can be `AllocError`, or a refusal for want of memory.
 #![tactic(auto)]

@@ -1,5 +1,5 @@
 -- Elements that ask for a command, or for none
-use Rattle.std.proofs.Common.{◌≡◌, ◌≢◌, ◌≤◌, ◌<◌, ℕ, refl, List, [], ◌∷◌, length, Result, Ok, Err, Option, Some, None, Bool, true, false, arith, rules, String, sym, ◌∙◌, ap, subst}
+use Rattle.std.proofs.Common.{◌≡◌, ◌≢◌, ◌≤◌, ℕ, refl, List, [], ◌∷◌, length, Result, Ok, Err, Option, Some, None, Bool, true, false, arith, rules, String, sym, ◌∙◌, ap, subst}
 use Rattle.std.specs.Prelude.{codes, nat_lt, ◌^◌, if◌then◌else◌, pos}
 use Rattle.std.specs.Str.{bytes_eq}
 use Rattle.std.proofs.lemmas.Slice.Eq.{bytes_eq-Decides}
@@ -67,11 +67,6 @@ appended (text s) asked is appends = appends
 appended (keyword s) asked is appends = appends
 appended (pairs ps) asked is appends = appends
 appended (members vs) asked is appends = appends
-
--- an element that spells an event is a map
-pub spelled_asks : (v : Value) (event : Event) → Spells v event → ElementAsks v (Ok (Append event))
-spelled_asks (pairs ps) event spells = spells
-spelled_asks _ event spells = absurd spells.head.1
 
 pub appends : (v : Value) (event : Event) → elements_in v ≡ None → Spells v event → ElementAsks v (Ok (Append event))
 appends v event is spells = appended v (Ok (Append event)) is spells

@@ -1,9 +1,7 @@
 //! The monitor, driven by lines.
-ghost use Rattle.std.specs.Prelude.{◌≡◌, ◌≢◌, ◌⊎◌, ◌≤◌, ℕ, List, [], length, Result, Option, IfOk, OnOk, IfErr, IsErrAnd, Ok, Err, Some, None, false, true};
-ghost use Rattle.machine.specs.Machine.{Machine, opening};
+ghost use Rattle.std.specs.Prelude.{◌≡◌, ◌≢◌, ◌⊎◌, ℕ, List, [], Result, Option, IfOk, OnOk, IfErr, IsErrAnd, Ok, Err, Some, None, false, true};
 ghost use Rattle.harness.specs.Setups.{setup_of, IsSetup, MayNotOpen};
 ghost use Rattle.line_loop.specs.RefusalLine.{refusal_line};
-ghost use Rattle.line_loop.specs.ReplyText.{line_limit};
 ghost use Rattle.line_loop.specs.Live.{IsLive};
 ghost use Rattle.line_loop.specs.Stopping.{MayStop, Finishes, Stops, KeepsUp};
 ghost use Rattle.edn.specs.declared.refusal.Refusal.{Refusal as RefusalValue};

@@ -41,8 +41,5 @@ pub same_table : (r : Result RowsView AllocError) (rows : List (ℕ × List Held
 same_table (Ok t) rows is = is ∙ nothing rows
 same_table (Err e) rows is = tt
 
-pub same_rows : (rows rows' : List (ℕ × List Held)) → rows' ≡ map (healed_entry []) rows → rows' ≡ rows
-same_rows rows rows' is = is ∙ nothing rows
-
 pub overflows_not : (chosen : List Bool) (row : List Held) (held : Held) → VersionsOf row (2 ^ 64 - 2) → newest chosen row ≡ Some held → held.version + 1 < 2 ^ 64
 overflows_not chosen row held within is = let le : held.version ≤ 2 ^ 64 - 2 = newest_within chosen row held (2 ^ 64 - 2) within is in omega arith

@@ -1,8 +1,6 @@
 -- No version is greater than the number of serves
-use Rattle.std.proofs.Common.{◌≡◌, ℕ, ◌+◌, ◌≤◌, ⊎_elim, nat_eq, Bool, true, false, cond, Option, Some, None, Result, Ok, Err, IfOk, OnOk, OnErr, unwrap_or, List, [], ◌∷◌, map, refl, sym, ap, ◌∙◌, subst, arith}
+use Rattle.std.proofs.Common.{◌≡◌, ℕ, ◌+◌, ◌≤◌, ⊎_elim, nat_eq, Bool, true, false, cond, Option, Some, None, unwrap_or, List, [], ◌∷◌, map, refl, sym, ap, ◌∙◌, subst, arith}
 use Rattle.std.specs.List.{Contains}
-use Rattle.std.specs.declared.alloc.AllocError.{AllocError}
-use Rattle.edn.specs.declared.refusal.Refusal.{Refusal}
 use Rattle.std.specs.Map.{lookup}
 use Rattle.std.proofs.lemmas.Bool.{cases_eq}
 use Rattle.models.specs.declared.operation.Op.{Op}
@@ -18,7 +16,7 @@ use Rattle.test_store.specs.declared.outcome.Outcome.{Outcome}
 use Rattle.test_store.specs.declared.outcome.Outcome.TheVariants.{Done, Refused, Lost}
 use Rattle.test_store.specs.Copies.{fresh, fresh_row, newest, taken_over, healed, healed_by, healed_entry}
 use Rattle.test_store.specs.Reach.{ups}
-use Rattle.test_store.specs.Store.{Cluster, opening, row_of, row_in, with_row, servers, Serves, MayServe, rows_after, after_fault, VersionsOf, VersionsWithin, StoreView, at_rest}
+use Rattle.test_store.specs.Store.{Cluster, opening, row_of, row_in, with_row, servers, Serves, MayServe, rows_after, after_fault, VersionsOf, VersionsWithin}
 use Rattle.test_store.proofs.Newest.{newest_in, newest_within}
 use Rattle.test_store.proofs.Majorities.{taken_in}
 use Rattle.test_store.proofs.Puts.{row_same, row_other}
@@ -101,28 +99,7 @@ rows_versions Strict m links (LoseReplies k) rows kind key n within = within
 pub fault_versions : (fault : Fault) (s : Cluster) (n : ℕ) → VersionsWithin s n → VersionsWithin (after_fault fault s) n
 fault_versions fault s n within key = rows_versions s.mode s.replicas s.links fault s.rows s.kind key n (within key)
 
--- the same of calls, which tests count
-pub serve_counted : (old new : Cluster) (e : ℕ) (op : Op) (r : Result Outcome AllocError) (n : ℕ) → IfOk r (λ outcome. MayServe old e op outcome new) → OnErr r (new ≡ old) → VersionsWithin old n → VersionsWithin new (n + 1)
-serve_counted old new e op (Ok outcome) n served same within = serve_versions old new e op outcome n served within
-serve_counted old new e op (Err x) n served same within = subst (λ s. VersionsWithin s (n + 1)) (sym same) (λ key held h. (let l : held.version ≤ n = within key held h in omega arith))
-
 pub serve_replicas : (old new : Cluster) (e : ℕ) (op : Op) (outcome : Outcome) → MayServe old e op outcome new → new.replicas ≡ old.replicas
 serve_replicas old new e op Refused may = ap (λ (s : Cluster). s.replicas) may.1
 serve_replicas old new e op (Done found) may = ap (λ (s : Cluster). s.replicas) may.3
 serve_replicas old new e op Lost may = ap (λ (s : Cluster). s.replicas) may.4
-
-pub replicas_counted : (old new : Cluster) (e : ℕ) (op : Op) (r : Result Outcome AllocError) → IfOk r (λ outcome. MayServe old e op outcome new) → OnErr r (new ≡ old) → new.replicas ≡ old.replicas
-replicas_counted old new e op (Ok outcome) served same = serve_replicas old new e op outcome served
-replicas_counted old new e op (Err x) served same = ap (λ (s : Cluster). s.replicas) same
-
-pub fault_counted : {A : Type 0} (old new : Cluster) (fault : Fault) (r : Result A Refusal) (n : ℕ) → OnOk r (new ≡ after_fault fault old) → OnErr r (new ≡ old) → VersionsWithin old n → VersionsWithin new n
-fault_counted old new fault (Ok u) n struck same within = subst (λ s. VersionsWithin s n) (sym struck) (fault_versions fault old n within)
-fault_counted old new fault (Err x) n struck same within = subst (λ s. VersionsWithin s n) (sym same) within
-
-pub opening_counted : {E : Type 0} (n : ℕ) (mode : Mode) (kind : ModelKind) (r : Result StoreView E) → IfOk r (λ (store : StoreView). store ≡ at_rest (opening n mode kind)) → IfOk r (λ (store : StoreView). VersionsWithin store.now 0)
-opening_counted n mode kind (Ok store) is = subst (λ (s : StoreView). VersionsWithin s.now 0) (sym is) (opening_versions n mode kind)
-opening_counted n mode kind (Err e) is = tt
-
-pub copy_counted : {E : Type 0} (s : Cluster) (n : ℕ) (r : Result StoreView E) → IfOk r (λ (store : StoreView). store ≡ at_rest s) → VersionsWithin s n → IfOk r (λ (store : StoreView). VersionsWithin store.now n)
-copy_counted s n (Ok store) is within = subst (λ (x : StoreView). VersionsWithin x.now n) (sym is) within
-copy_counted s n (Err e) is within = tt

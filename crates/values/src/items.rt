@@ -106,8 +106,8 @@ impl Items {
         self.items.first()
     }
 
-    /// The same items, all of them shared where they are many. Takes the time and the memory of a copy of a row; `AllocError` too where
-    /// they are shared as often as they can be.
+    /// The same items, all of them shared where they are many. Takes the time and the memory of a copy of a row; `AllocError` too
+    /// where they are shared as often as they can be.
     pub fn copy(&self) -> Result<Items, AllocError>
         ensures { IfOk result (λ other. other ≡ self.now) }
     {

@@ -104,8 +104,8 @@ impl Multiset {
         self.values.place_of(value + 1)
     }
 
-    /// The same multiset, all of it shared where it is large. Takes the time and the memory of a copy of a row; `AllocError` too where
-    /// it is shared as often as it can be.
+    /// The same multiset, all of it shared where it is large. Takes the time and the memory of a copy of a row; `AllocError` too
+    /// where it is shared as often as it can be.
     pub fn copy(&self) -> Result<Multiset, AllocError>
         ensures { IfOk result (λ other. other ≡ self.now) }
     {

@@ -16,8 +16,8 @@ use std::hash::{Hash, Hasher};
 use std::marker::Model;
 
 /// A set of integers, by its spans: as many consecutive members as there are, in ascending order. So each set has one such row, and
-/// to compare two takes the time of the spans, and not that of the members. What two sets have in common they share, where one was made
-/// from the other.
+/// to compare two takes the time of the spans, and not that of the members. What two sets have in common they share, where one was
+/// made from the other.
 pub struct Spans {
     alloc: Global,
     spans: SpanRow,

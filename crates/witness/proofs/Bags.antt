@@ -20,9 +20,6 @@ one_if-same x w e = ap (λ b. cond b 1 0) (same_int x w e)
 pub one_if-other : (x w : ℤ) → x ≢ w → one_if x w ≡ 0
 one_if-other x w d = ap (λ b. cond b 1 0) (other_int x w d)
 
-pub one_if-most : (x w : ℤ) → one_if x w ≤ 1
-one_if-most x w = ⊎_elim (λ e. let q : one_if x w ≡ 1 = ap (λ b. cond b 1 0) e in omega (arith, q)) (λ e. let q : one_if x w ≡ 0 = ap (λ b. cond b 1 0) e in omega (arith, q)) (cases_Bool (int_eq x w))
-
 pub times_cons : (w x : ℤ) (xs : List ℤ) → times_in w (x ∷ xs) ≡ one_if x w + times_in w xs
 times_cons w x xs = sum_by-cons (λ y. one_if y w) x xs
 
@@ -94,9 +91,6 @@ in_if_counted v (x ∷ xs) h =
     (λ e. subst (Contains (x ∷ xs)) ((Decides-int_eq x v).0 e) (first_member x xs))
     (λ e. let none : one_if x v ≡ 0 = ap (λ b. cond b 1 0) e in let whole = times_cons v x xs in later_member x xs v (in_if_counted v xs (omega (arith, none, whole))))
     (cases_Bool (int_eq x v))
-
-pub counted_if_in : (v : ℤ) (s : List ℤ) → Contains s v → 0 < times_in v s
-counted_if_in v s h = let less = times_without v v s h in let one = one_if-same v v refl in omega (arith, less, one)
 
 zero_or : (n : ℕ) → ¬ (0 < n) → n ≡ 0
 zero_or zero h = refl

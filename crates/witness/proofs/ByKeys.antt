@@ -68,9 +68,6 @@ module _ (sorted : List Stand) (k start end : ℕ) (lt : start < end) (within : 
   run : List Stand
   run = take (end - start) (drop start sorted)
 
-  behind : List Stand
-  behind = drop (end - start) (drop start sorted)
-
   in_front : (x : Stand) → Contains (take start sorted) x → nat_eq x.key k ≡ false
   in_front x h =
       let long = length-take-le start sorted (omega arith) in
@@ -237,9 +234,6 @@ module _ (stands sorted : List Stand) (by : AreByKeys stands sorted) (start end 
         h)
         (cases_order i start);
   }
-
-  key_of : Stand → ℕ
-  key_of d = (get_or sorted start d).key
 
   pub run_is : (d : Stand) → take (end - start) (drop start sorted) ≡ on_key (get_or sorted start d).key sorted
   run_is d = run_is_key sorted (get_or sorted start d).key start end lt within

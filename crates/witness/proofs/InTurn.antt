@@ -11,10 +11,6 @@ use Rattle.witness.specs.declared.misfit.Misfit.TheVariants.{NoEvent, NoInvocati
 use Rattle.witness.specs.Calls.{CanRun, unanswered, HaltsBehind, IsHalt}
 use Rattle.witness.specs.Taking.{HaltsIn, Takes, IsAfter}
 
--- before any call
-pub at_start : (kind : ModelKind) (state : AnyState) → state ≡ any kind (object_of kind).start → IsAfter kind [] state
-at_start kind state is = record { left = (object_of kind).start; is = is; ahead = λ later. ((λ h. h), (λ h. h)) }
-
 -- one call more
 pub one_more : (kind : ModelKind) (front : List Call) (c : Call) (state next : AnyState) → IsAfter kind front state
     → ((s : (object_of kind).State) → state ≡ any kind s → Takes kind s c (Ok next)) → IsAfter kind (front ++ c ∷ []) next

@@ -1,9 +1,7 @@
 -- calls of a queue without an order, from the last to the first
-use Rattle.std.proofs.Common.{◌≡◌, ◌≢◌, ◌↔◌, ℕ, ◌+◌, ◌-◌, ◌<◌, ◌≤◌, ℤ, inl, ⊎_elim, Option, Some, None, List, [], ◌∷◌, length, get_or, remove, refl, sym, ap, ◌∙◌, subst, arith}
+use Rattle.std.proofs.Common.{◌≡◌, ◌≢◌, ◌↔◌, ℕ, ◌+◌, ◌-◌, ◌<◌, ◌≤◌, ℤ, inl, ⊎_elim, Option, Some, None, List, ◌∷◌, length, get_or, remove, refl, sym, ap, ◌∙◌, subst, arith}
 use Rattle.std.specs.List.{Contains}
-use Rattle.models.specs.declared.operation.Name.{Name}
 use Rattle.models.specs.declared.operation.Name.TheVariants.{Enqueue, Dequeue}
-use Rattle.models.specs.declared.operation.Part.{Part}
 use Rattle.models.specs.declared.operation.Part.TheVariants.{Nil, Int}
 use Rattle.models.specs.declared.finding.Found.{Found}
 use Rattle.models.specs.declared.finding.Found.TheVariants.{Unit as Done, Item}
@@ -17,13 +15,9 @@ use Rattle.models.proofs.Unordered.{dequeue_is}
 use Rattle.witness.specs.declared.calls.Call.{Call}
 use Rattle.witness.specs.declared.needs.Needs.{Needs}
 use Rattle.witness.specs.Calls.{FitsIf, CanRun}
-use Rattle.witness.specs.Needs.{AreNeeds, AreBefore}
+use Rattle.witness.specs.Needs.{AreNeeds}
 use Rattle.witness.proofs.Bags.{one_if, one_if-same, one_if-other, times_with, length_with, times_without, length_without, times_remove, length_remove, in_if_counted, nothing_counted, more_often, cases_int, fewer}
 use Rattle.witness.proofs.Runs.{fits_done}
-
--- no calls need nothing
-pub none_needed : AreNeeds [] (record { values = []; more = 0 })
-none_needed s = ((λ h. record { has = λ v. omega arith; has_more = omega arith }), (λ h. tt))
 
 module _ (c : Call) (later : List Call) where
   -- an enqueue
@@ -156,12 +150,3 @@ module _ (c : Call) (later : List Call) where
     before_none answer answered other s h =
         let o = take_from s h.1 h.0 h.2 in
         no_item o.0 answer other (subst (FitsIf (Item o.0)) answered (subst (λ f. FitsIf f c.answer) o.3 h.3))
-
--- no other operation can take place
-no_step : (name : Name) (part : Part) → ((v : ℤ) → name ≡ Enqueue → part ≢ Int v) → (name ≡ Dequeue → part ≢ Nil) → (s t : List ℤ) (found : Found) → ¬ IsOneOf (unordered_apply name part s) (t, found)
-no_step Enqueue (Int v) no_put no_take s t found h = no_put v refl refl
-no_step Dequeue Nil no_put no_take s t found h = no_take refl refl
-no_step _ _ no_put no_take s t found h = absurd h
-
-pub no_other : (c : Call) (needs : Needs) → ((v : ℤ) → c.op.name ≡ Enqueue → c.op.part ≢ Int v) → (c.op.name ≡ Dequeue → c.op.part ≢ Nil) → AreBefore c needs None
-no_other c needs no_put no_take later after s h = no_step c.op.name c.op.part no_put no_take s h.1 h.0 h.2

@@ -30,8 +30,8 @@ pub enum Confirmation {
 /// Else it says what does not fit, at the first place at which something does not. It tries no other order, and says nothing of the
 /// history then.
 ///
-/// Takes the time of the events and of the order, each with a logarithm: of the keys, of the processes, of the state. A read of a set
-/// takes that of the members besides. Of a queue without an order a dequeue takes its value out wherever it is in; and one that
+/// Takes the time of the events and of the order, each with a logarithm: of the keys, of the processes, of the state. A read of a
+/// set takes that of the members besides. Of a queue without an order a dequeue takes its value out wherever it is in; and one that
 /// has no answer takes out what no later one needs.
 pub fn confirm(
     alloc: Global,

@@ -1,5 +1,5 @@
 //! What became of the operations of a history.
-ghost use Rattle.std.specs.Prelude.{◌≡◌, ℕ, ◌+◌, ◌<◌, length, option_map, IfOk, OnOk};
+ghost use Rattle.std.specs.Prelude.{◌≡◌, ℕ, ◌<◌, length, option_map, IfOk, OnOk};
 ghost use Rattle.models.specs.declared.operation.Op.{Op};
 ghost use Rattle.events.specs.Events.{act_by, last_after, last_by, mark_by_act, op_event, OpEvent};
 ghost use Rattle.witness.specs.Fates.{AreFates, fate_at, fate_by, fate_with, last_in};
@@ -93,8 +93,8 @@ fn note(
     Ok(())
 }
 
-/// What became of the operation that each event invokes. Takes the time of the events, each with the logarithm of how many processes
-/// there are.
+/// What became of the operation that each event invokes. Takes the time of the events, each with the logarithm of how many
+/// processes there are.
 pub fn fates_of(alloc: Global, events: &[Event]) -> Result<Vec<Fate>, AllocError>
     ensures { IfOk result (λ fates. AreFates events.now fates.items) }
 {

@@ -1,10 +1,8 @@
 //! The operations of each key that stand in an order.
-ghost use Rattle.std.specs.Prelude.{◌≡◌, ℕ, ◌+◌, ◌<◌, ◌≤◌, ◌↔◌, ◌≢◌, ◌⊎◌, Some, None, MatchOption, length, slice_get, slice_index_or, take, IfOk, IfSome, OnOk, IsTrue};
+ghost use Rattle.std.specs.Prelude.{◌≡◌, ℕ, ◌+◌, ◌<◌, ◌≤◌, ◌↔◌, ◌≢◌, ◌⊎◌, Some, None, MatchOption, length, slice_index_or, take, IfOk, IfSome, OnOk, IsTrue};
 ghost use Rattle.std.specs.List.{Contains};
-ghost use Rattle.models.specs.declared.operation.Op.{Op};
 ghost use Rattle.witness.specs.declared.misfit.Unfit.{Unfit};
 ghost use Rattle.witness.specs.declared.placing.Stand.{Stand};
-ghost use Rattle.witness.specs.Fates.{op_at};
 ghost use Rattle.witness.specs.KeyOrders.{AreByKeys, AreInTime, AreThere, CanRunBy, FindsAll, IsBefore, Judges, KeyUnfit, ids_of};
 
 use crate::answers::{calls_by, fate_at};
@@ -139,8 +137,8 @@ fn end_of_key(stands: &[Stand], start: usize) -> usize
     stands.len()
 }
 
-/// What does not fit first of the operations of each key, beside what was found of the order before, if something does not. Takes the
-/// time of a sort by the keys, and of the operations of each key: of each the logarithm of the state.
+/// What does not fit first of the operations of each key, beside what was found of the order before, if something does not. Takes
+/// the time of a sort by the keys, and of the operations of each key: of each the logarithm of the state.
 pub fn first_unfit(
     alloc: Global,
     events: &[Event],

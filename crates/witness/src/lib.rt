@@ -1,5 +1,8 @@
 //! Whether an order of the operations of a history shows that it is linearizable.
 //!
+//! What became of each operation is noted, the order's operations are placed and sorted by their keys, and those of each key take
+//! place one after another. The first thing that does not fit is told, with its place in the order.
+//!
 //! A call takes memory only where its result can be `AllocError`, or a refusal for want of memory.
 #![tactic(auto)]
 

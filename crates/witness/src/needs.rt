@@ -1,5 +1,5 @@
 //! What calls need of the queue without an order that they begin in.
-ghost use Rattle.std.specs.Prelude.{◌≡◌, ◌+◌, ◌<◌, ◌≤◌, ℤ, pos, Some, [], get_or, length, IfOk, IfSome, MatchOption};
+ghost use Rattle.std.specs.Prelude.{◌≡◌, ◌+◌, ◌<◌, ◌≤◌, pos, Some, [], get_or, length, IfOk, IfSome, MatchOption};
 ghost use Rattle.std.specs.List.{Contains};
 ghost use Rattle.models.specs.declared.operation.Name.{Name};
 ghost use Rattle.models.specs.declared.operation.Part.{Part};

@@ -82,8 +82,8 @@ fn left_out(fates: &[Fate], taken: &[bool], end: usize) -> Option<Unfit>
     None
 }
 
-/// The operations of an order up to the first that can't stand there, and that one; or, where all stand, one that is left out. Takes
-/// the time of the order and of the events.
+/// The operations of an order up to the first that can't stand there, and that one; or, where all stand, one that is left out.
+/// Takes the time of the order and of the events.
 pub fn place_all(
     alloc: Global,
     events: &[Event],

@@ -6,7 +6,7 @@ use Rattle.std.proofs.lemmas.List.Elements.{Contains-get_or, Contains-push_cases
 use Rattle.linspec.specs.Operations.{HasReturned}
 use Rattle.linspec.specs.KeptMarks.{marks_of_kept}
 use Rattle.linspec.specs.Finishing.{CanFinish}
-use Rattle.linspec.specs.Attempts.{AttemptView, FollowsSome, Steps}
+use Rattle.linspec.specs.Attempts.{AttemptView, Steps}
 use Rattle.linspec.proofs.Lists.{Contains-nil}
 use Rattle.linspec.proofs.Trying.{left, fewer_left, finish_first, no_finish}
 use Rattle.linspec.proofs.brute_force.+can_finish.Goals as goal

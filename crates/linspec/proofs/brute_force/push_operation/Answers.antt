@@ -1,11 +1,10 @@
-use Rattle.std.proofs.Common.{◌≡◌, ◌↔◌, ◌⊎◌, inl, inr, ⊎_elim, List, sym, ◌∙◌, ap, subst}
-use Rattle.std.specs.List.{Contains}
+use Rattle.std.proofs.Common.{◌↔◌, ◌⊎◌, inl, inr, ⊎_elim, List, sym, ◌∙◌, ap, subst}
 use Rattle.std.proofs.lemmas.Bool.{true≢false}
 use Rattle.std.proofs.lemmas.Result.{on_ok_weaker}
 use Rattle.models.specs.declared.finding.Found.{Found}
 use Rattle.linspec.specs.KeptMarks.{marks_of_kept}
 use Rattle.linspec.specs.Finishing.{MayStandAfter}
-use Rattle.linspec.specs.Attempts.{AttemptView, Keyed, FollowsBy, LeadTo, MakesSome, Steps}
+use Rattle.linspec.specs.Attempts.{AttemptView, Keyed, LeadTo, Steps}
 use Rattle.linspec.proofs.Trying.{follows_by}
 use Rattle.linspec.proofs.brute_force.push_operation.Goals as goal
 

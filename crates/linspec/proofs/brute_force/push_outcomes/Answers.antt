@@ -1,4 +1,4 @@
-use Rattle.std.proofs.Common.{◌≡◌, ◌↔◌, ◌⊎◌, ◌<◌, inl, inr, ⊎_elim, length, take, subst, arith}
+use Rattle.std.proofs.Common.{◌↔◌, ◌⊎◌, ◌<◌, inl, inr, ⊎_elim, length, subst, arith}
 use Rattle.std.specs.List.{Contains}
 use Rattle.std.proofs.lemmas.List.{take_all}
 use Rattle.linspec.specs.Attempts.{MakesSome}

@@ -1,5 +1,4 @@
-use Rattle.std.proofs.Common.{◌≡◌, ◌++◌, ◌+◌, length, ap, ◌∙◌, length-append, arith}
-use Rattle.plain_events.proofs.Runs.{spelled_shorter, string_start, string_more, string_closed}
+use Rattle.plain_events.proofs.Runs.{string_more, string_closed}
 use Rattle.plain_events.proofs.strings.past_string.Goals as goal
 
 pub returns-in-Some : goal.returns-in-Some

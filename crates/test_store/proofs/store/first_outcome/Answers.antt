@@ -1,4 +1,4 @@
-use Rattle.std.proofs.Common.{◌≡◌, ◌↔◌, ◌<◌, ◌++◌, Option, Some, None, List, [], ◌∷◌, IsSome, length, take, option_to_list, vec_len, rules, refl, sym, ap, ◌∙◌, subst, arith}
+use Rattle.std.proofs.Common.{◌≡◌, ◌↔◌, ◌<◌, ◌++◌, Option, Some, None, List, [], ◌∷◌, IsSome, length, take, option_to_list, vec_len, rules, refl, sym, ap, ◌∙◌, arith}
 use Rattle.test_store.specs.Store.{first_of}
 use Rattle.test_store.proofs.store.first_outcome.Goals as goal
 

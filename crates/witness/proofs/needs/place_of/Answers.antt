@@ -3,7 +3,7 @@ use Rattle.std.proofs.Common.{◌≡◌, ◌+◌, ◌-◌, ◌/◌, ◌≤◌, �
 use Rattle.std.proofs.lemmas.Int.{ints, to_z-of_z}
 use Rattle.witness.proofs.Searching.{below_middle, above_middle, none_in}
 use Rattle.witness.proofs.needs.place_of.Goals as goal
-use Rattle.witness.proofs.needs.place_of.Goals.{Then-get-value, Else-get-value, else-low-len-via-then-low-len+else-get-value-2, else-low-len-via-else-low-len}
+use Rattle.witness.proofs.needs.place_of.Goals.{else-low-len-via-then-low-len+else-get-value-2, else-low-len-via-else-low-len}
 
 pub places-preserved-then-get-value : goal.places-preserved-then-get-value
 places-preserved-then-get-value c =
