@@ -1,9 +1,10 @@
 #!/usr/bin/env python3
-"""Times the built program on histories of registers with 1, 1,000 and 65,536 keys: `keys.py [EVENTS]`, 2^20 unless given.
+"""Times the program on histories of registers with 1, 1,000 and 65,536 keys: `keys.py [EVENTS]`, 2^20 unless given.
 
-Prints the time and the peak memory of a whole script; the time from a line to its reply through two pipes, for the last 2,000
-events; and that of a rewind that takes the last event away, of a model set for one key, and of the verdict asked for.
+Prints processor time, the least of three runs, and peak memory of a whole script; the time from a line to its reply through two pipes,
+for the last 2,000 events; and that of a rewind that takes the last event away, and of a model set for one key.
 """
+import argparse
 import os
 import pathlib
 import subprocess
@@ -12,8 +13,9 @@ import threading
 import time
 
 sys.path.insert(0, str(pathlib.Path(__file__).resolve().parent))
-from run import PROGRAM, whole
-from workload import lines
+from loads import whole, words
+from program import PROGRAM
+from workload import lines, positive_number
 
 TIMED = 2_000
 
@@ -43,28 +45,35 @@ def live(history):
     def timed(line):
         begin = time.perf_counter()
         process.stdin.write(line)
-        text = reply(process.stdout.fileno())
-        return time.perf_counter() - begin, text
+        reply(process.stdout.fileno())
+        return time.perf_counter() - begin
 
-    times = sorted(timed(line)[0] for line in last)
-    others = [timed(b"[:rewind %d]\n" % (len(history) - 1)), timed(b"[:model 7 :cas-register]\n"), timed(b"[:verdict]\n")]
+    times = sorted(timed(line) for line in last)
+    others = [timed(b"[:rewind %d]\n" % (len(history) - 1)), timed(b"[:model 7 :cas-register]\n")]
     process.stdin.close()
     process.wait()
-    return times[len(times) // 2], times[len(times) * 99 // 100], [seconds for seconds, _ in others], others[0][1].decode().strip()
+    return times[len(times) // 2], times[len(times) * 99 // 100], others
 
 
 def main():
-    events = int(sys.argv[1]) if len(sys.argv) > 1 else 1 << 20
-    for keys in (1, 1_000, 65_536):
-        history = [line.encode() + b"\n" for line in lines(events, 2, 1, "register", keys)]
-        text = pathlib.Path(f"/tmp/jepmon-bench-keys-{keys}.edn")
-        text.write_bytes(b"".join(history))
-        seconds, peak, status = whole(text, "register", 2)
+    parser = argparse.ArgumentParser(description=__doc__, formatter_class=argparse.RawDescriptionHelpFormatter)
+    parser.add_argument("events", nargs="?", type=positive_number, default=1 << 20)
+    events = parser.parse_args().events
+    print("| Keys | Events | `script` | Events a second | Peak memory | A reply, median | 99th of 100 | A rewind of the last event | A model set |")
+    print("|---|---|---|---|---|---|---|---|---|")
+    texts = {keys: pathlib.Path(f"/tmp/jepmon-bench-keys-{keys}.edn") for keys in (1, 1_000, 65_536)}
+    measured = {}
+    # All of these before any lines are held in memory here: the peak of a program is never below that of the process that started it.
+    for keys, text in texts.items():
+        with text.open("w") as out:
+            out.writelines(line + "\n" for line in lines(events, 2, 1, "register", keys))
+        measured[keys] = min(whole(words("script", "register", 2, 4096), text) for _ in range(3))
+    for keys, text in texts.items():
+        seconds, peak, _ = measured[keys]
+        median, high, (rewind, model) = live(text.read_bytes().splitlines(True))
         text.unlink()
-        median, high, (rewind, model, verdict), after = live(history)
-        print(f"{keys} keys, {events} events: {seconds:.2f} s, {events / seconds:,.0f} lines/s, peak {peak / 1024:.0f} MiB, status {status}; "
-              f"a reply takes {median * 1e6:.0f} us (median), {high * 1e6:.0f} us (99th of 100); "
-              f"a rewind of the last event {rewind * 1e3:.2f} ms ({after}), a model set {model * 1e3:.2f} ms, the verdict {verdict * 1e6:.0f} us")
+        print(f"| {keys:,} | {events:,} | {seconds:.2f} s | {round(events / max(seconds, 0.001), -3):,.0f} | {peak:.0f} MiB | {median * 1e6:.0f} us "
+              f"| {high * 1e6:.0f} us | {rewind * 1e3:.2f} ms | {model * 1e3:.2f} ms |", flush=True)
 
 
 if __name__ == "__main__":

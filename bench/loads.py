@@ -1,9 +1,11 @@
 #!/usr/bin/env python3
-"""Times the built program on histories of one key with many operations open at once: `loads.py [RUNS]`.
+"""Times the program on histories of one key with many operations open at once: `loads.py [RUNS] [--share PART]`, 3 runs unless
+given. A share of 0.1 makes histories of a tenth of the events, to try the script.
 
 Prints processor time of `script` and of `check`, the least of several runs, the peak memory of `script`, and of its replies
 through two pipes the median and the slowest; beside them the median that the two pipes take by themselves, which is that of `cat`.
 """
+import argparse
 import os
 import pathlib
 import subprocess
@@ -11,9 +13,8 @@ import sys
 import time
 
 sys.path.insert(0, str(pathlib.Path(__file__).resolve().parent))
-from workload import lines
-
-PROGRAM = pathlib.Path(__file__).resolve().parent.parent / "crates" / "jepmon" / "out" / "jepmon"
+from program import PROGRAM
+from workload import lines, part_of_one, positive_number
 
 # Kind of load, kind of object, clients, budget, events.
 LOADS = [
@@ -37,7 +38,7 @@ def words(command, model, clients, budget):
 def whole(call, standard_input):
     """Processor seconds, peak memory in MiB and exit status of one run."""
     run = " ".join(f"'{word}'" for word in call)
-    pid = os.posix_spawn("/bin/sh", ["sh", "-c", f"exec {run} < '{standard_input}' > /dev/null"], os.environ)
+    pid = os.posix_spawn("/bin/sh", ["sh", "-c", f"exec {run} < '{standard_input}' > /dev/null 2>&1"], os.environ)
     _, status, used = os.wait4(pid, 0)
     return used.ru_utime + used.ru_stime, used.ru_maxrss / 1024, os.waitstatus_to_exitcode(status)
 
@@ -59,11 +60,25 @@ def replies(text, call):
     return times[len(times) // 2] * 1e3, times[-1] * 1e3
 
 
+def asked(text):
+    """The words of a script that times the program: how often, and on how much of each history."""
+    parser = argparse.ArgumentParser(description=text, formatter_class=argparse.RawDescriptionHelpFormatter)
+    parser.add_argument("runs", nargs="?", type=positive_number, default=3)
+    parser.add_argument("--share", metavar="PART", type=part_of_one, default=1.0)
+    return parser.parse_args()
+
+
+def part(events, share):
+    return max(2, int(events * share))
+
+
 def main():
-    runs = int(sys.argv[1]) if len(sys.argv) > 1 else 3
+    given = asked(__doc__)
+    runs = given.runs
     print("| Kind, clients, budget | Events | Exit status | `script` | Events a second | Peak memory | `check` | A reply, median | Of it the pipes | Slowest |")
     print("|---|---|---|---|---|---|---|---|---|---|")
-    for load, model, clients, budget, events in LOADS:
+    for load, model, clients, budget, most in LOADS:
+        events = part(most, given.share)
         text = pathlib.Path(f"/tmp/jepmon-load-{load}-{clients}-{budget}.edn")
         text.write_text("".join(line + "\n" for line in lines(events, clients, 1, load)))
         script = words("script", model, clients, budget)
@@ -71,7 +86,7 @@ def main():
         recorded, _, _ = min(whole([*words("check", model, clients, budget), str(text)], "/dev/null") for _ in range(runs))
         median, slowest = min((replies(text, script) for _ in range(runs)), key=lambda pair: pair[1])
         pipes = min(replies(text, ["cat"])[0] for _ in range(runs))
-        print(f"| {load}, {clients}, {budget:,} | {events:,} | {status} | {seconds:.3f} s | {events / max(seconds, 0.001):,.0f} | {peak:.0f} MiB "
+        print(f"| {load}, {clients}, {budget:,} | {events:,} | {status} | {seconds:.3f} s | {round(events / max(seconds, 0.001), -3):,.0f} | {peak:.0f} MiB "
               f"| {recorded:.3f} s | {median * 1e3:.1f} us | {pipes * 1e3:.1f} us | {slowest:.1f} ms |", flush=True)
         text.unlink()
 

@@ -1,9 +1,9 @@
 #!/usr/bin/env python3
-"""Times the built program where reads are lost and where operations have several outcomes: `outcomes.py [RUNS]`.
+"""Times the program where reads are lost and where operations have several outcomes: `outcomes.py [RUNS] [--share PART]`, as loads.py.
 
 Histories of one key: a register of five clients of which one in twenty reads is never answered, and unordered queues of five
 clients and twenty values. Prints processor time of `script`, the least of several runs, its peak memory, and the most ends that
-an ok meets: the least budget with which no ok is over it. Then a queue that different values are put in, one after the other,
+an ok meets: the least budget with which no ok is over it. Then queues that different values are put in, one after the other,
 before one dequeue, which may find each of them: the dequeue's ok is over the budget, or there is no memory for its outcomes
 within 4 GiB.
 """
@@ -12,7 +12,7 @@ import resource
 import sys
 
 sys.path.insert(0, str(pathlib.Path(__file__).resolve().parent))
-from loads import whole, words
+from loads import asked, part, whole, words
 from workload import lines
 
 MOST_ENDS = 65_536
@@ -51,25 +51,26 @@ def measured(text, model, clients, budget, runs):
     return seconds, peak, STATUSES.get(status, f"status {status}")
 
 
-def of_clients(runs):
-    print("| Load, budget | Reads lost | Events | Ends with | `script` | Events a second | Peak memory | Most ends |")
-    print("|---|---|---|---|---|---|---|---|")
-    for load, model, budget, events, lost in LOADS:
+def row(name, budget, events, figures, ends=""):
+    seconds, peak, verdict = figures
+    print(f"| {name} | {budget:,} | {events:,} | {verdict} | {seconds:.3f} s | {peak:,.0f} MiB | {ends} |", flush=True)
+
+
+def of_clients(runs, share):
+    for load, model, budget, most, lost in LOADS:
+        events = part(most, share)
         text = pathlib.Path(f"/tmp/jepmon-outcomes-{load}-{budget}-{lost}.edn")
         text.write_text("".join(line + "\n" for line in lines(events, 5, 1, load, lost=lost)))
-        seconds, peak, verdict = measured(text, model, 5, budget, runs)
         ends = most_ends(text, model)
-        print(f"| {load}, {budget:,} | {lost:.0%} | {events:,} | {verdict} | {seconds:.3f} s | {events / max(seconds, 0.001):,.0f} "
-              f"| {peak:.0f} MiB | {f'{ends:,}' if ends else f'over {MOST_ENDS:,}'} |", flush=True)
+        row(f"{load}, {lost:.0%} of the reads lost" if lost else load, budget, events, measured(text, model, 5, budget, runs),
+            f"{ends:,}" if ends else f"over {MOST_ENDS:,}")
         text.unlink()
 
 
-def of_different_values(runs):
+def of_different_values(runs, share):
     resource.setrlimit(resource.RLIMIT_AS, (4 << 30, 4 << 30))
-    print()
-    print("| Different values, budget | Ends with | `script` | Peak memory |")
-    print("|---|---|---|---|")
-    for values, budget in DIFFERENT:
+    for most, budget in DIFFERENT:
+        values = part(most, share)
         text = pathlib.Path(f"/tmp/jepmon-different-{values}-{budget}.edn")
         with text.open("w") as out:
             for value in range(values):
@@ -77,12 +78,17 @@ def of_different_values(runs):
                 out.write(f"{{:type :ok, :process 0, :f :enqueue, :value [7 {value}]}}\n")
             out.write("{:type :invoke, :process 0, :f :dequeue, :value [7 nil]}\n")
             out.write(f"{{:type :ok, :process 0, :f :dequeue, :value [7 {values // 2}]}}\n")
-        seconds, peak, verdict = measured(text, "unordered-queue", 1, budget, runs)
-        print(f"| {values:,}, {budget:,} | {verdict} | {seconds:.3f} s | {peak:,.0f} MiB |", flush=True)
+        row(f"{values:,} different values, one dequeue", budget, 2 * values + 2, measured(text, "unordered-queue", 1, budget, runs))
         text.unlink()
 
 
+def main():
+    given = asked(__doc__)
+    print("| Load | Budget | Events | Ends with | `script` | Peak memory | Most ends |")
+    print("|---|---|---|---|---|---|---|")
+    of_clients(given.runs, given.share)
+    of_different_values(given.runs, given.share)
+
+
 if __name__ == "__main__":
-    rounds = int(sys.argv[1]) if len(sys.argv) > 1 else 3
-    of_clients(rounds)
-    of_different_values(rounds)
+    main()

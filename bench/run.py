@@ -1,5 +1,5 @@
 #!/usr/bin/env python3
-"""Times the built program on histories of one key, with 2 and with 4 clients: `run.py [EVENTS] [--model NAME]`.
+"""Times the program on histories of one key, with 2 and with 4 clients: `run.py [EVENTS] [--model NAME]`.
 
 Without words a history is that of a register and has 10,000 events; `--model all` goes through the kinds. Prints lines a
 second and peak memory of a whole script, and the time from a line to its reply through two pipes.
@@ -13,9 +13,8 @@ import sys
 import time
 
 sys.path.insert(0, str(pathlib.Path(__file__).resolve().parent))
+from program import PROGRAM
 from workload import MODELS, lines
-
-PROGRAM = pathlib.Path(__file__).resolve().parent.parent / "crates" / "jepmon" / "out" / "jepmon"
 
 
 def words(model, clients):

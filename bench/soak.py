@@ -8,7 +8,6 @@ and the kind of the history; at the end the most of the first five minutes besid
 reply was another or the memory grew by more than a twentieth.
 """
 import argparse
-import os
 import pathlib
 import random
 import subprocess
@@ -16,9 +15,9 @@ import sys
 import time
 
 sys.path.insert(0, str(pathlib.Path(__file__).resolve().parent))
+from program import PROGRAM
 from workload import MODELS, lines
 
-PROGRAM = pathlib.Path(os.environ.get("JEPMON", pathlib.Path(__file__).resolve().parent.parent / "crates" / "jepmon" / "out" / "jepmon"))
 CLIENTS, KEYS, EVENTS = 5, 8, 20_000
 AT_ONCE = 200  # so many lines are written before their replies are read
 

@@ -94,6 +94,11 @@ def of_large_set(draw, state, waiting, last):
     return ("read", "nil") if draw.random() < 0.05 else ("add", str(draw.randrange(1_000_000)))
 
 
+def of_set_in_turn(draw, state, waiting, last):
+    # As many members, but each add has the next number.
+    return ("read", "nil") if draw.random() < 0.05 else ("add", str(len(state) + waiting.count("add")))
+
+
 MODELS = {
     "register": ("nil", register, of_register),
     "cas-register": ("nil", cas_register, of_cas_register),
@@ -107,6 +112,7 @@ MODELS = {
 LOADS = {
     **MODELS,
     "large-set": (frozenset(), members, of_large_set),
+    "set-in-turn": (frozenset(), members, of_set_in_turn),
     "long-unordered-queue": ((), unordered_queue, of_long_unordered_queue),
 }
 

@@ -1,0 +1,15 @@
+"""The program that is timed: the one that JEPMON names; else the one that was built here, else the released one."""
+import os
+import pathlib
+
+TOP = pathlib.Path(__file__).resolve().parent.parent
+BUILT = TOP / "crates" / "jepmon" / "out" / "jepmon"
+RELEASED = TOP / "dist" / "jepmon"
+
+
+def program() -> pathlib.Path:
+    named = os.environ.get("JEPMON")
+    return pathlib.Path(named) if named else BUILT if BUILT.exists() else RELEASED
+
+
+PROGRAM = program()
