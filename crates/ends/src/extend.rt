@@ -131,6 +131,7 @@ fn grow_at<M: SeqObject>(
     requires before { attempt.place ≤ attempt.at }
     requires here { from < length (rows_of table.old) }
     requires row { row.now ≡ get_or (rows_of table.old) from [] }
+    requires number { attempt.number ≡ get_or row.now 0 0 }
     requires zero_there { slice_get row.now (attempt.at + 1) ≡ Some 0 }
     ensures moves { OnOk result (KeepMoves M.apply_to calls.now table.old table.new moves.old moves.new) }
     ensures adds { let object = of_table M.State M.start_state M.apply_to in
@@ -193,7 +194,7 @@ fn grow_from<M: SeqObject>(
             from,
             row,
             calls,
-            Attempt { at, place },
+            Attempt { number, at, place },
             applied,
         )?;
         at += 1;

@@ -48,10 +48,11 @@ pub struct Like {
     run: usize,
 }
 
-/// A call to try: where it stands, and where an equal call stands, which is tried in its place and under which the move is
-/// remembered.
+/// A call to try: the number of the state that it is tried in, where the call stands, and where an equal call stands, which is tried
+/// in its place and under which the move is remembered.
 #[derive(Clone, Copy)]
 pub struct Attempt {
+    pub number: usize,
     pub at: usize,
     pub place: usize,
 }

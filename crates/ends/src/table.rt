@@ -151,6 +151,7 @@ pub fn led_to<M: SeqObject>(
 ) -> Result<Move, AllocError>
     requires within { attempt.at < length calls.now }
     requires before { attempt.place ≤ attempt.at }
+    requires number { attempt.number ≡ get_or row.now 0 0 }
     requires zero_there { slice_get row.now (attempt.at + 1) ≡ Some 0 }
     ensures moves { OnOk result (KeepMoves M.apply_to calls.now table.old table.new moves.old moves.new) }
     ensures next { let object = of_table M.State M.start_state M.apply_to in
@@ -164,7 +165,7 @@ pub fn led_to<M: SeqObject>(
     ensures tries { OnlyTries table.old table.new applied.old applied.new }
     ensures cost { applied.new ≤ applied.old + 1 }
 {
-    let number = row.first();
+    let number = attempt.number;
     match moves::recalled(moves, number, attempt.place, calls.len()) {
         Some(to) => Ok(to),
         None => moves::tried::<M>(table, moves, number, calls, attempt.place, applied),

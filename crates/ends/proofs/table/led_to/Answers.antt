@@ -18,11 +18,11 @@ returns-in-Some-clause-next g c known alike once call e here shows =
     let out = not_in_by e call.id call.crashed
     (zero_none c.args.table.now.founds (get_or row (c.args.attempt.at + 1) 0) (found_by e call)
     (get_or_from_slice_get row (c.args.attempt.at + 1) 0 0 c.requires.zero_there) (shows.slots c.args.attempt.at call here)) in
-    let told = subst (λ r. IfSome r (λ to. (to ≡ known_at c.args.moves.now.known (length c.args.calls.now) c.first-number.result c.args.attempt.place) × IsKnown to targets)) c.in-Some.is c.recalled.ensures in
+    let told = subst (λ r. IfSome r (λ to. (to ≡ known_at c.args.moves.now.known (length c.args.calls.now) c.args.attempt.number c.args.attempt.place) × IsKnown to targets)) c.in-Some.is c.recalled.ensures in
     let d = alike call here in
     are_led g.row.M-State.Denot g.M.SeqObject.start_state g.M.SeqObject.apply_to e call out t c.args.calls.now row c.args.attempt.at (targets_of c.in-Some.to targets) once here shows
     (alike_to t g.M.SeqObject.apply_to call d.0 e.state (targets_of c.in-Some.to targets) d.2 d.3
-    (known_does g.M.SeqObject.apply_to c.args.calls.now t c.first-number.result c.args.attempt.place d.0 d.1 e.state (ap (slice_get t.states) c.first-number.ensures ∙ shows.state) c.args.moves.now.known targets c.in-Some.to known told.0 told.1))
+    (known_does g.M.SeqObject.apply_to c.args.calls.now t c.args.attempt.number c.args.attempt.place d.0 d.1 e.state (ap (slice_get t.states) c.requires.number ∙ shows.state) c.args.moves.now.known targets c.in-Some.to known told.0 told.1))
 
 pub returns-in-None-clause-next : goal.returns-in-None-clause-next
 returns-in-None-clause-next g c known alike once call e here shows =
@@ -37,4 +37,4 @@ returns-in-None-clause-next g c known alike once call e here shows =
     (λ to are. are_led g.row.M-State.Denot g.M.SeqObject.start_state g.M.SeqObject.apply_to e call out c.tried.new.table c.args.calls.now row c.args.attempt.at (targets_of to c.tried.new.moves.targets.items) once here
     (shows_more c.args.calls.now c.args.table.now c.tried.new.table row e c.tried.ensures.tries.widens shows)
     (alike_to c.tried.new.table g.M.SeqObject.apply_to call d.0 e.state (targets_of to c.tried.new.moves.targets.items) d.2 d.3 are))
-    (c.tried.ensures.does e.state d.0 (ap (slice_get c.args.table.now.states) c.first-number.ensures ∙ shows.state) d.1)
+    (c.tried.ensures.does e.state d.0 (ap (slice_get c.args.table.now.states) c.requires.number ∙ shows.state) d.1)
