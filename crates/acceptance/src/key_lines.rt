@@ -105,7 +105,7 @@ fn replays_are_counted(rt: HostRuntime) -> Result<(), Fail> {
     line.rebuild(ModelKind::CasRegister, 4096, &lent)?;
     assert_eq!(rt; line.replayed(), 260);
     line.prepare_cut(127, &lent)?;
-    assert_eq!(rt; line.due(), 63);
+    assert_eq!(rt; line.prepared_replays(), 63);
     assert_eq!(rt; line.replayed(), 260);
     Ok(())
 }

@@ -48,7 +48,7 @@ impl<X: OneThread, B: Tag, T: HoldsPublished<Published<X, B>>> Board<X, B, T> {
         ensures number { seat.new.number ≡ seat.old.number }
         ensures seen { HasSeen seat.new seat.old.tape }
         ensures answered { IfOk result (λ a.
-            IsAnswered X.replies seat.old seat.new command a.reply a.commit a.news) }
+            IsAnswered X.replies seat.old seat.new command a.reply a.entry_number a.news) }
         ensures refused { IfErr result (λ why. (whole : List (TapeEntry X.State X.Command X.Reply))
             × IsRefused X.replies X.may_want whole seat.old seat.new command why) }
     {

@@ -42,7 +42,7 @@ pub type Answered<B> = seat::Answered<Core, B>;
 #[derive(Clone, Copy)]
 pub struct Glance {
     /// How many calls had been made.
-    pub commit: u64,
+    pub call_count: u64,
     /// The verdict after them.
     pub verdict: Verdict,
 }
@@ -105,14 +105,14 @@ impl<B: Tag> board::Board<Core, B> {
         ensures number { seat.new.number ≡ seat.old.number }
         ensures seen { HasSeen seat.new seat.old.tape }
         ensures answered { IfOk result (λ a.
-            IsAnswered MayStep seat.old seat.new command a.reply a.commit a.news) }
+            IsAnswered MayStep seat.old seat.new command a.reply a.entry_number a.news) }
         ensures from_scratch { IfOk result (λ a. IsTrueAfter seat.new.tape a.reply) }
         ensures refused { IfErr result (λ why. (whole : CoreTape)
             × IsRefused MayStep MayWantMemory whole seat.old seat.new command why) }
         // To ask for the verdict wants no memory.
         ensures asked { command ≡ Command.Verdict → IfErr result (λ why. why ≡ Refusal.TapeFull) }
     {
-        self.call_at(rt, seat, command, &OpenGate)
+        self.call_with_gate(rt, seat, command, &OpenGate)
     }
 
     /// A `call` whose gate begins, by the seat's number, under the lock before the entry is published, and ends after it.
@@ -120,7 +120,7 @@ impl<B: Tag> board::Board<Core, B> {
     ///
     /// # Errors
     /// Those of `call`. The gate is then not called.
-    pub fn call_at<G: Gate, R: Wait>(
+    pub fn call_with_gate<G: Gate, R: Wait>(
         &self,
         rt: &R,
         seat: &mut Seat<B>,
@@ -130,7 +130,7 @@ impl<B: Tag> board::Board<Core, B> {
         ensures number { seat.new.number ≡ seat.old.number }
         ensures seen { HasSeen seat.new seat.old.tape }
         ensures answered { IfOk result (λ a.
-            IsAnswered MayStep seat.old seat.new command a.reply a.commit a.news) }
+            IsAnswered MayStep seat.old seat.new command a.reply a.entry_number a.news) }
         ensures from_scratch { IfOk result (λ a. IsTrueAfter seat.new.tape a.reply) }
         ensures refused { IfErr result (λ why. (whole : CoreTape)
             × IsRefused MayStep MayWantMemory whole seat.old seat.new command why) }
@@ -147,12 +147,12 @@ impl<B: Tag> board::Board<Core, B> {
         ensures same { (seat.new.number ≡ seat.old.number) × (seat.new.count ≡ seat.old.count) }
         ensures shows { IsSome result }
         ensures seen { HasSeen seat.new seat.old.tape }
-        ensures commit { IfSome result (λ g. length seat.new.tape ≡ g.commit + 1) }
+        ensures call_count { IfSome result (λ g. length seat.new.tape ≡ g.call_count + 1) }
         ensures from_scratch { IfSome result (λ g. IsVerdictAfter seat.new.tape g.verdict) }
     {
         let shown = seat.look();
         Some(Glance {
-            commit: shown.commit,
+            call_count: shown.call_count,
             verdict: shown.summary,
         })
     }

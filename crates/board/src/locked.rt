@@ -47,7 +47,7 @@ impl<X: OneThread, B: Tag, T: HoldsPublished<Published<X, B>>> Model for Locked<
         × MatchOption d.writer ⊥ (λ w. T.holds w.desk.shown.value ≡ d.tape) };
 }
 
-// Puts a new value in the place of none, of a type that has no `Drop`.
+// Puts a new value in the place of none. Its type has no `Drop`, so an assignment, which would drop the value before, can't be written.
 fn put<D>(place: &mut Option<D>, new: D)
     requires { place.old ≡ None }
     ensures { place.new ≡ Some new }
@@ -104,7 +104,7 @@ impl<X: OneThread, B: Tag, T: HoldsPublished<Published<X, B>>> Locked<X, B, T> {
             self.new ≡ self.old ++ Call seat.old.number command a.reply ∷ []) }
         ensures whole { OnOk result (seat.new.tape ≡ self.new) }
         ensures answered { IfOk result (λ a.
-            IsAnswered X.replies seat.old seat.new command a.reply a.commit a.news) }
+            IsAnswered X.replies seat.old seat.new command a.reply a.entry_number a.news) }
         ensures refused { IfErr result (λ why. (self.new ≡ self.old)
             × IsRefused X.replies X.may_want self.old seat.old seat.new command why) }
     {
@@ -136,7 +136,7 @@ impl<X: OneThread, B: Tag, T: HoldsPublished<Published<X, B>>> Locked<X, B, T> {
         seat.newest = published_by(&self.writer).again();
         Ok(Answered {
             reply,
-            commit: seat.newest.tape().count(),
+            entry_number: seat.newest.tape().count(),
             news: seat.news(),
         })
     }

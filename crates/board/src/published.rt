@@ -32,7 +32,7 @@ impl<X: OneThread, B: Tag> Model for Published<X, B> {
 /// What is shown of a publication: the number of its calls, and the summary of the state after them.
 #[derive(Drop)]
 pub struct Shown<S> {
-    pub commit: u64,
+    pub call_count: u64,
     pub summary: S,
 }
 
@@ -45,7 +45,7 @@ impl<X: OneThread, B: Tag> Published<X, B> {
         Published { summary, tape }
     }
 
-    /// A copy.
+    /// A copy. Takes no memory.
     pub fn again(&self) -> Published<X, B>
         ensures { result ≡ self.now }
     {
@@ -57,11 +57,11 @@ impl<X: OneThread, B: Tag> Published<X, B> {
 
     /// What it shows.
     pub fn show(&self) -> Shown<X::Summary>
-        ensures commit { length self.now ≡ result.commit + 1 }
+        ensures call_count { length self.now ≡ result.call_count + 1 }
         ensures shown { IsSummaryAfter X.replies X.summarizes self.now result.summary }
     {
         Shown {
-            commit: self.tape.count(),
+            call_count: self.tape.count(),
             summary: self.summary,
         }
     }

@@ -70,7 +70,7 @@ impl<X: OneThread, B: Tag> Model for News<X, B> {
 pub struct Answered<X: OneThread, B: Tag> {
     pub reply: X::Reply,
     /// The number of the entry, from 1.
-    pub commit: u64,
+    pub entry_number: u64,
     pub news: News<X, B>,
 }
 
@@ -96,7 +96,7 @@ impl<X: OneThread, B: Tag, T: HoldsPublished<Published<X, B>>> Seat<X, B, T> {
     pub(crate) fn look(&mut self) -> Shown<X::Summary>
         ensures same { (self.new.number ≡ self.old.number) × (self.new.count ≡ self.old.count) }
         ensures seen { HasSeen self.new self.old.tape }
-        ensures commit { length self.new.tape ≡ result.commit + 1 }
+        ensures call_count { length self.new.tape ≡ result.call_count + 1 }
         ensures shown { IsSummaryAfter X.replies X.summarizes self.new.tape result.summary }
     {
         let reader = self.reader.take().unwrap();

@@ -125,7 +125,7 @@ impl<X: OneThread, B: Tag> SeenTape<X, B> {
         self.count
     }
 
-    /// A copy.
+    /// A copy: what is known of the tape may be known in two places. Takes no memory.
     pub fn again(&self) -> SeenTape<X, B>
         ensures { result ≡ self.now }
     {
@@ -140,6 +140,7 @@ impl<X: OneThread, B: Tag> SeenTape<X, B> {
     pub fn covers(&self, other: &SeenTape<X, B>) -> bool
         ensures { MatchBool result (IsPrefix other.now self.now) (IsPrefix self.now other.now) }
     {
+        // Who has seen both knows that one of them begins with the other.
         let mut both = self.seen.again();
         both.learn(&other.seen);
         if other.count > self.count {

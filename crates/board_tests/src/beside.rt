@@ -34,7 +34,7 @@ where
     let caller = &mut right[0];
     join(
         rt,
-        move || board.call_at(rt, caller, gate),
+        move || board.call_with_gate(rt, caller, gate),
         move || gate.act(rt, board, other),
     )
 }

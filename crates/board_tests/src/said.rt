@@ -31,7 +31,7 @@ pub fn plain_of(verdict: Verdict) -> Said {
 
 pub fn seen_of(glance: Option<Glance>) -> Option<(u64, Said)> {
     let glance = glance?;
-    Some((glance.commit, plain_of(glance.verdict)))
+    Some((glance.call_count, plain_of(glance.verdict)))
 }
 
 fn plain_reply(reply: &Reply) -> Said {
@@ -48,8 +48,8 @@ fn plain_reply(reply: &Reply) -> Said {
 pub fn answer_of<B: Tag>(answer: &Result<Answered<B>, Refusal>) -> (u64, Said) {
     match answer {
         Ok(answered) => match &answered.reply {
-            Ok(reply) => (answered.commit, plain_reply(reply)),
-            Err(why) => (answered.commit, Said::Refused(why.number())),
+            Ok(reply) => (answered.entry_number, plain_reply(reply)),
+            Err(why) => (answered.entry_number, Said::Refused(why.number())),
         },
         Err(why) => (0, Said::Refused(why.number())),
     }

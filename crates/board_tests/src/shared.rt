@@ -13,7 +13,7 @@ pub trait SharedBoard {
     fn call<R: Wait>(&self, rt: &R, seat: &mut Self::Seat) -> (u64, Said);
 
     /// A call that has a gate.
-    fn call_at<G: Gate, R: Wait>(&self, rt: &R, seat: &mut Self::Seat, gate: &G) -> (u64, Said);
+    fn call_with_gate<G: Gate, R: Wait>(&self, rt: &R, seat: &mut Self::Seat, gate: &G) -> (u64, Said);
 
     /// How many calls had been made, and the verdict after them.
     fn glance(&self, seat: &mut Self::Seat) -> Option<(u64, Said)>;
@@ -26,8 +26,8 @@ impl<B: Tag> SharedBoard for Board<B> {
         answer_of(&Board::call(self, rt, seat, Command::Verdict))
     }
 
-    fn call_at<G: Gate, R: Wait>(&self, rt: &R, seat: &mut Seat<B>, gate: &G) -> (u64, Said) {
-        answer_of(&Board::call_at(self, rt, seat, Command::Verdict, gate))
+    fn call_with_gate<G: Gate, R: Wait>(&self, rt: &R, seat: &mut Seat<B>, gate: &G) -> (u64, Said) {
+        answer_of(&Board::call_with_gate(self, rt, seat, Command::Verdict, gate))
     }
 
     fn glance(&self, seat: &mut Seat<B>) -> Option<(u64, Said)> {

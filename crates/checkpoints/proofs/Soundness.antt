@@ -92,7 +92,7 @@ seen_as kind budget events prepared replayed = record {
   now = history_of kind budget events;
   next = option_map (brought kind budget) prepared;
   replayed = replayed;
-  due = replays_of prepared;
+  prepared_replays = replays_of prepared;
 }
 
 module _ (kind : ModelKind) (budget : ℕ) (events : List (ℕ × Event)) (prepared : Option Prepared) (replayed : ℕ) (line : KeyLineView) (seen : seen_as kind budget events prepared replayed ≡ line) where

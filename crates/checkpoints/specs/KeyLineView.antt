@@ -8,15 +8,15 @@ pub record KeyLineView : Type 0 where
   pub now : KeyHistory
   pub next : Option KeyHistory
   pub replayed : ℕ
-  pub due : ℕ
+  pub prepared_replays : ℕ
 
 abbrev pub at_rest : KeyHistory → ℕ → KeyLineView
-at_rest h replayed = record { now = h; next = None; replayed = replayed; due = 0 }
+at_rest h replayed = record { now = h; next = None; replayed = replayed; prepared_replays = 0 }
 
 -- this is prepared, and took so many replays
 abbrev pub with_next : KeyHistory → ℕ → KeyLineView → KeyLineView
 with_next next due line =
-    record { now = line.now; next = Some next; replayed = line.replayed; due = due }
+    record { now = line.now; next = Some next; replayed = line.replayed; prepared_replays = due }
 
 -- the replays of a cut at n: where it takes events away, those that stay behind the last 64th one
 abbrev pub replays_at : ℕ → KeyHistory → ℕ

@@ -85,7 +85,7 @@ impl Model for KeyLine {
       now = record { kind = a.kind; budget = a.budget; events = a.told.events };
       next = option_map (brought a.kind a.budget) a.prepared;
       replayed = a.replayed;
-      due = replays_of a.prepared;
+      prepared_replays = replays_of a.prepared;
     } };
 
     ghost invariant = { λ a.
@@ -257,7 +257,7 @@ impl KeyLine {
     pub fn commit(&mut self)
         requires { IsSome self.old.next }
         ensures { IfSome self.old.next (λ next.
-            self.new ≡ at_rest next (count_on self.old.replayed self.old.due)) }
+            self.new ≡ at_rest next (count_on self.old.replayed self.old.prepared_replays)) }
     {
         match self.prepared.take() {
             Some(Prepared::Push(index, told, next)) => {
@@ -368,8 +368,8 @@ impl KeyLine {
 
     /// How many replays the prepared change took, which [`commit`](Self::commit) adds to those of the changes before; and 0 where
     /// none is prepared.
-    pub fn due(&self) -> u64
-        ensures { result ≡ self.now.due }
+    pub fn prepared_replays(&self) -> u64
+        ensures { result ≡ self.now.prepared_replays }
     {
         match &self.prepared {
             Some(Prepared::Push(..)) => 1,
@@ -414,7 +414,7 @@ fn prepare(prepared: &mut Option<Prepared>, change: Prepared)
     *prepared = Some(change);
 }
 
-// How many events have an index below n. Their indices, which are given, rise.
+// How many events have an index below n, by the indices of the events, which rise.
 fn count_below(places: &[u32], n: u32) -> usize
     ensures first { (events : List (ℕ × Event)) → IsHistory events → places.now ≡ places_of events
         → take result events ≡ events_below n events }
@@ -423,7 +423,7 @@ fn count_below(places: &[u32], n: u32) -> usize
     places.partition_point(|index| *index < n)
 }
 
-// Whether an event has an index of n or more: the last one has. Their indices, which are given, rise.
+// Whether an event has an index of n or more, by the indices of the events, which rise: the last one has.
 fn has_from(places: &[u32], n: u32) -> bool
     ensures { (events : List (ℕ × Event)) → IsHistory events → places.now ≡ places_of events
         → result ≡ nat_lt (length (events_below n events)) (length events) }
@@ -432,7 +432,7 @@ fn has_from(places: &[u32], n: u32) -> bool
     0 < count && n <= places[count - 1]
 }
 
-// Whether an event has an index below n: the first one has. Their indices, which are given, rise.
+// Whether an event has an index below n, by the indices of the events, which rise: the first one has.
 fn has_below(places: &[u32], n: u32) -> bool
     ensures { (events : List (ℕ × Event)) → IsHistory events → places.now ≡ places_of events
         → result ≡ nat_lt 0 (length (events_below n events)) }

@@ -8,7 +8,7 @@ ghost use Rattle.checkpoints.specs.KeyLineView.{replays_at};
 
 /// A key that is dead stays dead, and one that is over stays over, at the same index, whatever events follow: with one
 /// more event a key has the status that it had, unless it was alive.
-pub fn settled_law()
+pub fn final_status_law()
     ensures dead { (h : KeyHistory) (index i : ℕ) (event : Event) →
         IsHistory (h.events ++ (index, event) ∷ []) → IsStatusOf h (KeyStatus.Dead i)
         → IsStatusOf (with_pushed index event h) (KeyStatus.Dead i) }

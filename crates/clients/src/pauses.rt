@@ -43,7 +43,7 @@ fn calls_made<M: SharedBoard>(board: &M, seat: &mut M::Seat) -> u64
     ensures seen { 1 ≤ result → result + 1 ≤ length (M.view seat.new).tape }
 {
     match board.glance(seat) {
-        Some(glance) => glance.commit,
+        Some(glance) => glance.call_count,
         None => 0,
     }
 }

@@ -25,7 +25,7 @@ pub trait SharedBoard {
     /// What was last published, if it can be seen. It takes no lock and waits for nobody.
     fn glance(&self, seat: &mut Self::Seat) -> Option<Glance>
         ensures made { MadeNone (view seat.old) (view seat.new) }
-        ensures commit { IfSome result (λ g. length (view seat.new).tape ≡ g.commit + 1) };
+        ensures call_count { IfSome result (λ g. length (view seat.new).tape ≡ g.call_count + 1) };
 }
 
 impl<B: Tag> SharedBoard for Board<B> {

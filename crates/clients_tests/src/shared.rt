@@ -35,7 +35,7 @@ impl<B: Tag> SharedBoard for Board<B> {
 
     fn call<R: Wait>(&self, rt: &R, seat: &mut Seat<B>, command: Command) -> Option<Heard> {
         let answered = Board::call(self, rt, seat, command).ok()?;
-        Some((answered.commit, answered.reply))
+        Some((answered.entry_number, answered.reply))
     }
 
     fn tell<R: Wait>(
@@ -45,11 +45,11 @@ impl<B: Tag> SharedBoard for Board<B> {
         command: Command,
     ) -> Option<(u64, News<B>)> {
         let answered = Board::call(self, rt, seat, command).ok()?;
-        Some((answered.commit, answered.news))
+        Some((answered.entry_number, answered.news))
     }
 
     fn glance_after(&self, seat: &mut Seat<B>, news: News<B>) -> Option<u64> {
         seat.learn(news);
-        Some(Board::glance(self, seat)?.commit)
+        Some(Board::glance(self, seat)?.call_count)
     }
 }

@@ -82,7 +82,7 @@ IsAlike calls at place = (c : PendingOp) → slice_get calls at ≡ Some c
 
 -- so many calls from this place on do the same as one at the place
 abbrev pub AreAll : List PendingOp → ℕ → Like → Type 0
-AreAll calls at like = (i : ℕ) → i < like.run → IsAlike calls (at + i) like.place
+AreAll calls at like = (i : ℕ) → i < like.run → IsAlike calls (at + i) like.representative
 
 -- the list says, from the last call on, which do the same
 abbrev pub AreAlike : List PendingOp → List Like → Type 0

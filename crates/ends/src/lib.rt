@@ -12,7 +12,7 @@
 
 mod after;
 mod copies;
-mod extend;
+mod growth;
 mod kept_end;
 mod moves;
 mod notes;
@@ -22,7 +22,7 @@ mod table;
 
 pub use after::{crashed_ends, failed, mark_fitting, place_of_open};
 pub use copies::{copied, copied_whole};
-pub use extend::{Room, advance};
+pub use growth::{Room, advance};
 pub use kept_end::KeptEnd;
 pub use pending_op::{PendingOp, copy_calls, crash_call, drop_call, is_read};
 pub use returning::Returning;

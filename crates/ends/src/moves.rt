@@ -44,7 +44,7 @@ pub struct Known {
 /// Equal calls: so many from some place on (`run`) do the same as the call at `place`.
 #[derive(Clone, Copy)]
 pub struct Like {
-    pub place: usize,
+    pub representative: usize,
     run: usize,
 }
 
@@ -54,7 +54,7 @@ pub struct Like {
 pub struct Attempt {
     pub number: usize,
     pub at: usize,
-    pub place: usize,
+    pub representative: usize,
 }
 
 /// What is known of calls in states, with the list of the targets of those that lead to several, and memory to try more of them;
@@ -280,7 +280,10 @@ pub fn note_likes<S>(moves: &mut Moves<S>, calls: &[PendingOp]) -> Result<(), Al
     ensures targets { moves.new.targets ≡ moves.old.targets }
 {
     moves.likes.clear();
-    let mut like = Like { place: 0, run: 0 };
+    let mut like = Like {
+        representative: 0,
+        run: 0,
+    };
     for behind in 0..calls.len() {
         like = like_before(calls, calls.len() - 1 - behind, like);
         moves.likes.push(like)?;
@@ -294,9 +297,9 @@ fn like_before(calls: &[PendingOp], at: usize, next: Like) -> Like
     requires within { at < length calls.now }
     ensures { AreAll calls.now (at + 1) next → AreAll calls.now at result }
 {
-    if does_as(calls, at, next.place) {
+    if does_as(calls, at, next.representative) {
         Like {
-            place: next.place,
+            representative: next.representative,
             run: next.run.saturating_add(1),
         }
     } else {
@@ -320,19 +323,25 @@ fn like_anew(calls: &[PendingOp], at: usize) -> Like
     ensures { AreAll calls.now at result }
 {
     let place = first_alike(calls, at);
-    Like { place, run: 1 }
+    Like {
+        representative: place,
+        run: 1,
+    }
 }
 
 /// The run of equal calls that begins with the one at this place. Takes constant time.
 pub fn alike_at<S>(moves: &Moves<S>, calls: &[PendingOp], at: usize) -> Like
     requires within { at < length calls.now }
-    ensures within { result.place ≤ at }
+    ensures within { result.representative ≤ at }
     ensures all { AreAlike calls.now moves.now.likes.items → AreAll calls.now at result }
-    ensures some { AreAlike calls.now moves.now.likes.items → IsAlike calls.now at result.place }
+    ensures some { AreAlike calls.now moves.now.likes.items → IsAlike calls.now at result.representative }
 {
     match moves.likes.get(calls.len() - 1 - at) {
-        Some(like) if like.place <= at && like.run > 0 => *like,
-        _ => Like { place: at, run: 1 },
+        Some(like) if like.representative <= at && like.run > 0 => *like,
+        _ => Like {
+            representative: at,
+            run: 1,
+        },
     }
 }
 
@@ -351,7 +360,7 @@ pub fn stuck<S>(
     ensures stuck { AreAll calls.now at like → (i : ℕ) → i < result
         → IsStuck calls.now moves.now.known number (at + i) }
 {
-    match known_of(&moves.known, number, like.place, calls.len()) {
+    match known_of(&moves.known, number, like.representative, calls.len()) {
         Move::Nowhere => like.run.min(calls.len() - at),
         _ => 0,
     }

@@ -124,7 +124,7 @@ pub fn state_numbered<S: Hash + Drop>(table: &Table<S>, number: usize) -> Option
 
 /// From which state on what calls do is remembered: from that of the first row, since states before it are seldom those of a row;
 /// or from the first state on where there are few states, which come again and again. Takes constant time.
-pub fn first_number<S: Hash + Drop>(table: &Table<S>) -> usize {
+pub fn first_remembered_state<S: Hash + Drop>(table: &Table<S>) -> usize {
     if table.states.len() > FEW_STATES {
         table.rows.number(0, 0)
     } else {
@@ -150,13 +150,13 @@ pub fn led_to<M: SeqObject>(
     applied: &mut u64,
 ) -> Result<Move, AllocError>
     requires within { attempt.at < length calls.now }
-    requires before { attempt.place ≤ attempt.at }
+    requires before { attempt.representative ≤ attempt.at }
     requires number { attempt.number ≡ get_or row.now 0 0 }
     requires zero_there { slice_get row.now (attempt.at + 1) ≡ Some 0 }
     ensures moves { OnOk result (KeepMoves M.apply_to calls.now table.old table.new moves.old moves.new) }
     ensures next { let object = of_table M.State M.start_state M.apply_to in
         AreMoves M.apply_to table.old calls.now moves.old.known moves.old.targets.items
-        → IsAlike calls.now attempt.at attempt.place → HasEachOnce calls.now
+        → IsAlike calls.now attempt.at attempt.representative → HasEachOnce calls.now
         → (c : PendingOp) (e : End M.State) → slice_get calls.now attempt.at ≡ Some c
         → Shows table.old calls.now row.now e
         → IfOk result (λ to. AreLed object table.new calls.now row.now attempt.at e c
@@ -166,9 +166,9 @@ pub fn led_to<M: SeqObject>(
     ensures cost { applied.new ≤ applied.old + 1 }
 {
     let number = attempt.number;
-    match moves::recalled(moves, number, attempt.place, calls.len()) {
+    match moves::recalled(moves, number, attempt.representative, calls.len()) {
         Some(to) => Ok(to),
-        None => moves::tried::<M>(table, moves, number, calls, attempt.place, applied),
+        None => moves::tried::<M>(table, moves, number, calls, attempt.representative, applied),
     }
 }
 

@@ -398,7 +398,7 @@ impl<M: SeqObject> Frontier<M> {
         Ok(())
     }
 
-    // Whether the table has more than ten states for each row, and some eighty besides: most of them are those of no row any more.
+    // Whether the table has ten states for each row, and ninety more: most of them are those of no row any more.
     fn has_stale_states(&self) -> bool {
         self.table.states.len() / 10 > self.table.rows.len().saturating_add(8)
     }
@@ -453,8 +453,8 @@ impl<M: SeqObject> Frontier<M> {
     {
         self.list_fresh()?;
         self.suit_outcomes()?;
-        let all = self.advance(id, answer)?;
-        if !all {
+        let within_budget = self.advance(id, answer)?;
+        if !within_budget {
             return Ok(Step::Over);
         }
         let tried = self.calls.len().saturating_sub(1);

@@ -21,10 +21,10 @@ const FEW_PRODUCTS: usize = 32;
 // More products than these become rows, and so do more than [`FEW_PRODUCTS`] that stand for fewer than four rows each.
 const MOST_PRODUCTS: usize = 128;
 
-// So many calls that were not tried make many ends of few, with the call that gets its place now: four in all.
+// Where so many calls were not tried yet and one more gets its place, these four may lead from few ends to many.
 const MANY_UNTRIED: usize = 3;
 
-// So many things found, and so many states, do not ask for other numbers.
+// Up to so many things found, and so many states, no new numbers are given to those in use.
 const FEW_FOUND: usize = 24;
 
 const FEW_STATES: usize = 64;

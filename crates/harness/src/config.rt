@@ -13,7 +13,7 @@ use processes::MOST_THREADS;
 use std::alloc::Global;
 use test_store::Mode;
 
-/// How it is opened.
+/// How a [`Core`](crate::Core) is opened.
 #[derive(Drop)]
 pub struct Config {
     /// How many threads the history has, 1 to 64.

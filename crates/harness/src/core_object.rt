@@ -14,7 +14,7 @@ ghost use Rattle.harness.specs.CoreView.{at_rest, IsPrepared, MayPrepare, MayCar
 
 use crate::change::Change;
 use crate::config::Config;
-use crate::tickets::{come_to, make_stale};
+use crate::tickets::{make_stale, note_outcome};
 use edn::Refusal;
 use events::Event;
 use generators::Source;
@@ -174,7 +174,7 @@ impl Core {
             }
             Change::Serve(number, outcome) => {
                 self.store.commit();
-                come_to(&mut self.tickets[number], Box::into_inner(outcome));
+                note_outcome(&mut self.tickets[number], Box::into_inner(outcome));
             }
             Change::StrikeDue => {
                 self.monitor.commit();

@@ -12,9 +12,9 @@ mod asking;
 mod change;
 pub mod config;
 pub mod core_object;
+mod event_changes;
 mod fitness;
 pub mod laws;
-mod parts;
 mod tickets;
 mod trial;
 

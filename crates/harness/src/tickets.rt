@@ -56,7 +56,7 @@ fn ticket_at<'a>(tickets: &'a [Ticket], number: u32) -> Option<&'a Ticket>
 }
 
 /// The ticket with this number, which was not served, and whose operation is open.
-pub(crate) fn unserved<'a>(
+pub(crate) fn ticket_to_serve<'a>(
     history: &History,
     tickets: &'a [Ticket],
     number: u32,
@@ -79,7 +79,7 @@ pub(crate) fn unserved<'a>(
 }
 
 /// The completion of the ticket with this number, as its serve came out: it was served, and its operation is open.
-pub(crate) fn finishing(
+pub(crate) fn completion_of_ticket(
     history: &History,
     tickets: &[Ticket],
     number: u32,
@@ -157,7 +157,7 @@ fn answered(op: Op, found: &Found) -> Result<Op, AllocError>
 }
 
 /// The replica through which a thread's operations go.
-pub(crate) fn entry_of(thread: u32, replicas: u8) -> u8
+pub(crate) fn replica_of_thread(thread: u32, replicas: u8) -> u8
     requires { IsCount replicas }
     ensures entry { result ≡ thread % replicas }
     ensures within { result < replicas }
@@ -166,7 +166,7 @@ pub(crate) fn entry_of(thread: u32, replicas: u8) -> u8
 }
 
 /// What serving a ticket came to is noted.
-pub(crate) fn come_to(ticket: &mut Ticket, outcome: Outcome)
+pub(crate) fn note_outcome(ticket: &mut Ticket, outcome: Outcome)
     ensures { ticket.new ≡ served_as outcome ticket.old }
 {
     ticket.outcome = Some(outcome);

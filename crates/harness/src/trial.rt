@@ -7,8 +7,8 @@ ghost use Rattle.harness.specs.CoreView.{MayPrepare};
 use crate::asking::{Drew, draw_fault, draw_op, why_full};
 use crate::change::Change;
 use crate::core_object::Core;
-use crate::parts::{append, invoke, strike};
-use crate::tickets::{entry_of, finishing, test_draw, unserved};
+use crate::event_changes::{append, invoke, strike};
+use crate::tickets::{completion_of_ticket, replica_of_thread, test_draw, ticket_to_serve};
 use edn::Refusal;
 use history::MOST_EVENTS;
 use linspec::Verdict;
@@ -52,8 +52,8 @@ impl Core {
         ensures { MayPrepare self.old.machine (Command.Serve number) result self.new }
     {
         self.change = Change::Nothing;
-        let ticket = unserved(self.monitor.history(), self.tickets.as_slice(), number)?;
-        let entry = entry_of(ticket.thread, self.store.replicas());
+        let ticket = ticket_to_serve(self.monitor.history(), self.tickets.as_slice(), number)?;
+        let entry = replica_of_thread(ticket.thread, self.store.replicas());
         let outcome = self.store.prepare_serve(entry, &ticket.op)?;
         let copy = outcome.copy()?;
         let boxed = Box::new(self.alloc, outcome)?;
@@ -66,7 +66,7 @@ impl Core {
         ensures { MayPrepare self.old.machine (Command.Finish number) result self.new }
     {
         self.change = Change::Nothing;
-        let event = finishing(self.monitor.history(), self.tickets.as_slice(), number)?;
+        let event = completion_of_ticket(self.monitor.history(), self.tickets.as_slice(), number)?;
         let verdict = append(&mut self.monitor, event)?;
         self.change = Change::Judged;
         Ok((Reply::Verdict(verdict), verdict))

@@ -64,7 +64,7 @@ pub fn place_of<M: SeqObject>(
     items: &[M::State],
     hashes: &[u64],
     index: &Index,
-    its: usize,
+    bucket: usize,
     hash: u64,
     state: &M::State,
 ) -> Option<usize>
@@ -72,12 +72,12 @@ pub fn place_of<M: SeqObject>(
     requires hashes { hashes.now ≡ map (hash_by M.State.hash_input) items.now }
     requires index { Indexes hash_bucket hashes.now index.now.last.items index.now.before.items }
     requires all { length index.now.before.items ≡ length hashes.now }
-    requires within { its < length index.now.last.items }
-    requires its { its ≡ hash_bucket (length index.now.last.items) hash }
+    requires within { bucket < length index.now.last.items }
+    requires bucket { bucket ≡ hash_bucket (length index.now.last.items) hash }
     ensures there { IfSome result (λ at. slice_get items.now at ≡ Some state.now) }
     ensures none { result ≡ None → (at : ℕ) → slice_get items.now at ≢ Some state.now }
 {
-    find(hashes, index, its, |at| {
+    find(hashes, index, bucket, |at| {
         stands_at::<M>(items, hashes, at, hash, state)
     })
 }

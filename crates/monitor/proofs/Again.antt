@@ -47,12 +47,12 @@ none_rebuilt None rows count none fits = sym (count_on_none count fits)
 none_rebuilt (Some p) rows count none fits = absurd (none p refl)
 
 -- what is prepared, as a caller sees it, once something is to be set for a key
-pub setting_seen : (a : Inside) {view : MonitorView} {opening : JudgedHistory} {again : ℕ} (k : ℕ) (setting : Setting) → monitor_view a ≡ view → opening ≡ a.settings.opening
-    → again ≡ count_on a.again (length (history_of_key (judged_by_parts a) k).events)
-    → ◌≡◌ {A = MonitorView} (record { now = judged_of a.history opening; next = Some (with_setting k setting (judged_of a.history opening)); again = again })
+pub setting_seen : (a : Inside) {view : MonitorView} {opening : JudgedHistory} {judged_again : ℕ} (k : ℕ) (setting : Setting) → monitor_view a ≡ view → opening ≡ a.settings.opening
+    → judged_again ≡ count_on a.judged_again (length (history_of_key (judged_by_parts a) k).events)
+    → ◌≡◌ {A = MonitorView} (record { now = judged_of a.history opening; next = Some (with_setting k setting (judged_of a.history opening)); judged_again = judged_again })
     (with_next (with_setting k setting view.now) (with_again (length (history_of_key view.now k).events) view))
-setting_seen a {opening = opening} {again = again} k setting seen same counted =
-    let by_parts : ◌≡◌ {A = MonitorView} (record { now = judged_of a.history opening; next = Some (with_setting k setting (judged_of a.history opening)); again = again })
+setting_seen a {opening = opening} {judged_again = judged_again} k setting seen same counted =
+    let by_parts : ◌≡◌ {A = MonitorView} (record { now = judged_of a.history opening; next = Some (with_setting k setting (judged_of a.history opening)); judged_again = judged_again })
     (with_next (with_setting k setting (judged_by_parts a)) (with_again (length (history_of_key (judged_by_parts a) k).events) (monitor_view a))) =
-    λ i. record { now = judged_of a.history (same i); next = Some (with_setting k setting (judged_of a.history (same i))); again = counted i } in
+    λ i. record { now = judged_of a.history (same i); next = Some (with_setting k setting (judged_of a.history (same i))); judged_again = counted i } in
     by_parts ∙ ap (λ (v : MonitorView). with_next (with_setting k setting v.now) (with_again (length (history_of_key v.now k).events) v)) seen

@@ -21,13 +21,13 @@ use Rattle.monitor.proofs.Places.{map_written}
 pub nows_push : (rows : List (ℕ × KeyLineView)) (key : ℕ) (line : KeyLineView) → nows (rows ++ (key, line) ∷ []) ≡ nows rows ++ (key, line.now) ∷ []
 nows_push rows key line = map-append (λ (row : ℕ × KeyLineView). (row.0, row.1.now)) rows ((key, line) ∷ [])
 
-pub line_carried : (lines lines' : LinesView) (place : ℕ) → IfSome (slice_get lines.rows place) (λ row. IfSome row.1.next (λ next. lines'.rows ≡ set_value_at lines.rows place (at_rest next (count_on row.1.replayed row.1.due))))
+pub line_carried : (lines lines' : LinesView) (place : ℕ) → IfSome (slice_get lines.rows place) (λ row. IfSome row.1.next (λ next. lines'.rows ≡ set_value_at lines.rows place (at_rest next (count_on row.1.replayed row.1.prepared_replays))))
     → (rows : List (ℕ × KeyHistory)) → AreRowsWith lines (Some place) rows → nows lines'.rows ≡ rows
 line_carried lines lines' place carried rows brings =
     ap nows
-    (subst (λ (o : Option KeyHistory). IfSome o (λ next. lines'.rows ≡ set_value_at lines.rows place (at_rest next (count_on brings.0.1.replayed brings.0.1.due)))) brings.3
-    (subst (λ (o : Option (ℕ × KeyLineView)). IfSome o (λ row. IfSome row.1.next (λ next. lines'.rows ≡ set_value_at lines.rows place (at_rest next (count_on row.1.replayed row.1.due))))) brings.2 carried))
-    ∙ map_written (λ (l : KeyLineView). l.now) lines.rows place (at_rest brings.1 (count_on brings.0.1.replayed brings.0.1.due))
+    (subst (λ (o : Option KeyHistory). IfSome o (λ next. lines'.rows ≡ set_value_at lines.rows place (at_rest next (count_on brings.0.1.replayed brings.0.1.prepared_replays)))) brings.3
+    (subst (λ (o : Option (ℕ × KeyLineView)). IfSome o (λ row. IfSome row.1.next (λ next. lines'.rows ≡ set_value_at lines.rows place (at_rest next (count_on row.1.replayed row.1.prepared_replays))))) brings.2 carried))
+    ∙ map_written (λ (l : KeyLineView). l.now) lines.rows place (at_rest brings.1 (count_on brings.0.1.replayed brings.0.1.prepared_replays))
     ∙ sym brings.4
 
 -- what was prepared

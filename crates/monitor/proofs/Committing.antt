@@ -58,10 +58,10 @@ module _ (n kept : ℕ) (old : List (ℕ × KeyLineView)) (prepared : AreCutAt n
   pub may_commit : IsSomeAnd (slice_get rows place) (λ row. IsSome row.1.next)
   may_commit = subst (λ (o : Option (ℕ × KeyLineView)). IsSomeAnd o (λ r. IsSome r.1.next)) (sym at) (subst IsSome (sym next) refl)
 
-  pub committed : {after : List (ℕ × KeyLineView)} → IfSome (slice_get rows place) (λ row. IfSome row.1.next (λ h. after ≡ set_value_at rows place (at_rest h (count_on row.1.replayed row.1.due))))
+  pub committed : {after : List (ℕ × KeyLineView)} → IfSome (slice_get rows place) (λ row. IfSome row.1.next (λ h. after ≡ set_value_at rows place (at_rest h (count_on row.1.replayed row.1.prepared_replays))))
       → after ≡ first_changed (cut_done n) (place + 1) (take kept old)
   committed {after = after} is =
-      subst (λ (o : Option KeyHistory). IfSome o (λ h. after ≡ set_value_at rows place (at_rest h (count_on row_at.0.1.replayed row_at.0.1.due)))) next
-      (subst (λ (o : Option (ℕ × KeyLineView)). IfSome o (λ row. IfSome row.1.next (λ h. after ≡ set_value_at rows place (at_rest h (count_on row.1.replayed row.1.due))))) at is)
+      subst (λ (o : Option KeyHistory). IfSome o (λ h. after ≡ set_value_at rows place (at_rest h (count_on row_at.0.1.replayed row_at.0.1.prepared_replays)))) next
+      (subst (λ (o : Option (ℕ × KeyLineView)). IfSome o (λ row. IfSome row.1.next (λ h. after ≡ set_value_at rows place (at_rest h (count_on row.1.replayed row.1.prepared_replays))))) at is)
       ∙ written (cut_done n) rows place row_at.0.0 row_at.0.1 at
       ∙ changed-more (cut_done n) (take kept old) place so_far

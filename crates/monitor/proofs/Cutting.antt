@@ -45,19 +45,19 @@ abbrev begun : ℕ → List (ℕ × KeyHistory) → List (ℕ × KeyHistory)
 begun n rows = filter (λ row. begins_below n row.1) rows
 
 -- the cut of the first so many lines is prepared
-pub record AreCutSoFar (n : ℕ) (old rows : List (ℕ × KeyLineView)) (place kept : ℕ) (v : Verdict) (start again : ℕ) : Type 0 where
+pub record AreCutSoFar (n : ℕ) (old rows : List (ℕ × KeyLineView)) (place kept : ℕ) (v : Verdict) (start judged_again : ℕ) : Type 0 where
   pub changed : rows ≡ first_changed (with_cut n) place old
   pub few : kept ≤ place
   pub count : kept ≡ length (begun n (take place (nows old)))
   pub joins : JoinsRows (cut_rows n (begun n (take place (nows old)))) v
-  pub counted : again ≡ count_on start (replays_in n (take place (nows old)))
+  pub counted : judged_again ≡ count_on start (replays_in n (take place (nows old)))
 
 -- lines that have what others had are as many
 pub same_length : (old rows : List (ℕ × KeyLineView)) → nows rows ≡ nows old → length rows ≡ length old
 same_length old rows same =
     sym (length-map rows (λ (row : ℕ × KeyLineView). (row.0, row.1.now))) ∙ ap length same ∙ length-map old (λ (row : ℕ × KeyLineView). (row.0, row.1.now))
 
-module _ {n : ℕ} {old rows : List (ℕ × KeyLineView)} {place kept : ℕ} {v : Verdict} {start again : ℕ} (so_far : AreCutSoFar n old rows place kept v start again) where
+module _ {n : ℕ} {old rows : List (ℕ × KeyLineView)} {place kept : ℕ} {v : Verdict} {start judged_again : ℕ} (so_far : AreCutSoFar n old rows place kept v start judged_again) where
   pub same_nows : nows rows ≡ nows old
   same_nows = ap nows so_far.changed ∙ first_have (with_cut n) (cut_now n) place old
 
@@ -74,7 +74,7 @@ module _ {n : ℕ} {old rows : List (ℕ × KeyLineView)} {place kept : ℕ} {v 
         sum_by_more (λ (r : ℕ × KeyHistory). replays_at n r.1) (nows old) place old_row (slice_get_within (nows old) place old_row old_at)
         ∙ ap (λ (r : ℕ × KeyHistory). replays_in n (take place (nows old)) + replays_at n r.1) (get_or_from_slice_get (nows old) place old_row old_row old_at)
 
-    pub AreCutSoFar-skip : begins_below n line.now ≡ false → AreCutSoFar n old rows (place + 1) kept v start again
+    pub AreCutSoFar-skip : begins_below n line.now ≡ false → AreCutSoFar n old rows (place + 1) kept v start judged_again
     AreCutSoFar-skip none =
         let e = one_more_dropped (nows old) place old_row old_at (λ (r : ℕ × KeyHistory). begins_below n r.1) none in
         let zero = none_replayed n line.now none in
@@ -88,7 +88,7 @@ module _ {n : ℕ} {old rows : List (ℕ × KeyLineView)} {place kept : ℕ} {v 
         }
 
     pub AreCutSoFar-more : {after : List (ℕ × KeyLineView)} (status : KeyStatus) {w : Verdict} {count : ℕ} → begins_below n line.now ≡ true
-        → after ≡ change_at place (cut_next n) rows → IsStatusOf (cut_at n line.now) status → JoinsWith v key status w → count ≡ count_on again (replays_at n line.now)
+        → after ≡ change_at place (cut_next n) rows → IsStatusOf (cut_at n line.now) status → JoinsWith v key status w → count ≡ count_on judged_again (replays_at n line.now)
         → AreCutSoFar n old after (place + 1) (kept + 1) w start count
     AreCutSoFar-more status {w = w} begins is stands joins counts =
         let e = one_more_kept (nows old) place old_row old_at (λ (r : ℕ × KeyHistory). begins_below n r.1) begins in
@@ -118,5 +118,5 @@ module _ {n : ℕ} {old rows : List (ℕ × KeyLineView)} {place kept : ℕ} {v 
     pub all_joined : JoinsRows (cut_rows n (begun n (nows old))) v
     all_joined = subst (λ (l : List (ℕ × KeyHistory)). JoinsRows (cut_rows n (begun n l)) v) whole so_far.joins
 
-    pub all_counted : again ≡ count_on start (replays_in n (nows old))
+    pub all_counted : judged_again ≡ count_on start (replays_in n (nows old))
     all_counted = so_far.counted ∙ ap (λ l. count_on start (replays_in n l)) whole

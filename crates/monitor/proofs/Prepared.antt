@@ -175,12 +175,12 @@ first_ready law {a = a} {lines = lines} sound {e = e} {k = k} told is at {line =
     now = same_lines sound.now (ap nows kept)
 
 -- a cut
-pub rewind_ready : JudgingLaw → {a : Inside} {history : HistoryView} {lines : LinesView} {again : ℕ} → IsSoundMonitor a → (n kept : ℕ) {w : Verdict} → n ≤ length a.history.events
+pub rewind_ready : JudgingLaw → {a : Inside} {history : HistoryView} {lines : LinesView} {judged_again : ℕ} → IsSoundMonitor a → (n kept : ℕ) {w : Verdict} → n ≤ length a.history.events
     → history ≡ with_next (take n a.history.events) a.history → kept ≡ length (filter (λ row. begins_below n row.1) (nows a.lines.rows))
     → JoinsRows (cut_rows n (filter (λ row. begins_below n row.1) (nows a.lines.rows))) w → AreCutAt n lines.rows → nows lines.rows ≡ nows a.lines.rows
-    → IsSoundMonitor (record (ready_with a history lines (Rewind n kept) w) { again = again })
-rewind_ready law {a = a} {lines = lines} {again = again} sound n kept {w = w} within is kept_is joined cut same =
-    subst (λ (x : HistoryView). IsSoundMonitor (record (ready_with a x lines (Rewind n kept) w) { again = again })) (sym is)
+    → IsSoundMonitor (record (ready_with a history lines (Rewind n kept) w) { judged_again = judged_again })
+rewind_ready law {a = a} {lines = lines} {judged_again = judged_again} sound n kept {w = w} within is kept_is joined cut same =
+    subst (λ (x : HistoryView). IsSoundMonitor (record (ready_with a x lines (Rewind n kept) w) { judged_again = judged_again })) (sym is)
     (record {
       now = now;
       ready = record {
@@ -207,11 +207,11 @@ rebuilt_judged law lines judged k setting {place = place} at kind_is budget_is r
     set_judged law judged k setting (found lines.rows judged k at)
     (subst (λ (t : ModelKind × ℕ). AreRowsJudgedBy t.0 t.1 place (nows lines.rows) rebuilt.rows) (λ i. (kind_is i, budget_is i)) rebuilt.judged) rebuilt.joined
 
-pub set_ready : JudgingLaw → {a : Inside} {settings : SettingsView} {lines : LinesView} {again : ℕ} → IsSoundMonitor a → (k : ℕ) (setting : Setting)
+pub set_ready : JudgingLaw → {a : Inside} {settings : SettingsView} {lines : LinesView} {judged_again : ℕ} → IsSoundMonitor a → (k : ℕ) (setting : Setting)
     {kind : ModelKind} {budget : ℕ} {place : Option ℕ} {w : Verdict} → settings.opening ≡ a.settings.opening → 0 < room_for setting settings → place ≡ position (nat_eq k) (keys_of a.lines.rows)
     → kind ≡ kind_of (with_setting k setting a.settings.opening) k → budget ≡ budget_of (with_setting k setting a.settings.opening) k
     → IsRebuilt kind budget place a.lines lines w → nows lines.rows ≡ nows a.lines.rows
-    → IsSoundMonitor (record (ready_with a a.history lines (Set k setting place) w) { settings = settings; again = again })
+    → IsSoundMonitor (record (ready_with a a.history lines (Set k setting place) w) { settings = settings; judged_again = judged_again })
 set_ready law {a = a} {lines = lines} sound k setting {w = w} same room at kind_is budget_is rebuilt kept = record {
   now = subst (λ (o : JudgedHistory). IsJudged (judged_of a.history o) (nows lines.rows) a.verdict) (sym same) (same_lines sound.now kept);
   ready = record {

@@ -26,7 +26,7 @@ use Rattle.monitor.proofs.Preparing.{at_row}
 
 -- what the line at a place counts
 module _ (n : ℕ) (rows : List (ℕ × KeyLineView)) (place : ℕ) {key : ℕ} {line : KeyLineView} (at : slice_get rows place ≡ Some (key, line)) where
-  pub due_counted : AreCutAt n rows → begins_below n line.now ≡ true → {due : ℕ} → due ≡ line.due → IfSome (slice_get rows place) (λ row. due ≡ replays_at n row.1.now)
+  pub due_counted : AreCutAt n rows → begins_below n line.now ≡ true → {due : ℕ} → due ≡ line.prepared_replays → IfSome (slice_get rows place) (λ row. due ≡ replays_at n row.1.now)
   due_counted cut begins {due = due} is =
       let here : IsCutAt n line = subst (λ (o : Option (ℕ × KeyLineView)). IfSome o (λ row. IsCutAt n row.1)) at (cut place) in
       at_row rows place key line (λ row. due ≡ replays_at n row.1.now) at (is ∙ (here begins).1)

@@ -16,25 +16,25 @@ use Rattle.monitor.specs.Rows.{losing, replays_in}
 pub record MonitorView : Type 0 where
   pub now : JudgedHistory
   pub next : Option JudgedHistory
-  pub again : ℕ
+  pub judged_again : ℕ
 
 abbrev pub at_rest : JudgedHistory → ℕ → MonitorView
-at_rest h again = record { now = h; next = None; again = again }
+at_rest h judged_again = record { now = h; next = None; judged_again = judged_again }
 
 abbrev pub with_next : JudgedHistory → MonitorView → MonitorView
-with_next next monitor = record { now = monitor.now; next = Some next; again = monitor.again }
+with_next next monitor = record { now = monitor.now; next = Some next; judged_again = monitor.judged_again }
 
 -- so many events more were judged again
 abbrev pub with_again : ℕ → MonitorView → MonitorView
 with_again more monitor =
-    record { now = monitor.now; next = monitor.next; again = count_on monitor.again more }
+    record { now = monitor.now; next = monitor.next; judged_again = count_on monitor.judged_again more }
 
 -- how many events of all keys a rewind to the first n judges again: of each key that loses events fewer than 64, and of others none
 abbrev pub again_by : ℕ → JudgedHistory → ℕ
 again_by n h = replays_in n (rows_of h)
 
 abbrev pub FewAgain : ℕ → MonitorView → MonitorView → Type 0
-FewAgain n old new = new.again ≤ old.again + 63 * length (losing n (rows_of old.now))
+FewAgain n old new = new.judged_again ≤ old.judged_again + 63 * length (losing n (rows_of old.now))
 
 -- the key loses events where the first history is cut to the second
 abbrev pub loses_by : JudgedHistory → JudgedHistory → ℕ → Bool
@@ -59,7 +59,7 @@ pub record PreparesAppend (old new : MonitorView) (event : Event) (result : Resu
   pub verdict : IfOk result (IsVerdictOn (with_event event old.now))
   pub refused : IfErr result (MayDecline old.now event)
   pub memory_last : IsErrOf result NoMemory → Admits old.now event
-  pub err : OnErr result (new ≡ at_rest old.now old.again)
+  pub err : OnErr result (new ≡ at_rest old.now old.judged_again)
 
 -- why no monitor is opened: the budget is tested first
 abbrev pub MayNotBegin : ℕ → ℕ → Refusal → Type 0

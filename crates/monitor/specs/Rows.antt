@@ -68,7 +68,7 @@ with_cut n line =
     if begins_below n line.now then with_next (cut_at n line.now) (replays_at n line.now) line else line
 
 abbrev pub cut_done : ℕ → KeyLineView → KeyLineView
-cut_done n line = at_rest (cut_at n line.now) (count_on line.replayed line.due)
+cut_done n line = at_rest (cut_at n line.now) (count_on line.replayed line.prepared_replays)
 
 abbrev pub without_next : KeyLineView → KeyLineView
 without_next line = at_rest line.now line.replayed
@@ -76,7 +76,7 @@ without_next line = at_rest line.now line.replayed
 -- the cut at n is prepared, if the key has an event before it, and its replays are counted
 abbrev pub IsCutAt : ℕ → KeyLineView → Type 0
 IsCutAt n line = begins_below n line.now ≡ true
-    → (line.next ≡ Some (cut_at n line.now)) × (line.due ≡ replays_at n line.now)
+    → (line.next ≡ Some (cut_at n line.now)) × (line.prepared_replays ≡ replays_at n line.now)
 
 -- so it is at each line
 abbrev pub AreCutAt : ℕ → List (ℕ × KeyLineView) → Type 0

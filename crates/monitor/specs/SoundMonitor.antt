@@ -38,7 +38,7 @@ brought a prepared = brought_by (judged_by_parts a) a.history.next prepared.chan
 
 abbrev pub monitor_view : Inside → MonitorView
 monitor_view a =
-    record { now = judged_by_parts a; next = option_map (brought a) a.prepared; again = a.again }
+    record { now = judged_by_parts a; next = option_map (brought a) a.prepared; judged_again = a.judged_again }
 
 -- the history has its part prepared, or there is room to set what is to be set
 abbrev pub MayBeTaken : Inside → Change → Type 0

@@ -12,10 +12,10 @@
 pub mod fronts;
 pub mod joined;
 mod laws;
+mod line_changes;
 mod lines;
 mod loading;
 mod monitor;
-mod parts;
 mod pieces;
 mod settings;
 

@@ -63,7 +63,7 @@ impl Lines {
     }
 
     /// The key and the line at a place. Takes constant time.
-    pub fn at(&self, place: usize) -> (Key, &KeyLine)
+    pub fn key_and_line(&self, place: usize) -> (Key, &KeyLine)
         requires { place < length self.now.rows }
         ensures { slice_get self.now.rows place ≡ Some (result.0, result.1.now) }
     {
@@ -120,7 +120,7 @@ impl Lines {
         &mut self,
         n: u32,
         lent: &[Event],
-        again: &mut u64,
+        judged_again: &mut u64,
     ) -> Result<(usize, Verdict), AllocError>
         requires { AreRowsLentBy lent.now (nows self.old.rows) }
         ensures kept_lines { IfOk result (λ cut.
@@ -130,17 +130,18 @@ impl Lines {
             cut.1) }
         ensures next { OnOk result (self.new.rows ≡ each_line (with_cut n) self.old.rows) }
         ensures counted { OnOk result
-            (again.new ≡ count_on again.old (replays_in n (nows self.old.rows))) }
+            (judged_again.new ≡ count_on judged_again.old (replays_in n (nows self.old.rows))) }
         ensures none { OnErr result (self.new.rows ≡ each_line without_next self.new.rows) }
         ensures kept { nows self.new.rows ≡ nows self.old.rows }
         ensures room { self.old.room ≤ self.new.room }
     {
         no_keys_law();
-        let _so_far = *again;
+        // So that the prover knows that the count fits its type.
+        let _so_far = *judged_again;
         let mut kept = 0;
         let mut verdict = Verdict::Legal;
         for place in 0..self.map.len() {
-            let (key, line) = self.at(place);
+            let (key, line) = self.key_and_line(place);
             if !line.begins_below(n) {
                 continue;
             }
@@ -148,7 +149,9 @@ impl Lines {
                 self.drop_prepared();
                 return Err(AllocError);
             };
-            *again = again.saturating_add(self.at(place).1.due());
+            *judged_again = judged_again.saturating_add(
+                self.key_and_line(place).1.prepared_replays(),
+            );
             verdict = join_with(verdict, key, status);
             kept += 1;
         }
@@ -164,7 +167,7 @@ impl Lines {
         no_keys_law();
         let mut verdict = Verdict::Legal;
         for other in 0..self.map.len() {
-            let (key, line) = self.at(other);
+            let (key, line) = self.key_and_line(other);
             let stands = if other == place {
                 status
             } else {
@@ -180,7 +183,7 @@ impl Lines {
         requires { IsSomeAnd (slice_get self.old.rows place) (λ row. IsSome row.1.next) }
         ensures { IfSome (slice_get self.old.rows place) (λ row. IfSome row.1.next (λ next.
             self.new.rows ≡ set_value_at self.old.rows place
-            (at_rest next (count_on row.1.replayed row.1.due)))) }
+            (at_rest next (count_on row.1.replayed row.1.prepared_replays)))) }
     {
         match self.map.get_index_mut(place) {
             Some(line) => line.commit(),
@@ -211,11 +214,11 @@ impl Lines {
         ensures { IfSome (slice_get self.now.rows place)
             (λ row. result ≡ replays_at n row.1.now) }
     {
-        let (_, cut) = self.at(place);
+        let (_, cut) = self.key_and_line(place);
         if !cut.begins_below(n) {
             return 0;
         }
-        cut.due()
+        cut.prepared_replays()
     }
 
     /// Makes room for one more line. `AllocError` where memory was refused: then the lines are as they were. Takes constant

@@ -72,6 +72,7 @@ fn judged<R: Threads + Sync, G: Gate + Sync>(
         (nows judged.0.rows) judged.1) }
 {
     judging_law();
+    // The call says that the events are a history.
     let _many = history.len();
     let grouped = pieces_from(alloc, kind, budget, history.events())?;
     let pieces = grouped.as_slice();

@@ -13,11 +13,11 @@ ghost use Rattle.monitor.specs.Settings.{with_setting};
 
 use crate::fronts::judged_fronts_law;
 use crate::laws::{judging_law, next_event_law};
+use crate::line_changes::{commit_line, first_line, next_event, prepare_rebuild};
 use crate::lines::Lines;
-use crate::parts::{commit_line, first_line, next_event, prepare_rebuild};
 use crate::settings::{Setting, Settings};
 use checkpoints::KeyLine;
-use checkpoints::laws::settled_law;
+use checkpoints::laws::final_status_law;
 use edn::Refusal;
 use events::Event;
 use history::History;
@@ -78,7 +78,7 @@ pub struct Monitor {
     settings: Settings,
     lines: Lines,
     verdict: Verdict,
-    again: u64,
+    judged_again: u64,
     prepared: Option<Prepared>,
 }
 
@@ -103,7 +103,7 @@ impl Drop for Monitor {
             settings: _settings,
             lines: _lines,
             verdict: _verdict,
-            again: _again,
+            judged_again: _again,
             prepared: _prepared,
         } = self;
     }
@@ -155,7 +155,7 @@ impl Monitor {
             settings: Settings::new(alloc, kind, budget),
             lines,
             verdict,
-            again: 0,
+            judged_again: 0,
             prepared: None,
         }
     }
@@ -172,7 +172,7 @@ impl Monitor {
         ensures verdict { IfOk result (IsVerdictOn (with_event event self.old.now)) }
         ensures refused { IfErr result (MayDecline self.old.now event) }
         ensures memory_last { IsErrOf result Refusal.NoMemory → Admits self.old.now event }
-        ensures err { OnErr result (self.new ≡ at_rest self.old.now self.old.again) }
+        ensures err { OnErr result (self.new ≡ at_rest self.old.now self.old.judged_again) }
     {
         let Some(key) = event.key() else {
             return self.prepare_fault(event);
@@ -200,16 +200,16 @@ impl Monitor {
         ensures refused { IfErr result (MayNotRewind self.old.now n) }
         ensures memory_last { IsErrOf result Refusal.NoMemory →
             n ≤ length self.old.now.events }
-        ensures err { OnErr result (self.new ≡ at_rest self.old.now self.old.again) }
+        ensures err { OnErr result (self.new ≡ at_rest self.old.now self.old.judged_again) }
     {
         self.prepared = None;
         judging_law();
         self.history.prepare_cut(n)?;
-        let mut again = self.again;
+        let mut judged_again = self.judged_again;
         let (kept, verdict) = self
             .lines
-            .prepare_cut(n, self.history.events(), &mut again)?;
-        self.again = again;
+            .prepare_cut(n, self.history.events(), &mut judged_again)?;
+        self.judged_again = judged_again;
         let change = Change::Rewind(n, kept);
         self.prepared = Some(Prepared { change, verdict });
         Ok(verdict)
@@ -225,7 +225,7 @@ impl Monitor {
         ensures prepared { OnOk result (self.new ≡ with_next (with_kind key kind self.old.now)
             (with_again (length (history_of_key self.old.now key).events) self.old)) }
         ensures verdict { IfOk result (IsVerdictOn (with_kind key kind self.old.now)) }
-        ensures err { OnErr result (self.new ≡ at_rest self.old.now self.old.again) }
+        ensures err { OnErr result (self.new ≡ at_rest self.old.now self.old.judged_again) }
     {
         self.prepare_set(key, Setting::Kind(kind))
     }
@@ -243,7 +243,7 @@ impl Monitor {
         ensures verdict { IfOk result (IsVerdictOn (with_budget key n self.old.now)) }
         ensures refused { IfErr result (MayNotSetBudget n) }
         ensures memory_last { IsErrOf result Refusal.NoMemory → IsBudget n }
-        ensures err { OnErr result (self.new ≡ at_rest self.old.now self.old.again) }
+        ensures err { OnErr result (self.new ≡ at_rest self.old.now self.old.judged_again) }
     {
         self.prepared = None;
         test_budget(n)?;
@@ -253,7 +253,7 @@ impl Monitor {
     /// Carries out what is prepared. It takes no memory and cannot fail.
     pub fn commit(&mut self)
         requires { IsSome self.old.next }
-        ensures { IfSome self.old.next (λ next. self.new ≡ at_rest next self.old.again) }
+        ensures { IfSome self.old.next (λ next. self.new ≡ at_rest next self.old.judged_again) }
     {
         let Some(prepared) = self.prepared.take() else {
             unreachable!()
@@ -288,11 +288,11 @@ impl Monitor {
     pub fn append(&mut self, event: Event) -> Result<Verdict, Refusal>
         ensures well_formed { OnOk result (Admits self.old.now event) }
         ensures appended { OnOk result
-            (self.new ≡ at_rest (with_event event self.old.now) self.old.again) }
+            (self.new ≡ at_rest (with_event event self.old.now) self.old.judged_again) }
         ensures verdict { IfOk result (IsVerdictOn (with_event event self.old.now)) }
         ensures refused { IfErr result (MayDecline self.old.now event) }
         ensures memory_last { IsErrOf result Refusal.NoMemory → Admits self.old.now event }
-        ensures err { OnErr result (self.new ≡ at_rest self.old.now self.old.again) }
+        ensures err { OnErr result (self.new ≡ at_rest self.old.now self.old.judged_again) }
     {
         let verdict = self.prepare_append(event)?;
         self.commit();
@@ -307,13 +307,13 @@ impl Monitor {
     pub fn rewind(&mut self, n: u32) -> Result<Verdict, Refusal>
         ensures within { OnOk result (n ≤ length self.old.now.events) }
         ensures rewound { OnOk result (self.new
-            ≡ with_again (again_by n self.old.now) (at_rest (rewound n self.old.now) self.old.again)) }
+            ≡ with_again (again_by n self.old.now) (at_rest (rewound n self.old.now) self.old.judged_again)) }
         ensures few { OnOk result (FewAgain n self.old self.new) }
         ensures verdict { IfOk result (IsVerdictOn (rewound n self.old.now)) }
         ensures refused { IfErr result (MayNotRewind self.old.now n) }
         ensures memory_last { IsErrOf result Refusal.NoMemory →
             n ≤ length self.old.now.events }
-        ensures err { OnErr result (self.new ≡ at_rest self.old.now self.old.again) }
+        ensures err { OnErr result (self.new ≡ at_rest self.old.now self.old.judged_again) }
     {
         let verdict = self.prepare_rewind(n)?;
         self.commit();
@@ -327,9 +327,9 @@ impl Monitor {
     /// `AllocError` where a growth was refused; what is judged is then as before, and nothing is prepared.
     pub fn set_model(&mut self, key: Key, kind: ModelKind) -> Result<Verdict, AllocError>
         ensures set { OnOk result (self.new ≡ with_again (length (history_of_key self.old.now key).events)
-            (at_rest (with_kind key kind self.old.now) self.old.again)) }
+            (at_rest (with_kind key kind self.old.now) self.old.judged_again)) }
         ensures verdict { IfOk result (IsVerdictOn (with_kind key kind self.old.now)) }
-        ensures err { OnErr result (self.new ≡ at_rest self.old.now self.old.again) }
+        ensures err { OnErr result (self.new ≡ at_rest self.old.now self.old.judged_again) }
     {
         let verdict = self.prepare_model(key, kind)?;
         self.commit();
@@ -344,11 +344,11 @@ impl Monitor {
     pub fn set_budget(&mut self, key: Key, n: u32) -> Result<Verdict, Refusal>
         ensures within { OnOk result (IsBudget n) }
         ensures set { OnOk result (self.new ≡ with_again (length (history_of_key self.old.now key).events)
-            (at_rest (with_budget key n self.old.now) self.old.again)) }
+            (at_rest (with_budget key n self.old.now) self.old.judged_again)) }
         ensures verdict { IfOk result (IsVerdictOn (with_budget key n self.old.now)) }
         ensures refused { IfErr result (MayNotSetBudget n) }
         ensures memory_last { IsErrOf result Refusal.NoMemory → IsBudget n }
-        ensures err { OnErr result (self.new ≡ at_rest self.old.now self.old.again) }
+        ensures err { OnErr result (self.new ≡ at_rest self.old.now self.old.judged_again) }
     {
         let verdict = self.prepare_budget(key, n)?;
         self.commit();
@@ -367,6 +367,7 @@ impl Monitor {
         ensures { (n : ℕ) → (v : Verdict) × IsVerdictOn (rewound n self.now.now) v }
     {
         judged_fronts_law();
+        // So that the prover takes the invariant, which speaks of the verdict.
         let _verdict = self.verdict;
     }
 
@@ -402,7 +403,7 @@ impl Monitor {
         ensures events { result.events ≡ length (history_of_key self.now.now result.key).events }
         ensures status { IsStatusOf (history_of_key self.now.now result.key) result.status }
     {
-        let (key, line) = self.lines.at(i);
+        let (key, line) = self.lines.key_and_line(i);
         KeyRow {
             key,
             kind: self.settings.kind_of(key),
@@ -438,9 +439,9 @@ impl Monitor {
     /// rewind fewer than 64 of each key that loses events, and none of others; by another kind or budget all of the key. A change
     /// for which memory was refused is not counted. It stops at the greatest `u64`.
     pub fn judged_again(&self) -> u64
-        ensures { result ≡ self.now.again }
+        ensures { result ≡ self.now.judged_again }
     {
-        let count = self.again;
+        let count = self.judged_again;
         count
     }
 
@@ -466,7 +467,7 @@ impl Monitor {
         self.prepared = None;
         judging_law();
         next_event_law();
-        settled_law();
+        final_status_law();
         bad_keys_law();
         let index = self.history.len();
         self.history.prepare_push(event)?;
@@ -505,14 +506,14 @@ impl Monitor {
         ensures prepared { OnOk result (self.new ≡ with_next (with_setting key setting self.old.now)
             (with_again (length (history_of_key self.old.now key).events) self.old)) }
         ensures verdict { IfOk result (IsVerdictOn (with_setting key setting self.old.now)) }
-        ensures err { OnErr result (self.new ≡ at_rest self.old.now self.old.again) }
+        ensures err { OnErr result (self.new ≡ at_rest self.old.now self.old.judged_again) }
     {
         self.prepared = None;
         judging_law();
         let (kind, budget) = self.settings.prepare(key, setting)?;
         let place = self.lines.find(key);
         let lent = self.history.events();
-        let mut again = self.again;
+        let mut judged_again = self.judged_again;
         let verdict = prepare_rebuild(
             &mut self.lines,
             self.verdict,
@@ -520,9 +521,9 @@ impl Monitor {
             kind,
             budget,
             lent,
-            &mut again,
+            &mut judged_again,
         )?;
-        self.again = again;
+        self.judged_again = judged_again;
         let change = Change::Set(key, setting, place);
         self.prepared = Some(Prepared { change, verdict });
         Ok(verdict)

@@ -14,7 +14,7 @@ ghost use Rattle.product_ends.specs.Deeds.{IsAlone};
 use ends::{PendingOp, Table};
 use interned::{Founds, States, founds, states};
 use models::SeqObject;
-use products::number_set::{HIGH, alone, has, joined};
+use products::number_set::{HIGH, has, singleton, union};
 use products::{Products, Scratch};
 use rows::RowSet;
 use std::alloc::{AllocError, Global};
@@ -29,7 +29,7 @@ fn set_alone(row: &[usize], sets: &mut Vec<u64>) -> Result<(), AllocError>
 {
     sets.clear();
     for place in 1..row.len() {
-        sets.push(alone(row[place])?)?;
+        sets.push(singleton(row[place])?)?;
     }
     Ok(())
 }
@@ -132,10 +132,10 @@ fn renumbered_one(old: &Founds, new: &mut Founds, number: usize) -> Result<Optio
     ensures once { IsOnceIn new.old → IsOnceIn new.new }
 {
     if number == 0 {
-        return Ok(Some(alone(0)?));
+        return Ok(Some(singleton(0)?));
     }
     match old.get(number - 1) {
-        Some(found) => Ok(Some(alone(founds::slot_at(new, found.copy()?)?)?)),
+        Some(found) => Ok(Some(singleton(founds::slot_at(new, found.copy()?)?)?)),
         None => Ok(None),
     }
 }
@@ -155,7 +155,7 @@ fn renumbered_set(old: &Founds, new: &mut Founds, set: u64) -> Result<Option<u64
             let Some(one) = renumbered_one(old, new, number)? else {
                 return Ok(None);
             };
-            let Some(both) = joined(other, one) else {
+            let Some(both) = union(other, one) else {
                 return Ok(None);
             };
             other = both;

@@ -8,7 +8,7 @@ use ends::{PendingOp, Table, step, told_by};
 use interned::founds::slot_at;
 use interned::states::number_of;
 use models::{Found, SeqObject};
-use products::number_set::alone;
+use products::number_set::singleton;
 use std::alloc::{AllocError, Global};
 
 /// What a call does in a state.
@@ -114,7 +114,7 @@ fn tried<M: SeqObject>(
         Some((state, found)) => {
             let to = number_of::<M>(&mut table.states, state)?;
             let slot = slot_at(&mut table.founds, told_by(call.crashed, found))?;
-            Ok(Deed::To(to, alone(slot)?))
+            Ok(Deed::To(to, singleton(slot)?))
         }
         None => Ok(Deed::Nowhere),
     }

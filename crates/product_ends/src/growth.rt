@@ -13,7 +13,7 @@ use ends::{PendingOp, Table};
 use models::SeqObject;
 use products::Products;
 use products::appending::append;
-use products::number_set::{common, has};
+use products::number_set::{has, intersection};
 use std::alloc::AllocError;
 
 // Takes the product at this place for the source.
@@ -36,7 +36,7 @@ fn grow_at<M: SeqObject>(
     work: &mut Work<M::State>,
     calls: &[PendingOp],
     at: usize,
-    from: usize,
+    growable_from: usize,
     budget: u32,
     applied: &mut u64,
 ) -> Result<bool, AllocError>
@@ -45,7 +45,7 @@ fn grow_at<M: SeqObject>(
     requires call { at < length calls.now }
     requires place { at < length work.old.source.sets.items }
     ensures grown { IfOk result
-        (AreGrown M.apply_to table.new calls.now from budget work.old.all.1 work.new applied.old applied.new) }
+        (AreGrown M.apply_to table.new calls.now growable_from budget work.old.all.1 work.new applied.old applied.new) }
     ensures reached { let object = of_table M.State M.start_state M.apply_to in OnOk result
         (StaysReached object table.old table.new calls.now work.old.all.1 work.new.all.1) }
     ensures leads { let object = of_table M.State M.start_state M.apply_to in
@@ -64,13 +64,13 @@ fn grow_at<M: SeqObject>(
         return Ok(true);
     };
     match deeds[at] {
-        Deed::To(to, found) if to != number || common(found, own) != found => {
+        Deed::To(to, found) if to != number || intersection(found, own) != found => {
             let target = Target {
                 number: to,
                 place: at,
                 set: found,
             };
-            put_widened::<M>(table, work, calls, target, from, budget, applied)
+            put_widened::<M>(table, work, calls, target, growable_from, budget, applied)
         }
         _ => Ok(true),
     }
@@ -82,26 +82,26 @@ fn grow_from<M: SeqObject>(
     table: &mut Table<M::State>,
     work: &mut Work<M::State>,
     calls: &[PendingOp],
-    from: usize,
+    source_index: usize,
     budget: u32,
     applied: &mut u64,
 ) -> Result<bool, AllocError>
     requires may_grow { MayGrow M.apply_to table.old calls.now budget work.old }
-    requires here { from < length work.old.all.1 }
-    requires before { from < 2 ^ 64 - 1 }
+    requires here { source_index < length work.old.all.1 }
+    requires before { source_index < 2 ^ 64 - 1 }
     ensures grown { IfOk result
-        (AreGrown M.apply_to table.new calls.now (from + 1) budget work.old.all.1 work.new applied.old applied.new) }
+        (AreGrown M.apply_to table.new calls.now (source_index + 1) budget work.old.all.1 work.new applied.old applied.new) }
     ensures reached { let object = of_table M.State M.start_state M.apply_to in OnOk result
         (StaysReached object table.old table.new calls.now work.old.all.1 work.new.all.1) }
     ensures closed { let object = of_table M.State M.start_state M.apply_to in
-        AreReached object table.old calls.now work.old.all.1 → AreClosedTo object table.old calls.now work.old.all.1 from
-        → IfOk result (λ all. all ≡ true → AreClosedTo object table.new calls.now work.new.all.1 (from + 1)) }
+        AreReached object table.old calls.now work.old.all.1 → AreClosedTo object table.old calls.now work.old.all.1 source_index
+        → IfOk result (λ within_budget. within_budget ≡ true → AreClosedTo object table.new calls.now work.new.all.1 (source_index + 1)) }
     ensures steps { TriesAtMost (length calls.now * (budget + 1 - length (rows_in work.old.all.1)))
         table.old table.new applied.old applied.new }
 {
-    take_source(&mut work.source, &work.all, from)?;
+    take_source(&mut work.source, &work.all, source_index)?;
     for at in 0..work.source.sets.len().min(calls.len()) {
-        if !grow_at::<M>(table, work, calls, at, from + 1, budget, applied)? {
+        if !grow_at::<M>(table, work, calls, at, source_index + 1, budget, applied)? {
             return Ok(false);
         }
     }
@@ -121,14 +121,14 @@ fn begin<M: SeqObject>(
     ensures grown { IfOk result (AreGrown M.apply_to table.new calls.now 0 budget [] work.new applied.old applied.new) }
     ensures reached { let object = of_table M.State M.start_state M.apply_to in OnOk result
         (StaysReached object table.old table.new calls.now kept.now.1 work.new.all.1) }
-    ensures all { IfOk result (λ all. all ≡ true → LosesNoRow kept.now.1 work.new.all.1) }
+    ensures all { IfOk result (λ within_budget. within_budget ≡ true → LosesNoRow kept.now.1 work.new.all.1) }
     ensures steps { TriesAtMost (length calls.now * (budget + 1)) table.old table.new applied.old applied.new }
 {
     forget(&mut work.deeds);
     work.all.restart(kept.places());
     for at in 0..kept.len() {
         take_source(&mut work.source, kept, at)?;
-        // No place is so far: each set stays as it is.
+        // This place is behind all sets, so each stays as it is.
         let itself = Target {
             number: work.source.number,
             place: work.source.sets.len(),

@@ -10,7 +10,7 @@ use crate::deeds::{Deeds, deeds_in, stays_in, try_each};
 use crate::room::{Source, Work};
 use ends::{PendingOp, Table};
 use models::SeqObject;
-use products::number_set::{has, joined, size};
+use products::number_set::{has, size, union};
 use std::alloc::AllocError;
 
 /// The product that a call leads to from the source: its first number, and a set in place of the source's at one place.
@@ -30,7 +30,7 @@ fn widened(set: u64, stay: u64) -> u64
     if stay == 0 || !has(set, 0) {
         return set;
     }
-    match joined(set, stay) {
+    match union(set, stay) {
         Some(both) => both,
         None => set,
     }
@@ -116,14 +116,14 @@ pub fn put_widened<M: SeqObject>(
     work: &mut Work<M::State>,
     calls: &[PendingOp],
     to: Target,
-    from: usize,
+    growable_from: usize,
     budget: u32,
     applied: &mut u64,
 ) -> Result<bool, AllocError>
     requires may_grow { MayGrow M.apply_to table.old calls.now budget work.old }
     requires long { length work.old.source.sets.items ≡ work.old.all.0 }
     ensures grown { IfOk result
-        (AreGrown M.apply_to table.new calls.now from budget work.old.all.1 work.new applied.old applied.new) }
+        (AreGrown M.apply_to table.new calls.now growable_from budget work.old.all.1 work.new applied.old applied.new) }
     ensures puts { OnOk result (HasRows (product_to work.old.source to) work.new.all.1) }
     ensures reached { let object = of_table M.State M.start_state M.apply_to in OnOk result
         (StaysReached object table.old table.new calls.now (product_to work.old.source to ∷ work.old.all.1) work.new.all.1) }
@@ -143,6 +143,11 @@ pub fn put_widened<M: SeqObject>(
         stays,
         &mut work.scratch.sets,
     )?;
-    work.all.put(from, to.number, &work.scratch.sets, &mut work.scratch.stack)?;
+    work.all.put(
+        growable_from,
+        to.number,
+        &work.scratch.sets,
+        &mut work.scratch.stack,
+    )?;
     Ok(work.all.rows() <= budget as u64)
 }

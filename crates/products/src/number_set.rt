@@ -12,7 +12,7 @@ const BITS: usize = 63;
 
 /// The set of this number alone. `AllocError` where it has more than 63 bits: there is no room for so many. Takes no memory, and
 /// constant time.
-pub fn alone(number: usize) -> Result<u64, AllocError>
+pub fn singleton(number: usize) -> Result<u64, AllocError>
     ensures { IfOk result (λ set. (n : ℕ) → Has set n ↔ (n ≡ number)) }
 {
     if number < BITS {
@@ -38,19 +38,19 @@ pub fn has(set: u64, number: usize) -> bool
 
 /// What both sets have. Takes constant time.
 #[inline(always)]
-pub fn common(set: u64, other: u64) -> u64
+pub fn intersection(set: u64, other: u64) -> u64
     ensures { (n : ℕ) → Has result n ↔ (Has set n × Has other n) }
 {
     if set < HIGH && other < HIGH {
         set & other
     } else {
-        common_alone(set, other)
+        intersection_with_singleton(set, other)
     }
 }
 
 // The same, where one of them has a number alone.
 #[inline(never)]
-fn common_alone(set: u64, other: u64) -> u64
+fn intersection_with_singleton(set: u64, other: u64) -> u64
     ensures { (n : ℕ) → Has result n ↔ (Has set n × Has other n) }
 {
     if set >= HIGH {
@@ -70,19 +70,19 @@ fn common_alone(set: u64, other: u64) -> u64
 
 /// What the first set has and the other one has not. Takes constant time.
 #[inline(always)]
-pub(crate) fn outside(set: u64, other: u64) -> u64
+pub(crate) fn difference(set: u64, other: u64) -> u64
     ensures { (n : ℕ) → Has result n ↔ (Has set n × ¬ Has other n) }
 {
     if set < HIGH && other < HIGH {
         set & !other
     } else {
-        outside_alone(set, other)
+        difference_with_singleton(set, other)
     }
 }
 
 // The same, where one of them has a number alone.
 #[inline(never)]
-fn outside_alone(set: u64, other: u64) -> u64
+fn difference_with_singleton(set: u64, other: u64) -> u64
     ensures { (n : ℕ) → Has result n ↔ (Has set n × ¬ Has other n) }
 {
     if set >= HIGH {
@@ -105,7 +105,7 @@ fn outside_alone(set: u64, other: u64) -> u64
 
 /// What one of the sets has or both have, if both are told by bits or they are the same. Takes constant time.
 #[inline(always)]
-pub fn joined(set: u64, other: u64) -> Option<u64>
+pub fn union(set: u64, other: u64) -> Option<u64>
     ensures { IfSome result (λ both. (n : ℕ) → Has both n ↔ (Has set n ⊎ Has other n)) }
 {
     if set < HIGH && other < HIGH {

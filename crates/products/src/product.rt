@@ -3,58 +3,62 @@
 ghost use Rattle.std.specs.Prelude.{◌≡◌, ◌↔◌, ◌⊎◌, ◌<◌, ◌+◌, ◌-◌, ◌^◌, ℕ, List, IfSome, get_or, length, min, set};
 ghost use Rattle.products.specs.Products.{AreIn, Has, rows_of_sets};
 
-use crate::number_set::{HIGH, common, joined, size};
+use crate::number_set::{HIGH, intersection, size, union};
 
-/// How the rows of a product lie to those of another one with the same first number.
+/// How the rows of a product overlap those of another one with the same first number.
 #[derive(Clone, Copy)]
-pub enum Lies {
+pub enum Overlap {
     /// No row is in both.
     Apart,
     /// Each of its rows is in the other one.
     Inside,
-    /// Neither, or it is not told.
+    /// Some are in the other one and some are not, or it is not known.
     Across,
 }
 
-/// How the product of these sets lies to that of the others.
+/// How the product of these sets overlaps that of the others.
 #[inline(always)]
-pub fn lies_to(sets: &[u64], others: &[u64]) -> Lies
+pub fn overlap_of(sets: &[u64], others: &[u64]) -> Overlap
     requires long { length sets.now ≡ length others.now }
-    ensures apart { result ≡ Lies.Apart → (row : List ℕ) → AreIn sets.now row → ¬ AreIn others.now row }
-    ensures inside { result ≡ Lies.Inside → (row : List ℕ) → AreIn sets.now row → AreIn others.now row }
+    ensures apart { result ≡ Overlap.Apart → (row : List ℕ) → AreIn sets.now row → ¬ AreIn others.now row }
+    ensures inside { result ≡ Overlap.Inside → (row : List ℕ) → AreIn sets.now row → AreIn others.now row }
 {
     for place in 0..sets.len() {
         if sets[place] >= HIGH || others[place] >= HIGH {
-            return lies_alone(sets, others);
+            return overlap_with_singleton(sets, others);
         }
-        if common(sets[place], others[place]) == 0 {
-            return Lies::Apart;
+        if intersection(sets[place], others[place]) == 0 {
+            return Overlap::Apart;
         }
     }
     for at in 0..sets.len() {
-        if common(sets[at], others[at]) != sets[at] {
-            return Lies::Across;
+        if intersection(sets[at], others[at]) != sets[at] {
+            return Overlap::Across;
         }
     }
-    Lies::Inside
+    Overlap::Inside
 }
 
 // The same, where a set of them has a number alone.
 #[inline(never)]
-fn lies_alone(sets: &[u64], others: &[u64]) -> Lies
+fn overlap_with_singleton(sets: &[u64], others: &[u64]) -> Overlap
     requires long { length sets.now ≡ length others.now }
-    ensures apart { result ≡ Lies.Apart → (row : List ℕ) → AreIn sets.now row → ¬ AreIn others.now row }
-    ensures inside { result ≡ Lies.Inside → (row : List ℕ) → AreIn sets.now row → AreIn others.now row }
+    ensures apart { result ≡ Overlap.Apart → (row : List ℕ) → AreIn sets.now row → ¬ AreIn others.now row }
+    ensures inside { result ≡ Overlap.Inside → (row : List ℕ) → AreIn sets.now row → AreIn others.now row }
 {
     let mut inside = true;
     for place in 0..sets.len() {
-        let both = common(sets[place], others[place]);
+        let both = intersection(sets[place], others[place]);
         if both == 0 {
-            return Lies::Apart;
+            return Overlap::Apart;
         }
         inside = inside && both == sets[place];
     }
-    if inside { Lies::Inside } else { Lies::Across }
+    if inside {
+        Overlap::Inside
+    } else {
+        Overlap::Across
+    }
 }
 
 /// Where these sets differ from the others, if that is at one place, and what one of both has there.
@@ -82,7 +86,7 @@ pub fn joined_at(sets: &[u64], others: &[u64]) -> Option<(usize, u64)>
     if at >= sets.len() {
         return None;
     }
-    match joined(sets[at], others[at]) {
+    match union(sets[at], others[at]) {
         Some(set) => Some((at, set)),
         None => None,
     }

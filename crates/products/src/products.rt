@@ -3,8 +3,8 @@ ghost use Rattle.std.specs.Prelude.{◌≡◌, ◌↔◌, ◌⊎◌, ◌<◌, �
 ghost use Rattle.products.specs.Products.{AreApart, AreIn, Has, HasWith, HavePlaces, IsIn, IsInAt, IsInOne, IsPiece, Product, Puts, rows_in, rows_of_sets};
 
 use crate::appending::append;
-use crate::number_set::{common, outside};
-use crate::product::{Lies, joined_at, lies_to, rows_of};
+use crate::number_set::{difference, intersection};
+use crate::product::{Overlap, joined_at, overlap_of, rows_of};
 use std::alloc::{AllocError, Global};
 use std::marker::Model;
 use std::mem::swap;
@@ -126,14 +126,19 @@ impl Products {
 
     // Puts the product, whose rows are not there, with the others: some product from this place on from which it differs at one
     // place alone gets its rows, or else it is put behind all.
-    fn join_from(&mut self, from: usize, first: usize, sets: &[u64]) -> Result<(), AllocError>
+    fn join_from(
+        &mut self,
+        growable_from: usize,
+        first: usize,
+        sets: &[u64],
+    ) -> Result<(), AllocError>
         requires long { length sets.now ≡ self.old.0 }
         requires apart { (row : List ℕ) → IsIn (first, sets.now) row → ¬ IsInOne self.old.1 row }
         ensures places { self.new.0 ≡ self.old.0 }
-        ensures puts { OnOk result (Puts (first, sets.now) from self.old.1 self.new.1) }
+        ensures puts { OnOk result (Puts (first, sets.now) growable_from self.old.1 self.new.1) }
     {
         let mut at = self.firsts.len();
-        while at > from {
+        while at > growable_from {
             at -= 1;
             if self.firsts[at] == first {
                 if let Some((place, set)) = joined_at(sets, self.sets(at)) {
@@ -160,8 +165,8 @@ impl Products {
         ensures replaced { (product : Product) → slice_get self.old.1 at ≡ Some product
             → self.new.1 ≡ slice_set self.old.1 at (product.0, slice_set product.1 place set) }
     {
-        let word = at * self.places + place;
-        self.words[word] = set;
+        let index = at * self.places + place;
+        self.words[index] = set;
         self.rows = self.rows.saturating_add(rows_of(sets));
     }
 
@@ -185,19 +190,19 @@ impl Products {
     /// rows; else it is put behind all.
     pub fn put(
         &mut self,
-        from: usize,
+        growable_from: usize,
         first: usize,
         sets: &[u64],
         stack: &mut Vec<u64>,
     ) -> Result<(), AllocError>
         requires long { length sets.now ≡ self.old.0 }
         ensures places { self.new.0 ≡ self.old.0 }
-        ensures puts { OnOk result (Puts (first, sets.now) from self.old.1 self.new.1) }
+        ensures puts { OnOk result (Puts (first, sets.now) growable_from self.old.1 self.new.1) }
     {
         let len = self.firsts.len();
         stack.clear();
         append(stack, sets)?;
-        self.put_rest(len, from, first, stack, 0)
+        self.put_rest(len, growable_from, first, stack, 0)
     }
 
     // The last product before this place that shares a row with the product, or may do so, and whether it is told to have all its
@@ -220,10 +225,10 @@ impl Products {
         while at > 0 {
             at -= 1;
             if self.firsts[at] == first {
-                match lies_to(sets, self.sets(at)) {
-                    Lies::Apart => {}
-                    Lies::Inside => return Some((at, true)),
-                    Lies::Across => return Some((at, false)),
+                match overlap_of(sets, self.sets(at)) {
+                    Overlap::Apart => {}
+                    Overlap::Inside => return Some((at, true)),
+                    Overlap::Across => return Some((at, false)),
                 }
             }
         }
@@ -237,7 +242,7 @@ impl Products {
     fn put_rest(
         &mut self,
         end: usize,
-        from: usize,
+        growable_from: usize,
         first: usize,
         stack: &mut Vec<u64>,
         start: usize,
@@ -248,12 +253,12 @@ impl Products {
             → IsInAt self.old.1 at row → at < end }
         ensures places { self.new.0 ≡ self.old.0 }
         ensures stack { OnOk result (stack.new.items ≡ stack.old.items) }
-        ensures puts { OnOk result (Puts (first, drop start stack.old.items) from self.old.1 self.new.1) }
+        ensures puts { OnOk result (Puts (first, drop start stack.old.items) growable_from self.old.1 self.new.1) }
     {
         match self.meeting(end, first, &stack[start..]) {
-            None => self.join_from(from, first, &stack[start..]),
+            None => self.join_from(growable_from, first, &stack[start..]),
             Some((_, true)) => Ok(()),
-            Some((at, false)) => self.put_pieces(at, from, first, stack, start),
+            Some((at, false)) => self.put_pieces(at, growable_from, first, stack, start),
         }
     }
 
@@ -263,7 +268,7 @@ impl Products {
     fn put_pieces(
         &mut self,
         at: usize,
-        from: usize,
+        growable_from: usize,
         first: usize,
         stack: &mut Vec<u64>,
         start: usize,
@@ -275,15 +280,15 @@ impl Products {
             → IsInAt self.old.1 i row → i ≤ at }
         ensures places { self.new.0 ≡ self.old.0 }
         ensures stack { OnOk result (stack.new.items ≡ stack.old.items) }
-        ensures puts { OnOk result (Puts (first, drop start stack.old.items) from self.old.1 self.new.1) }
+        ensures puts { OnOk result (Puts (first, drop start stack.old.items) growable_from self.old.1 self.new.1) }
     {
         for behind in 0..self.places {
             let place = self.places - 1 - behind;
-            let left = outside(stack[start + place], self.sets(at)[place]);
+            let left = difference(stack[start + place], self.sets(at)[place]);
             if left != 0 {
                 let top = stack.len();
                 push_piece(stack, start, self.sets(at), place, left)?;
-                self.put_rest(at, from, first, stack, top)?;
+                self.put_rest(at, growable_from, first, stack, top)?;
                 stack.truncate(top);
             }
         }
@@ -304,6 +309,7 @@ impl Products {
         for at in 0..self.firsts.len() {
             let from = at * self.places;
             append(&mut words, &self.words[from..from + self.places])?;
+            // The set of zero alone.
             words.push(1)?;
         }
         self.words = words;
@@ -367,7 +373,7 @@ fn set_of_piece(at: usize, place: usize, set: u64, other: u64, left: u64) -> u64
     ensures behind { place < at → result ≡ set }
 {
     if at < place {
-        common(set, other)
+        intersection(set, other)
     } else if at == place {
         left
     } else {

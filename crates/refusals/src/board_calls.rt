@@ -82,7 +82,7 @@ impl<'a, B: Tag, R: Wait> Subject for Seated<'a, B, R> {
         match self.board.glance(self.seat) {
             Some(glance) => Seen {
                 verdict: said_of(&glance.verdict),
-                commit: glance.commit,
+                commit: glance.call_count,
                 ..NOTHING
             },
             None => NOTHING,

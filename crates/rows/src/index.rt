@@ -8,15 +8,15 @@ use buckets::{Bucketed, Index, find, put_behind};
 use std::alloc::AllocError;
 
 // Whether the word is there, which is in this bucket.
-fn has_word(words: &[u128], index: &Index, its: usize, word: u128) -> bool
+fn has_word(words: &[u128], index: &Index, bucket: usize, word: u128) -> bool
     requires index { Indexes word_bucket words.now index.now.last.items index.now.before.items }
     requires all { length index.now.before.items ≡ length words.now }
-    requires within { its < length index.now.last.items }
-    requires its { its ≡ word_bucket (length index.now.last.items) word }
+    requires within { bucket < length index.now.last.items }
+    requires bucket { bucket ≡ word_bucket (length index.now.last.items) word }
     ensures there { IsTrue result → Contains words.now word }
     ensures not_there { IsFalse result → ¬ Contains words.now word }
 {
-    find(words, index, its, |at| words[at] == word).is_some()
+    find(words, index, bucket, |at| words[at] == word).is_some()
 }
 
 // Puts the word behind the others, which are all indexed, where there may be no room: it is in this bucket, and is not there.
@@ -24,13 +24,13 @@ fn has_word(words: &[u128], index: &Index, its: usize, word: u128) -> bool
 fn put_with_room(
     words: &mut Vec<u128>,
     index: &mut Index,
-    its: usize,
+    bucket: usize,
     word: u128,
 ) -> Result<(), AllocError>
     requires index { Indexes word_bucket words.old.items index.old.last.items index.old.before.items }
     requires all { length index.old.before.items ≡ length words.old.items }
-    requires within { its < length index.old.last.items }
-    requires its { its ≡ word_bucket (length index.old.last.items) word }
+    requires within { bucket < length index.old.last.items }
+    requires bucket { bucket ≡ word_bucket (length index.old.last.items) word }
     requires few { length words.old.items < length index.old.last.items }
     ensures put { OnOk result (words.new.items ≡ words.old.items ++ word ∷ []) }
     ensures err { OnErr result (words.new.items ≡ words.old.items) }
@@ -38,7 +38,7 @@ fn put_with_room(
 {
     words.reserve(1)?;
     index.before.reserve(1)?;
-    put_behind(words, index, its, word);
+    put_behind(words, index, bucket, word);
     Ok(())
 }
 
@@ -53,13 +53,13 @@ pub fn put_indexed(words: &mut Vec<u128>, index: &mut Index, word: u128) -> Resu
     ensures err { OnErr result (words.new.items ≡ words.old.items) }
     ensures index { Indexes word_bucket words.new.items index.new.last.items index.new.before.items }
 {
-    let its = word.bucket(index.last.len());
-    if has_word(words, index, its, word) {
+    let bucket = word.bucket(index.last.len());
+    if has_word(words, index, bucket, word) {
         return Ok(());
     }
     if words.len() < words.capacity() && index.before.len() < index.before.capacity() {
-        put_behind(words, index, its, word);
+        put_behind(words, index, bucket, word);
         return Ok(());
     }
-    put_with_room(words, index, its, word)
+    put_with_room(words, index, bucket, word)
 }

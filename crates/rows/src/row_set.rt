@@ -56,8 +56,8 @@ impl Drop for RowSet {
 }
 
 // How many bits each number of a row gets, where a row has so many numbers: the bits of a whole word, or of half a word, shared out
-// among them and two more, so that rows can grow. A row of more than 30 numbers gets the whole word. One of more than 126 gets no
-// bits, since it is a list.
+// among them and two more, so that rows can grow. No number gets more than 32 bits of a whole word, or 10 of half a word. A row of
+// more than 30 numbers gets the whole word. One of more than 126 gets no bits, since it is a list.
 fn bits_for(long: usize, whole: bool) -> u32
     ensures few { result ≤ 32 }
     ensures room { result * long ≤ 128 }
@@ -125,14 +125,14 @@ fn repacked(
     words: &WordSet,
     bits: u32,
     long: usize,
-    more: u32,
+    new_bits: u32,
 ) -> Result<Option<WordSet>, AllocError>
     requires packed { ArePacked bits long words.now }
-    requires few { more ≤ 32 }
-    requires room { more * long ≤ 128 }
+    requires few { new_bits ≤ 32 }
+    requires room { new_bits * long ≤ 128 }
     ensures rows { IfOk result (λ found. IfSome found (λ other.
-        map (digits (2 ^ more) long) other ≡ map (digits (2 ^ bits) long) words.now)) }
-    ensures packed { IfOk result (λ found. IfSome found (ArePacked more long)) }
+        map (digits (2 ^ new_bits) long) other ≡ map (digits (2 ^ bits) long) words.now)) }
+    ensures packed { IfOk result (λ found. IfSome found (ArePacked new_bits long)) }
 {
     let mut other = WordSet::new(alloc);
     let mut row = Vec::new(alloc);
@@ -141,8 +141,8 @@ fn repacked(
             unreachable!()
         };
         unpack(word, bits, long, &mut row)?;
-        match packed(&row, more) {
-            Some(wider) => other.put(wider)?,
+        match packed(&row, new_bits) {
+            Some(word) => other.put(word)?,
             None => return Ok(None),
         }
     }
@@ -185,7 +185,8 @@ impl RowSet {
         self.restart_with(long, bits_for(long, false), false);
     }
 
-    /// The same, where rows are expected to have numbers as those of the other. Takes at most the time of the rows.
+    /// Takes all rows out, as [`restart`](Self::restart) does, where those to come are expected to have numbers as those of the
+    /// other set. Takes at most the time of the rows.
     pub fn restart_like(&mut self, other: &RowSet, long: usize)
         ensures { self.new ≡ [] }
     {
@@ -297,13 +298,13 @@ impl RowSet {
         if self.put_packed(row)? {
             return Ok(());
         }
-        if self.widen()? {
+        if self.repack_whole()? {
             if self.put_packed(row)? {
                 return Ok(());
             }
         }
         let list = copied(self.alloc, row)?;
-        self.put_wide(list)
+        self.put_as_list(list)
     }
 
     // Puts the row with the others, if it is not there, as a word; or tells that it is none.
@@ -323,7 +324,7 @@ impl RowSet {
 
     // Makes all rows anew, with as many bits for a number as a whole word allows. False where this was done before, where rows are
     // lists, and where a number would not fit: then nothing is done.
-    fn widen(&mut self) -> Result<bool, AllocError>
+    fn repack_whole(&mut self) -> Result<bool, AllocError>
         ensures { self.new ≡ self.old }
     {
         if self.wide || self.whole {
@@ -342,7 +343,7 @@ impl RowSet {
     }
 
     // Puts the list with the others, all as lists.
-    fn put_wide(&mut self, list: Vec<usize>) -> Result<(), AllocError>
+    fn put_as_list(&mut self, list: Vec<usize>) -> Result<(), AllocError>
         ensures put { OnOk result (IsPut list.items self.old self.new) }
         ensures err { OnErr result (self.new ≡ self.old) }
     {
@@ -354,7 +355,7 @@ impl RowSet {
         self.lists.put(self.alloc, list)
     }
 
-    /// Adds a copy of the row at `from` that has `to` as its first number, and `slot` at the place `at`, where the row has zero;
+    /// Adds a copy of the row at `from` that has `to` as its first number, and `slot` at the place `place`, where the row has zero;
     /// unless that row is there. `AllocError` where memory was refused: then the rows are as they were. Takes the time of
     /// [`put`](Self::put).
     #[inline(never)]
@@ -362,25 +363,25 @@ impl RowSet {
         &mut self,
         from: usize,
         to: usize,
-        at: usize,
+        place: usize,
         slot: usize,
     ) -> Result<(), AllocError>
         requires from { from < length self.old }
-        requires after { 0 < at }
-        requires within { at < length (get_or self.old from []) }
-        requires zero_there { get_or (get_or self.old from []) at 0 ≡ 0 }
+        requires after { 0 < place }
+        requires within { place < length (get_or self.old from []) }
+        requires zero_there { get_or (get_or self.old from []) place 0 ≡ 0 }
         ensures put { OnOk result
-            (IsPut (set (set (get_or self.old from []) 0 to) at slot) self.old self.new) }
+            (IsPut (set (set (get_or self.old from []) 0 to) place slot) self.old self.new) }
         ensures err { OnErr result (self.new ≡ self.old) }
     {
         if !self.wide && self.bits > 0 && to >> self.bits == 0 && slot >> self.bits == 0 {
             let Some(word) = self.words.get(from) else {
                 unreachable!()
             };
-            let next = changed(word, self.bits, self.long, to, at, slot);
+            let next = changed(word, self.bits, self.long, to, place, slot);
             return self.words.put(next);
         }
-        self.put_next_by_list(from, to, at, slot)
+        self.put_next_by_list(from, to, place, slot)
     }
 
     // The same, by way of a list.
@@ -389,20 +390,20 @@ impl RowSet {
         &mut self,
         from: usize,
         to: usize,
-        at: usize,
+        place: usize,
         slot: usize,
     ) -> Result<(), AllocError>
         requires from { from < length self.old }
-        requires after { 0 < at }
-        requires within { at < length (get_or self.old from []) }
+        requires after { 0 < place }
+        requires within { place < length (get_or self.old from []) }
         ensures put { OnOk result
-            (IsPut (set (set (get_or self.old from []) 0 to) at slot) self.old self.new) }
+            (IsPut (set (set (get_or self.old from []) 0 to) place slot) self.old self.new) }
         ensures err { OnErr result (self.new ≡ self.old) }
     {
         let mut next = Vec::new(self.alloc);
         self.read(from, &mut next)?;
         next[0] = to;
-        next[at] = slot;
+        next[place] = slot;
         self.put(&next)
     }
 
@@ -485,8 +486,8 @@ impl RowSet {
         self.put(&left)
     }
 
-    // How many bits of a word the numbers may have: half of it, where that was enough until now.
-    fn room(&self) -> usize
+    // How many bits of a word the numbers of a row may have in all: half of it, where that was enough until now.
+    fn usable_bits(&self) -> usize
         ensures { result ≤ 128 }
     {
         if self.whole || self.bits as usize * self.long > 64 {
@@ -501,7 +502,10 @@ impl RowSet {
         ensures longer { IsTrue result → self.new ≡ map (λ row. row ++ 0 ∷ []) self.old }
         ensures same { result ≡ false → self.new ≡ self.old }
     {
-        if self.wide || self.long >= 128 || self.bits as usize * (self.long + 1) > self.room() {
+        if self.wide
+            || self.long >= 128
+            || self.bits as usize * (self.long + 1) > self.usable_bits()
+        {
             return false;
         }
         self.long += 1;

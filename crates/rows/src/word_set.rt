@@ -8,10 +8,10 @@ use buckets::{Index, index_all};
 use std::alloc::{AllocError, Global};
 use std::marker::Model;
 
-// Fewer words are looked through.
+// So few words are looked through one by one, without an index.
 const FEW: usize = 12;
 
-// And so are more, since an index has places of 32 bits.
+// So many are looked through one by one too: an index has places of 32 bits, and room for no more.
 const MANY: usize = 2147483584;
 
 /// Words, none twice, in the order in which they were put. Where there are more than a few, an index finds them; it is made

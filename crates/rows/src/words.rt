@@ -40,24 +40,24 @@ pub fn first_of(word: u128, bits: u32) -> usize
 
 // The number at this place.
 #[tactic(auto, using(crate::proofs::Digits::pow_of, crate::proofs::Digits::shifted_fits))]
-fn placed(number: usize, bits: u32, at: usize) -> u128
+fn placed(number: usize, bits: u32, place: usize) -> u128
     requires number { number < 2 ^ bits }
     requires some { 0 < bits }
-    requires room { bits * (at + 1) ≤ 128 }
-    ensures { result ≡ number * (2 ^ bits) ^ at }
+    requires room { bits * (place + 1) ≤ 128 }
+    ensures { result ≡ number * (2 ^ bits) ^ place }
 {
-    (number as u128) << (bits * at as u32)
+    (number as u128) << (bits * place as u32)
 }
 
 /// The number at this place of the word. Takes constant time.
 #[tactic(auto, using(crate::proofs::Digits::pow_of))]
-pub fn number_at(word: u128, bits: u32, at: usize) -> usize
+pub fn number_at(word: u128, bits: u32, place: usize) -> usize
     requires bits { bits ≤ 32 }
     requires some { 0 < bits }
-    requires room { bits * (at + 1) ≤ 128 }
-    ensures { result ≡ word / (2 ^ bits) ^ at % 2 ^ bits }
+    requires room { bits * (place + 1) ≤ 128 }
+    ensures { result ≡ word / (2 ^ bits) ^ place % 2 ^ bits }
 {
-    first_of(word >> (bits * at as u32), bits)
+    first_of(word >> (bits * place as u32), bits)
 }
 
 /// The first number of the word, which is of 64 bits, by the largest number. Takes constant time.
@@ -72,24 +72,24 @@ pub fn first_in_half(word: u64, largest: u64) -> usize
 /// Whether zero stands at this place of the word, which is of 64 bits, by the largest number. Takes constant time.
 #[inline(always)]
 #[tactic(auto, using(crate::proofs::Digits::pow_of))]
-pub fn has_zero_in_half(word: u64, bits: u32, largest: u64, at: usize) -> bool
+pub fn has_zero_in_half(word: u64, bits: u32, largest: u64, place: usize) -> bool
     requires bits { bits ≤ 32 }
     requires some { 0 < bits }
-    requires room { bits * (at + 1) ≤ 64 }
+    requires room { bits * (place + 1) ≤ 64 }
     requires largest { largest ≡ 2 ^ bits - 1 }
-    ensures { IsTrue result ↔ (word / (2 ^ bits) ^ at % 2 ^ bits ≡ 0) }
+    ensures { IsTrue result ↔ (word / (2 ^ bits) ^ place % 2 ^ bits ≡ 0) }
 {
-    first_in_half(word >> (bits * at as u32), largest) == 0
+    first_in_half(word >> (bits * place as u32), largest) == 0
 }
 
 /// Whether zero stands at this place of the word. Takes constant time.
 #[inline(always)]
-pub fn has_zero_in_whole(word: u128, bits: u32, at: usize) -> bool
+pub fn has_zero_in_whole(word: u128, bits: u32, place: usize) -> bool
     requires bits { bits ≤ 32 }
-    requires room { bits * (at + 1) ≤ 128 }
-    ensures { IsTrue result ↔ (word / (2 ^ bits) ^ at % 2 ^ bits ≡ 0) }
+    requires room { bits * (place + 1) ≤ 128 }
+    ensures { IsTrue result ↔ (word / (2 ^ bits) ^ place % 2 ^ bits ≡ 0) }
 {
-    bits == 0 || number_at(word, bits, at) == 0
+    bits == 0 || number_at(word, bits, place) == 0
 }
 
 // Writes the numbers of the word, which is of 64 bits, into the row.
@@ -119,7 +119,7 @@ fn unpack_whole(word: u128, bits: u32, row: &mut [usize])
     }
 }
 
-// Makes room for so many numbers.
+// Gives the row so many numbers; what they are is not said.
 #[inline(never)]
 fn lengthen(row: &mut Vec<usize>, long: usize) -> Result<(), AllocError>
     ensures { OnOk result (length row.new.items ≡ long) }
@@ -170,15 +170,15 @@ fn without_in_whole(word: u128, bits: u32, shift: u32) -> u128
 
 /// The word without the number at this place. Takes constant time.
 #[inline(always)]
-pub fn without(word: u128, bits: u32, long: usize, at: usize) -> u128
+pub fn without(word: u128, bits: u32, long: usize, place: usize) -> u128
     requires bits { bits ≤ 32 }
     requires some { 0 < bits }
     requires room { bits * long ≤ 128 }
-    requires within { at < long }
+    requires within { place < long }
     requires exact { value (2 ^ bits) (digits (2 ^ bits) long word) ≡ word }
-    ensures { IsWordOf (2 ^ bits) (remove (digits (2 ^ bits) long word) at) result }
+    ensures { IsWordOf (2 ^ bits) (remove (digits (2 ^ bits) long word) place) result }
 {
-    let shift = bits * at as u32;
+    let shift = bits * place as u32;
     match u64::try_from(word) {
         Ok(half) if shift < 64 => without_in_half(half, bits, shift) as u128,
         _ => without_in_whole(word, bits, shift),
@@ -203,19 +203,19 @@ pub fn packed(row: &[usize], bits: u32) -> Option<u128>
     Some(word)
 }
 
-/// The word with `to` as its first number, and `slot` at the place `at`, where zero stands. Takes constant time.
-pub fn changed(word: u128, bits: u32, long: usize, to: usize, at: usize, slot: usize) -> u128
+/// The word with `to` as its first number, and `slot` at this place, where zero stands. Takes constant time.
+pub fn changed(word: u128, bits: u32, long: usize, to: usize, place: usize, slot: usize) -> u128
     requires bits { bits ≤ 32 }
     requires some { 0 < bits }
     requires room { bits * long ≤ 128 }
     requires exact { value (2 ^ bits) (digits (2 ^ bits) long word) ≡ word }
     requires to { to < 2 ^ bits }
-    requires after { 0 < at }
-    requires within { at < long }
-    requires zero_there { get_or (digits (2 ^ bits) long word) at 0 ≡ 0 }
+    requires after { 0 < place }
+    requires within { place < long }
+    requires zero_there { get_or (digits (2 ^ bits) long word) place 0 ≡ 0 }
     requires slot { slot < 2 ^ bits }
     ensures { let row = digits (2 ^ bits) long word in
-        IsWordOf (2 ^ bits) (set (set row 0 to) at slot) result }
+        IsWordOf (2 ^ bits) (set (set row 0 to) place slot) result }
 {
-    word - first_of(word, bits) as u128 + to as u128 + placed(slot, bits, at)
+    word - first_of(word, bits) as u128 + to as u128 + placed(slot, bits, place)
 }

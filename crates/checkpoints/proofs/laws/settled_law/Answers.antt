@@ -1,5 +1,5 @@
 use Rattle.checkpoints.proofs.Settled.{dead_settled, over_settled, settled}
-use Rattle.checkpoints.proofs.laws.settled_law.Goals as goal
+use Rattle.checkpoints.proofs.laws.final_status_law.Goals as goal
 
 pub returns-clause-dead : goal.returns-clause-dead
 returns-clause-dead c = dead_settled

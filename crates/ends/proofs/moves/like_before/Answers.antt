@@ -11,5 +11,5 @@ pub returns-then-does_as : goal.returns-then-does_as
 returns-then-does_as c next i lt =
     let calls = c.args.calls.now in
     let most = c.saturating_add.ensures in
-    more calls c.args.at c.args.next.place c.args.next.run (c.does_as.ensures c.if-does_as.true)
+    more calls c.args.at c.args.next.representative c.args.next.run (c.does_as.ensures c.if-does_as.true)
     next i (omega (arith, lt, most))

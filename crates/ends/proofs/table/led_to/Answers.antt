@@ -18,11 +18,11 @@ returns-in-Some-clause-next g c known alike once call e here shows =
     let out = not_in_by e call.id call.crashed
     (zero_none c.args.table.now.founds (get_or row (c.args.attempt.at + 1) 0) (found_by e call)
     (get_or_from_slice_get row (c.args.attempt.at + 1) 0 0 c.requires.zero_there) (shows.slots c.args.attempt.at call here)) in
-    let told = subst (λ r. IfSome r (λ to. (to ≡ known_at c.args.moves.now.known (length c.args.calls.now) c.args.attempt.number c.args.attempt.place) × IsKnown to targets)) c.in-Some.is c.recalled.ensures in
+    let told = subst (λ r. IfSome r (λ to. (to ≡ known_at c.args.moves.now.known (length c.args.calls.now) c.args.attempt.number c.args.attempt.representative) × IsKnown to targets)) c.in-Some.is c.recalled.ensures in
     let d = alike call here in
     are_led g.row.M-State.Denot g.M.SeqObject.start_state g.M.SeqObject.apply_to e call out t c.args.calls.now row c.args.attempt.at (targets_of c.in-Some.to targets) once here shows
     (alike_to t g.M.SeqObject.apply_to call d.0 e.state (targets_of c.in-Some.to targets) d.2 d.3
-    (known_does g.M.SeqObject.apply_to c.args.calls.now t c.args.attempt.number c.args.attempt.place d.0 d.1 e.state (ap (slice_get t.states) c.requires.number ∙ shows.state) c.args.moves.now.known targets c.in-Some.to known told.0 told.1))
+    (known_does g.M.SeqObject.apply_to c.args.calls.now t c.args.attempt.number c.args.attempt.representative d.0 d.1 e.state (ap (slice_get t.states) c.requires.number ∙ shows.state) c.args.moves.now.known targets c.in-Some.to known told.0 told.1))
 
 pub returns-in-None-clause-next : goal.returns-in-None-clause-next
 returns-in-None-clause-next g c known alike once call e here shows =

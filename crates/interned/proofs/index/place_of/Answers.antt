@@ -15,5 +15,5 @@ returns-clause-none g c none at there =
     let l = long g.M.State.Hash.hash_input items hashes c.requires.hashes in
     let w = slice_get_within items at state there in
     let here = hash_at g.M.State.Hash.hash_input items hashes c.requires.hashes at state there ∙ sym c.requires.hash in
-    let asked = c.find.ensures.none none at (omega (arith, l, w)) (get_or-map (hash_bucket many) hashes at 0 0 (omega (arith, l, w)) ∙ ap (hash_bucket many) here ∙ sym c.requires.its) in
+    let asked = c.find.ensures.none none at (omega (arith, l, w)) (get_or-map (hash_bucket many) hashes at 0 0 (omega (arith, l, w)) ∙ ap (hash_bucket many) here ∙ sym c.requires.bucket) in
     grind (arith, common_steps, asked, there)

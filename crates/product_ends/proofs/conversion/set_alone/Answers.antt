@@ -6,7 +6,7 @@ pub loop-place-preserved : goal.loop-place-preserved
 loop-place-preserved c =
     let row = c.args.row.now in
     subst (λ sets. AreAlone sets row (c.loop-place.place + 1)) (sym {A = List ℕ} c.in_ok-push.ensures.items)
-    (alone_more c.loop-place.sets.items row c.loop-place.place c.in_ok-alone.field-0 c.loop-place.invariant c.in_ok-alone.ensures)
+    (alone_more c.loop-place.sets.items row c.loop-place.place c.in_ok-singleton.field-0 c.loop-place.invariant c.in_ok-singleton.ensures)
 
 pub returns-clause-alone : goal.returns-clause-alone
 returns-clause-alone c =

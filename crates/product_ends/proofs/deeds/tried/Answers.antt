@@ -6,8 +6,8 @@ use Rattle.ends.proofs.Moving.{alone}
 use Rattle.ends.specs.Tables.{told_by}
 use Rattle.product_ends.proofs.deeds.tried.Goals as goal
 
-pub returns-in_ok-alone-in-Some-pop-clause-deed : goal.returns-in_ok-alone-in-Some-pop-clause-deed
-returns-in_ok-alone-in-Some-pop-clause-deed g c =
+pub returns-in_ok-singleton-in-Some-pop-clause-deed : goal.returns-in_ok-singleton-in-Some-pop-clause-deed
+returns-in_ok-singleton-in-Some-pop-clause-deed g c =
     let s = c.in-Some.state.now in
     let call = c.args.call.now in
     let apply = g.M.SeqObject.apply_to in
@@ -23,5 +23,5 @@ returns-in_ok-alone-in-Some-pop-clause-deed g c =
     let told : IsSlot c.slot_at.new.founds slot (Some (told_by call.crashed c.in-Some-pop.found)) = subst (λ f. IsSlot c.slot_at.new.founds slot (Some f)) c.told_by.ensures c.in_ok-slot-in-Some-pop.ensures.slot in (
       s,
       get_front old states number s c.in_ok-to-in-Some-pop.ensures.front there,
-      (x, one, c.in_ok-to-in-Some-pop.ensures.there, slot, told, c.in_ok-alone-in-Some-pop.ensures),
+      (x, one, c.in_ok-to-in-Some-pop.ensures.there, slot, told, c.in_ok-singleton-in-Some-pop.ensures),
     )

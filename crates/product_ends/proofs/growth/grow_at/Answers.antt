@@ -74,15 +74,15 @@ returns-in_default-deeds-clause-leads g c r call here =
     elim c.if-to-number.branch [
       | then-to-number w ↦
           absurd {A = LeadsFrom (of_table g.row.M-State.Denot g.M.SeqObject.start_state g.M.SeqObject.apply_to) t calls c.args.work.now.all.1 (number, sets) call}
-          (w.if-to-number.true (same_by c.in-To.to number c.if-to-number.value w.value-is c.if-common-found.false))
+          (w.if-to-number.true (same_by c.in-To.to number c.if-to-number.value w.value-is c.if-intersection-found.false))
       | else-to-number w ↦
-          let inside : w.common.result ≡ c.in-To.found = same_by w.common.result c.in-To.found c.if-to-number.value w.value-is c.if-common-found.false in
+          let inside : w.intersection.result ≡ c.in-To.found = same_by w.intersection.result c.in-To.found c.if-to-number.value w.value-is c.if-intersection-found.false in
           leads_to g.row.M-State.Denot g.M.SeqObject.start_state g.M.SeqObject.apply_to t calls r.once r.start number sets at c.requires.place call here
           (λ q k. r.hold.each q (c.requires.source.there q k)) c.in-To.to c.in-To.found
           (λ q e shows first. deed_of g.M.SeqObject.apply_to t calls c.args.work.now.deeds c.requires.may_grow.known.sound.deeds number (length calls) c.in-Some.deeds.now c.in-Some.ensures.some q e shows first at call (To c.in-To.to c.in-To.found) here is)
           c.args.work.now.all.1
           (λ rest slot in_it has zero.
-          let too : Has (get_or sets at 0) slot = subst (λ v. Has v slot) own ((w.common.ensures slot).0 (subst (λ v. Has v slot) (sym inside) has)).1 in
+          let too : Has (get_or sets at 0) slot = subst (λ v. Has v slot) own ((w.intersection.ensures slot).0 (subst (λ v. Has v slot) (sym inside) has)).1 in
           c.requires.source.there (c.in-To.to ∷ set rest at slot) (w.if-to-number.false, in_same sets rest at slot c.requires.place in_it too))
     ]
 

@@ -12,7 +12,7 @@ use Rattle.product_ends.proofs.growth.grow_from.Goals as goal
 
 pub loop-at-init : goal.loop-at-init
 loop-at-init g c = record {
-  grown = grown_still (c.args.from + 1) c.args.applied.now _ (may_grow_by c.args.work.now _ refl refl c.requires.may_grow);
+  grown = grown_still (c.args.source_index + 1) c.args.applied.now _ (may_grow_by c.args.work.now _ refl refl c.requires.may_grow);
   source = record { source = refl; places = refl };
   tries = search rules;
   reached = λ once start hold. hold;
@@ -27,7 +27,7 @@ grow_at-requires-clause-source g c =
     let i = c.loop-at.invariant in
     source_still _ c.loop-at.work i.source i.grown.gains.kept (record {
       long = c.in_ok-take_source.ensures.long;
-      there = λ row is. (c.args.from, (product_in c.take_source.new.source, c.in_ok-take_source.ensures.product, is));
+      there = λ row is. (c.args.source_index, (product_in c.take_source.new.source, c.in_ok-take_source.ensures.product, is));
     })
 
 pub grow_at-requires-clause-place : goal.grow_at-requires-clause-place
@@ -76,7 +76,7 @@ loop-at-preserved g c =
 pub returns-clause-closed : goal.returns-clause-closed
 returns-clause-closed g c r closed _ =
     let i = c.loop-at.invariant in
-    closed_more (of_table g.row.M-State.Denot g.M.SeqObject.start_state g.M.SeqObject.apply_to) c.args.table.now c.loop-at.table c.args.calls.now r.start i.tries.widens c.args.work.now.all.1 c.loop-at.work.all.1 c.args.from c.loop-at.at
+    closed_more (of_table g.row.M-State.Denot g.M.SeqObject.start_state g.M.SeqObject.apply_to) c.args.table.now c.loop-at.table c.args.calls.now r.start i.tries.widens c.args.work.now.all.1 c.loop-at.work.all.1 c.args.source_index c.loop-at.at
     (product_in c.take_source.new.source) i.grown.gains c.requires.here c.in_ok-take_source.ensures.product
     (i.reached r.once r.start r.hold) (i.led r) (λ k a b. omega arith) closed
 

@@ -8,7 +8,7 @@ use Rattle.product_ends.proofs.growth.grow_from.Given as goal
 abbrev pub invariant-loop-at : goal.invariant-loop-at
 invariant-loop-at g l =
     record {
-      grown : AreGrown g.M.SeqObject.apply_to l.table l.calls (l.from + 1) l.budget l.initial.work.all.1 l.work l.initial.applied l.applied true;
+      grown : AreGrown g.M.SeqObject.apply_to l.table l.calls (l.source_index + 1) l.budget l.initial.work.all.1 l.work l.initial.applied l.applied true;
       source : KeepsSource l.initial.work l.work;
       tries : OnlyTries l.initial.table l.table l.initial.applied l.applied;
       reached : StaysReached (of_table g.row.M-State.Denot g.M.SeqObject.start_state g.M.SeqObject.apply_to) l.initial.table l.table l.calls l.initial.work.all.1 l.work.all.1;

@@ -13,7 +13,7 @@ returns-then-not-branch-clause-puts g c row is = absurd (c.in_ok-ready.ensures.t
 
 pub returns-then-not-branch-clause-grown : goal.returns-then-not-branch-clause-grown
 returns-then-not-branch-clause-grown g c =
-    grown_tried c.args.from c.args.applied.now c.ready.new.applied c.args.work.now _ refl c.in_ok-ready.ensures.sound c.in_ok-ready.ensures.tried.kept
+    grown_tried c.args.growable_from c.args.applied.now c.ready.new.applied c.args.work.now _ refl c.in_ok-ready.ensures.sound c.in_ok-ready.ensures.tried.kept
     (⊎_elim (λ same. same) (λ fresh. absurd (c.in_ok-ready.ensures.tried.none c.if-not-branch.true fresh.1.0 fresh.1.1)) c.in_ok-ready.ensures.fresh)
     c.requires.may_grow
 
@@ -44,7 +44,7 @@ returns-clause-reached g c once start hold =
     let wide : AreWidened c.in-Some.stays.now base c.deref-2.result.now =
     subst (λ l. AreWidened c.in-Some.stays.now (set l c.args.to.place c.args.to.set) c.deref-2.result.now) c.deref.ensures.value
     (subst (AreWidened c.in-Some.stays.now (set c.deref.result.now c.args.to.place c.args.to.set)) (sym c.deref-2.ensures.value) c.in_ok-widen.ensures) in
-    put_reached c.args.to.number c.args.from c.deref-2.result.now old c.put.new.self.1 c.in_ok-put.ensures.puts o u calls start
+    put_reached c.args.to.number c.args.growable_from c.deref-2.result.now old c.put.new.self.1 c.in_ok-put.ensures.puts o u calls start
     (hold_still o t u calls start c.in_ok-ready.ensures.steps.tries.widens old (hold_rest o t calls start product old hold))
     (widened_reached g.row.M-State.Denot g.M.SeqObject.start_state g.M.SeqObject.apply_to u calls once c.ready.new.deeds c.in_ok-ready.ensures.sound.deeds c.in_ok-ready.ensures.sound.stays c.args.to.number c.in-Some.stays.now c.in-Some.ensures.some start base c.deref-2.result.now wide
     (λ row is. says_still o t u calls start c.in_ok-ready.ensures.steps.tries.widens row (say_first o t calls start product old hold row is)))
@@ -55,11 +55,11 @@ returns-clause-grown g c =
     let old = c.args.work.now.all.1 in
     let new = c.put.new.self.1 in
     let next = c.deref-2.result.now in
-    let gains = put_gains c.args.to.number c.args.from next old new c.in_ok-put.ensures.puts in
+    let gains = put_gains c.args.to.number c.args.growable_from next old new c.in_ok-put.ensures.puts in
     record {
       known = record {
         sound = c.in_ok-ready.ensures.sound;
-        tried = put_tried c.args.to.number c.args.from next old new c.in_ok-put.ensures.puts c.ready.new.deeds
+        tried = put_tried c.args.to.number c.args.growable_from next old new c.in_ok-put.ensures.puts c.ready.new.deeds
             (λ row is. c.in_ok-ready.ensures.tried.kept _ (known.tried row is)) (let told = c.in-Some.ensures.some.1 in omega (arith, told));
         apart = c.rows.ensures.apart;
       };

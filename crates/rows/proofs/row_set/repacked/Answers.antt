@@ -13,13 +13,13 @@ loop-at-preserved c =
     let row = c.deref.result.now in
     let is = c.deref.ensures.value ∙ c.in_ok-unpack.ensures in
     let long = ap length is ∙ length-digits (2 ^ c.args.bits) c.args.long c.in-Some.word in
-    let wider = c.in-Some-packed.wider in
+    let wider = c.in-Some-packed.word in
     let old = c.loop-at.other in
     let new = c.put.new.self in
     let so = c.loop-at.invariant in
     record {
       rows = listed_more c.args.bits c.args.long c.args.words.now c.requires.packed c.len-at-end.ensures.apart c.loop-at.at c.in-Some.word (sym c.in-Some.ensures) row is
-          (map (digits (2 ^ c.args.more) c.args.long) old) (map (digits (2 ^ c.args.more) c.args.long) new)
-          (put_word c.args.more c.args.long row wider long c.in-Some-packed.ensures old new so.packed c.in_ok-put-in-Some-packed.ensures.put) so.rows;
-      packed = packed_still c.args.more c.args.long row wider long c.in-Some-packed.ensures old new so.packed c.in_ok-put-in-Some-packed.ensures.put;
+          (map (digits (2 ^ c.args.new_bits) c.args.long) old) (map (digits (2 ^ c.args.new_bits) c.args.long) new)
+          (put_word c.args.new_bits c.args.long row wider long c.in-Some-packed.ensures old new so.packed c.in_ok-put-in-Some-packed.ensures.put) so.rows;
+      packed = packed_still c.args.new_bits c.args.long row wider long c.in-Some-packed.ensures old new so.packed c.in_ok-put-in-Some-packed.ensures.put;
     }

@@ -1,9 +1,9 @@
 use Rattle.board.proofs.CoreTruth.{truth, asked}
-use Rattle.board.proofs.core_board.board+Board+Core+B.call_at.Goals as goal
+use Rattle.board.proofs.core_board.board+Board+Core+B.call_with_gate.Goals as goal
 
 pub returns-clause-from_scratch : goal.returns-clause-from_scratch
 returns-clause-from_scratch g c =
-    truth c.carry_out.result (λ a. a.reply) (λ a. a.commit) (λ a. a.news) c.args.seat.now c.carry_out.new.seat c.args.command
+    truth c.carry_out.result (λ a. a.reply) (λ a. a.entry_number) (λ a. a.news) c.args.seat.now c.carry_out.new.seat c.args.command
     c.carry_out.ensures.answered
 
 pub returns-clause-asked : goal.returns-clause-asked

@@ -13,8 +13,8 @@ use Rattle.frontier.proofs.Judging.{advanced, generates_left, ok_costs, stands_a
 use Rattle.frontier.proofs.Preparing.{idle_of, idle_will, listed_more, listed_stands, stands_like}
 use Rattle.frontier.proofs.frontier.Frontier.prepare_ok.Goals as goal
 
-pub returns-in_err-all : goal.returns-in_err-all
-returns-in_err-all g c =
+pub returns-in_err-within_budget : goal.returns-in_err-within_budget
+returns-in_err-within_budget g c =
     let o = of_table g.row.M-State.Denot g.M.SeqObject.start_state g.M.SeqObject.apply_to in
     record {
       step = search rules;
@@ -29,8 +29,8 @@ returns-in_err-all g c =
           (c.suit_outcomes.ensures.counts.budget ∙ c.in_ok-list_fresh.ensures.counts.budget) (c.suit_outcomes.ensures.counts.applied ∙ c.in_ok-list_fresh.ensures.counts.applied) c.advance.ensures.tries.never_falls c.advance.ensures.cost;
     }
 
-pub returns-then-not-all : goal.returns-then-not-all
-returns-then-not-all g c =
+pub returns-then-not-within_budget : goal.returns-then-not-within_budget
+returns-then-not-within_budget g c =
     let o = of_table g.row.M-State.Denot g.M.SeqObject.start_state g.M.SeqObject.apply_to in
     record {
       step =
@@ -39,7 +39,7 @@ returns-then-not-all g c =
           (record {
             right = λ marks given is_open.
                 too_many_by o f marks (c.suit_outcomes.ensures.keeps marks (c.in_ok-list_fresh.ensures.listed marks given)).lists f.calls.items refl f.budget
-                (λ once ends apart shown closed. c.in_ok-all.ensures.found.over once ends apart shown closed c.if-not-all.true);
+                (λ once ends apart shown closed. c.in_ok-within_budget.ensures.found.over once ends apart shown closed c.if-not-within_budget.true);
             over_at_ok = λ over. tt;
           });
       now = λ marks given.
@@ -75,7 +75,7 @@ returns g c =
           (record {
             right = λ marks given is_open.
                 let l = c.suit_outcomes.ensures.keeps marks (c.in_ok-list_fresh.ensures.listed marks given) in
-                let found = advanced o f marks l.lists f.calls.items refl t f.budget id answer (λ once ends shown closed. c.in_ok-all.ensures.found.all once ends shown closed c.if-not-all.false) in
+                let found = advanced o f marks l.lists f.calls.items refl t f.budget id answer (λ once ends shown closed. c.in_ok-within_budget.ensures.found.all once ends shown closed c.if-not-within_budget.false) in
                 step_by o found.left.more (length left) found.left.shown.long c.some_left.result c.some_left.ensures marks (Returned id answer) (generates_left o f marks l.lists f.budget t id is_open answer found)
                 f.budget (within o f marks l.lists f.budget t id is_open answer found) c.step_of.result c.step_of.ensures;
             over_at_ok = λ over. tt;
@@ -97,7 +97,7 @@ returns g c =
             over = λ over. absurd (c.step_of.ensures.never_over over);
             taken = λ _ marks given is_open.
                 let l = c.suit_outcomes.ensures.keeps marks (c.in_ok-list_fresh.ensures.listed marks given) in
-                let found = advanced o f marks l.lists f.calls.items refl t f.budget id answer (λ once ends shown closed. c.in_ok-all.ensures.found.all once ends shown closed c.if-not-all.false) in
+                let found = advanced o f marks l.lists f.calls.items refl t f.budget id answer (λ once ends shown closed. c.in_ok-within_budget.ensures.found.all once ends shown closed c.if-not-within_budget.false) in
                 record {
                   will = λ h makes.
                       listed_stands o h (marks ++ Returned id answer ∷ []) (makes.3 ∙ is.3 ∙ l.none)

@@ -17,9 +17,9 @@ invariant_of-self-in-Serve c =
     let boxed = c.in-Serve.outcome in
     let is = sym c.in-Serve.ensures.value in
     let below : number < length a.tickets.items = subst (IsReady (vec_capacity a.tickets) a.tickets.items) is c.self.invariant.ready in
-    serve_sound a.monitor a.source a.schedule a.store c.commit-in-Serve.new.self a.tickets.items (set a.tickets.items number c.come_to.new.ticket) a.change c.replace.new.dest number boxed (vec_capacity a.tickets) is c.replace.ensures.after
-    c.commit-in-Serve.ensures (noted a.tickets.items number boxed.value c.index_mut.result.now c.come_to.new.ticket below c.index_mut.ensures.value
-    (c.come_to.ensures ∙ ap (λ (o : Outcome). served_as o c.index_mut.result.now) c.into_inner-in-Serve.ensures))
+    serve_sound a.monitor a.source a.schedule a.store c.commit-in-Serve.new.self a.tickets.items (set a.tickets.items number c.note_outcome.new.ticket) a.change c.replace.new.dest number boxed (vec_capacity a.tickets) is c.replace.ensures.after
+    c.commit-in-Serve.ensures (noted a.tickets.items number boxed.value c.index_mut.result.now c.note_outcome.new.ticket below c.index_mut.ensures.value
+    (c.note_outcome.ensures ∙ ap (λ (o : Outcome). served_as o c.index_mut.result.now) c.into_inner-in-Serve.ensures))
     (subst (λ (v : CoreView). IsSome v.next) (sym c.self.view_is) c.requires) c.self.invariant.then
 
 pub returns-in-Serve : goal.returns-in-Serve
@@ -29,8 +29,8 @@ returns-in-Serve c =
     let boxed = c.in-Serve.outcome in
     let is = sym c.in-Serve.ensures.value in
     let below : number < length a.tickets.items = subst (IsReady (vec_capacity a.tickets) a.tickets.items) is c.self.invariant.ready in
-    let tickets = set a.tickets.items number c.come_to.new.ticket in
+    let tickets = set a.tickets.items number c.note_outcome.new.ticket in
     subst (λ (v : CoreView). IfSome v.next (λ (next : Machine). seen a.monitor a.source a.schedule c.commit-in-Serve.new.self tickets c.replace.new.dest ≡ at_rest next)) c.self.view_is
     (serve_brings a.monitor a.source a.schedule a.store c.commit-in-Serve.new.self a.tickets.items tickets a.change c.replace.new.dest number boxed is c.replace.ensures.after
-    c.commit-in-Serve.ensures (noted a.tickets.items number boxed.value c.index_mut.result.now c.come_to.new.ticket below c.index_mut.ensures.value
-    (c.come_to.ensures ∙ ap (λ (o : Outcome). served_as o c.index_mut.result.now) c.into_inner-in-Serve.ensures)))
+    c.commit-in-Serve.ensures (noted a.tickets.items number boxed.value c.index_mut.result.now c.note_outcome.new.ticket below c.index_mut.ensures.value
+    (c.note_outcome.ensures ∙ ap (λ (o : Outcome). served_as o c.index_mut.result.now) c.into_inner-in-Serve.ensures)))

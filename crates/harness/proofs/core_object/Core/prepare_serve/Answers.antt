@@ -38,8 +38,8 @@ invariant_of-self-2 c =
     let outcome = c.in_ok-boxed.boxed in
     let v = c.verdict.result in
     let ok : MayBeServed a.monitor.now.events a.tickets.items c.args.number t = serves_here _ _ _ _ c.args.number t c.history.ensures.events c.as_slice.ensures.value c.in_ok-ticket.ensures.ok in
-    let may = at_entry st c.prepare_serve.new.self t outcome.value c.entry_of-entry.result c.replicas.result c.entry_of-entry.ensures.entry c.replicas.ensures.value
-    (in_box st c.prepare_serve.new.self c.entry_of-entry.result t.op c.in_ok-outcome.outcome outcome c.in_ok-boxed.ensures.ok c.in_ok-outcome.ensures.served) in
+    let may = at_entry st c.prepare_serve.new.self t outcome.value c.replica_of_thread-entry.result c.replicas.result c.replica_of_thread-entry.ensures.entry c.replicas.ensures.value
+    (in_box st c.prepare_serve.new.self c.replica_of_thread-entry.result t.op c.in_ok-outcome.outcome outcome c.in_ok-boxed.ensures.ok c.in_ok-outcome.ensures.served) in
     let p = served a.monitor a.source a.schedule st a.tickets.items c.prepare_serve.new.self c.args.number t outcome v ok.0 ok.1 ok.2 may c.verdict.ensures in
     readied (machine_of a.monitor a.source a.schedule st a.tickets.items) (seen a.monitor a.source a.schedule c.prepare_serve.new.self a.tickets.items (Serving c.args.number outcome)) (Serve c.args.number) (Served outcome.value, v) (vec_capacity a.tickets) (Serving c.args.number outcome) c.self.invariant.now p
     (number_below a.tickets.items c.args.number t ok.0.0)
@@ -52,8 +52,8 @@ returns c =
     let outcome = c.in_ok-boxed.boxed in
     let v = c.verdict.result in
     let ok : MayBeServed a.monitor.now.events a.tickets.items c.args.number t = serves_here _ _ _ _ c.args.number t c.history.ensures.events c.as_slice.ensures.value c.in_ok-ticket.ensures.ok in
-    let may = at_entry st c.prepare_serve.new.self t outcome.value c.entry_of-entry.result c.replicas.result c.entry_of-entry.ensures.entry c.replicas.ensures.value
-    (in_box st c.prepare_serve.new.self c.entry_of-entry.result t.op c.in_ok-outcome.outcome outcome c.in_ok-boxed.ensures.ok c.in_ok-outcome.ensures.served) in
+    let may = at_entry st c.prepare_serve.new.self t outcome.value c.replica_of_thread-entry.result c.replicas.result c.replica_of_thread-entry.ensures.entry c.replicas.ensures.value
+    (in_box st c.prepare_serve.new.self c.replica_of_thread-entry.result t.op c.in_ok-outcome.outcome outcome c.in_ok-boxed.ensures.ok c.in_ok-outcome.ensures.served) in
     let p = served a.monitor a.source a.schedule st a.tickets.items c.prepare_serve.new.self c.args.number t outcome v ok.0 ok.1 ok.2 may c.verdict.ensures in
     subst (λ (o : Outcome). IsPrepared c.args.self.now.machine (Serve c.args.number) (Served o, v) (seen a.monitor a.source a.schedule c.prepare_serve.new.self a.tickets.items (Serving c.args.number outcome))) (c.in_ok-boxed.ensures.ok ∙ sym c.in_ok-copy.ensures)
     (subst (λ (s : CoreView). IsPrepared s.machine (Serve c.args.number) (Served outcome.value, v) (seen a.monitor a.source a.schedule c.prepare_serve.new.self a.tickets.items (Serving c.args.number outcome))) c.self.view_is p)

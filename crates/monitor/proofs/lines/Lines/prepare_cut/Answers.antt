@@ -17,22 +17,22 @@ prepare_line_cut-requires-clause-lent c = subst (AreRowsLentBy c.args.lent.now) 
 
 pub loop-place-init : goal.loop-place-init
 loop-place-init c = record {
-  so_far = record { changed = search rules; few = search rules; count = search rules; joins = search rules; counted = sym (count_on_none c.args.again.now (omega arith)) };
+  so_far = record { changed = search rules; few = search rules; count = search rules; joins = search rules; counted = sym (count_on_none c.args.judged_again.now (omega arith)) };
   room = omega arith;
 }
 
 pub loop-place-preserved : goal.loop-place-preserved
 loop-place-preserved c = record {
   so_far =
-      AreCutSoFar-more c.loop-place.invariant.so_far c.at-key.ensures c.in-Ok.status (sym c.if-not-begins_below.ensures) c.in-Ok.ensures.next
-      (rw c.at-key.ensures at c.in-Ok.ensures.status) c.join_with-verdict.ensures
-      (c.saturating_add.ensures ∙ ap (count_on c.loop-place.again) (c.due.ensures ∙ ap (λ (l : KeyLineView). l.due) (line_after c.loop-place.self.rows c.loop-place.place c.at-key.ensures (cut_next c.args.n) c.in-Ok.ensures.next c.at.ensures)));
+      AreCutSoFar-more c.loop-place.invariant.so_far c.key_and_line-key.ensures c.in-Ok.status (sym c.if-not-begins_below.ensures) c.in-Ok.ensures.next
+      (rw c.key_and_line-key.ensures at c.in-Ok.ensures.status) c.join_with-verdict.ensures
+      (c.saturating_add.ensures ∙ ap (count_on c.loop-place.judged_again) (c.prepared_replays.ensures ∙ ap (λ (l : KeyLineView). l.prepared_replays) (line_after c.loop-place.self.rows c.loop-place.place c.key_and_line-key.ensures (cut_next c.args.n) c.in-Ok.ensures.next c.key_and_line.ensures)));
   room = omega arith;
 }
 
 pub loop-place-preserved-then-not-begins_below : goal.loop-place-preserved-then-not-begins_below
 loop-place-preserved-then-not-begins_below c = record {
-  so_far = AreCutSoFar-skip c.loop-place.invariant.so_far c.at-key.ensures (sym c.if-not-begins_below.ensures);
+  so_far = AreCutSoFar-skip c.loop-place.invariant.so_far c.key_and_line-key.ensures (sym c.if-not-begins_below.ensures);
   room = omega arith;
 }
 

@@ -29,7 +29,7 @@ prepare_push-requires-2 c =
 pub invariant_of-self-2 : goal.invariant_of-self-2
 invariant_of-self-2 c =
     let here = (goal.at.invariant_of-self-2 c).After-next_event-event in
-    next_ready c.judging_law.ensures c.bad_keys_law.ensures c.next_event_law.ensures c.settled_law.ensures.no_other c.self.invariant (told here) c.in_ok-prepare_push.ensures.prepared (place here) c.in_ok-status.status
+    next_ready c.judging_law.ensures c.bad_keys_law.ensures c.next_event_law.ensures c.final_status_law.ensures.no_other c.self.invariant (told here) c.in_ok-prepare_push.ensures.prepared (place here) c.in_ok-status.status
     c.in_ok-status.ensures.status c.in_ok-status.ensures.next c.in_ok-status.ensures.kept c.join_with-verdict.ensures
 
 pub returns : goal.returns
@@ -39,7 +39,7 @@ returns c =
       well_formed = search rules;
       prepared = search rules;
       verdict = subst (λ (s : MonitorView). IsVerdictOn (with_event c.args.event s.now) c.join_with-verdict.result) c.self.view_is
-          (push_judged c.next_event_law.ensures c.self.inside.lines.rows c.self.invariant.now (told here) c.args.place (place here) c.judging_law.ensures c.bad_keys_law.ensures c.settled_law.ensures.no_other c.in_ok-status.status
+          (push_judged c.next_event_law.ensures c.self.inside.lines.rows c.self.invariant.now (told here) c.args.place (place here) c.judging_law.ensures c.bad_keys_law.ensures c.final_status_law.ensures.no_other c.in_ok-status.status
           c.in_ok-status.ensures.status c.join_with-verdict.ensures).is_verdict;
       refused = search rules;
       memory_last = search rules;

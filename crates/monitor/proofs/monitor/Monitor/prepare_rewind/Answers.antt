@@ -28,7 +28,7 @@ returns-clause-verdict c =
 pub returns-clause-few : goal.returns-clause-few
 returns-clause-few c =
     let a = c.self.inside in
-    let again = c.prepare_cut-2.new.again in
-    subst (λ (s : MonitorView). again ≤ s.again + 63 * length (losing c.args.n (rows_of s.now))) c.self.view_is
-    (subst (λ (l : List (ℕ × KeyHistory)). again ≤ a.again + 63 * length (losing c.args.n l)) c.self.invariant.now.rows_are
+    let judged_again = c.prepare_cut-2.new.judged_again in
+    subst (λ (s : MonitorView). judged_again ≤ s.judged_again + 63 * length (losing c.args.n (rows_of s.now))) c.self.view_is
+    (subst (λ (l : List (ℕ × KeyHistory)). judged_again ≤ a.judged_again + 63 * length (losing c.args.n l)) c.self.invariant.now.rows_are
     (let few = few_in c.args.n (nows a.lines.rows) in omega (arith, few, c.in_ok-kept.ensures.counted)))

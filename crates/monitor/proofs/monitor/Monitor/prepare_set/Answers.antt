@@ -24,4 +24,4 @@ returns-clause-verdict c =
 pub returns-clause-prepared : goal.returns-clause-prepared
 returns-clause-prepared c =
     setting_seen c.self.inside c.args.key c.args.setting c.self.view_is c.in_ok-kind.ensures.same
-    (c.in_ok-verdict.ensures.counted ∙ ap (count_on c.self.inside.again) (events_seen c.self.inside.lines.rows c.self.invariant.now c.args.key c.find-place.result c.find-place.ensures))
+    (c.in_ok-verdict.ensures.counted ∙ ap (count_on c.self.inside.judged_again) (events_seen c.self.inside.lines.rows c.self.invariant.now c.args.key c.find-place.result c.find-place.ensures))

@@ -31,7 +31,7 @@ put_pieces-put_rest-requires t c =
     let outer : at < length old = omega (arith, within) in
     let there = product_at old at c.args.first outer c.requires.same in
     let there_now = slice_get-get_or middle at (0, []) (omega (arith, outer, longer)) in
-    let brings = subst (λ n. Brings (IsLeftFrom n c.args.first sets (sets_at old at)) sets c.args.from old middle) next c.loop-behind.invariant.brings in
+    let brings = subst (λ n. Brings (IsLeftFrom n c.args.first sets (sets_at old at)) sets c.args.growable_from old middle) next c.loop-behind.invariant.brings in
     let alike = subst (λ n. IsAlike n at (sets_at old at) middle) next c.loop-behind.invariant.alike in
     let height : c.len-top.result ≡ length c.loop-behind.stack.items = c.len-top.ensures ∙ c.loop-behind.stack.ok.0 in
     let piece = piece_is c.args.start place at c.len-top.result c.loop-behind.stack.items c.args.stack.now.items c.sets-then-left-ne0.result.now c.push_piece.new.stack.items middle
@@ -49,7 +49,7 @@ put_pieces-put_rest-requires t c =
         omega (arith, within, longer),
         (
           omega (arith, height, below, one, pushed, rest, long_sets, kept),
-          piece_apart place c.args.first c.args.from at sets (drop c.len-top.result c.push_piece.new.stack.items) old middle brings alike piece inner
+          piece_apart place c.args.first c.args.growable_from at sets (drop c.len-top.result c.push_piece.new.stack.items) old middle brings alike piece inner
               (omega (arith, long_others, long_sets, was)) there c.requires.apart,
         ),
       ),
@@ -75,10 +75,10 @@ put_pieces-loop-behind-preserved t c =
     let outer : at < length old = omega (arith, within) in
     let there = product_at old at c.args.first outer c.requires.same in
     let there_now = slice_get-get_or middle at (0, []) (omega (arith, outer, longer)) in
-    let brings = subst (λ n. Brings (IsLeftFrom n c.args.first sets (sets_at old at)) sets c.args.from old middle) next c.loop-behind.invariant.brings in
+    let brings = subst (λ n. Brings (IsLeftFrom n c.args.first sets (sets_at old at)) sets c.args.growable_from old middle) next c.loop-behind.invariant.brings in
     let alike = subst (λ n. IsAlike n at (sets_at old at) middle) next c.loop-behind.invariant.alike in
-    let says = left_says c.args.start place at c.outside-left.result c.index.result.now c.loop-behind.stack.items c.args.stack.now.items c.sets.result.now middle
-    c.loop-behind.invariant.stack c.index.ensures (omega (arith, ap length c.loop-behind.invariant.stack, top, next)) (c.sets.ensures.sets (get_or middle at (0, [])) there_now) c.outside-left.ensures in
+    let says = left_says c.args.start place at c.difference-left.result c.index.result.now c.loop-behind.stack.items c.args.stack.now.items c.sets.result.now middle
+    c.loop-behind.invariant.stack c.index.ensures (omega (arith, ap length c.loop-behind.invariant.stack, top, next)) (c.sets.ensures.sets (get_or middle at (0, [])) there_now) c.difference-left.ensures in
     let after : many - (c.loop-behind.behind + 1) ≡ place = omega (arith, next) in
     elim c.if-left-ne0.branch [
       | put_pieces-then-left-ne0+in_ok-push_piece+in_ok-put_rest w ↦
@@ -91,21 +91,21 @@ put_pieces-loop-behind-preserved t c =
             stack = ap (λ v. v.items) w.stack-is ∙ w.truncate.ensures.items ∙ ap (take w.len-top.result) w.in_ok-put_rest.ensures.stack
                 ∙ ap (λ n. take n w.push_piece.new.stack.items) height ∙ w.in_ok-push_piece.ensures.below ∙ c.loop-behind.invariant.stack;
             brings =
-                subst (λ n. Brings (IsLeftFrom n c.args.first sets (sets_at old at)) sets c.args.from old c.if-left-ne0.self.1) (sym after)
-                (subst (λ (f : Family). Brings (IsLeftFrom place c.args.first sets (sets_at old at)) sets c.args.from old f.1) (sym w.self-is)
-                (piece_put place c.args.first c.args.from at sets (sets_at old at) (drop w.len-top.result w.push_piece.new.stack.items) old middle w.put_rest.new.self.1 brings alike piece inner puts));
+                subst (λ n. Brings (IsLeftFrom n c.args.first sets (sets_at old at)) sets c.args.growable_from old c.if-left-ne0.self.1) (sym after)
+                (subst (λ (f : Family). Brings (IsLeftFrom place c.args.first sets (sets_at old at)) sets c.args.growable_from old f.1) (sym w.self-is)
+                (piece_put place c.args.first c.args.growable_from at sets (sets_at old at) (drop w.len-top.result w.push_piece.new.stack.items) old middle w.put_rest.new.self.1 brings alike piece inner puts));
             alike =
                 subst (λ n. IsAlike n at (sets_at old at) c.if-left-ne0.self.1) (sym after)
                 (subst (λ (f : Family). IsAlike place at (sets_at old at) f.1) (sym w.self-is)
-                (piece_alike_after place c.args.first c.args.from at sets (sets_at old at) (drop w.len-top.result w.push_piece.new.stack.items) middle w.put_rest.new.self.1 alike piece (omega (arith, outer, longer)) puts));
+                (piece_alike_after place c.args.first c.args.growable_from at sets (sets_at old at) (drop w.len-top.result w.push_piece.new.stack.items) middle w.put_rest.new.self.1 alike piece (omega (arith, outer, longer)) puts));
           }
       | put_pieces-else-left-ne0 w ↦ record {
         places = ap (λ (f : Family). f.0) w.self-is ∙ kept;
         stack = ap (λ v. v.items) w.stack-is ∙ c.loop-behind.invariant.stack;
         brings =
-            subst (λ n. Brings (IsLeftFrom n c.args.first sets (sets_at old at)) sets c.args.from old c.if-left-ne0.self.1) (sym after)
-            (subst (λ (f : Family). Brings (IsLeftFrom place c.args.first sets (sets_at old at)) sets c.args.from old f.1) (sym w.self-is)
-            (left_nothing place c.args.first c.args.from at c.outside-left.result sets (sets_at old at) old middle brings alike says w.if-left-ne0.false));
+            subst (λ n. Brings (IsLeftFrom n c.args.first sets (sets_at old at)) sets c.args.growable_from old c.if-left-ne0.self.1) (sym after)
+            (subst (λ (f : Family). Brings (IsLeftFrom place c.args.first sets (sets_at old at)) sets c.args.growable_from old f.1) (sym w.self-is)
+            (left_nothing place c.args.first c.args.growable_from at c.difference-left.result sets (sets_at old at) old middle brings alike says w.if-left-ne0.false));
         alike =
             subst (λ n. IsAlike n at (sets_at old at) c.if-left-ne0.self.1) (sym after)
             (subst (λ (f : Family). IsAlike place at (sets_at old at) f.1) (sym w.self-is) (λ k number lower. alike k number (omega (arith, lower))));
@@ -126,9 +126,9 @@ put_pieces-returns-clause-puts t c =
     let firsts = view_long i.places i.firsts.items i.words.items c.args.self.now c.self.view_is in
     let long_others = view_sets i.places i.firsts.items i.words.items c.args.self.now c.self.view_is c.self.invariant.0 at (omega (arith, firsts, outer)) (c.args.first, sets_at old at) there in
     let none : c.args.self.now.0 - c.loop-behind.behind ≡ 0 = omega (arith, was) in
-    pieces_put c.args.first c.args.from at sets (sets_at old at) old c.loop-behind.self.1 there
+    pieces_put c.args.first c.args.growable_from at sets (sets_at old at) old c.loop-behind.self.1 there
     (omega (arith, length-drop c.args.start c.args.stack.now.items, top, long_others, was))
-    (subst (λ n. Brings (IsLeftFrom n c.args.first sets (sets_at old at)) sets c.args.from old c.loop-behind.self.1) none c.loop-behind.invariant.brings)
+    (subst (λ n. Brings (IsLeftFrom n c.args.first sets (sets_at old at)) sets c.args.growable_from old c.loop-behind.self.1) none c.loop-behind.invariant.brings)
 
 pub put_rest-join_from-requires-clause-apart : goal.put_rest-join_from-requires-clause-apart
 put_rest-join_from-requires-clause-apart t c row h o =

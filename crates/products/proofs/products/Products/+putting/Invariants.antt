@@ -17,6 +17,6 @@ invariant-put_pieces-loop-behind l =
     record {
       places : l.self.0 ≡ many;
       stack : l.stack.items ≡ l.fn.stack.items;
-      brings : Brings (IsLeftFrom (many - l.behind) l.first sets others) sets l.from l.fn.self.1 l.self.1;
+      brings : Brings (IsLeftFrom (many - l.behind) l.first sets others) sets l.growable_from l.fn.self.1 l.self.1;
       alike : IsAlike (many - l.behind) l.at others l.self.1;
     }

@@ -67,10 +67,10 @@ returns-in-Some-clause-puts c =
     let now = view_long j.places j.firsts.items j.words.items c.args.self.now (c.self-in-loop-at.view_is ∙ c.loop-at.invariant.same) in
     let there = found_at j.places j.firsts.items j.words.items c.loop-at.self c.self-in-loop-at.view_is (c.loop-at.at - 1) c.index.result.now c.args.first c.sets.result.now
     (omega (arith, now, upto, above)) c.index.ensures c.if-index-first.true c.sets.ensures.sets in
-    let beyond : c.args.from ≤ c.loop-at.at - 1 = omega (arith, above) in
-    subst (Puts (c.args.first, c.args.sets.now) c.args.from c.args.self.now.1) (sym (c.replace.ensures.replaced (c.args.first, c.sets.result.now) there))
-    (subst (λ (f : Family). Puts (c.args.first, c.args.sets.now) c.args.from c.args.self.now.1 (set f.1 (c.loop-at.at - 1) (c.args.first, set c.sets.result.now c.in-Some.place c.in-Some.set))) (sym c.loop-at.invariant.same)
-    (puts_joined c.args.first c.args.from (c.loop-at.at - 1) c.in-Some.place c.in-Some.set c.args.sets.now c.sets.result.now c.args.self.now.1 beyond
+    let beyond : c.args.growable_from ≤ c.loop-at.at - 1 = omega (arith, above) in
+    subst (Puts (c.args.first, c.args.sets.now) c.args.growable_from c.args.self.now.1) (sym (c.replace.ensures.replaced (c.args.first, c.sets.result.now) there))
+    (subst (λ (f : Family). Puts (c.args.first, c.args.sets.now) c.args.growable_from c.args.self.now.1 (set f.1 (c.loop-at.at - 1) (c.args.first, set c.sets.result.now c.in-Some.place c.in-Some.set))) (sym c.loop-at.invariant.same)
+    (puts_joined c.args.first c.args.growable_from (c.loop-at.at - 1) c.in-Some.place c.in-Some.set c.args.sets.now c.sets.result.now c.args.self.now.1 beyond
     (ap (λ (f : Family). slice_get f.1 (c.loop-at.at - 1)) (sym c.loop-at.invariant.same) ∙ there) c.in-Some.ensures.within c.in-Some.ensures.joined c.in-Some.ensures.both))
 
 pub returns-clause-puts : goal.returns-clause-puts
@@ -78,7 +78,7 @@ returns-clause-puts c =
     let added : Product = (c.args.first, c.args.sets.now) in
     on_ok_weaker c.push.result
     (λ (pushed : c.push.new.self.1 ≡ c.loop-at.self.1 ++ added ∷ []).
-    subst (Puts added c.args.from c.args.self.now.1) (sym pushed)
-    (subst (λ (f : Family). Puts added c.args.from c.args.self.now.1 (f.1 ++ added ∷ [])) (sym c.loop-at.invariant.same)
-    (puts_pushed added c.args.from c.args.self.now.1)))
+    subst (Puts added c.args.growable_from c.args.self.now.1) (sym pushed)
+    (subst (λ (f : Family). Puts added c.args.growable_from c.args.self.now.1 (f.1 ++ added ∷ [])) (sym c.loop-at.invariant.same)
+    (puts_pushed added c.args.growable_from c.args.self.now.1)))
     c.push.ensures.pushed

@@ -6,8 +6,8 @@ use Rattle.products.proofs.products.Products.replace.Goals as goal
 abbrev with_set : List Product → ℕ → ℕ → List ℕ → List Product
 with_set products at first sets = set products at (first, sets)
 
-pub overflow_mul-word : goal.overflow_mul-word
-overflow_mul-word c =
+pub overflow_mul-index : goal.overflow_mul-index
+overflow_mul-index c =
     let i = c.self.inside in
     let long = view_long i.places i.firsts.items i.words.items c.args.self.now c.self.view_is in
     let ok = i.words.ok in
@@ -16,8 +16,8 @@ overflow_mul-word c =
     let span = span_within c.args.at i.places (length i.firsts.items) (length i.words.items) c.self.invariant.0 (omega (arith, long, at)) in
     omega (arith, ok, small, span)
 
-pub overflow_add-word : goal.overflow_add-word
-overflow_add-word c =
+pub overflow_add-index : goal.overflow_add-index
+overflow_add-index c =
     let i = c.self.inside in
     let long = view_long i.places i.firsts.items i.words.items c.args.self.now c.self.view_is in
     let ok = i.words.ok in

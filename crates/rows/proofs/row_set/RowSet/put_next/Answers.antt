@@ -32,10 +32,10 @@ returns-then-slot-self-eq0-clause-put c =
     let after = rows_in i.wide i.bits i.long c.put.new.self i.lists in
     on_ok_weaker c.put.result
     (λ (put : IsPut c.changed-next.result i.words c.put.new.self).
-    subst (λ r. IsPut (set (set r 0 c.args.to) c.args.at c.args.slot) c.args.self.now after) (sym there)
-    (subst (λ l. IsPut (set (set row 0 c.args.to) c.args.at c.args.slot) l after) rows
-    (subst (IsPut (set (set row 0 c.args.to) c.args.at c.args.slot) (map (digits (2 ^ i.bits) i.long) i.words)) (sym (shows_words i.wide i.bits i.long c.put.new.self i.lists c.if-not-self.true))
-    (put_word i.bits i.long (set (set row 0 c.args.to) c.args.at c.args.slot) c.changed-next.result
-    (length-set (set row 0 c.args.to) c.args.at c.args.slot ∙ length-set row 0 c.args.to ∙ length-digits (2 ^ i.bits) i.long c.in-Some.word)
+    subst (λ r. IsPut (set (set r 0 c.args.to) c.args.place c.args.slot) c.args.self.now after) (sym there)
+    (subst (λ l. IsPut (set (set row 0 c.args.to) c.args.place c.args.slot) l after) rows
+    (subst (IsPut (set (set row 0 c.args.to) c.args.place c.args.slot) (map (digits (2 ^ i.bits) i.long) i.words)) (sym (shows_words i.wide i.bits i.long c.put.new.self i.lists c.if-not-self.true))
+    (put_word i.bits i.long (set (set row 0 c.args.to) c.args.place c.args.slot) c.changed-next.result
+    (length-set (set row 0 c.args.to) c.args.place c.args.slot ∙ length-set row 0 c.args.to ∙ length-digits (2 ^ i.bits) i.long c.in-Some.word)
     c.changed-next.ensures i.words c.put.new.self c.self.invariant put))))
     c.put.ensures.put

@@ -1,0 +1,119 @@
+use Rattle.std.proofs.Common.{Vec, Global, [], rules, ◌≤◌, ◌<◌, length, sym, ◌∙◌, subst, arith}
+use Rattle.std.proofs.lemmas.Bool.{true≢false}
+use Rattle.std.proofs.lemmas.Option.{get_or_from_slice_get}
+use Rattle.models.specs.Objects.{of_table}
+use Rattle.linspec.proofs.Lists.{Contains-nil}
+use Rattle.ends.specs.declared.moves.Like.{Like}
+use Rattle.ends.specs.declared.moves.Known.{Known}
+use Rattle.ends.specs.Moves.{AreAlike}
+use Rattle.ends.specs.Notes.{AreUntried}
+use Rattle.ends.specs.Tables.{rows_of}
+use Rattle.ends.proofs.Growing.{Grows-itself, cost_more}
+use Rattle.ends.proofs.Closing.{all_tried}
+use Rattle.ends.proofs.Moving.{moves_none}
+use Rattle.ends.proofs.Showing.{adds_itself, adds_on, all_done, done_on, end_at, grows_on, none_more}
+use Rattle.ends.proofs.Beyond.{beyond_found, beyond_from}
+use Rattle.interned.proofs.Lists.{has_place, some_at}
+use Rattle.ends.proofs.Adding.{IsFront-itself, IsFront-trans}
+use Rattle.ends.proofs.growth.grow.Goals as goal
+
+pub loop-at-init : goal.loop-at-init
+loop-at-init g c =
+    let o = of_table g.row.M-State.Denot g.M.SeqObject.start_state g.M.SeqObject.apply_to in
+    record {
+      moves = moves_none g.M.SeqObject.apply_to c.args.returning.now.calls.now c.args.table.now c.note_likes.new.moves.known c.note_likes.new.moves.targets.items (subst (λ (k : Known). AreUntried k.list) (sym c.in_ok-note_likes.ensures.known) c.forget.ensures.known);
+      alike = c.in_ok-note_likes.ensures.likes;
+      only_adds = adds_itself c.args.table.now c.args.applied.now;
+      grown = λ once ends shown closed. (ends, shown, Grows-itself o c.args.returning.now.calls.now ends, (λ e f h n. absurd (Contains-nil e h)), IsFront-itself ends);
+      cost = omega arith;
+    }
+
+pub loop-at-preserved : goal.loop-at-preserved
+loop-at-preserved g c =
+    let o = of_table g.row.M-State.Denot g.M.SeqObject.start_state g.M.SeqObject.apply_to in
+    record {
+      moves = c.in_ok-grow_from.ensures.moves.known c.loop-at.invariant.moves;
+      alike = subst (λ (v : Vec Like Global). AreAlike c.args.returning.now.calls.now v.items) (sym c.in_ok-grow_from.ensures.moves.likes) c.loop-at.invariant.alike;
+      only_adds = adds_on c.loop-at.invariant.only_adds c.in_ok-grow_from.ensures.only_adds;
+      grown = λ once ends shown closed.
+          let s = c.loop-at.invariant.grown once ends shown closed in
+          let p = end_at c.args.returning.now.calls.now c.loop-at.table s.0 s.1 c.loop-at.at c.look.new.row c.in_ok-look.ensures in
+          let long = c.len-kept.ensures ∙ shown.long in
+          let v = c.in_ok-grow_from.ensures.adds c.loop-at.invariant.moves c.loop-at.invariant.alike once p.0 s.0 p.2 s.1 in
+          let w = all_tried o c.args.returning.now.calls.now ends s.0 c.args.returning.now.tried c.first_for-first.result c.loop-at.at p.0 p.1 s.4 closed (λ lt. c.first_for-first.ensures.old (omega (arith, long, lt))) (λ le. c.first_for-first.ensures.new (omega (arith, long, le))) c.grow_from.new.table v in
+          (w.more, w.shown, grows_on o c.args.returning.now.calls.now ends s.0 c.loop-at.at p.0 p.1 c.grow_from.new.table w s.2, done_on o c.args.returning.now.calls.now ends s.0 c.loop-at.at p.0 p.1 c.grow_from.new.table w s.3, IsFront-trans ends s.0 w.more s.4 w.front);
+      cost = cost_more c.args.applied.now c.loop-at.applied c.grow_from.new.applied c.loop-at.at (length c.args.returning.now.calls.now) c.loop-at.invariant.cost c.in_ok-grow_from.ensures.cost;
+    }
+
+pub loop-at-preserved-then-first-returning : goal.loop-at-preserved-then-first-returning
+loop-at-preserved-then-first-returning g c =
+    let o = of_table g.row.M-State.Denot g.M.SeqObject.start_state g.M.SeqObject.apply_to in
+    let i = c.loop-at.invariant in
+    let calls = c.args.returning.now.calls.now in
+    let t = c.loop-at.table in
+    let at = c.loop-at.at in
+    let row = some_at (rows_of t) at (omega arith) in
+    record {
+      moves = i.moves;
+      alike = i.alike;
+      only_adds = i.only_adds;
+      grown = λ once ends shown closed.
+          let s = i.grown once ends shown closed in
+          let p = end_at calls t s.0 s.1 at row.0 row.1 in
+          let long = c.len-kept.ensures ∙ shown.long in
+          let w = all_tried o calls ends s.0 c.args.returning.now.tried c.first_for-first.result at p.0 p.1 s.4 closed (λ lt. c.first_for-first.ensures.old (omega (arith, long, lt))) (λ le. c.first_for-first.ensures.new (omega (arith, long, le))) t
+          (none_more o calls t c.first_for-first.result p.0 s.0 (omega arith) s.1) in
+          (w.more, w.shown, grows_on o calls ends s.0 at p.0 p.1 t w s.2, done_on o calls ends s.0 at p.0 p.1 t w s.3, IsFront-trans ends s.0 w.more s.4 w.front);
+      cost = cost_more c.args.applied.now c.loop-at.applied c.loop-at.applied at (length calls) i.cost (omega arith);
+    }
+
+pub grow_from-requires-clause-row : goal.grow_from-requires-clause-row
+grow_from-requires-clause-row g c = sym (get_or_from_slice_get (rows_of c.loop-at.table) c.loop-at.at c.look.new.row [] c.in_ok-look.ensures)
+
+pub returns-then-at-len-clause-grows : goal.returns-then-at-len-clause-grows
+returns-then-at-len-clause-grows g c once ends shown closed =
+    let o = of_table g.row.M-State.Denot g.M.SeqObject.start_state g.M.SeqObject.apply_to in
+    let s = c.loop-at.invariant.grown once ends shown closed in
+    let long = s.1.long in
+    record { more = s.0; shown = s.1; grows = s.2; closed = λ is. all_done o c.args.returning.now.calls.now s.0 c.loop-at.at (omega (arith, long)) s.3 }
+
+pub returns-clause-grows : goal.returns-clause-grows
+returns-clause-grows g c once ends shown closed =
+    let o = of_table g.row.M-State.Denot g.M.SeqObject.start_state g.M.SeqObject.apply_to in
+    let s = c.loop-at.invariant.grown once ends shown closed in
+    let long = s.1.long in
+    record {
+      more = s.0;
+      shown = s.1;
+      grows = s.2;
+      closed = λ is. all_done o c.args.returning.now.calls.now s.0 c.loop-at.at (let all : length (rows_of c.loop-at.table) ≤ c.args.returning.now.budget = search rules in omega (arith, long, all)) s.3;
+    }
+
+pub returns-in_err-grow_from-clause-only_adds : goal.returns-in_err-grow_from-clause-only_adds
+returns-in_err-grow_from-clause-only_adds g c = adds_on c.loop-at.invariant.only_adds c.in_err-grow_from.ensures.only_adds
+
+pub returns-then-len-returning-clause-over : goal.returns-then-len-returning-clause-over
+returns-then-len-returning-clause-over g c once ends each_once shown closed _ =
+    let o = of_table g.row.M-State.Denot g.M.SeqObject.start_state g.M.SeqObject.apply_to in
+    let s = c.loop-at.invariant.grown once ends shown closed in
+    let long = s.1.long in
+    beyond_found o c.args.returning.now.calls.now ends c.args.returning.now.budget s.0 each_once s.2 (omega (arith, long))
+
+pub returns-clause-over : goal.returns-clause-over
+returns-clause-over g c once ends each_once shown closed none =
+    let o = of_table g.row.M-State.Denot g.M.SeqObject.start_state g.M.SeqObject.apply_to in
+    let s = c.loop-at.invariant.grown once ends shown closed in
+    let long = s.1.long in
+    beyond_found o c.args.returning.now.calls.now ends c.args.returning.now.budget s.0 each_once s.2 (let many : c.args.returning.now.budget < length (rows_of c.loop-at.table) = search rules in omega (arith, long, many))
+
+pub returns-then-leads_beyond-clause-grows : goal.returns-then-leads_beyond-clause-grows
+returns-then-leads_beyond-clause-grows g c once ends shown closed =
+    let s = c.loop-at.invariant.grown once ends shown closed in
+    record { more = s.0; shown = s.1; grows = s.2; closed = λ is. absurd (true≢false (sym is)) }
+
+pub returns-then-leads_beyond-clause-over : goal.returns-then-leads_beyond-clause-over
+returns-then-leads_beyond-clause-over g c once ends each_once shown closed _ =
+    let o = of_table g.row.M-State.Denot g.M.SeqObject.start_state g.M.SeqObject.apply_to in
+    let s = c.loop-at.invariant.grown once ends shown closed in
+    let p = end_at c.args.returning.now.calls.now c.loop-at.table s.0 s.1 c.loop-at.at c.look.new.row c.in_ok-look.ensures in
+    beyond_from o c.args.returning.now.calls.now ends c.args.returning.now.budget p.0 (s.2.reached p.0 (has_place s.0 c.loop-at.at p.0 p.1)) (c.leads_beyond.ensures.beyond c.if-leads_beyond.true p.0 p.2)

@@ -1,0 +1,320 @@
+//! The ends that calls lead to from others.
+ghost use Rattle.std.specs.Prelude.{◌≡◌, ℕ, ◌+◌, ◌<◌, ◌≤◌, true, false, take, drop};
+ghost use Rattle.std.specs.Prelude.{List, [], ◌∷◌, get_or, length, slice_get, Some, IfOk, OnOk};
+ghost use Rattle.models.specs.Objects.{of_table};
+ghost use Rattle.linspec.specs.Ends.{End};
+ghost use Rattle.ends.specs.Moves.{AreAlike, AreMoves, IsAlike, IsKnown, KeepMoves, targets_of};
+ghost use Rattle.ends.specs.EndSteps.{AreClosed, TakesLast, Next, ReachesMoreThan, is_in};
+ghost use Rattle.ends.specs.Tables.{AreShown, FindsLeft, HasEachOnce, OnlyAdds, OnlyPuts, OnlyTries, PutsLed, ReachesOver, ShownGrown};
+ghost use Rattle.ends.specs.Tables.{ShownWith, Shows, asked_by, most_steps, rows_of, with_rows};
+
+use crate::after;
+use crate::moves::{self, Attempt, Move, Moves};
+use crate::pending_op::PendingOp;
+use crate::returning::Returning;
+use crate::table::{self, Table};
+use models::SeqObject;
+use rows::{Row, RowSet};
+use std::alloc::{AllocError, Global};
+use std::hash::Hash;
+
+/// Memory that an ok works in, kept for the next one: what calls do in states, the row that is looked at, the marks of what fits
+/// the answer, and the rows that are left, into which a fail puts its own too.
+pub struct Room<S> {
+    moves: Moves<S>,
+    row: Row,
+    marks: Vec<bool>,
+    pub rows: RowSet,
+}
+
+// So that crates above give one back by one call.
+impl<S: Drop> Drop for Room<S> {
+    fn drop(self) {
+        let Room {
+            moves: _moves,
+            row: _row,
+            marks: _marks,
+            rows: _rows,
+        } = self;
+    }
+}
+
+impl<S> Room<S> {
+    /// No memory yet.
+    pub fn new(alloc: Global) -> Room<S> {
+        Room {
+            moves: Moves::new(alloc),
+            row: Row::new(alloc),
+            marks: Vec::new(alloc),
+            rows: RowSet::new(alloc, 0),
+        }
+    }
+}
+
+impl<S: Drop> Room<S> {
+    /// Memory for the oks of two clients, which grows where there are more.
+    pub fn for_two(alloc: Global) -> Result<Room<S>, AllocError> {
+        let mut room = Room::new(alloc);
+        room.moves = Moves::with_room(alloc)?;
+        Ok(room)
+    }
+}
+
+// Adds a copy of the row at `from` for each target: with the target's number of a state first, and its number of what was found at
+// the place.
+#[inline(never)]
+fn put_each<S: Hash + Drop>(
+    table: &mut Table<S>,
+    from: usize,
+    place: usize,
+    targets: &[(usize, usize)],
+) -> Result<(), AllocError>
+    requires here { from < length (rows_of table.old) }
+    requires after { 0 < place }
+    requires zero_there { 0 < length targets.now
+        → slice_get (get_or (rows_of table.old) from []) place ≡ Some 0 }
+    ensures puts { PutsLed table.old table.new (get_or (rows_of table.old) from []) place targets.now result }
+    ensures only_rows { OnlyPuts table.old table.new }
+{
+    for at in 0..targets.len() {
+        let (to, slot) = targets[at];
+        table.rows.put_next(from, to, place, slot)?;
+    }
+    Ok(())
+}
+
+// Adds a copy of the row at `from` for each target of the move.
+#[inline(always)]
+fn put_led<S: Hash + Drop>(
+    table: &mut Table<S>,
+    from: usize,
+    place: usize,
+    to: Move,
+    targets: &[(usize, usize)],
+) -> Result<(), AllocError>
+    requires here { from < length (rows_of table.old) }
+    requires after { 0 < place }
+    requires known { IsKnown to targets.now }
+    requires zero_there { 0 < length (targets_of to targets.now)
+        → slice_get (get_or (rows_of table.old) from []) place ≡ Some 0 }
+    ensures puts { let row = get_or (rows_of table.old) from [] in
+        PutsLed table.old table.new row place (targets_of to targets.now) result }
+    ensures only_rows { OnlyPuts table.old table.new }
+{
+    match to {
+        Move::To(number, slot) => {
+            table
+                .rows
+                .put_next(from, number as usize, place, slot as usize)
+        }
+        Move::ToEach(first, end) => {
+            let targets = &targets[first as usize..end as usize];
+            put_each(table, from, place, targets)
+        }
+        Move::Nowhere => Ok(()),
+        Move::Untried => Ok(()),
+    }
+}
+
+// Adds a row for each end that the call leads to from the end of the row at `from`, which is this row, and in which the call is
+// not.
+fn grow_at<M: SeqObject>(
+    table: &mut Table<M::State>,
+    moves: &mut Moves<M::State>,
+    from: usize,
+    row: &Row,
+    calls: &[PendingOp],
+    attempt: Attempt,
+    applied: &mut u64,
+) -> Result<(), AllocError>
+    requires within { attempt.at < length calls.now }
+    requires before { attempt.representative ≤ attempt.at }
+    requires here { from < length (rows_of table.old) }
+    requires row { row.now ≡ get_or (rows_of table.old) from [] }
+    requires number { attempt.number ≡ get_or row.now 0 0 }
+    requires zero_there { slice_get row.now (attempt.at + 1) ≡ Some 0 }
+    ensures moves { OnOk result (KeepMoves M.apply_to calls.now table.old table.new moves.old moves.new) }
+    ensures adds { let object = of_table M.State M.start_state M.apply_to in
+        AreMoves M.apply_to table.old calls.now moves.old.known moves.old.targets.items
+        → IsAlike calls.now attempt.at attempt.representative → HasEachOnce calls.now
+        → (c : PendingOp) (e : End M.State) (ends : List (End M.State))
+        → slice_get calls.now attempt.at ≡ Some c → Shows table.old calls.now row.now e
+        → AreShown table.old calls.now ends
+        → OnOk result (ShownWith table.new calls.now ends (TakesLast object e c)) }
+    ensures only_adds { OnlyAdds table.old table.new applied.old applied.new }
+    ensures cost { applied.new ≤ applied.old + 1 }
+{
+    let to = table::led_to::<M>(table, moves, row, calls, attempt, applied)?;
+    if let Move::Nowhere = to {
+        return Ok(());
+    }
+    put_led(table, from, attempt.at + 1, to, &moves.targets)
+}
+
+// Adds a row for each end that a call from the first place on leads to from the end of the row at `from`, which is this row.
+fn grow_from<M: SeqObject>(
+    table: &mut Table<M::State>,
+    moves: &mut Moves<M::State>,
+    from: usize,
+    row: &Row,
+    calls: &[PendingOp],
+    first: usize,
+    applied: &mut u64,
+) -> Result<(), AllocError>
+    requires here { from < length (rows_of table.old) }
+    requires row { row.now ≡ get_or (rows_of table.old) from [] }
+    ensures moves { OnOk result (KeepMoves M.apply_to calls.now table.old table.new moves.old moves.new) }
+    ensures adds { let object = of_table M.State M.start_state M.apply_to in
+        AreMoves M.apply_to table.old calls.now moves.old.known moves.old.targets.items
+        → AreAlike calls.now moves.old.likes.items → HasEachOnce calls.now
+        → (e : End M.State) (ends : List (End M.State))
+        → Shows table.old calls.now row.now e → AreShown table.old calls.now ends
+        → OnOk result (ShownWith table.new calls.now ends
+        (Next object (drop first calls.now) e)) }
+    ensures only_adds { OnlyAdds table.old table.new applied.old applied.new }
+    ensures cost { applied.new ≤ applied.old + length calls.now }
+{
+    let number = row.first();
+    let mut at = first;
+    'calls: while at < calls.len() {
+        if !row.has_zero(at + 1) {
+            at += 1;
+            continue;
+        }
+        let like = moves::alike_at(moves, calls, at);
+        let stuck = moves::stuck(moves, number, like, calls, at);
+        if stuck > 0 {
+            at += stuck;
+            continue;
+        }
+        let representative = like.representative;
+        grow_at::<M>(
+            table,
+            moves,
+            from,
+            row,
+            calls,
+            Attempt {
+                number,
+                at,
+                representative,
+            },
+            applied,
+        )?;
+        at += 1;
+    }
+    Ok(())
+}
+
+// From which call on the calls are tried on the end at this place: on a kept one those that were not tried yet.
+fn first_for(at: usize, kept: usize, tried: usize) -> usize
+    ensures old { at < kept → result ≡ tried }
+    ensures new { kept ≤ at → result ≡ 0 }
+{
+    if at < kept { tried } else { 0 }
+}
+
+// Whether some call from that place on leads from the end of the row to more ends than the budget: it is not in that end, and has
+// more outcomes in its state.
+fn leads_beyond<M: SeqObject>(
+    table: &Table<M::State>,
+    row: &Row,
+    calls: &[PendingOp],
+    first: usize,
+    budget: u32,
+) -> bool
+    requires some { 1 ≤ budget }
+    ensures beyond { let object = of_table M.State M.start_state M.apply_to in
+        result ≡ true → (e : End M.State) → Shows table.now calls.now row.now e
+        → ReachesMoreThan object calls.now (e ∷ []) budget }
+    ensures within { result ≡ false → (at : ℕ) (c : PendingOp) (e : End M.State)
+        → first ≤ at
+        → slice_get calls.now at ≡ Some c → Shows table.now calls.now row.now e
+        → is_in e c.id c.crashed ≡ false → length (M.apply_to c.op e.state) ≤ budget }
+{
+    let Some(state) = table::state_numbered(table, row.first()) else {
+        return false;
+    };
+    for at in first..calls.len() {
+        if M::has_more_outcomes(state, &calls[at].op, budget as usize) && row.has_zero(at + 1) {
+            return true;
+        }
+    }
+    false
+}
+
+// Adds what the calls lead to, one after another: goes through the rows once while they grow at their end. The calls that were
+// tried already are tried on new rows alone. False where all ends are more than the budget, and then there may be more to add. So
+// no call is tried that has more outcomes in a state than the budget.
+fn grow<M: SeqObject>(
+    table: &mut Table<M::State>,
+    moves: &mut Moves<M::State>,
+    row: &mut Row,
+    returning: &Returning,
+    applied: &mut u64,
+) -> Result<bool, AllocError>
+    ensures grows { let object = of_table M.State M.start_state M.apply_to in
+        let calls = returning.now.calls.now in
+        HasEachOnce calls → (ends : List (End M.State)) → AreShown table.old calls ends
+        → AreClosed object (take returning.now.tried calls) ends
+        → IfOk result (ShownGrown object table.new calls ends) }
+    ensures within { IfOk result (λ within_budget. within_budget ≡ true
+        → length (rows_of table.new) ≤ returning.now.budget) }
+    ensures over { let object = of_table M.State M.start_state M.apply_to in
+        ReachesOver object table.old (asked_by returning.now) result }
+    ensures only_adds { OnlyAdds table.old table.new applied.old applied.new }
+    ensures cost { applied.new ≤ applied.old + most_steps (asked_by returning.now) }
+{
+    moves::forget(table.alloc, moves, table::first_remembered_state(table));
+    moves::note_likes(moves, returning.calls)?;
+    let kept = table.rows.len();
+    for at in 0..returning.budget as usize {
+        if table.rows.len() > returning.budget as usize {
+            return Ok(false);
+        }
+        if at >= table.rows.len() {
+            return Ok(true);
+        }
+        let first = first_for(at, kept, returning.tried);
+        if first >= returning.calls.len() {
+            continue;
+        }
+        table.rows.look(at, row)?;
+        if leads_beyond::<M>(table, row, returning.calls, first, returning.budget) {
+            return Ok(false);
+        }
+        grow_from::<M>(table, moves, at, row, returning.calls, first, applied)?;
+    }
+    Ok(table.rows.len() <= returning.budget as usize)
+}
+
+/// Puts the rows of the ends that are left after the operation has returned into the room: of those where it is in and what it
+/// found fits the answer, each without it. False where all ends, these and what the calls lead to from them one after another, are
+/// more than the budget. This is so where each end is there once, each call is of another operation, and the calls that were tried
+/// already lead from the ends to no others. No more ends than the budget are extended, and no call is tried that has more outcomes
+/// than the budget. The rows of the table stay.
+///
+/// `AllocError` where there is no memory for them: the rows of the table stay then too, and the steps that were made stay
+/// counted. It makes at most one step for each call and each end that is extended, and looks the row of each end that comes of
+/// one up among the others.
+pub fn advance<M: SeqObject>(
+    table: &mut Table<M::State>,
+    room: &mut Room<M::State>,
+    returning: &Returning,
+    applied: &mut u64,
+) -> Result<bool, AllocError>
+    ensures found { let object = of_table M.State M.start_state M.apply_to in
+        FindsLeft object table.old (with_rows table.new room.new.rows) (asked_by returning.now) result }
+    ensures tries { OnlyTries table.old table.new applied.old applied.new }
+    ensures cost { applied.new ≤ applied.old + most_steps (asked_by returning.now) }
+{
+    let kept = table.rows.len();
+    let within_budget = grow::<M>(table, &mut room.moves, &mut room.row, returning, applied);
+    let left = match within_budget {
+        Ok(true) => after::settled(table, returning, &mut room.marks, &mut room.rows),
+        _ => Ok(()),
+    };
+    table.rows.truncate(kept);
+    left?;
+    within_budget
+}

@@ -1,8 +1,0 @@
--- Each number of the places so far is in the others' sets too, unless that is not told.
-use Rattle.std.proofs.Common.{◌≡◌, ◌<◌, ℕ, true, get_or}
-use Rattle.products.specs.Products.{Has}
-use Rattle.products.proofs.product.lies_alone.Given as goal
-
-abbrev pub invariant-loop-place : goal.invariant-loop-place
-invariant-loop-place l =
-    l.inside ≡ true → (k n : ℕ) → k < l.place → Has (get_or l.sets k 0) n → Has (get_or l.others k 0) n
