@@ -146,13 +146,13 @@ impl KeyLine {
             (self.new ≡ with_next (with_pushed index event.now self.old.now) 1 self.old) }
         ensures err { OnErr result (self.new ≡ at_rest self.old.now self.old.replayed) }
     {
-        drop_prepared(&mut self.prepared);
+        clear(&mut self.prepared);
         self.places.reserve(1)?;
         let count = self.places.len();
         let next = prepare_event(&mut self.state, &mut self.saved, count, index, event)?;
         let status = next.status(&self.state);
         let told = self.told.with(&index, event);
-        prepare(&mut self.prepared, Prepared::Push(index, told, next));
+        keep(&mut self.prepared, Prepared::Push(index, told, next));
         Ok(status)
     }
 
@@ -171,7 +171,7 @@ impl KeyLine {
             (self.new ≡ with_next (cut_at n self.old.now) (replays_at n self.old.now) self.old) }
         ensures err { OnErr result (self.new ≡ at_rest self.old.now self.old.replayed) }
     {
-        drop_prepared(&mut self.prepared);
+        clear(&mut self.prepared);
         let kept = count_below(&self.places, n);
         let mut replays = 0;
         let next = if kept < self.places.len() {
@@ -200,7 +200,7 @@ impl KeyLine {
             replays,
         };
         let boxed = Box::new(self.alloc, change)?;
-        prepare(&mut self.prepared, Prepared::Change(boxed));
+        keep(&mut self.prepared, Prepared::Change(boxed));
         Ok(status)
     }
 
@@ -225,7 +225,7 @@ impl KeyLine {
             self.old) }
         ensures err { OnErr result (self.new ≡ at_rest self.old.now self.old.replayed) }
     {
-        drop_prepared(&mut self.prepared);
+        clear(&mut self.prepared);
         let kept = self.places.len();
         let mut replays = 0;
         let (state, saved) = judged_anew(
@@ -248,7 +248,7 @@ impl KeyLine {
             replays,
         };
         let boxed = Box::new(self.alloc, change)?;
-        prepare(&mut self.prepared, Prepared::Change(boxed));
+        keep(&mut self.prepared, Prepared::Change(boxed));
         Ok(status)
     }
 
@@ -292,7 +292,7 @@ impl KeyLine {
     pub fn drop_prepared(&mut self)
         ensures { self.new ≡ at_rest self.old.now self.old.replayed }
     {
-        drop_prepared(&mut self.prepared);
+        clear(&mut self.prepared);
     }
 
     /// Appends this event: [`prepare_push`](Self::prepare_push) and [`commit`](Self::commit) in one.
@@ -400,15 +400,15 @@ impl KeyLine {
     }
 }
 
-// What was prepared before is dropped.
-fn drop_prepared(prepared: &mut Option<Prepared>)
+// Drops what was prepared before. A function of its own, so that the drop is proved once.
+fn clear(prepared: &mut Option<Prepared>)
     ensures { prepared.new ≡ None }
 {
     *prepared = None;
 }
 
-// This change is prepared.
-fn prepare(prepared: &mut Option<Prepared>, change: Prepared)
+// Keeps the change until it is carried out; what was prepared before is dropped. A function of its own, as `clear`.
+fn keep(prepared: &mut Option<Prepared>, change: Prepared)
     ensures { prepared.new ≡ Some change }
 {
     *prepared = Some(change);

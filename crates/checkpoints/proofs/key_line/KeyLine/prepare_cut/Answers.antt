@@ -11,13 +11,13 @@ use Rattle.checkpoints.proofs.Soundness.{cut_brought, all_stand, lent_seen, cut_
 use Rattle.checkpoints.proofs.key_line.KeyLine.prepare_cut.Goals as goal
 use Rattle.checkpoints.proofs.key_line.KeyLine.prepare_cut.Goals.{then-kept-len+in_ok-state+in_ok-new, else-kept-len}
 
-within : (c : goal.After-prepare) → c.count_below-kept.result ≤ length c.self.inside.places.items
+within : (c : goal.After-keep) → c.count_below-kept.result ≤ length c.self.inside.places.items
 within c = subst (λ l. c.count_below-kept.result ≤ length l) c.deref.ensures.value c.count_below-kept.ensures.within
 
-first : (c : goal.After-prepare) → take c.count_below-kept.result c.self.inside.told.events ≡ events_below c.args.n c.self.inside.told.events
+first : (c : goal.After-keep) → take c.count_below-kept.result c.self.inside.told.events ≡ events_below c.args.n c.self.inside.told.events
 first c = c.count_below-kept.ensures.first c.self.inside.told.events c.self.invariant.now.history (c.deref.ensures.value ∙ c.self.invariant.now.places_are)
 
-stands : (c : goal.After-prepare) → IsNext c.self.inside.kind c.self.inside.budget (take c.count_below-kept.result c.self.inside.told.events) c.self.inside.state c.if-kept-len.next
+stands : (c : goal.After-keep) → IsNext c.self.inside.kind c.self.inside.budget (take c.count_below-kept.result c.self.inside.told.events) c.self.inside.state c.if-kept-len.next
 stands c =
     let events = c.self.inside.told.events in
     let now = c.self.invariant.now in
@@ -43,7 +43,7 @@ invariant_of-self-2 c =
     let brings : IsBrought kind budget c.first.result.events (take kept places) c.self.inside.state c.if-kept-len.next (saved_by kept Kept saved) =
     subst (λ l. IsBrought kind budget l (take kept places) c.self.inside.state c.if-kept-len.next (saved_by kept Kept saved)) (sym c.first.ensures)
     (cut_brought kind budget c.self.inside.told.events places c.self.inside.state saved now kept (within c) c.if-kept-len.next (stands c)) in
-    IsSoundLine-prepared _ _ _ _ _ _ _ _ c.self.invariant _ now.stands _ refl _ now.saved_are _ _ _ c.prepare.ensures
+    IsSoundLine-prepared _ _ _ _ _ _ _ _ c.self.invariant _ now.stands _ refl _ now.saved_are _ _ _ c.keep.ensures
     (subst (λ (d : Change). IsBrought d.kind d.budget d.told.events (take d.kept places) c.self.inside.state d.next (saved_by d.kept d.saves saved)) (sym c.in_ok-boxed.ensures.ok) brings)
 
 pub returns-clause-status : goal.returns-clause-status

@@ -29,7 +29,7 @@ invariant_of-self-2 c =
     let saved = c.prepare_event.ensures.saved kind budget events (sym many ∙ sym all) now.stands now.saved_are in
     IsSoundLine-prepared _ _ _ _ _ _ _ _ c.self.invariant c.prepare_event.new.state
     (c.prepare_event.ensures.now kind budget events now.stands h)
-    _ c.reserve.ensures.items _ saved _ _ _ c.prepare.ensures (
+    _ c.reserve.ensures.items _ saved _ _ _ c.keep.ensures (
       subst (λ l. IsBrought kind budget l (places ++ c.args.index ∷ []) c.prepare_event.new.state c.in_ok-next.next c.prepare_event.new.saved.items) (sym c.with-told.ensures)
           (pushed kind budget events places c.self.inside.state c.self.inside.saved.items now x c.prepare_event.new.state c.in_ok-next.next c.prepare_event.new.saved.items h
           (c.in_ok-next.ensures.next kind budget events now.stands h) (c.in_ok-next.ensures.more kind budget events (sym many ∙ sym all) now.stands now.saved_are)),

@@ -9,13 +9,13 @@ use Rattle.checkpoints.specs.Saves.{saved_by}
 use Rattle.checkpoints.specs.declared.next.Next.TheVariants.{Becomes}
 use Rattle.checkpoints.proofs.key_line.KeyLine.prepare_rebuild.Goals as goal
 
-at : (c : goal.After-prepare) → AreAt c.args.lent.now c.deref.result.now c.self.inside.told.events
+at : (c : goal.After-keep) → AreAt c.args.lent.now c.deref.result.now c.self.inside.told.events
 at c = record {
   places_are = c.deref.ensures.value ∙ c.self.invariant.now.places_are;
   are_lent = lent_seen _ _ _ _ _ _ c.self.view_is c.args.lent.now c.requires;
 }
 
-stands : (c : goal.After-prepare) → IsKeyState c.args.kind c.args.budget c.self.inside.told.events c.in_ok-state.state
+stands : (c : goal.After-keep) → IsKeyState c.args.kind c.args.budget c.self.inside.told.events c.in_ok-state.state
 stands c = c.in_ok-state.ensures.stands c.self.inside.told.events c.self.invariant.now.history (at c)
 
 pub invariant_of-self-2 : goal.invariant_of-self-2
@@ -28,7 +28,7 @@ invariant_of-self-2 c =
     subst (λ l. IsBrought c.args.kind c.args.budget l (take c.len-kept.result places) c.self.inside.state (Becomes c.in_ok-becomes.becomes) c.in_ok-state.saved.items) (sym c.first.ensures)
     (rebuilt_brought c.self.inside.kind c.self.inside.budget c.self.inside.told.events places c.self.inside.state c.self.inside.saved.items now c.len-kept.result all c.args.kind c.args.budget c.in_ok-becomes.becomes c.in_ok-state.saved.items
     (subst (IsKeyState c.args.kind c.args.budget c.self.inside.told.events) (sym c.in_ok-becomes.ensures.ok) (stands c)) are) in
-    IsSoundLine-prepared _ _ _ _ _ _ _ _ c.self.invariant _ now.stands _ refl _ now.saved_are _ _ _ c.prepare.ensures
+    IsSoundLine-prepared _ _ _ _ _ _ _ _ c.self.invariant _ now.stands _ refl _ now.saved_are _ _ _ c.keep.ensures
     (subst (λ (d : Change). IsBrought d.kind d.budget d.told.events (take d.kept places) c.self.inside.state d.next (saved_by d.kept d.saves c.self.inside.saved.items)) (sym c.in_ok-boxed.ensures.ok) brings)
 
 pub returns-clause-status : goal.returns-clause-status
