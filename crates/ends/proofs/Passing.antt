@@ -48,6 +48,6 @@ module _ (S : Type 0) (start : S) (apply : Op → S → List (S × Found)) (call
   stuck_there n at c is here q f last =
       let d = q.alike c here in
       let led = led_nowhere S start apply e c t calls row at
-      (alike_to t apply c d.0 e.state [] d.2 d.3 (known_does apply calls t n q.representative d.0 d.1 e.state (ap (slice_get t.states) is ∙ shows.state) moves targets Nowhere known (sym q.nowhere) tt)) in
+      (alike_to t apply c d.0 e.state [] d.2 d.3 (known_does apply calls t n q.place d.0 d.1 e.state (ap (slice_get t.states) is ∙ shows.state) moves targets Nowhere known (sym q.nowhere) tt)) in
       let to = led.all f last in
       Contains-nil to.0 to.1
