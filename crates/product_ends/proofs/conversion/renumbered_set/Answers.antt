@@ -10,7 +10,7 @@ use Rattle.product_ends.specs.Conversion.{IsSameFound}
 use Rattle.product_ends.specs.Deeds.{IsAlone}
 use Rattle.product_ends.proofs.Renumbering.{IsRenumberedTo, renumbered_alone, renumbered_bits, renumbered_more, renumbered_none, renumbered_skip}
 use Rattle.product_ends.proofs.conversion.renumbered_set.Goals as goal
-use Rattle.product_ends.proofs.conversion.renumbered_set.Goals.{then-has+in_ok-one+in-Some+in-Some-joined, else-has}
+use Rattle.product_ends.proofs.conversion.renumbered_set.Goals.{then-has+in_ok-one+in-Some+in-Some-union, else-has}
 
 pub returns-then-set-ge-HIGH-clause-set : goal.returns-then-set-ge-HIGH-clause-set
 returns-then-set-ge-HIGH-clause-set c =
@@ -32,7 +32,7 @@ loop-number-preserved c =
     let set = c.args.set in
     let n = c.loop-number.number in
     elim c.if-has.branch [
-      | then-has+in_ok-one+in-Some+in-Some-joined w ↦ (
+      | then-has+in_ok-one+in-Some+in-Some-union w ↦ (
           let new = w.renumbered_one-then-has.new.new in
           let front = w.in_ok-one.ensures.front in
           let one : (to : ℕ) × IsAlone w.in-Some.one to × IsSameFound old new n to =
@@ -40,8 +40,8 @@ loop-number-preserved c =
           record {
             front = subst (IsFront c.args.new.now) (sym w.new-is) (IsFront-trans c.args.new.now mid new c.loop-number.invariant.front front);
             once = λ once. subst IsOnceIn (sym w.new-is) (w.in_ok-one.ensures.once (c.loop-number.invariant.once once));
-            numbers = subst (λ o. IsRenumberedTo old c.if-has.new set o (n + 1)) (sym w.other-is) (subst (λ l. IsRenumberedTo old l set w.in-Some-joined.both (n + 1)) (sym w.new-is)
-                (renumbered_more old mid set c.loop-number.other new n front c.loop-number.invariant.numbers w.in-Some.one w.in-Some-joined.both (c.has.ensures.0 w.if-has.true) one w.in-Some-joined.ensures));
+            numbers = subst (λ o. IsRenumberedTo old c.if-has.new set o (n + 1)) (sym w.other-is) (subst (λ l. IsRenumberedTo old l set w.in-Some-union.both (n + 1)) (sym w.new-is)
+                (renumbered_more old mid set c.loop-number.other new n front c.loop-number.invariant.numbers w.in-Some.one w.in-Some-union.both (c.has.ensures.0 w.if-has.true) one w.in-Some-union.ensures));
           })
       | else-has w ↦
           record {
