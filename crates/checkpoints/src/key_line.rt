@@ -357,8 +357,8 @@ impl KeyLine {
         self.state.status()
     }
 
-    /// How many replays the committed changes took: one for each event that was pushed, and one for each that a cut or a rebuild
-    /// gave again to what judges the key. It stops at the greatest `u64`.
+    /// How many events the committed changes gave to what judges the key: one for each event that was pushed, and one for each that a
+    /// cut or a rebuild gave again. It stops at the greatest `u64`.
     pub fn replayed(&self) -> u64
         ensures { result ≡ self.now.replayed }
     {

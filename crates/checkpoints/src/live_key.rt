@@ -75,7 +75,7 @@ impl LiveKey {
             return Ok(Next::Stays);
         };
         // By the process rule every completion finds an open operation.
-        let Some(id) = noted(&mut self.invocations, process, index, event.kind)? else {
+        let Some(id) = operation_id(&mut self.invocations, process, index, event.kind)? else {
             return Ok(Next::Stays);
         };
         self.closes = closing(process, event.kind);
@@ -99,9 +99,10 @@ impl LiveKey {
     }
 }
 
-// The operation that a prepared event of the process is of, named by the index of its invocation. This is noted at once, since
-// its process has no open operation before it; what a completion closes stays noted until it is carried out.
-fn noted(
+// The id of the operation that a prepared event of the process is of: the index of its invocation. An invocation's own index is
+// noted at once, since its process has no open operation before it. A completion's is the one that is noted, and stays noted
+// until the completion is carried out.
+fn operation_id(
     invocations: &mut Invocations,
     process: u32,
     index: u32,

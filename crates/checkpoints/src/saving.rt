@@ -43,7 +43,7 @@ pub(crate) fn keep_or_renew(saved: &mut Vec<KeyState>, kept: usize, saves: Saves
 pub(crate) fn prepare_event(
     state: &mut KeyState,
     saved: &mut Vec<KeyState>,
-    events: usize,
+    event_count: usize,
     index: u32,
     event: &Event,
 ) -> Result<Next, AllocError>
@@ -56,31 +56,35 @@ pub(crate) fn prepare_event(
         → IsHistory (before ++ (index, event.now) ∷ [])
         → IfOk result (IsNext kind budget (before ++ (index, event.now) ∷ []) state.new) }
     ensures saved { (kind : ModelKind) (budget : ℕ) (before : List (ℕ × Event))
-        → length before ≡ events → IsKeyState kind budget before state.old
+        → length before ≡ event_count → IsKeyState kind budget before state.old
         → AreSaved kind budget before saved.old.items
         → AreSaved kind budget before saved.new.items }
     ensures more { (kind : ModelKind) (budget : ℕ) (before : List (ℕ × Event))
-        → length before ≡ events → IsKeyState kind budget before state.old
+        → length before ≡ event_count → IsKeyState kind budget before state.old
         → AreSaved kind budget before saved.old.items
         → OnOk result (AreSaved kind budget (before ++ (index, event.now) ∷ []) saved.new.items) }
 {
-    save(saved, state, events)?;
+    save_if_due(saved, state, event_count)?;
     state.prepare(index, event)
 }
 
 // Saves a copy of the state after so many events where one is missing: there is to be one for each 64 events. All that is to be
 // saved of these events is then saved, whatever event follows.
-fn save(saved: &mut Vec<KeyState>, state: &KeyState, events: usize) -> Result<(), AllocError>
+fn save_if_due(
+    saved: &mut Vec<KeyState>,
+    state: &KeyState,
+    event_count: usize,
+) -> Result<(), AllocError>
     ensures saved { (kind : ModelKind) (budget : ℕ) (before : List (ℕ × Event))
-        → length before ≡ events → IsKeyState kind budget before state.now
+        → length before ≡ event_count → IsKeyState kind budget before state.now
         → AreSaved kind budget before saved.old.items
         → AreSaved kind budget before saved.new.items }
     ensures more { (kind : ModelKind) (budget : ℕ) (before : List (ℕ × Event)) (x : ℕ × Event)
-        → length before ≡ events → IsKeyState kind budget before state.now
+        → length before ≡ event_count → IsKeyState kind budget before state.now
         → AreSaved kind budget before saved.old.items
         → OnOk result (AreSaved kind budget (before ++ x ∷ []) saved.new.items) }
 {
-    if saved.len() < events / EVERY {
+    if saved.len() < event_count / EVERY {
         let copy = state.copy()?;
         saved.push(copy)?;
     }

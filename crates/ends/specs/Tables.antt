@@ -223,7 +223,7 @@ ReachesOver o t ok result =
     let calls = ok.calls in
     HasEachOnce calls → (ends : List (End o.State)) → Pairwise (λ d e. d ≢ e) ends
     → AreShown t calls ends → AreClosed o (take ok.tried calls) ends
-    → IfOk result (λ all. all ≡ false → ReachesMoreThan o calls ends ok.budget)
+    → IfOk result (λ within_budget. within_budget ≡ false → ReachesMoreThan o calls ends ok.budget)
 
 -- what an ok finds, where the calls that were tried lead from the ends of the table `t` to no others: either the table `left` has
 -- what the ok leaves of all ends that the calls lead to, or all ends are more than the budget (which is told where the ends of `t`
@@ -232,9 +232,9 @@ pub record FindsLeft (o : Object) (t left : Table o.State) (ok : Asked) (result 
   pub all : let calls = ok.calls in
       HasEachOnce calls → (ends : List (End o.State)) → AreShown t calls ends
       → AreClosed o (take ok.tried calls) ends
-      → IfOk result (λ all. all ≡ true → IsAdvanced o left ok ends)
+      → IfOk result (λ within_budget. within_budget ≡ true → IsAdvanced o left ok ends)
   pub over : ReachesOver o t ok result
 
--- an ok makes no more steps than these: one for each call and each of so many ends as the budget, and one more
+-- an ok makes no more steps than these: for each call one on each of as many ends as the budget, and one more
 abbrev pub most_steps : Asked → ℕ
 most_steps ok = (ok.budget + 1) * length ok.calls

@@ -71,9 +71,9 @@ pub fn mark_fitting(
     Ok(())
 }
 
-/// Puts the rows after the operation has returned, of those where it is in and what it found fits the answer, each without it, in
-/// place of the rows that were there. Leaves no rows where the operation is not open. Looks at one number of each row.
-pub fn settled<S: Hash + Drop>(
+/// Puts what an ok leaves in place of the rows that were there: of each end that has the operation with a finding that fits the
+/// answer the row, without the operation's number. Leaves no rows where the operation is not open. Looks at one number of each row.
+pub fn put_left_by_ok<S: Hash + Drop>(
     table: &Table<S>,
     returning: &Returning,
     marks: &mut Vec<bool>,
@@ -96,8 +96,8 @@ pub fn settled<S: Hash + Drop>(
     }
 }
 
-/// Puts the rows after the operation, which is open, has failed, of those ends that it is not in, each without its number, in place
-/// of the rows that were there. Leaves no rows where the operation is not open. Looks at one number of each row.
+/// Puts what a fail of the open operation leaves in place of the rows that were there: of each end that does not have the operation
+/// the row, without the operation's number. Leaves no rows where the operation is not open. Looks at one number of each row.
 pub fn failed<S: Hash + Drop>(
     table: &Table<S>,
     calls: &[PendingOp],

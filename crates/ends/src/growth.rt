@@ -181,8 +181,8 @@ fn grow_from<M: SeqObject>(
             at += 1;
             continue;
         }
-        let like = moves::alike_at(moves, calls, at);
-        let stuck = moves::stuck(moves, number, like, calls, at);
+        let like = moves::run_of_equal_calls(moves, calls, at);
+        let stuck = moves::count_leading_nowhere(moves, number, like, calls, at);
         if stuck > 0 {
             at += stuck;
             continue;
@@ -206,12 +206,12 @@ fn grow_from<M: SeqObject>(
     Ok(())
 }
 
-// From which call on the calls are tried on the end at this place: on a kept one those that were not tried yet.
-fn first_for(at: usize, kept: usize, tried: usize) -> usize
-    ensures old { at < kept → result ≡ tried }
-    ensures new { kept ≤ at → result ≡ 0 }
+// From which call on the calls are tried on the end of this row: on a kept one those that were not tried yet.
+fn first_for(from: usize, kept: usize, tried: usize) -> usize
+    ensures old { from < kept → result ≡ tried }
+    ensures new { kept ≤ from → result ≡ 0 }
 {
-    if at < kept { tried } else { 0 }
+    if from < kept { tried } else { 0 }
 }
 
 // Whether some call from that place on leads from the end of the row to more ends than the budget: it is not in that end, and has
@@ -243,9 +243,9 @@ fn leads_beyond<M: SeqObject>(
     false
 }
 
-// Adds what the calls lead to, one after another: goes through the rows once while they grow at their end. The calls that were
-// tried already are tried on new rows alone. False where all ends are more than the budget, and then there may be more to add. So
-// no call is tried that has more outcomes in a state than the budget.
+// Adds what the calls lead to, one after another: goes through the rows once while they grow at their end, through no more rows
+// than the budget. The calls that were tried already are tried on new rows alone. False where all ends are more than the budget, and
+// then there may be more to add; also before a call is tried that has more outcomes in a state than the budget.
 fn grow<M: SeqObject>(
     table: &mut Table<M::State>,
     moves: &mut Moves<M::State>,
@@ -268,22 +268,22 @@ fn grow<M: SeqObject>(
     moves::forget(table.alloc, moves, table::first_remembered_state(table));
     moves::note_likes(moves, returning.calls)?;
     let kept = table.rows.len();
-    for at in 0..returning.budget as usize {
+    for from in 0..returning.budget as usize {
         if table.rows.len() > returning.budget as usize {
             return Ok(false);
         }
-        if at >= table.rows.len() {
+        if from >= table.rows.len() {
             return Ok(true);
         }
-        let first = first_for(at, kept, returning.tried);
+        let first = first_for(from, kept, returning.tried);
         if first >= returning.calls.len() {
             continue;
         }
-        table.rows.look(at, row)?;
+        table.rows.look(from, row)?;
         if leads_beyond::<M>(table, row, returning.calls, first, returning.budget) {
             return Ok(false);
         }
-        grow_from::<M>(table, moves, at, row, returning.calls, first, applied)?;
+        grow_from::<M>(table, moves, from, row, returning.calls, first, applied)?;
     }
     Ok(table.rows.len() <= returning.budget as usize)
 }
@@ -311,7 +311,7 @@ pub fn advance<M: SeqObject>(
     let kept = table.rows.len();
     let within_budget = grow::<M>(table, &mut room.moves, &mut room.row, returning, applied);
     let left = match within_budget {
-        Ok(true) => after::settled(table, returning, &mut room.marks, &mut room.rows),
+        Ok(true) => after::put_left_by_ok(table, returning, &mut room.marks, &mut room.rows),
         _ => Ok(()),
     };
     table.rows.truncate(kept);

@@ -87,7 +87,7 @@ impl<S> KeptEnd<S> {
         Ok(())
     }
 
-    // The open operation is done now, and what it found is told no more.
+    // The open operation leaves the end, and what it found is told no more: it has returned, or it is a read that has crashed.
     fn settle(&mut self, id: u32)
         ensures { end_kept self.new ≡ settled (end_kept self.old) id }
     {

@@ -4,8 +4,8 @@
 //! than the number of what it found. Equal ends are equal rows ([`Table`]). An ok ([`advance`]) lets the rows grow by what each
 //! call leads to, which is tried once in each state and remembered until the next ok; counts them against the budget; puts those
 //! whose operation found what the answer says into other rows, without the operation's number; and takes back what has grown. A
-//! fail ([`failed`]) keeps the rows that have a zero there. A crash makes ends of the rows ([`ends_of`]), changes these
-//! ([`crashed_ends`]), and makes rows of them again ([`of_ends`]).
+//! fail ([`failed`]) keeps the rows that have a zero there. A crash makes ends of the rows ([`ends_of_table`]), changes these
+//! ([`crashed_ends`]), and makes rows of them again ([`table_of_ends`]).
 //!
 //! A call takes memory only where its result can be `AllocError`, or a refusal for want of memory.
 #![tactic(auto)]
@@ -26,4 +26,4 @@ pub use growth::{Room, advance};
 pub use kept_end::KeptEnd;
 pub use pending_op::{PendingOp, copy_calls, crash_call, drop_call, is_read};
 pub use returning::Returning;
-pub use table::{Table, clear, empty, ends_of, of_ends, refill, step, told_by};
+pub use table::{Table, clear, empty, ends_of_table, refill, step, table_of_ends, told_by};

@@ -41,7 +41,7 @@ pub struct Known {
     list: Notes,
 }
 
-/// Equal calls: so many from some place on (`run`) do the same as the call at `place`.
+/// Equal calls: so many from some place on (`run`) do the same as the call at `representative`.
 #[derive(Clone, Copy)]
 pub struct Like {
     pub representative: usize,
@@ -94,17 +94,17 @@ impl<S: Drop> Moves<S> {
     }
 }
 
-// Where the call at this place stands in the state with this number, among so many calls, where the places begin with those of
-// the base; or behind all places that a list has.
+// Where the move of a call in the state with this number is noted, where the notes begin with the moves in the state `base`;
+// `usize::MAX` where it is not remembered.
 #[inline(always)]
-fn place_of(base: usize, number: usize, at: usize, calls: usize) -> usize
-    ensures { ((base ≤ number) × (result ≡ (number - base) * calls + at))
+fn place_of(base: usize, number: usize, at: usize, call_count: usize) -> usize
+    ensures { ((base ≤ number) × (result ≡ (number - base) * call_count + at))
         ⊎ (result ≡ 2 ^ 64 - 1) }
 {
-    if number < base || number - base >= MOST || calls >= MOST {
+    if number < base || number - base >= MOST || call_count >= MOST {
         return usize::MAX;
     }
-    ((number - base) * calls).saturating_add(at)
+    ((number - base) * call_count).saturating_add(at)
 }
 
 /// Forgets all moves, and takes this base for those to come. Keeps their memory, if it is not much.
@@ -132,10 +132,12 @@ fn forget_many<S: Drop>(alloc: Global, moves: &mut Moves<S>)
 }
 
 // What is known of the call at this place in the state with this number.
-fn known_of(known: &Known, number: usize, at: usize, calls: usize) -> Move
-    ensures { (result ≡ Move.Untried) ⊎ (result ≡ known_at known.now calls number at) }
+fn known_of(known: &Known, number: usize, at: usize, call_count: usize) -> Move
+    ensures { (result ≡ Move.Untried) ⊎ (result ≡ known_at known.now call_count number at) }
 {
-    known.list.noted_at(place_of(known.base, number, at, calls))
+    known
+        .list
+        .noted_at(place_of(known.base, number, at, call_count))
 }
 
 // Remembers what the call at this place does in the state with this number.
@@ -144,14 +146,14 @@ fn remember(
     known: &mut Known,
     number: usize,
     at: usize,
-    calls: usize,
+    call_count: usize,
     to: Move,
 ) -> Result<(), AllocError>
-    requires within { at < calls }
-    ensures { (n b : ℕ) → b < calls → let now = known_at known.new calls n b in
-        (now ≡ known_at known.old calls n b) ⊎ ((n ≡ number) × (b ≡ at) × (now ≡ to)) }
+    requires within { at < call_count }
+    ensures { (n b : ℕ) → b < call_count → let now = known_at known.new call_count n b in
+        (now ≡ known_at known.old call_count n b) ⊎ ((n ≡ number) × (b ≡ at) × (now ≡ to)) }
 {
-    let place = place_of(known.base, number, at, calls);
+    let place = place_of(known.base, number, at, call_count);
     if place >= MOST {
         return Ok(());
     }
@@ -192,8 +194,8 @@ fn put_targets<M: SeqObject>(
     Ok(())
 }
 
-// The move to the targets of the list from this place on. `AllocError` where they are 2^32: there is no room for so many.
-fn move_to_last(targets: &[(usize, usize)], first: usize) -> Result<Move, AllocError>
+// The move to each target of the list from this place on. `AllocError` where they are 2^32: there is no room for so many.
+fn move_to_each_from(targets: &[(usize, usize)], first: usize) -> Result<Move, AllocError>
     ensures { IfOk result (λ to. to ≡ Move.ToEach first (length targets.now)) }
 {
     if first > u32::MAX as usize || targets.len() > u32::MAX as usize {
@@ -219,7 +221,7 @@ fn move_to_one(
     }
     let first = targets.len();
     targets.push((number, slot))?;
-    move_to_last(targets, first)
+    move_to_each_from(targets, first)
 }
 
 // The move to these outcomes, whose targets are put behind the others. Where there is one, it mostly needs no place there.
@@ -237,7 +239,7 @@ fn move_to<M: SeqObject>(
     if outcomes.len() > 1 {
         let first = targets.len();
         put_targets::<M>(table, targets, crashed, outcomes)?;
-        return move_to_last(targets, first);
+        return move_to_each_from(targets, first);
     }
     match outcomes.pop() {
         Some((state, found)) => {
@@ -330,7 +332,7 @@ fn like_anew(calls: &[PendingOp], at: usize) -> Like
 }
 
 /// The run of equal calls that begins with the one at this place. Takes constant time.
-pub fn alike_at<S>(moves: &Moves<S>, calls: &[PendingOp], at: usize) -> Like
+pub fn run_of_equal_calls<S>(moves: &Moves<S>, calls: &[PendingOp], at: usize) -> Like
     requires within { at < length calls.now }
     ensures within { result.representative ≤ at }
     ensures all { AreAlike calls.now moves.now.likes.items → AreAll calls.now at result }
@@ -348,7 +350,7 @@ pub fn alike_at<S>(moves: &Moves<S>, calls: &[PendingOp], at: usize) -> Like
 /// How many of the calls from this place on that do the same are known to lead nowhere from the state with this number: all or
 /// none. Takes constant time.
 #[inline(always)]
-pub fn stuck<S>(
+pub fn count_leading_nowhere<S>(
     moves: &Moves<S>,
     number: usize,
     like: Like,
@@ -367,11 +369,11 @@ pub fn stuck<S>(
 }
 
 /// What is known of the call at this place in the state with this number, where it was tried. Takes constant time.
-pub fn recalled<S>(moves: &Moves<S>, number: usize, at: usize, calls: usize) -> Option<Move>
-    ensures { IfSome result (λ to. (to ≡ known_at moves.now.known calls number at)
+pub fn recalled<S>(moves: &Moves<S>, number: usize, at: usize, call_count: usize) -> Option<Move>
+    ensures { IfSome result (λ to. (to ≡ known_at moves.now.known call_count number at)
         × IsKnown to moves.now.targets.items) }
 {
-    match known_of(&moves.known, number, at, calls) {
+    match known_of(&moves.known, number, at, call_count) {
         Move::Untried => None,
         Move::Nowhere => Some(Move::Nowhere),
         Move::To(number, slot) => Some(Move::To(number, slot)),
@@ -385,7 +387,7 @@ pub fn recalled<S>(moves: &Moves<S>, number: usize, at: usize, calls: usize) -> 
 /// Tries the call in the state with this number, and remembers where it leads. `AllocError` where there is no memory for its
 /// outcomes or for what is remembered. Takes one step, the time of looking its outcomes up, and that of the list of moves where
 /// this grows.
-pub fn tried<M: SeqObject>(
+pub fn try_call<M: SeqObject>(
     table: &mut Table<M::State>,
     moves: &mut Moves<M::State>,
     number: usize,

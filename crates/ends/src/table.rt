@@ -139,8 +139,8 @@ pub fn told_by(crashed: bool, found: Found) -> Found
     if crashed { Found::Unit } else { found }
 }
 
-/// Where the call, which is not in it, leads from the end of the row. Takes constant time where that is known, and else one step,
-/// and the time of looking its outcomes up.
+/// Where the call, which is not in it, leads from the end of the row; the row itself is for the contract alone. Takes constant time
+/// where that is known, and else one step, and the time of looking its outcomes up.
 pub fn led_to<M: SeqObject>(
     table: &mut Table<M::State>,
     moves: &mut Moves<M::State>,
@@ -168,7 +168,7 @@ pub fn led_to<M: SeqObject>(
     let number = attempt.number;
     match moves::recalled(moves, number, attempt.representative, calls.len()) {
         Some(to) => Ok(to),
-        None => moves::tried::<M>(table, moves, number, calls, attempt.representative, applied),
+        None => moves::try_call::<M>(table, moves, number, calls, attempt.representative, applied),
     }
 }
 
@@ -217,7 +217,7 @@ pub fn refill<M: SeqObject>(
 
 /// The ends as rows, in order; ends that are the same become one row. Takes the time of a copy of each end's state, and of looking
 /// each call up in each end.
-pub fn of_ends<M: SeqObject>(
+pub fn table_of_ends<M: SeqObject>(
     alloc: Global,
     ends: &[KeptEnd<M::State>],
     calls: &[PendingOp],
@@ -231,21 +231,21 @@ pub fn of_ends<M: SeqObject>(
     Ok(table)
 }
 
-/// What the call at this place found, by the row at `from`, if the call is in it. Takes constant time.
+/// What the call at this place found, by the row at `row_at`, if the call is in it. Takes constant time.
 pub fn found_in_row<'a, S: Hash + Drop>(
     table: &'a Table<S>,
-    from: usize,
+    row_at: usize,
     calls: &[PendingOp],
     at: usize,
 ) -> Option<&'a Found>
     requires { at < length calls.now }
-    ensures found { let row = get_or (rows_of table.now) from [] in
+    ensures found { let row = get_or (rows_of table.now) row_at [] in
         (c : PendingOp) (e : End S) → slice_get calls.now at ≡ Some c
         → Shows table.now calls.now row e → option_copied result ≡ found_by e c }
-    ensures within { let row = get_or (rows_of table.now) from [] in
+    ensures within { let row = get_or (rows_of table.now) row_at [] in
         IsSome result → at + 1 < length row }
 {
-    let slot = table.rows.number(from, at + 1);
+    let slot = table.rows.number(row_at, at + 1);
     if slot > 0 {
         table.founds.get(slot - 1)
     } else {
@@ -257,17 +257,17 @@ pub fn found_in_row<'a, S: Hash + Drop>(
 fn include_at<S: Hash + Drop>(
     kept: &mut KeptEnd<S>,
     table: &Table<S>,
-    from: usize,
+    row_at: usize,
     calls: &[PendingOp],
     at: usize,
 ) -> Result<(), AllocError>
     requires { at < length calls.now }
-    ensures { let row = get_or (rows_of table.now) from [] in
+    ensures { let row = get_or (rows_of table.now) row_at [] in
         HasEachOnce calls.now → (e : End S) → Shows table.now calls.now row e
         → IsToldBefore calls.now e (end_kept kept.old) at
         → OnOk result (IsToldBefore calls.now e (end_kept kept.new) (at + 1)) }
 {
-    match found_in_row(table, from, calls, at) {
+    match found_in_row(table, row_at, calls, at) {
         Some(found) => {
             kept.include(&calls[at], found.copy()?)?;
             Ok(())
@@ -276,17 +276,17 @@ fn include_at<S: Hash + Drop>(
     }
 }
 
-// The row at `from` as an end. None where the row has no state, which is not so of a row that stands for an end.
+// The row at `row_at` as an end. None where the row has no state, which is not so of a row that stands for an end.
 fn kept_of<M: SeqObject>(
     table: &Table<M::State>,
-    from: usize,
+    row_at: usize,
     calls: &[PendingOp],
 ) -> Result<Option<KeptEnd<M::State>>, AllocError>
-    ensures { let row = get_or (rows_of table.now) from [] in
+    ensures { let row = get_or (rows_of table.now) row_at [] in
         HasEachOnce calls.now → (e : End M.State) → Shows table.now calls.now row e
         → IfOk result (λ kept. IsSomeAnd kept (λ k. end_kept k ≡ e)) }
 {
-    let Some(state) = state_numbered(table, table.rows.number(from, 0)) else {
+    let Some(state) = state_numbered(table, table.rows.number(row_at, 0)) else {
         return Ok(None);
     };
     let mut kept = KeptEnd {
@@ -295,13 +295,13 @@ fn kept_of<M: SeqObject>(
         crashed: Vec::new(table.alloc),
     };
     for at in 0..calls.len() {
-        include_at(&mut kept, table, from, calls, at)?;
+        include_at(&mut kept, table, row_at, calls, at)?;
     }
     Ok(Some(kept))
 }
 
 /// The ends that the rows say, in order. Takes the time of all numbers of the rows, and of a copy of each row's state.
-pub fn ends_of<M: SeqObject>(
+pub fn ends_of_table<M: SeqObject>(
     table: &Table<M::State>,
     calls: &[PendingOp],
 ) -> Result<Vec<KeptEnd<M::State>>, AllocError>
@@ -310,8 +310,8 @@ pub fn ends_of<M: SeqObject>(
         → IfOk result (λ kept. map end_kept kept.items ≡ ends) }
 {
     let mut ends = Vec::with_capacity(table.alloc, table.rows.len())?;
-    for from in 0..table.rows.len() {
-        if let Some(kept) = kept_of::<M>(table, from, calls)? {
+    for row_at in 0..table.rows.len() {
+        if let Some(kept) = kept_of::<M>(table, row_at, calls)? {
             ends.push(kept)?;
         }
     }

@@ -126,7 +126,7 @@ impl<M: SeqObject> Frontier<M> {
             crashed: Vec::new(alloc),
         })?;
         let calls = Vec::with_capacity(alloc, FEW_CALLS)?;
-        let table = ends::of_ends::<M>(alloc, &ends, &calls)?;
+        let table = ends::table_of_ends::<M>(alloc, &ends, &calls)?;
         Ok(Frontier {
             alloc,
             budget,
@@ -267,7 +267,8 @@ impl<M: SeqObject> Frontier<M> {
         Ok(Step::Alive)
     }
 
-    // Drops what is prepared, and takes the fresh operation among the calls, with a place in each row.
+    // Takes the fresh operation, which was noted when it was invoked, among the calls, with a place in each row or product. Before
+    // that drops what is prepared, and chooses the form.
     fn list_fresh(&mut self) -> Result<(), AllocError>
         ensures { let object = of_table M.State M.start_state M.apply_to in
             ListsFresh object self.old self.new (StandsFor object self.old) result }
@@ -280,7 +281,7 @@ impl<M: SeqObject> Frontier<M> {
         self.place_fresh()
     }
 
-    // The same, where nothing is prepared, and the rows or products have the form in which they get the place.
+    // The last part of `list_fresh`: nothing is prepared, and the form is chosen.
     fn place_fresh(&mut self) -> Result<(), AllocError>
         requires fresh { IsSome self.old.fresh }
         ensures { let object = of_table M.State M.start_state M.apply_to in
@@ -403,7 +404,7 @@ impl<M: SeqObject> Frontier<M> {
         self.table.states.len() / 10 > self.table.rows.len().saturating_add(8)
     }
 
-    // The same as `list_fresh`, with another table, in the memory of the one before.
+    // Takes the fresh operation among the calls by making all rows anew, in the spare table, with the states that they have.
     #[inline(never)]
     fn list_anew(&mut self) -> Result<(), AllocError>
         requires rows { self.old.products ≡ None }
@@ -419,7 +420,7 @@ impl<M: SeqObject> Frontier<M> {
             op: fresh.op.copy()?,
             crashed: false,
         })?;
-        let ends = ends::ends_of::<M>(&self.table, &self.calls)?;
+        let ends = ends::ends_of_table::<M>(&self.table, &self.calls)?;
         let mut spare = spare_table(self.alloc, &mut self.spare)?;
         ends::refill::<M>(&mut *spare, &ends, &calls)?;
         swap(&mut self.table, &mut *spare);
@@ -452,7 +453,7 @@ impl<M: SeqObject> Frontier<M> {
             Prepares (view_of object self.old) (view_of object self.new) object (Returned id answer.now) result }
     {
         self.list_fresh()?;
-        self.suit_outcomes()?;
+        self.ensure_single_outcome()?;
         let within_budget = self.advance(id, answer)?;
         if !within_budget {
             return Ok(Step::Over);
@@ -462,9 +463,9 @@ impl<M: SeqObject> Frontier<M> {
         Ok(step_of(self.some_left()))
     }
 
-    // Makes sure that products are kept of a kind alone in which an operation has at most one outcome in a state. None are made of
-    // another kind, so this makes no rows of products when it runs. On `AllocError` the frontier stands for what it stood for.
-    fn suit_outcomes(&mut self) -> Result<(), AllocError>
+    // For the prover: where there are products, an operation has at most one outcome in a state. When it runs it never changes
+    // anything, since products are made of such kinds alone. On `AllocError` the frontier stands for what it stood for.
+    fn ensure_single_outcome(&mut self) -> Result<(), AllocError>
         ensures keeps { let object = of_table M.State M.start_state M.apply_to in
             Keeps (IsListed object self.old) (IsListed object self.new) }
         ensures single { OnOk result (self.new.products ≢ None → HasOneOutcome M.apply_to) }
@@ -606,11 +607,11 @@ impl<M: SeqObject> Frontier<M> {
     {
         self.list_as_rows()?;
         let counts = !ends::is_read(&self.calls, id);
-        let ends = ends::ends_of::<M>(&self.table, &self.calls)?;
+        let ends = ends::ends_of_table::<M>(&self.table, &self.calls)?;
         let after = ends::crashed_ends::<M>(self.alloc, &ends, id, counts)?;
         let mut calls = ends::copy_calls(self.alloc, &self.calls)?;
         ends::crash_call(&mut calls, id, counts);
-        let table = ends::of_ends::<M>(self.alloc, &after, &calls)?;
+        let table = ends::table_of_ends::<M>(self.alloc, &after, &calls)?;
         let after_crash = Box::new(self.alloc, AfterCrash { calls, table })?;
         self.after_crash = Some(after_crash);
         self.next = Change::Crashed;

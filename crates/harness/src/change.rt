@@ -5,8 +5,9 @@ use test_store::Outcome;
 /// What is prepared.
 #[derive(Drop)]
 pub(crate) enum Change {
+    /// Nothing is prepared.
     Nothing,
-    /// All stays as it is.
+    /// A command is prepared that leaves all as it is.
     Same,
     /// A change of the monitor alone.
     Judged,

@@ -242,7 +242,7 @@ impl Core {
         Ok(reply)
     }
 
-    // Appends an event, of which the monitor alone notes what it prepares.
+    // Appends an event by the whole call of the monitor: between its halves nothing is kept here.
     fn append(&mut self, event: Event) -> Result<Reply, Refusal>
         ensures { MayCarryOut self.old.machine (Command.Append event) result self.new }
     {

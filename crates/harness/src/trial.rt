@@ -80,7 +80,7 @@ impl Core {
         if self.schedule.due(length).is_some() {
             self.prepare_due()
         } else {
-            self.prepare_drawn()
+            self.prepare_generated()
         }
     }
 
@@ -104,7 +104,7 @@ impl Core {
     }
 
     // Prepares that a fault strikes that the generator gives, where none is due.
-    fn prepare_drawn(&mut self) -> Result<(Reply, Verdict), Refusal>
+    fn prepare_generated(&mut self) -> Result<(Reply, Verdict), Refusal>
         requires { first_due self.old.machine ≡ None }
         ensures { MayPrepare self.old.machine Command.Nemesis result self.new }
     {

@@ -6,6 +6,8 @@
 //! line of its key judged again; it is kept for a key without events too, and outlives a rewind. A history that is there already is
 //! loaded at once, its keys judged by workers.
 //!
+//! A function whose name ends in `_law` does nothing when it runs: its call hands the prover what its clause says.
+//!
 //! A call takes memory only where its result can be `AllocError`, or a refusal for want of memory.
 #![tactic(auto)]
 

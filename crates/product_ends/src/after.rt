@@ -11,9 +11,9 @@ use products::{Products, Scratch, take_marked};
 use std::alloc::AllocError;
 use std::hash::Hash;
 
-/// Puts the products after the operation has returned, of the ends where it is in and what it found fits the answer, each without
-/// it, in place of those that were there. None where it is not open. Takes the time of the products.
-pub fn settled<S: Hash + Drop>(
+/// Puts what an ok leaves in place of the products that were there: of the ends that have the operation with a finding that fits the
+/// answer the products, without the operation's set. None where it is not open. Takes the time of the products.
+pub fn put_left_by_ok<S: Hash + Drop>(
     table: &Table<S>,
     all: &Products,
     left: &mut Products,
@@ -42,8 +42,8 @@ pub fn settled<S: Hash + Drop>(
     }
 }
 
-/// Puts the products after the operation, which is open, has failed, of those ends that it is not in, each without its number, in
-/// place of those that were there. None where it is not open. Takes the time of the products.
+/// Puts what a fail of the open operation leaves in place of the products that were there: of the ends that do not have the
+/// operation the products, without the operation's set. None where it is not open. Takes the time of the products.
 pub fn failed<S: Hash + Drop>(
     table: &Table<S>,
     kept: &Products,

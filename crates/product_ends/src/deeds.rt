@@ -53,47 +53,52 @@ pub fn forget<S: Drop>(deeds: &mut Deeds<S>)
     deeds.stays.clear();
 }
 
-// The part of the list that the order of the state with this number tells: so many, from one place before it on.
+// The part of the list for the state with this number: for each call one, from the place before its order on.
 #[inline(always)]
-fn part_in<'a, T>(order: &[usize], all: &'a [T], number: usize, calls: usize) -> Option<&'a [T]>
+fn part_in<'a, T>(
+    order: &[usize],
+    all: &'a [T],
+    number: usize,
+    call_count: usize,
+) -> Option<&'a [T]>
     requires { length all.now < 2 ^ 64 }
     ensures some { IfSome result (λ those. (first : ℕ) × (get_or order.now number 0 ≡ first + 1)
-        × (those.now ≡ slice_range all.now first (first + calls)) × (length those.now ≡ calls)) }
-    ensures within { 0 < get_or order.now number 0 → get_or order.now number 0 + calls ≤ length all.now + 1 → IsSome result }
+        × (those.now ≡ slice_range all.now first (first + call_count)) × (length those.now ≡ call_count)) }
+    ensures within { 0 < get_or order.now number 0 → get_or order.now number 0 + call_count ≤ length all.now + 1 → IsSome result }
 {
     match order.get(number) {
         // A sum that wraps is before the first place, and then there are none.
         Some(order) if *order > 0 => {
             let first = *order - 1;
-            all.get(first..first.wrapping_add(calls))
+            all.get(first..first.wrapping_add(call_count))
         }
         _ => None,
     }
 }
 
-/// What the calls, of which there are so many, do in the state with this number, if they were tried there. Takes constant time.
+/// What each of the call_count does in the state with this number, if they were tried there. Takes constant time.
 #[inline(always)]
-pub fn deeds_in<S>(deeds: &Deeds<S>, number: usize, calls: usize) -> Option<&[Deed]>
+pub fn deeds_in<S>(deeds: &Deeds<S>, number: usize, call_count: usize) -> Option<&[Deed]>
     ensures some { IfSome result (λ those. (order : ℕ) × (order_in deeds.now number ≡ order + 1)
-        × (those.now ≡ slice_range deeds.now.deeds.items order (order + calls)) × (length those.now ≡ calls)) }
-    ensures tried { AreWithin deeds.now calls → IsTried deeds.now number → IsSome result }
+        × (those.now ≡ slice_range deeds.now.deeds.items order (order + call_count)) × (length those.now ≡ call_count)) }
+    ensures tried { AreWithin deeds.now call_count → IsTried deeds.now number → IsSome result }
 {
-    part_in(&deeds.order, &deeds.deeds, number, calls)
+    part_in(&deeds.order, &deeds.deeds, number, call_count)
 }
 
-/// What the calls, of which there are so many, find where they stay in the state with this number, each a set, if they were tried
-/// there: no number where the call cannot take place, or leads to another state. Takes constant time.
+/// What each of the call_count finds where it stays in the state with this number, as a set, if they were tried there: no number where
+/// the call cannot take place, or leads to another state. Takes constant time.
 #[inline(always)]
-pub fn stays_in<S>(deeds: &Deeds<S>, number: usize, calls: usize) -> Option<&[u64]>
+pub fn stays_in<S>(deeds: &Deeds<S>, number: usize, call_count: usize) -> Option<&[u64]>
     ensures some { IfSome result (λ those. (order : ℕ) × (order_in deeds.now number ≡ order + 1)
-        × (those.now ≡ slice_range deeds.now.stays.items order (order + calls)) × (length those.now ≡ calls)) }
-    ensures tried { AreStays deeds.now calls → AreWithin deeds.now calls → IsTried deeds.now number → IsSome result }
+        × (those.now ≡ slice_range deeds.now.stays.items order (order + call_count)) × (length those.now ≡ call_count)) }
+    ensures tried { AreStays deeds.now call_count → AreWithin deeds.now call_count → IsTried deeds.now number → IsSome result }
 {
-    part_in(&deeds.order, &deeds.stays, number, calls)
+    part_in(&deeds.order, &deeds.stays, number, call_count)
 }
 
 // What the call does in the state with this number: one step.
-fn tried<M: SeqObject>(
+fn try_call<M: SeqObject>(
     table: &mut Table<M::State>,
     outcomes: &mut Vec<(M::State, Found)>,
     number: usize,
@@ -131,9 +136,9 @@ fn stay(deed: Deed, number: usize) -> u64
     }
 }
 
-// Tells where the deeds in the state with this number stand: from this place on.
+// Notes where the deeds in the state with this number stand: from this place on.
 #[inline(always)]
-fn tell(order: &mut Vec<usize>, number: usize, first: usize) -> Result<(), AllocError>
+fn note_order(order: &mut Vec<usize>, number: usize, first: usize) -> Result<(), AllocError>
     requires few { first < 2 ^ 63 }
     ensures { OnOk result (IsOrderWith order.old.items order.new.items number first) }
 {
@@ -164,9 +169,9 @@ pub fn try_each<M: SeqObject>(
 {
     let before = deeds.deeds.len();
     for call in calls {
-        let deed = tried::<M>(table, &mut deeds.outcomes, number, call, applied)?;
+        let deed = try_call::<M>(table, &mut deeds.outcomes, number, call, applied)?;
         deeds.deeds.push(deed)?;
         deeds.stays.push(stay(deed, number))?;
     }
-    tell(&mut deeds.order, number, before)
+    note_order(&mut deeds.order, number, before)
 }

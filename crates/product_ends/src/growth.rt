@@ -29,8 +29,8 @@ fn take_source(source: &mut Source, products: &Products, at: usize) -> Result<()
     Ok(())
 }
 
-// Adds what the call at this place leads to from the source, which stands before `from`: products before that place get no more
-// rows. False where all rows are more than the budget.
+// Adds what the call at this place leads to from the source, which stands before `growable_from`: products before that place were
+// gone through, and get no more rows. False where all rows are more than the budget.
 fn grow_at<M: SeqObject>(
     table: &mut Table<M::State>,
     work: &mut Work<M::State>,

@@ -33,7 +33,7 @@ fn settle_kept<M: SeqObject>(
     if kept.rows() > returning.budget as u64 {
         return Ok(false);
     }
-    after::settled(
+    after::put_left_by_ok(
         table,
         kept,
         left,
@@ -85,7 +85,7 @@ pub fn advance<M: SeqObject>(
     )? {
         return Ok(false);
     }
-    after::settled(
+    after::put_left_by_ok(
         table,
         &work.all,
         &mut room.left,

@@ -83,7 +83,7 @@ fn has_row(sets: &[u64], place: usize, set: u64) -> bool
 // Sees to it that the calls were tried in the target's state. False, with nothing tried, where they were not and the target has no
 // row: then they need not be.
 #[inline(always)]
-fn ready<M: SeqObject>(
+fn ensure_tried<M: SeqObject>(
     table: &mut Table<M::State>,
     deeds: &mut Deeds<M::State>,
     calls: &[PendingOp],
@@ -109,8 +109,9 @@ fn ready<M: SeqObject>(
     Ok(true)
 }
 
-/// Puts the target, widened, with the others. Where the calls were not tried in its state, they are now, and its rows are new.
-/// Products before the one at `from` were gone through, and get no more rows. False where all rows are more than the budget.
+/// Puts the target, widened, with the others. Where the calls were not tried in its state, they are now, and its rows are new; a
+/// target of such a state that has no row is not put. Products before `growable_from` were gone through, and get no more rows. False
+/// where all rows are more than the budget.
 pub fn put_widened<M: SeqObject>(
     table: &mut Table<M::State>,
     work: &mut Work<M::State>,
@@ -130,7 +131,7 @@ pub fn put_widened<M: SeqObject>(
     ensures source { KeepsSource work.old work.new }
     ensures steps { TriesAtMost (length calls.now) table.old table.new applied.old applied.new }
 {
-    if !ready::<M>(table, &mut work.deeds, calls, &work.source, to, applied)? {
+    if !ensure_tried::<M>(table, &mut work.deeds, calls, &work.source, to, applied)? {
         return Ok(true);
     }
     let Some(stays) = stays_in(&work.deeds, to.number, calls.len()) else {

@@ -208,7 +208,7 @@ impl Products {
     // The last product before this place that shares a row with the product, or may do so, and whether it is told to have all its
     // rows.
     #[inline(never)]
-    fn meeting(&self, end: usize, first: usize, sets: &[u64]) -> Option<(usize, bool)>
+    fn last_overlapping(&self, end: usize, first: usize, sets: &[u64]) -> Option<(usize, bool)>
         requires within { end ≤ length self.now.1 }
         requires long { length sets.now ≡ self.now.0 }
         ensures none { result ≡ None → (at : ℕ) (row : List ℕ) → at < end
@@ -255,15 +255,16 @@ impl Products {
         ensures stack { OnOk result (stack.new.items ≡ stack.old.items) }
         ensures puts { OnOk result (Puts (first, drop start stack.old.items) growable_from self.old.1 self.new.1) }
     {
-        match self.meeting(end, first, &stack[start..]) {
+        match self.last_overlapping(end, first, &stack[start..]) {
             None => self.join_from(growable_from, first, &stack[start..]),
             Some((_, true)) => Ok(()),
             Some((at, false)) => self.put_pieces(at, growable_from, first, stack, start),
         }
     }
 
-    // The same, of the product on top of the stack without the rows that the one at this place has, which may share others with
-    // those before it alone: for each set those whose number there is outside the other's, and whose numbers before it are not.
+    // Puts what the product on top of the stack has besides the product at `at`, in pieces, one for each set: the piece has there
+    // the numbers that the other lacks, in the sets before it those that both have, and behind it all its own. It may share rows
+    // with products before `at` alone.
     #[cycle(putting)]
     fn put_pieces(
         &mut self,

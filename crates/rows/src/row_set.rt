@@ -227,9 +227,9 @@ impl RowSet {
         }
     }
 
-    /// Reads the row at this place, in place of what was read. `AllocError` where there is no memory
-    /// for it: then nothing is said of what was read. Takes constant time where the row is a word, and
-    /// else that of its numbers.
+    /// Loads the row at this place into `row` as it is kept, a word as a word, in place of what `row` had. `AllocError` where there
+    /// is no memory for it: then nothing is said of what `row` has. Takes constant time where the row is a word, and else the time
+    /// of its numbers.
     #[inline(always)]
     pub fn look(&self, at: usize, row: &mut Row) -> Result<(), AllocError>
         requires { at < length self.now }
@@ -246,7 +246,7 @@ impl RowSet {
         }
     }
 
-    /// Writes the numbers of the row at this place into `row`, in place of what `row` had. `AllocError` where there is no memory
+    /// Copies the numbers of the row at this place into the list `row`, in place of what it had. `AllocError` where there is no memory
     /// for them: then nothing is said of what `row` has. Takes the time of the numbers.
     #[inline(never)]
     pub fn read(&self, at: usize, row: &mut Vec<usize>) -> Result<(), AllocError>

@@ -14,7 +14,7 @@ returns-clause-found g c =
     elim c.match-within_budget.branch [
       | in-Ok-true w ↦ rw (w.within_budget-is, w.room-is)
           (subst (FindsLeft o c.args.table.now _ ok) w.in-Ok-true.is (finds_left o c.args.table.now grow.new.table _ ok grow.result grow.ensures.grows grow.ensures.within grow.ensures.over w.in-Ok-true.field-0 w.in-Ok-true.is
-          (λ once ends shown. subst (λ r. OnOk r (IsLeft (with_rows grow.new.table w.settled-left.new.rows) ok ends)) (sym w.left-is ∙ there) (w.settled-left.ensures once ends shown))))
+          (λ once ends shown. subst (λ r. OnOk r (IsLeft (with_rows grow.new.table w.put_left_by_ok-left.new.rows) ok ends)) (sym w.left-is ∙ there) (w.put_left_by_ok-left.ensures once ends shown))))
       | in_default w ↦ rw (w.within_budget-is, w.room-is) (subst (FindsLeft o c.args.table.now _ ok) (search rules) (finds_none o c.args.table.now grow.new.table _ ok grow.result grow.ensures.grows grow.ensures.within grow.ensures.over (search rules)))
       | in_default-2 w ↦ rw (w.within_budget-is, w.room-is) (subst (FindsLeft o c.args.table.now _ ok) (search rules) (finds_none o c.args.table.now grow.new.table _ ok grow.result grow.ensures.grows grow.ensures.within grow.ensures.over (search rules)))
     ]

@@ -17,8 +17,8 @@ use Rattle.interned.proofs.Lists.{has_place, some_at}
 use Rattle.ends.proofs.Adding.{IsFront-itself, IsFront-trans}
 use Rattle.ends.proofs.growth.grow.Goals as goal
 
-pub loop-at-init : goal.loop-at-init
-loop-at-init g c =
+pub loop-from-init : goal.loop-from-init
+loop-from-init g c =
     let o = of_table g.row.M-State.Denot g.M.SeqObject.start_state g.M.SeqObject.apply_to in
     record {
       moves = moves_none g.M.SeqObject.apply_to c.args.returning.now.calls.now c.args.table.now c.note_likes.new.moves.known c.note_likes.new.moves.targets.items (subst (λ (k : Known). AreUntried k.list) (sym c.in_ok-note_likes.ensures.known) c.forget.ensures.known);
@@ -28,30 +28,30 @@ loop-at-init g c =
       cost = omega arith;
     }
 
-pub loop-at-preserved : goal.loop-at-preserved
-loop-at-preserved g c =
+pub loop-from-preserved : goal.loop-from-preserved
+loop-from-preserved g c =
     let o = of_table g.row.M-State.Denot g.M.SeqObject.start_state g.M.SeqObject.apply_to in
     record {
-      moves = c.in_ok-grow_from.ensures.moves.known c.loop-at.invariant.moves;
-      alike = subst (λ (v : Vec Like Global). AreAlike c.args.returning.now.calls.now v.items) (sym c.in_ok-grow_from.ensures.moves.likes) c.loop-at.invariant.alike;
-      only_adds = adds_on c.loop-at.invariant.only_adds c.in_ok-grow_from.ensures.only_adds;
+      moves = c.in_ok-grow_from.ensures.moves.known c.loop-from.invariant.moves;
+      alike = subst (λ (v : Vec Like Global). AreAlike c.args.returning.now.calls.now v.items) (sym c.in_ok-grow_from.ensures.moves.likes) c.loop-from.invariant.alike;
+      only_adds = adds_on c.loop-from.invariant.only_adds c.in_ok-grow_from.ensures.only_adds;
       grown = λ once ends shown closed.
-          let s = c.loop-at.invariant.grown once ends shown closed in
-          let p = end_at c.args.returning.now.calls.now c.loop-at.table s.0 s.1 c.loop-at.at c.look.new.row c.in_ok-look.ensures in
+          let s = c.loop-from.invariant.grown once ends shown closed in
+          let p = end_at c.args.returning.now.calls.now c.loop-from.table s.0 s.1 c.loop-from.from c.look.new.row c.in_ok-look.ensures in
           let long = c.len-kept.ensures ∙ shown.long in
-          let v = c.in_ok-grow_from.ensures.adds c.loop-at.invariant.moves c.loop-at.invariant.alike once p.0 s.0 p.2 s.1 in
-          let w = all_tried o c.args.returning.now.calls.now ends s.0 c.args.returning.now.tried c.first_for-first.result c.loop-at.at p.0 p.1 s.4 closed (λ lt. c.first_for-first.ensures.old (omega (arith, long, lt))) (λ le. c.first_for-first.ensures.new (omega (arith, long, le))) c.grow_from.new.table v in
-          (w.more, w.shown, grows_on o c.args.returning.now.calls.now ends s.0 c.loop-at.at p.0 p.1 c.grow_from.new.table w s.2, done_on o c.args.returning.now.calls.now ends s.0 c.loop-at.at p.0 p.1 c.grow_from.new.table w s.3, IsFront-trans ends s.0 w.more s.4 w.front);
-      cost = cost_more c.args.applied.now c.loop-at.applied c.grow_from.new.applied c.loop-at.at (length c.args.returning.now.calls.now) c.loop-at.invariant.cost c.in_ok-grow_from.ensures.cost;
+          let v = c.in_ok-grow_from.ensures.adds c.loop-from.invariant.moves c.loop-from.invariant.alike once p.0 s.0 p.2 s.1 in
+          let w = all_tried o c.args.returning.now.calls.now ends s.0 c.args.returning.now.tried c.first_for-first.result c.loop-from.from p.0 p.1 s.4 closed (λ lt. c.first_for-first.ensures.old (omega (arith, long, lt))) (λ le. c.first_for-first.ensures.new (omega (arith, long, le))) c.grow_from.new.table v in
+          (w.more, w.shown, grows_on o c.args.returning.now.calls.now ends s.0 c.loop-from.from p.0 p.1 c.grow_from.new.table w s.2, done_on o c.args.returning.now.calls.now ends s.0 c.loop-from.from p.0 p.1 c.grow_from.new.table w s.3, IsFront-trans ends s.0 w.more s.4 w.front);
+      cost = cost_more c.args.applied.now c.loop-from.applied c.grow_from.new.applied c.loop-from.from (length c.args.returning.now.calls.now) c.loop-from.invariant.cost c.in_ok-grow_from.ensures.cost;
     }
 
-pub loop-at-preserved-then-first-returning : goal.loop-at-preserved-then-first-returning
-loop-at-preserved-then-first-returning g c =
+pub loop-from-preserved-then-first-returning : goal.loop-from-preserved-then-first-returning
+loop-from-preserved-then-first-returning g c =
     let o = of_table g.row.M-State.Denot g.M.SeqObject.start_state g.M.SeqObject.apply_to in
-    let i = c.loop-at.invariant in
+    let i = c.loop-from.invariant in
     let calls = c.args.returning.now.calls.now in
-    let t = c.loop-at.table in
-    let at = c.loop-at.at in
+    let t = c.loop-from.table in
+    let at = c.loop-from.from in
     let row = some_at (rows_of t) at (omega arith) in
     record {
       moves = i.moves;
@@ -64,56 +64,56 @@ loop-at-preserved-then-first-returning g c =
           let w = all_tried o calls ends s.0 c.args.returning.now.tried c.first_for-first.result at p.0 p.1 s.4 closed (λ lt. c.first_for-first.ensures.old (omega (arith, long, lt))) (λ le. c.first_for-first.ensures.new (omega (arith, long, le))) t
           (none_more o calls t c.first_for-first.result p.0 s.0 (omega arith) s.1) in
           (w.more, w.shown, grows_on o calls ends s.0 at p.0 p.1 t w s.2, done_on o calls ends s.0 at p.0 p.1 t w s.3, IsFront-trans ends s.0 w.more s.4 w.front);
-      cost = cost_more c.args.applied.now c.loop-at.applied c.loop-at.applied at (length calls) i.cost (omega arith);
+      cost = cost_more c.args.applied.now c.loop-from.applied c.loop-from.applied at (length calls) i.cost (omega arith);
     }
 
 pub grow_from-requires-clause-row : goal.grow_from-requires-clause-row
-grow_from-requires-clause-row g c = sym (get_or_from_slice_get (rows_of c.loop-at.table) c.loop-at.at c.look.new.row [] c.in_ok-look.ensures)
+grow_from-requires-clause-row g c = sym (get_or_from_slice_get (rows_of c.loop-from.table) c.loop-from.from c.look.new.row [] c.in_ok-look.ensures)
 
-pub returns-then-at-len-clause-grows : goal.returns-then-at-len-clause-grows
-returns-then-at-len-clause-grows g c once ends shown closed =
+pub returns-then-from-len-clause-grows : goal.returns-then-from-len-clause-grows
+returns-then-from-len-clause-grows g c once ends shown closed =
     let o = of_table g.row.M-State.Denot g.M.SeqObject.start_state g.M.SeqObject.apply_to in
-    let s = c.loop-at.invariant.grown once ends shown closed in
+    let s = c.loop-from.invariant.grown once ends shown closed in
     let long = s.1.long in
-    record { more = s.0; shown = s.1; grows = s.2; closed = λ is. all_done o c.args.returning.now.calls.now s.0 c.loop-at.at (omega (arith, long)) s.3 }
+    record { more = s.0; shown = s.1; grows = s.2; closed = λ is. all_done o c.args.returning.now.calls.now s.0 c.loop-from.from (omega (arith, long)) s.3 }
 
 pub returns-clause-grows : goal.returns-clause-grows
 returns-clause-grows g c once ends shown closed =
     let o = of_table g.row.M-State.Denot g.M.SeqObject.start_state g.M.SeqObject.apply_to in
-    let s = c.loop-at.invariant.grown once ends shown closed in
+    let s = c.loop-from.invariant.grown once ends shown closed in
     let long = s.1.long in
     record {
       more = s.0;
       shown = s.1;
       grows = s.2;
-      closed = λ is. all_done o c.args.returning.now.calls.now s.0 c.loop-at.at (let all : length (rows_of c.loop-at.table) ≤ c.args.returning.now.budget = search rules in omega (arith, long, all)) s.3;
+      closed = λ is. all_done o c.args.returning.now.calls.now s.0 c.loop-from.from (let all : length (rows_of c.loop-from.table) ≤ c.args.returning.now.budget = search rules in omega (arith, long, all)) s.3;
     }
 
 pub returns-in_err-grow_from-clause-only_adds : goal.returns-in_err-grow_from-clause-only_adds
-returns-in_err-grow_from-clause-only_adds g c = adds_on c.loop-at.invariant.only_adds c.in_err-grow_from.ensures.only_adds
+returns-in_err-grow_from-clause-only_adds g c = adds_on c.loop-from.invariant.only_adds c.in_err-grow_from.ensures.only_adds
 
 pub returns-then-len-returning-clause-over : goal.returns-then-len-returning-clause-over
 returns-then-len-returning-clause-over g c once ends each_once shown closed _ =
     let o = of_table g.row.M-State.Denot g.M.SeqObject.start_state g.M.SeqObject.apply_to in
-    let s = c.loop-at.invariant.grown once ends shown closed in
+    let s = c.loop-from.invariant.grown once ends shown closed in
     let long = s.1.long in
     beyond_found o c.args.returning.now.calls.now ends c.args.returning.now.budget s.0 each_once s.2 (omega (arith, long))
 
 pub returns-clause-over : goal.returns-clause-over
 returns-clause-over g c once ends each_once shown closed none =
     let o = of_table g.row.M-State.Denot g.M.SeqObject.start_state g.M.SeqObject.apply_to in
-    let s = c.loop-at.invariant.grown once ends shown closed in
+    let s = c.loop-from.invariant.grown once ends shown closed in
     let long = s.1.long in
-    beyond_found o c.args.returning.now.calls.now ends c.args.returning.now.budget s.0 each_once s.2 (let many : c.args.returning.now.budget < length (rows_of c.loop-at.table) = search rules in omega (arith, long, many))
+    beyond_found o c.args.returning.now.calls.now ends c.args.returning.now.budget s.0 each_once s.2 (let many : c.args.returning.now.budget < length (rows_of c.loop-from.table) = search rules in omega (arith, long, many))
 
 pub returns-then-leads_beyond-clause-grows : goal.returns-then-leads_beyond-clause-grows
 returns-then-leads_beyond-clause-grows g c once ends shown closed =
-    let s = c.loop-at.invariant.grown once ends shown closed in
+    let s = c.loop-from.invariant.grown once ends shown closed in
     record { more = s.0; shown = s.1; grows = s.2; closed = λ is. absurd (true≢false (sym is)) }
 
 pub returns-then-leads_beyond-clause-over : goal.returns-then-leads_beyond-clause-over
 returns-then-leads_beyond-clause-over g c once ends each_once shown closed _ =
     let o = of_table g.row.M-State.Denot g.M.SeqObject.start_state g.M.SeqObject.apply_to in
-    let s = c.loop-at.invariant.grown once ends shown closed in
-    let p = end_at c.args.returning.now.calls.now c.loop-at.table s.0 s.1 c.loop-at.at c.look.new.row c.in_ok-look.ensures in
-    beyond_from o c.args.returning.now.calls.now ends c.args.returning.now.budget p.0 (s.2.reached p.0 (has_place s.0 c.loop-at.at p.0 p.1)) (c.leads_beyond.ensures.beyond c.if-leads_beyond.true p.0 p.2)
+    let s = c.loop-from.invariant.grown once ends shown closed in
+    let p = end_at c.args.returning.now.calls.now c.loop-from.table s.0 s.1 c.loop-from.from c.look.new.row c.in_ok-look.ensures in
+    beyond_from o c.args.returning.now.calls.now ends c.args.returning.now.budget p.0 (s.2.reached p.0 (has_place s.0 c.loop-from.from p.0 p.1)) (c.leads_beyond.ensures.beyond c.if-leads_beyond.true p.0 p.2)

@@ -42,7 +42,7 @@ calls-preserved g c =
           let now = subst (λ (v : Vec Like Global). AreAlike calls v.items) (sym i.moves.likes) alike in
           let s = i.grown known alike once e ends shows shown in
           next_there o calls e ends c.calls.at call.0 call.1 c.args.first i.from c.calls.table c.grow_at.new.table s
-          (c.in_ok-grow_at.ensures.adds (i.moves.known known) (c.alike_at-like.ensures.some now) once call.0 e s.more call.1
+          (c.in_ok-grow_at.ensures.adds (i.moves.known known) (c.run_of_equal_calls-like.ensures.some now) once call.0 e s.more call.1
           (shows_more calls c.args.table.now c.calls.table c.args.row.now e i.only_adds.widens shows) s.shown);
       from = (let a = i.from in omega (arith, a));
       upto = omega arith;
@@ -78,7 +78,7 @@ calls-preserved-then-stuck-gt0 g c =
     let calls = c.args.calls.now in
     let t = c.calls.table in
     let m = c.calls.moves in
-    let high = c.stuck-stuck.ensures.upto in
+    let high = c.count_leading_nowhere-stuck.ensures.upto in
     record {
       only_adds = i.only_adds;
       here = i.here;
@@ -86,9 +86,9 @@ calls-preserved-then-stuck-gt0 g c =
       moves = i.moves;
       grown = λ known alike once e ends shows shown.
           let now = subst (λ (v : Vec Like Global). AreAlike calls v.items) (sym i.moves.likes) alike in
-          pass o calls e ends c.args.first t c.stuck-stuck.result c.calls.at i.from high
+          pass o calls e ends c.args.first t c.count_leading_nowhere-stuck.result c.calls.at i.from high
           (λ k call lt there. stuck_there g.row.M-State.Denot g.M.SeqObject.start_state g.M.SeqObject.apply_to calls t m.known m.targets.items (i.moves.known known) c.args.row.now e
-          (shows_more calls c.args.table.now t c.args.row.now e i.only_adds.widens shows) c.first-number.result (c.calls.at + k) call c.first-number.ensures there (c.stuck-stuck.ensures.stuck (c.alike_at-like.ensures.all now) k lt))
+          (shows_more calls c.args.table.now t c.args.row.now e i.only_adds.widens shows) c.first-number.result (c.calls.at + k) call c.first-number.ensures there (c.count_leading_nowhere-stuck.ensures.stuck (c.run_of_equal_calls-like.ensures.all now) k lt))
           (i.grown known alike once e ends shows shown);
       from = (let a = i.from in omega (arith, a));
       upto = omega (arith, high);

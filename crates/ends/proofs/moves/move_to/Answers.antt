@@ -32,10 +32,10 @@ returns-then-len-gt1-clause-leads g c =
     let outcomes = c.args.outcomes.now.items in
     let new = c.put_targets.new.targets.items in
     let first = c.len-first.result in
-    IfOk-weaker c.move_to_last.result (λ to. to ≡ ToEach first (length c.deref.result.now)) (LeadsTo t c.args.crashed outcomes new)
+    IfOk-weaker c.move_to_each_from.result (λ to. to ≡ ToEach first (length c.deref.result.now)) (LeadsTo t c.args.crashed outcomes new)
     (λ to is. subst (LeadsTo t c.args.crashed outcomes new) (sym (is ∙ ap (λ l. ToEach first (length l)) c.deref.ensures.value))
     (leads_each t c.args.crashed outcomes c.args.targets.now.items put.0 new first (length new) put.1 put.2 (search rules) refl))
-    c.move_to_last.ensures
+    c.move_to_each_from.ensures
 
 pub returns-then-len-gt1-clause-more : goal.returns-then-len-gt1-clause-more
-returns-then-len-gt1-clause-more g c = let put = c.in_ok-put_targets.ensures.put in on_ok c.move_to_last.result (put.0, put.2)
+returns-then-len-gt1-clause-more g c = let put = c.in_ok-put_targets.ensures.put in on_ok c.move_to_each_from.result (put.0, put.2)

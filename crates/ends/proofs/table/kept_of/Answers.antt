@@ -12,7 +12,7 @@ loop-at-init g c once e shows =
     told_first c.args.calls.now e (end_kept {S = g.row.M-State.Denot} (record { state = c.in_ok-copy.field-0; pending = c.new.result; crashed = c.new-2.result }))
     (same_parts (end_kept {S = g.row.M-State.Denot} (record { state = c.in_ok-copy.field-0; pending = c.new.result; crashed = c.new-2.result }))
     (record { state = e.state; pending = finmap.empty; crashed = finset.empty })
-    (c.in_ok-copy.ensures ∙ c.in-Some.ensures c.args.calls.now (get_or (rows_of c.args.table.now) c.args.from []) e c.number.ensures shows) (ap pending_in c.new.ensures.items) (ap crashed_in c.new-2.ensures.items))
+    (c.in_ok-copy.ensures ∙ c.in-Some.ensures c.args.calls.now (get_or (rows_of c.args.table.now) c.args.row_at []) e c.number.ensures shows) (ap pending_in c.new.ensures.items) (ap crashed_in c.new-2.ensures.items))
 
 pub returns : goal.returns
 returns g c once e shows =

@@ -5,4 +5,4 @@ use Rattle.ends.specs.Tables.{HasEachOnce, IsToldBefore, Shows, rows_of}
 use Rattle.ends.proofs.table.kept_of.Given as goal
 
 abbrev pub invariant-loop-at : goal.invariant-loop-at
-invariant-loop-at g l = HasEachOnce l.calls → (e : End g.row.M-State.Denot) → Shows l.table l.calls (get_or (rows_of l.table) l.from []) e → IsToldBefore l.calls e (end_kept l.kept) l.at
+invariant-loop-at g l = HasEachOnce l.calls → (e : End g.row.M-State.Denot) → Shows l.table l.calls (get_or (rows_of l.table) l.row_at []) e → IsToldBefore l.calls e (end_kept l.kept) l.at

@@ -31,10 +31,10 @@ returns-in-None-clause-next g c known alike once call e here shows =
     (zero_none c.args.table.now.founds (get_or row (c.args.attempt.at + 1) 0) (found_by e call)
     (get_or_from_slice_get row (c.args.attempt.at + 1) 0 0 c.requires.zero_there) (shows.slots c.args.attempt.at call here)) in
     let d = alike call here in
-    IfOk-weaker c.tried.result
-    (λ to. AreTo c.tried.new.table d.0.crashed (g.M.SeqObject.apply_to d.0.op e.state) (targets_of to c.tried.new.moves.targets.items))
-    (λ to. AreLed (of_table g.row.M-State.Denot g.M.SeqObject.start_state g.M.SeqObject.apply_to) c.tried.new.table c.args.calls.now row c.args.attempt.at e call (targets_of to c.tried.new.moves.targets.items))
-    (λ to are. are_led g.row.M-State.Denot g.M.SeqObject.start_state g.M.SeqObject.apply_to e call out c.tried.new.table c.args.calls.now row c.args.attempt.at (targets_of to c.tried.new.moves.targets.items) once here
-    (shows_more c.args.calls.now c.args.table.now c.tried.new.table row e c.tried.ensures.tries.widens shows)
-    (alike_to c.tried.new.table g.M.SeqObject.apply_to call d.0 e.state (targets_of to c.tried.new.moves.targets.items) d.2 d.3 are))
-    (c.tried.ensures.does e.state d.0 (ap (slice_get c.args.table.now.states) c.requires.number ∙ shows.state) d.1)
+    IfOk-weaker c.try_call.result
+    (λ to. AreTo c.try_call.new.table d.0.crashed (g.M.SeqObject.apply_to d.0.op e.state) (targets_of to c.try_call.new.moves.targets.items))
+    (λ to. AreLed (of_table g.row.M-State.Denot g.M.SeqObject.start_state g.M.SeqObject.apply_to) c.try_call.new.table c.args.calls.now row c.args.attempt.at e call (targets_of to c.try_call.new.moves.targets.items))
+    (λ to are. are_led g.row.M-State.Denot g.M.SeqObject.start_state g.M.SeqObject.apply_to e call out c.try_call.new.table c.args.calls.now row c.args.attempt.at (targets_of to c.try_call.new.moves.targets.items) once here
+    (shows_more c.args.calls.now c.args.table.now c.try_call.new.table row e c.try_call.ensures.tries.widens shows)
+    (alike_to c.try_call.new.table g.M.SeqObject.apply_to call d.0 e.state (targets_of to c.try_call.new.moves.targets.items) d.2 d.3 are))
+    (c.try_call.ensures.does e.state d.0 (ap (slice_get c.args.table.now.states) c.requires.number ∙ shows.state) d.1)

@@ -26,7 +26,7 @@ returns-in-Some-clause-some g c =
     let order = c.in-Some.order.now in
     let positive = c.if-order-gt0.true in
     let is : get_or c.args.order.now c.args.number 0 ≡ order = sym (c.in-Some.ensures.lookup.3.1 0) in
-    part c.args.all.now (order - 1) c.args.calls (get_or c.args.order.now c.args.number 0) c.get-in-Some.result _ (omega (arith, is, positive)) c.ranges.calls.fits
+    part c.args.all.now (order - 1) c.args.call_count (get_or c.args.order.now c.args.number 0) c.get-in-Some.result _ (omega (arith, is, positive)) c.ranges.call_count.fits
     c.get-in-Some.ensures.lookup.0
 
 pub returns-in-Some-clause-within : goal.returns-in-Some-clause-within
@@ -34,5 +34,5 @@ returns-in-Some-clause-within g c some within =
     let order = c.in-Some.order.now in
     let positive = c.if-order-gt0.true in
     let is : get_or c.args.order.now c.args.number 0 ≡ order = sym (c.in-Some.ensures.lookup.3.1 0) in
-    let le : order - 1 + c.args.calls ≤ length c.args.all.now = omega (arith, is, positive, within) in
-    c.get-in-Some.ensures.lookup.1 (within_items (order - 1) c.args.calls (length c.args.all.now) le c.requires)
+    let le : order - 1 + c.args.call_count ≤ length c.args.all.now = omega (arith, is, positive, within) in
+    c.get-in-Some.ensures.lookup.1 (within_items (order - 1) c.args.call_count (length c.args.all.now) le c.requires)

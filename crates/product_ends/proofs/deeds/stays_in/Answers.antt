@@ -9,5 +9,5 @@ returns-clause-tried g c stays within is_tried =
     let same : order ≡ get_or c.deref.result.now c.args.number 0 = ap (λ (l : List ℕ). get_or l c.args.number 0) (sym c.deref.ensures.value) in
     let long : length c.deref-2.result.now ≡ length d.stays.items = ap (λ (l : List ℕ). length l) c.deref-2.ensures.value in
     let as_many = stays.long in
-    let le : order - 1 + c.args.calls ≤ length d.deeds.items = within c.args.number (order - 1) (omega (arith, is_tried)) in
+    let le : order - 1 + c.args.call_count ≤ length d.deeds.items = within c.args.number (order - 1) (omega (arith, is_tried)) in
     c.part_in.ensures.within (omega (arith, same, is_tried)) (omega (arith, same, long, as_many, le, is_tried))

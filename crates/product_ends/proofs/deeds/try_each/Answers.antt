@@ -14,13 +14,13 @@ use Rattle.product_ends.proofs.Counting.{tries_one_more}
 use Rattle.product_ends.proofs.deeds.try_each.Goals as goal
 
 pub returns-in_err-deed-clause-steps : goal.returns-in_err-deed-clause-steps
-returns-in_err-deed-clause-steps g c = tries_one_more c.loop-call.call-index (length c.args.calls.now) c.loop-call.invariant.tries c.loop-call.invariant.cost c.tried.ensures.tries c.tried.ensures.cost (omega arith)
+returns-in_err-deed-clause-steps g c = tries_one_more c.loop-call.call-index (length c.args.calls.now) c.loop-call.invariant.tries c.loop-call.invariant.cost c.try_call.ensures.tries c.try_call.ensures.cost (omega arith)
 
 pub returns-in_err-push-clause-steps : goal.returns-in_err-push-clause-steps
-returns-in_err-push-clause-steps g c = tries_one_more c.loop-call.call-index (length c.args.calls.now) c.loop-call.invariant.tries c.loop-call.invariant.cost c.tried.ensures.tries c.tried.ensures.cost (omega arith)
+returns-in_err-push-clause-steps g c = tries_one_more c.loop-call.call-index (length c.args.calls.now) c.loop-call.invariant.tries c.loop-call.invariant.cost c.try_call.ensures.tries c.try_call.ensures.cost (omega arith)
 
 pub returns-in_err-push-2-clause-steps : goal.returns-in_err-push-2-clause-steps
-returns-in_err-push-2-clause-steps g c = tries_one_more c.loop-call.call-index (length c.args.calls.now) c.loop-call.invariant.tries c.loop-call.invariant.cost c.tried.ensures.tries c.tried.ensures.cost (omega arith)
+returns-in_err-push-2-clause-steps g c = tries_one_more c.loop-call.call-index (length c.args.calls.now) c.loop-call.invariant.tries c.loop-call.invariant.cost c.try_call.ensures.tries c.try_call.ensures.cost (omega arith)
 
 pub loop-call-preserved : goal.loop-call-preserved
 loop-call-preserved g c =
@@ -41,8 +41,8 @@ loop-call-preserved g c =
       order = i.order;
       long = omega arith;
       front = IsFront-trans old mid c.push.new.self.items i.front (subst (IsFront mid) (sym pushed) (IsFront-push mid c.in_ok-deed.deed));
-      tried = subst (λ l. AreTriedTo g.M.SeqObject.apply_to c.tried.new.table calls c.args.number l (length old) (n + 1)) (sym pushed)
-          (tried_more g.M.SeqObject.apply_to calls c.loop-call.table c.tried.new.table c.args.number (length old) n mid c.call-item.result c.in_ok-deed.deed c.tried.ensures.tries.widens i.long here c.in_ok-deed.ensures.deed i.tried);
+      tried = subst (λ l. AreTriedTo g.M.SeqObject.apply_to c.try_call.new.table calls c.args.number l (length old) (n + 1)) (sym pushed)
+          (tried_more g.M.SeqObject.apply_to calls c.loop-call.table c.try_call.new.table c.args.number (length old) n mid c.call-item.result c.in_ok-deed.deed c.try_call.ensures.tries.widens i.long here c.in_ok-deed.ensures.deed i.tried);
       as_many = omega arith;
       stays_front = IsFront-trans c.args.deeds.now.stays.items stays c.push-in-loop-call.new.self.items i.stays_front (subst (IsFront stays) (sym stays_pushed) (IsFront-push stays c.stay.result));
       stays = λ same.
@@ -51,8 +51,8 @@ loop-call-preserved g c =
           subst (λ l. AreStaysTo c.args.number c.push.new.self.items l (length old) (n + 1)) (sym stays_pushed)
           (subst (λ l. AreStaysTo c.args.number l (stays ++ c.stay.result ∷ []) (length old) (n + 1)) (sym pushed)
           (stays_more c.args.number (length old) n c.stay.result mid stays c.in_ok-deed.deed long (omega (arith, as_many, same)) c.stay.ensures (i.stays same)));
-      tries = tries_on i.tries c.tried.ensures.tries;
-      cost = (let cost = c.tried.ensures.cost in omega arith);
+      tries = tries_on i.tries c.try_call.ensures.tries;
+      cost = (let cost = c.try_call.ensures.cost in omega arith);
     }
 
 pub returns-clause-sound : goal.returns-clause-sound

@@ -24,6 +24,6 @@ returns-clause-found g c =
       all = λ once ends shown closed _.
           advanced o c.grow.new.table c.args.returning.now.calls.now ends c.grow.new.work.all.1 found.apart
           (found.reached once ends (kept_reached o c.args.table.now c.args.returning.now.calls.now c.args.kept.now.1 ends shown)) (found.all c.if-not-branch.false once ends shown)
-          c.args.returning.now.tried c.args.returning.now.budget c.args.returning.now.id c.args.returning.now.answer.now (rows_in c.settled.new.left.1) (found.within c.if-not-branch.false) (c.in_ok-settled.ensures once);
+          c.args.returning.now.tried c.args.returning.now.budget c.args.returning.now.id c.args.returning.now.answer.now (rows_in c.put_left_by_ok.new.left.1) (found.within c.if-not-branch.false) (c.in_ok-put_left_by_ok.ensures once);
       over = search rules;
     }

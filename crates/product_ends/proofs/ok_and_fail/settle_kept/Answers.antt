@@ -26,6 +26,6 @@ returns g c =
     record {
       all = λ once ends shown closed _.
           kept_advanced o (with_rows c.args.table.now rows) calls ends shown (subst (λ l. AreClosed o l ends) (take_all c.args.returning.now.tried calls c.requires) closed)
-          c.args.returning.now.tried c.args.returning.now.budget c.args.returning.now.id c.args.returning.now.answer.now (rows_in c.settled.new.left.1) few (c.in_ok-settled.ensures once ends shown);
+          c.args.returning.now.tried c.args.returning.now.budget c.args.returning.now.id c.args.returning.now.answer.now (rows_in c.put_left_by_ok.new.left.1) few (c.in_ok-put_left_by_ok.ensures once ends shown);
       over = search rules;
     }

@@ -9,19 +9,19 @@ use Rattle.product_ends.proofs.Widening.{widened_has}
 use Rattle.product_ends.proofs.target.put_widened.Goals as goal
 
 pub returns-then-not-branch-clause-puts : goal.returns-then-not-branch-clause-puts
-returns-then-not-branch-clause-puts g c row is = absurd (c.in_ok-ready.ensures.tried.none c.if-not-branch.true row is)
+returns-then-not-branch-clause-puts g c row is = absurd (c.in_ok-ensure_tried.ensures.tried.none c.if-not-branch.true row is)
 
 pub returns-then-not-branch-clause-grown : goal.returns-then-not-branch-clause-grown
 returns-then-not-branch-clause-grown g c =
-    grown_tried c.args.growable_from c.args.applied.now c.ready.new.applied c.args.work.now _ refl c.in_ok-ready.ensures.sound c.in_ok-ready.ensures.tried.kept
-    (⊎_elim (λ same. same) (λ fresh. absurd (c.in_ok-ready.ensures.tried.none c.if-not-branch.true fresh.1.0 fresh.1.1)) c.in_ok-ready.ensures.fresh)
+    grown_tried c.args.growable_from c.args.applied.now c.ensure_tried.new.applied c.args.work.now _ refl c.in_ok-ensure_tried.ensures.sound c.in_ok-ensure_tried.ensures.tried.kept
+    (⊎_elim (λ same. same) (λ fresh. absurd (c.in_ok-ensure_tried.ensures.tried.none c.if-not-branch.true fresh.1.0 fresh.1.1)) c.in_ok-ensure_tried.ensures.fresh)
     c.requires.may_grow
 
 pub returns-then-not-branch-clause-reached : goal.returns-then-not-branch-clause-reached
 returns-then-not-branch-clause-reached g c once start hold =
     let o = of_table g.row.M-State.Denot g.M.SeqObject.start_state g.M.SeqObject.apply_to in
     let old = c.args.work.now.all.1 in
-    hold_still o c.args.table.now c.ready.new.table c.args.calls.now start c.in_ok-ready.ensures.steps.tries.widens old
+    hold_still o c.args.table.now c.ensure_tried.new.table c.args.calls.now start c.in_ok-ensure_tried.ensures.steps.tries.widens old
     (hold_rest o c.args.table.now c.args.calls.now start (product_to c.args.work.now.source c.args.to) old hold)
 
 pub returns-clause-puts : goal.returns-clause-puts
@@ -38,16 +38,16 @@ returns-clause-reached g c once start hold =
     let base = set c.args.work.now.source.sets.items c.args.to.place c.args.to.set in
     let calls = c.args.calls.now in
     let t = c.args.table.now in
-    let u = c.ready.new.table in
+    let u = c.ensure_tried.new.table in
     let old = c.args.work.now.all.1 in
     let product = product_to c.args.work.now.source c.args.to in
     let wide : AreWidened c.in-Some.stays.now base c.deref-2.result.now =
     subst (λ l. AreWidened c.in-Some.stays.now (set l c.args.to.place c.args.to.set) c.deref-2.result.now) c.deref.ensures.value
     (subst (AreWidened c.in-Some.stays.now (set c.deref.result.now c.args.to.place c.args.to.set)) (sym c.deref-2.ensures.value) c.in_ok-widen.ensures) in
     put_reached c.args.to.number c.args.growable_from c.deref-2.result.now old c.put.new.self.1 c.in_ok-put.ensures.puts o u calls start
-    (hold_still o t u calls start c.in_ok-ready.ensures.steps.tries.widens old (hold_rest o t calls start product old hold))
-    (widened_reached g.row.M-State.Denot g.M.SeqObject.start_state g.M.SeqObject.apply_to u calls once c.ready.new.deeds c.in_ok-ready.ensures.sound.deeds c.in_ok-ready.ensures.sound.stays c.args.to.number c.in-Some.stays.now c.in-Some.ensures.some start base c.deref-2.result.now wide
-    (λ row is. says_still o t u calls start c.in_ok-ready.ensures.steps.tries.widens row (say_first o t calls start product old hold row is)))
+    (hold_still o t u calls start c.in_ok-ensure_tried.ensures.steps.tries.widens old (hold_rest o t calls start product old hold))
+    (widened_reached g.row.M-State.Denot g.M.SeqObject.start_state g.M.SeqObject.apply_to u calls once c.ensure_tried.new.deeds c.in_ok-ensure_tried.ensures.sound.deeds c.in_ok-ensure_tried.ensures.sound.stays c.args.to.number c.in-Some.stays.now c.in-Some.ensures.some start base c.deref-2.result.now wide
+    (λ row is. says_still o t u calls start c.in_ok-ensure_tried.ensures.steps.tries.widens row (say_first o t calls start product old hold row is)))
 
 pub returns-clause-grown : goal.returns-clause-grown
 returns-clause-grown g c =
@@ -58,20 +58,20 @@ returns-clause-grown g c =
     let gains = put_gains c.args.to.number c.args.growable_from next old new c.in_ok-put.ensures.puts in
     record {
       known = record {
-        sound = c.in_ok-ready.ensures.sound;
-        tried = put_tried c.args.to.number c.args.growable_from next old new c.in_ok-put.ensures.puts c.ready.new.deeds
-            (λ row is. c.in_ok-ready.ensures.tried.kept _ (known.tried row is)) (let told = c.in-Some.ensures.some.1 in omega (arith, told));
+        sound = c.in_ok-ensure_tried.ensures.sound;
+        tried = put_tried c.args.to.number c.args.growable_from next old new c.in_ok-put.ensures.puts c.ensure_tried.new.deeds
+            (λ row is. c.in_ok-ensure_tried.ensures.tried.kept _ (known.tried row is)) (let told = c.in-Some.ensures.some.1 in omega (arith, told));
         apart = c.rows.ensures.apart;
       };
       gains = gains;
       paid = ⊎_elim
-          (λ same. paid_none old new known.apart gains.kept _ c.args.applied.now c.ready.new.applied same)
+          (λ same. paid_none old new known.apart gains.kept _ c.args.applied.now c.ensure_tried.new.applied same)
           (λ fresh.
-          paid_one old new known.apart gains.kept _ c.args.applied.now c.ready.new.applied fresh.1.0
+          paid_one old new known.apart gains.kept _ c.args.applied.now c.ensure_tried.new.applied fresh.1.0
           (returns-clause-puts g c fresh.1.0 fresh.1.1)
           (λ was. fresh.0 (subst (IsTried c.args.work.now.deeds) (sym (first_of (product_to c.args.work.now.source c.args.to) fresh.1.0 fresh.1.1)) (known.tried fresh.1.0 was)))
-          c.in_ok-ready.ensures.steps.cost)
-          c.in_ok-ready.ensures.fresh;
+          c.in_ok-ensure_tried.ensures.steps.cost)
+          c.in_ok-ensure_tried.ensures.fresh;
       within = search rules;
       over = search rules;
     }

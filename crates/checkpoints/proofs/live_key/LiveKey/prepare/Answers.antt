@@ -25,25 +25,25 @@ returns-in_default-2-clause-next c kind budget events is_live alive history =
 pub returns-in_err-prepare-clause-now : goal.returns-in_err-prepare-clause-now
 returns-in_err-prepare-clause-now c kind budget events is_live alive history =
     still_live kind budget events c.args.index c.args.event.now c.args.self.now is_live alive history _ c.in-Client.is _ c.in-Op.is
-    (record { frontier = c.prepare.new.self; invocations = c.noted.new.invocations; closes = c.closing-self.result })
+    (record { frontier = c.prepare.new.self; invocations = c.operation_id.new.invocations; closes = c.closing-self.result })
     c.prepare.ensures.kind c.prepare.ensures.prepared.budget c.in_ok-id.ensures.invocations c.prepare.ensures.prepared.now
 
 pub returns-in-Alive-clause-now : goal.returns-in-Alive-clause-now
 returns-in-Alive-clause-now c kind budget events is_live alive history =
     still_live kind budget events c.args.index c.args.event.now c.args.self.now is_live alive history _ c.in-Client.is _ c.in-Op.is
-    (record { frontier = c.prepare.new.self; invocations = c.noted.new.invocations; closes = c.closing-self.result })
+    (record { frontier = c.prepare.new.self; invocations = c.operation_id.new.invocations; closes = c.closing-self.result })
     c.prepare.ensures.kind c.prepare.ensures.prepared.budget c.in_ok-id.ensures.invocations c.prepare.ensures.prepared.now
 
 pub returns-in-Dead-clause-now : goal.returns-in-Dead-clause-now
 returns-in-Dead-clause-now c kind budget events is_live alive history =
     still_live kind budget events c.args.index c.args.event.now c.args.self.now is_live alive history _ c.in-Client.is _ c.in-Op.is
-    (record { frontier = c.prepare.new.self; invocations = c.noted.new.invocations; closes = c.closing-self.result })
+    (record { frontier = c.prepare.new.self; invocations = c.operation_id.new.invocations; closes = c.closing-self.result })
     c.prepare.ensures.kind c.prepare.ensures.prepared.budget c.in_ok-id.ensures.invocations c.prepare.ensures.prepared.now
 
 pub returns-in-Over-clause-now : goal.returns-in-Over-clause-now
 returns-in-Over-clause-now c kind budget events is_live alive history =
     still_live kind budget events c.args.index c.args.event.now c.args.self.now is_live alive history _ c.in-Client.is _ c.in-Op.is
-    (record { frontier = c.prepare.new.self; invocations = c.noted.new.invocations; closes = c.closing-self.result })
+    (record { frontier = c.prepare.new.self; invocations = c.operation_id.new.invocations; closes = c.closing-self.result })
     c.prepare.ensures.kind c.prepare.ensures.prepared.budget c.in_ok-id.ensures.invocations c.prepare.ensures.prepared.now
 
 pub returns-in-Alive-clause-next : goal.returns-in-Alive-clause-next
@@ -51,7 +51,7 @@ returns-in-Alive-clause-next c kind budget events is_live alive history = (
   status_stepped kind budget events c.args.index c.args.event.now c.args.self.now is_live alive history _ c.in-Client.is _ c.in-Op.is _ c.in_ok-id.ensures.id _ c.in-Some.is _ c.in_ok-prepare.ensures.prepared.step
       (record { invocation = c.never_kills_law.ensures.invocation kind; crash = c.never_kills_law.ensures.crash kind }) steps.Alive c.in-Alive.is,
   will_be_live kind budget events c.args.index c.args.event.now c.args.self.now is_live alive history _ c.in-Client.is _ c.in-Op.is
-      (record { frontier = c.prepare.new.self; invocations = c.noted.new.invocations; closes = c.closing-self.result })
+      (record { frontier = c.prepare.new.self; invocations = c.operation_id.new.invocations; closes = c.closing-self.result })
       c.prepare.ensures.kind c.prepare.ensures.prepared.budget c.in_ok-id.ensures.invocations c.closing-self.ensures
       (marks_stepped kind budget events c.args.index c.args.event.now c.args.self.now is_live alive history _ c.in-Client.is _ c.in-Op.is _ c.in_ok-id.ensures.id _ c.in-Some.is _ (any_view_of c.prepare.new.self).will_stand c.in_ok-prepare.ensures.prepared.next c.in-Alive.is),
 )

@@ -20,13 +20,13 @@ returns-in_err-within_budget g c =
       step = search rules;
       now = λ marks given.
           let is = c.advance.ensures in
-          let l = listed_more o c.suit_outcomes.new.self c.advance.new.self marks is.is is.tries.widens is.tries.rows is.next (c.suit_outcomes.ensures.keeps marks (c.in_ok-list_fresh.ensures.listed marks given)) in
+          let l = listed_more o c.ensure_single_outcome.new.self c.advance.new.self marks is.is is.tries.widens is.tries.rows is.next (c.ensure_single_outcome.ensures.keeps marks (c.in_ok-list_fresh.ensures.listed marks given)) in
           listed_stands o c.advance.new.self marks l.none l.lists;
       next = search rules;
       budget = search rules;
       cost =
-          ok_costs o c.args.self.now c.suit_outcomes.new.self _ (λ marks given. c.suit_outcomes.ensures.keeps marks (c.in_ok-list_fresh.ensures.listed marks given))
-          (c.suit_outcomes.ensures.counts.budget ∙ c.in_ok-list_fresh.ensures.counts.budget) (c.suit_outcomes.ensures.counts.applied ∙ c.in_ok-list_fresh.ensures.counts.applied) c.advance.ensures.tries.never_falls c.advance.ensures.cost;
+          ok_costs o c.args.self.now c.ensure_single_outcome.new.self _ (λ marks given. c.ensure_single_outcome.ensures.keeps marks (c.in_ok-list_fresh.ensures.listed marks given))
+          (c.ensure_single_outcome.ensures.counts.budget ∙ c.in_ok-list_fresh.ensures.counts.budget) (c.ensure_single_outcome.ensures.counts.applied ∙ c.in_ok-list_fresh.ensures.counts.applied) c.advance.ensures.tries.never_falls c.advance.ensures.cost;
     }
 
 pub returns-then-not-within_budget : goal.returns-then-not-within_budget
@@ -34,17 +34,17 @@ returns-then-not-within_budget g c =
     let o = of_table g.row.M-State.Denot g.M.SeqObject.start_state g.M.SeqObject.apply_to in
     record {
       step =
-          let f = c.suit_outcomes.new.self in
-          subst (λ b. Answers o b (StandsFor o c.args.self.now) (Returned c.args.id c.args.answer.now) Over) (c.suit_outcomes.ensures.counts.budget ∙ c.in_ok-list_fresh.ensures.counts.budget)
+          let f = c.ensure_single_outcome.new.self in
+          subst (λ b. Answers o b (StandsFor o c.args.self.now) (Returned c.args.id c.args.answer.now) Over) (c.ensure_single_outcome.ensures.counts.budget ∙ c.in_ok-list_fresh.ensures.counts.budget)
           (record {
             right = λ marks given is_open.
-                too_many_by o f marks (c.suit_outcomes.ensures.keeps marks (c.in_ok-list_fresh.ensures.listed marks given)).lists f.calls.items refl f.budget
+                too_many_by o f marks (c.ensure_single_outcome.ensures.keeps marks (c.in_ok-list_fresh.ensures.listed marks given)).lists f.calls.items refl f.budget
                 (λ once ends apart shown closed. c.in_ok-within_budget.ensures.found.over once ends apart shown closed c.if-not-within_budget.true);
             over_at_ok = λ over. tt;
           });
       now = λ marks given.
           let is = c.advance.ensures in
-          let l = listed_more o c.suit_outcomes.new.self c.advance.new.self marks is.is is.tries.widens is.tries.rows is.next (c.suit_outcomes.ensures.keeps marks (c.in_ok-list_fresh.ensures.listed marks given)) in
+          let l = listed_more o c.ensure_single_outcome.new.self c.advance.new.self marks is.is is.tries.widens is.tries.rows is.next (c.ensure_single_outcome.ensures.keeps marks (c.in_ok-list_fresh.ensures.listed marks given)) in
           listed_stands o c.advance.new.self marks l.none l.lists;
       next =
           let is = c.advance.ensures in
@@ -52,13 +52,13 @@ returns-then-not-within_budget g c =
             over = λ over marks given.
                 idle_will o c.advance.new.self marks
                 (idle_of o c.advance.new.self marks
-                (listed_more o c.suit_outcomes.new.self c.advance.new.self marks is.is is.tries.widens is.tries.rows is.next (c.suit_outcomes.ensures.keeps marks (c.in_ok-list_fresh.ensures.listed marks given))));
+                (listed_more o c.ensure_single_outcome.new.self c.advance.new.self marks is.is is.tries.widens is.tries.rows is.next (c.ensure_single_outcome.ensures.keeps marks (c.in_ok-list_fresh.ensures.listed marks given))));
             taken = λ ne. absurd (ne refl);
           };
       budget = search rules;
       cost =
-          ok_costs o c.args.self.now c.suit_outcomes.new.self _ (λ marks given. c.suit_outcomes.ensures.keeps marks (c.in_ok-list_fresh.ensures.listed marks given))
-          (c.suit_outcomes.ensures.counts.budget ∙ c.in_ok-list_fresh.ensures.counts.budget) (c.suit_outcomes.ensures.counts.applied ∙ c.in_ok-list_fresh.ensures.counts.applied) c.advance.ensures.tries.never_falls c.advance.ensures.cost;
+          ok_costs o c.args.self.now c.ensure_single_outcome.new.self _ (λ marks given. c.ensure_single_outcome.ensures.keeps marks (c.in_ok-list_fresh.ensures.listed marks given))
+          (c.ensure_single_outcome.ensures.counts.budget ∙ c.in_ok-list_fresh.ensures.counts.budget) (c.ensure_single_outcome.ensures.counts.applied ∙ c.in_ok-list_fresh.ensures.counts.applied) c.advance.ensures.tries.never_falls c.advance.ensures.cost;
     }
 
 pub returns : goal.returns
@@ -66,15 +66,15 @@ returns g c =
     let o = of_table g.row.M-State.Denot g.M.SeqObject.start_state g.M.SeqObject.apply_to in
     record {
       step =
-          let f = c.suit_outcomes.new.self in
+          let f = c.ensure_single_outcome.new.self in
           let id = c.args.id in
           let answer = c.args.answer.now in
           let left = left_of c.advance.new.self in
           let t = with_rows (table_of c.advance.new.self) left in
-          subst (λ b. Answers o b (StandsFor o c.args.self.now) (Returned id answer) c.step_of.result) (c.suit_outcomes.ensures.counts.budget ∙ c.in_ok-list_fresh.ensures.counts.budget)
+          subst (λ b. Answers o b (StandsFor o c.args.self.now) (Returned id answer) c.step_of.result) (c.ensure_single_outcome.ensures.counts.budget ∙ c.in_ok-list_fresh.ensures.counts.budget)
           (record {
             right = λ marks given is_open.
-                let l = c.suit_outcomes.ensures.keeps marks (c.in_ok-list_fresh.ensures.listed marks given) in
+                let l = c.ensure_single_outcome.ensures.keeps marks (c.in_ok-list_fresh.ensures.listed marks given) in
                 let found = advanced o f marks l.lists f.calls.items refl t f.budget id answer (λ once ends shown closed. c.in_ok-within_budget.ensures.found.all once ends shown closed c.if-not-within_budget.false) in
                 step_by o found.left.more (length left) found.left.shown.long c.some_left.result c.some_left.ensures marks (Returned id answer) (generates_left o f marks l.lists f.budget t id is_open answer found)
                 f.budget (within o f marks l.lists f.budget t id is_open answer found) c.step_of.result c.step_of.ensures;
@@ -82,10 +82,10 @@ returns g c =
           });
       now = λ marks given.
           let is = c.advance.ensures in
-          let l = listed_more o c.suit_outcomes.new.self c.advance.new.self marks is.is is.tries.widens is.tries.rows is.next (c.suit_outcomes.ensures.keeps marks (c.in_ok-list_fresh.ensures.listed marks given)) in
+          let l = listed_more o c.ensure_single_outcome.new.self c.advance.new.self marks is.is is.tries.widens is.tries.rows is.next (c.ensure_single_outcome.ensures.keeps marks (c.in_ok-list_fresh.ensures.listed marks given)) in
           stands_like o c.advance.new.self _ (refl, refl, refl, refl) marks (listed_stands o c.advance.new.self marks l.none l.lists);
       next =
-          let f = c.suit_outcomes.new.self in
+          let f = c.ensure_single_outcome.new.self in
           let after = c.advance.new.self in
           let is = c.advance.ensures.is in
           let id = c.args.id in
@@ -96,7 +96,7 @@ returns g c =
           record {
             over = λ over. absurd (c.step_of.ensures.never_over over);
             taken = λ _ marks given is_open.
-                let l = c.suit_outcomes.ensures.keeps marks (c.in_ok-list_fresh.ensures.listed marks given) in
+                let l = c.ensure_single_outcome.ensures.keeps marks (c.in_ok-list_fresh.ensures.listed marks given) in
                 let found = advanced o f marks l.lists f.calls.items refl t f.budget id answer (λ once ends shown closed. c.in_ok-within_budget.ensures.found.all once ends shown closed c.if-not-within_budget.false) in
                 record {
                   will = λ h makes.
@@ -107,6 +107,6 @@ returns g c =
           };
       budget = search rules;
       cost =
-          ok_costs o c.args.self.now c.suit_outcomes.new.self _ (λ marks given. c.suit_outcomes.ensures.keeps marks (c.in_ok-list_fresh.ensures.listed marks given))
-          (c.suit_outcomes.ensures.counts.budget ∙ c.in_ok-list_fresh.ensures.counts.budget) (c.suit_outcomes.ensures.counts.applied ∙ c.in_ok-list_fresh.ensures.counts.applied) c.advance.ensures.tries.never_falls c.advance.ensures.cost;
+          ok_costs o c.args.self.now c.ensure_single_outcome.new.self _ (λ marks given. c.ensure_single_outcome.ensures.keeps marks (c.in_ok-list_fresh.ensures.listed marks given))
+          (c.ensure_single_outcome.ensures.counts.budget ∙ c.in_ok-list_fresh.ensures.counts.budget) (c.ensure_single_outcome.ensures.counts.applied ∙ c.in_ok-list_fresh.ensures.counts.applied) c.advance.ensures.tries.never_falls c.advance.ensures.cost;
     }

@@ -1,7 +1,7 @@
 -- No row of the product is in those that were looked at.
 use Rattle.std.proofs.Common.{◌<◌, ◌≤◌, ℕ, List}
 use Rattle.products.specs.Products.{IsIn, IsInAt}
-use Rattle.products.proofs.products.Products.meeting.Given as goal
+use Rattle.products.proofs.products.Products.last_overlapping.Given as goal
 
 abbrev pub invariant-loop-at : goal.invariant-loop-at
 invariant-loop-at l = record {

@@ -1,7 +1,7 @@
 use Rattle.std.proofs.Common.{inr, ◌∷◌, ◌∙◌, set, refl, sym, subst}
 use Rattle.std.proofs.lemmas.Bool.{true≢false}
 use Rattle.products.specs.Products.{AreIn}
-use Rattle.product_ends.proofs.target.ready.Goals as goal
+use Rattle.product_ends.proofs.target.ensure_tried.Goals as goal
 
 pub returns-in_err-try_each-clause-fresh : goal.returns-in_err-try_each-clause-fresh
 returns-in_err-try_each-clause-fresh g c =

@@ -7,7 +7,7 @@ use Rattle.ends.proofs.Adding.{IsFront-itself}
 use Rattle.ends.proofs.Marking.{left_settled}
 use Rattle.ends.proofs.Settling.{none_settles}
 use Rattle.ends.proofs.Showing.{shown_no_rows}
-use Rattle.ends.proofs.after.settled.Goals as goal
+use Rattle.ends.proofs.after.put_left_by_ok.Goals as goal
 
 pub returns-in_ok-mark_fitting-in-Some : goal.returns-in_ok-mark_fitting-in-Some
 returns-in_ok-mark_fitting-in-Some g c once ends shown =

@@ -1,7 +1,7 @@
 use Rattle.std.proofs.Common.{◌≡◌, ◌+◌, ◌-◌, ◌<◌, ℕ, List, Some, length, slice_get, get_or, refl, sym, ap, ◌∙◌, subst, arith}
 use Rattle.std.proofs.lemmas.Option.{slice_get-get_or}
 use Rattle.ends.specs.declared.pending_op.PendingOp.{PendingOp}
-use Rattle.ends.proofs.moves.alike_at.Goals as goal
+use Rattle.ends.proofs.moves.run_of_equal_calls.Goals as goal
 
 pub returns-in-Some-clause-all : goal.returns-in-Some-clause-all
 returns-in-Some-clause-all g c alike i lt call here =

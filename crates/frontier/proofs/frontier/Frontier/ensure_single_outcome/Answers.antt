@@ -1,6 +1,6 @@
 use Rattle.models.specs.Objects.{of_table}
 use Rattle.frontier.proofs.Preparing.{listed_again}
-use Rattle.frontier.proofs.frontier.Frontier.suit_outcomes.Goals as goal
+use Rattle.frontier.proofs.frontier.Frontier.ensure_single_outcome.Goals as goal
 
 pub returns-else-has_scalar_states-clause-keeps : goal.returns-else-has_scalar_states-clause-keeps
 returns-else-has_scalar_states-clause-keeps g c marks =

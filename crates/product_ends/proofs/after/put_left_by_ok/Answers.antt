@@ -5,8 +5,8 @@ use Rattle.ends.specs.Tables.{AreMarksOf, with_rows}
 use Rattle.ends.proofs.Settling.{none_settles}
 use Rattle.products.specs.Products.{Family, HavePlaces, rows_in}
 use Rattle.product_ends.proofs.Left.{left_settled, shown_none, too_short}
-use Rattle.product_ends.proofs.after.settled.Goals as goal
-use Rattle.product_ends.proofs.after.settled.Goals.{in_default-via-in-Some+else-call-places, in_default-via-in_default}
+use Rattle.product_ends.proofs.after.put_left_by_ok.Goals as goal
+use Rattle.product_ends.proofs.after.put_left_by_ok.Goals.{in_default-via-in-Some+else-call-places, in_default-via-in_default}
 
 pub returns-in_ok-take_marked-in-Some : goal.returns-in_ok-take_marked-in-Some
 returns-in_ok-take_marked-in-Some g c once ends shown =

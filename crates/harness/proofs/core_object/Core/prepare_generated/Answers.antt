@@ -18,7 +18,7 @@ use Rattle.harness.proofs.Preparing.{seen, readied, unchanged, wants_at}
 use Rattle.harness.proofs.Driving.{drawn_strikes, given_fault}
 use Rattle.harness.proofs.Striking.{has_room, no_room, no_fault, next_given, refused_full}
 use Rattle.harness.proofs.Takes.{may_strike}
-use Rattle.harness.proofs.core_object.Core.prepare_drawn.Goals as goal
+use Rattle.harness.proofs.core_object.Core.prepare_generated.Goals as goal
 
 pub returns-in_default : goal.returns-in_default
 returns-in_default c =

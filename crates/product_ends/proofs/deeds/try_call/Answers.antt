@@ -4,7 +4,7 @@ use Rattle.interned.specs.Numbers.{IsSlot}
 use Rattle.interned.proofs.Lists.{get_front}
 use Rattle.ends.proofs.Moving.{alone}
 use Rattle.ends.specs.Tables.{told_by}
-use Rattle.product_ends.proofs.deeds.tried.Goals as goal
+use Rattle.product_ends.proofs.deeds.try_call.Goals as goal
 
 pub returns-in_ok-singleton-in-Some-pop-clause-deed : goal.returns-in_ok-singleton-in-Some-pop-clause-deed
 returns-in_ok-singleton-in-Some-pop-clause-deed g c =

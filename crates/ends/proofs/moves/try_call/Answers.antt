@@ -4,7 +4,7 @@ use Rattle.ends.specs.declared.pending_op.PendingOp.{PendingOp}
 use Rattle.ends.specs.Moves.{AreMoves, AreTo, LeadsTo, targets_of}
 use Rattle.ends.proofs.Moving.{moves_more, moves_none, moves_with}
 use Rattle.interned.proofs.Lists.{get_front, one_of}
-use Rattle.ends.proofs.moves.tried.Goals as goal
+use Rattle.ends.proofs.moves.try_call.Goals as goal
 
 pub returns-clause-moves : goal.returns-clause-moves
 returns-clause-moves g c =

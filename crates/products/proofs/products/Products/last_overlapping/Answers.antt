@@ -2,7 +2,7 @@ use Rattle.std.proofs.Common.{◌≡◌, ◌<◌, ◌-◌, ◌*◌, length, get_
 use Rattle.std.proofs.lemmas.List.{get_or_read}
 use Rattle.products.proofs.Families.{at_place, found_at, view_long, view_product}
 use Rattle.products.proofs.Putting.{apart_one, inside_one, other_first, passed}
-use Rattle.products.proofs.products.Products.meeting.Goals as goal
+use Rattle.products.proofs.products.Products.last_overlapping.Goals as goal
 
 pub index-requires : goal.index-requires
 index-requires c =

@@ -1,7 +1,7 @@
 use Rattle.std.proofs.Common.{◌+◌, ◌∷◌, ◌++◌, [], ◌/◌, ◌*◌, ◌<◌, ◌≡◌, ◌≤◌, length, sym, subst, arith, length-append}
 use Rattle.checkpoints.specs.Saved.{AreSaved}
 use Rattle.checkpoints.proofs.SavedStates.{AreSaved-more, AreSaved-with}
-use Rattle.checkpoints.proofs.saving.save.Goals as goal
+use Rattle.checkpoints.proofs.saving.save_if_due.Goals as goal
 
 pub returns-in_ok-push-clause-saved : goal.returns-in_ok-push-clause-saved
 returns-in_ok-push-clause-saved c kind budget before all stands are =
