@@ -39,11 +39,11 @@ HasSeen seat tape = IsPrefix tape seat.tape
 
 -- a call that is an entry: its seat has then seen a legal tape that begins with all that it had seen and ends with this call
 pub record IsAnswered {S C R : Type 0} (replies : S → C → R → S → Type 0) (old new : SeatView S C R) (command : C)
-    (reply : R) (commit : ℕ) (news : List (TapeEntry S C R)) : Type 0 where
+    (reply : R) (entry_number : ℕ) (news : List (TapeEntry S C R)) : Type 0 where
   pub entry : (before : List (TapeEntry S C R)) × IsPrefix old.tape before
       × (new.tape ≡ before ++ Call old.number command reply ∷ [])
   pub legal : IsLegalTape replies new.tape
-  pub number : length new.tape ≡ commit + 1
+  pub number : length new.tape ≡ entry_number + 1
   pub count : new.count ≡ old.count + 1
   pub told : news ≡ new.tape
 

@@ -36,7 +36,7 @@ pub enum Act {
     Learn,
 }
 
-/// The number of a seat, what it does, and the commit and what is said then.
+/// The number of a seat, what it does, and the number of the entry and what is said then.
 pub type Row = (u32, Act, u64, Said);
 
 fn append(kind: EventKind, name: Name, part: Part) -> Command {
@@ -128,11 +128,11 @@ fn act_by<B: Tag, R: Wait + Abort>(rt: &R, blank: Blank, rows: &[Row]) -> Said
     assert_eq!(rt; seats.len(), count);
     let mut news = None;
     let mut told = None;
-    for &(number, act, commit, said) in rows {
+    for &(number, act, entry_number, said) in rows {
         let number = number as usize;
         assert!(rt; number < seats.len());
         told = act_once(rt, &board, &mut seats[number], act, told, &mut news);
-        assert_eq!(rt; told, Some((commit, said)));
+        assert_eq!(rt; told, Some((entry_number, said)));
     }
     plain_of(board.end(rt, seats).verdict())
 }

@@ -39,17 +39,17 @@ fn seats_in_turn(rt: HostRuntime) {
     assert_eq!(rt; last, Said::Illegal(7, 3));
 }
 
-/// The commits of some calls, as bits, and how many glances showed less than their seat's call, or nothing.
+/// The numbers of the entries of some calls, as bits, and how many glances showed less than their seat's call, or nothing.
 #[derive(Clone, Copy)]
 struct Tally {
-    commits: u64,
+    entries: u64,
     missed: u32,
 }
 
 impl Tally {
     fn with(self, other: Tally) -> Tally {
         Tally {
-            commits: self.commits ^ other.commits,
+            entries: self.entries ^ other.entries,
             missed: self.missed.saturating_add(other.missed),
         }
     }
@@ -58,22 +58,22 @@ impl Tally {
 // One call of each seat, and a glance after it.
 fn call_each<M: SharedBoard, R: Wait>(rt: &R, board: &M, seats: &mut [M::Seat]) -> Tally {
     let mut tally = Tally {
-        commits: 0,
+        entries: 0,
         missed: 0,
     };
     for seat in seats.iter_mut() {
-        let (commit, _) = board.call(rt, seat);
+        let (entry_number, _) = board.call(rt, seat);
         let seen = match board.glance(seat) {
             Some((seen, _)) => seen,
             None => 0,
         };
-        let bit = match commit {
-            1..=64 => 1 << (commit - 1),
+        let bit = match entry_number {
+            1..=64 => 1 << (entry_number - 1),
             _ => 0,
         };
         tally = tally.with(Tally {
-            commits: bit,
-            missed: u32::from(seen < commit),
+            entries: bit,
+            missed: u32::from(seen < entry_number),
         });
     }
     tally
@@ -112,7 +112,7 @@ where
     a.with(b).with(c.with(d))
 }
 
-/// Calls of 64 seats in four threads are the commits 1 to 64, each once. No call is left out, and no glance beside them
+/// Calls of 64 seats in four threads are the entries 1 to 64, each once. No call is left out, and no glance beside them
 /// shows nothing, or less than its seat had seen.
 #[test]
 fn calls_from_four_threads(rt: HostRuntime) {
@@ -129,7 +129,7 @@ fn call_at_once<B: Tag + Send + Sync, R: Threads + Wait + Abort + Sync>(rt: &R, 
     };
     let all = call_in_threads(rt, &board, seats.as_mut_slice());
     let core = board.end(rt, seats);
-    assert_eq!(rt; all.commits, u64::MAX);
+    assert_eq!(rt; all.entries, u64::MAX);
     assert_eq!(rt; all.missed, 0);
     assert_eq!(rt; plain_of(core.verdict()), Said::Legal);
 }

@@ -40,7 +40,7 @@ impl Beside for Hold {
 }
 
 /// A gate begins under the lock: a call that is made while it goes on comes after the held one. Tried by hand: with the
-/// gate's two calls moved out of the lock, the other call is commit 1, and the test fails.
+/// gate's two calls moved out of the lock, the other call is entry 1, and the test fails.
 #[test]
 fn gate_begins_under_the_lock(rt: HostRuntime) {
     let hold = Hold {

@@ -38,7 +38,7 @@ fn refusals_in_order(rt: HostRuntime) {
     }
 }
 
-/// Before any call a glance shows none, and the verdict asked for first is commit 1.
+/// Before any call a glance shows none, and the verdict asked for first is entry 1.
 #[test]
 fn verdict_of_nothing(rt: HostRuntime) {
     let rows = &[

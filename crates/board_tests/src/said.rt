@@ -44,7 +44,7 @@ fn plain_reply(reply: &Reply) -> Said {
     }
 }
 
-/// The commit and what was said. The commit is 0 where the call was no entry.
+/// The number of the entry and what was said. The number is 0 where the call was no entry.
 pub fn answer_of<B: Tag>(answer: &Result<Answered<B>, Refusal>) -> (u64, Said) {
     match answer {
         Ok(answered) => match &answered.reply {

@@ -9,11 +9,16 @@ use std::sync::Wait;
 pub trait SharedBoard {
     type Seat;
 
-    /// The commit, and what was said.
+    /// The number of the entry, and what was said.
     fn call<R: Wait>(&self, rt: &R, seat: &mut Self::Seat) -> (u64, Said);
 
     /// A call that has a gate.
-    fn call_with_gate<G: Gate, R: Wait>(&self, rt: &R, seat: &mut Self::Seat, gate: &G) -> (u64, Said);
+    fn call_with_gate<G: Gate, R: Wait>(
+        &self,
+        rt: &R,
+        seat: &mut Self::Seat,
+        gate: &G,
+    ) -> (u64, Said);
 
     /// How many calls had been made, and the verdict after them.
     fn glance(&self, seat: &mut Self::Seat) -> Option<(u64, Said)>;
@@ -26,7 +31,12 @@ impl<B: Tag> SharedBoard for Board<B> {
         answer_of(&Board::call(self, rt, seat, Command::Verdict))
     }
 
-    fn call_with_gate<G: Gate, R: Wait>(&self, rt: &R, seat: &mut Seat<B>, gate: &G) -> (u64, Said) {
+    fn call_with_gate<G: Gate, R: Wait>(
+        &self,
+        rt: &R,
+        seat: &mut Seat<B>,
+        gate: &G,
+    ) -> (u64, Said) {
         answer_of(&Board::call_with_gate(self, rt, seat, Command::Verdict, gate))
     }
 

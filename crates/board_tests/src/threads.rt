@@ -13,15 +13,15 @@ use std::sync::atomic::{AtomicU64, Ordering};
 use std::thread;
 use std::thread::Threads;
 
-// One call, whose commit is added to the others.
+// One call; the number of its entry is added to the others.
 fn call_once<M: SharedBoard, R: Wait>(
     rt: &R,
     board: &M,
     mut seat: M::Seat,
-    commits: &AtomicU64,
+    numbers: &AtomicU64,
 ) -> M::Seat {
-    let (commit, _) = board.call(rt, &mut seat);
-    commits.fetch_add(commit, Ordering::SeqCst);
+    let (number, _) = board.call(rt, &mut seat);
+    numbers.fetch_add(number, Ordering::SeqCst);
     seat
 }
 
@@ -30,12 +30,12 @@ fn send_all<M: SharedBoard + Sync, R: Threads + Wait + Sync>(
     rt: &R,
     board: &M,
     seats: Vec<M::Seat>,
-    commits: &AtomicU64,
+    numbers: &AtomicU64,
 ) -> Result<Vec<M::Seat>, AllocError>
 where
     M::Seat: Send + Drop,
 {
-    thread::map_vec(rt, seats, &|seat| call_once(rt, board, seat, commits))
+    thread::map_vec(rt, seats, &|seat| call_once(rt, board, seat, numbers))
 }
 
 /// Each seat goes to a thread of its own, calls there, and comes back to the one that ends the board. All that is asked of
@@ -56,9 +56,9 @@ fn send_and_end<B: Tag + Send + Sync, R: Threads + Wait + Abort + Sync>(
     let Ok((board, seats)) = blank.open::<B>() else {
         panic!(rt; "not opened")
     };
-    let commits = AtomicU64::new(0);
-    let back = send_all(rt, &board, seats, &commits);
+    let numbers = AtomicU64::new(0);
+    let back = send_all(rt, &board, seats, &numbers);
     let core = board.end(rt, back.unwrap_or(Vec::new(alloc)));
-    assert_eq!(rt; commits.load(Ordering::SeqCst), 10);
+    assert_eq!(rt; numbers.load(Ordering::SeqCst), 10);
     assert_eq!(rt; plain_of(core.verdict()), Said::Legal);
 }

@@ -147,7 +147,7 @@ impl AnyFrontier {
     }
 
     /// An equal frontier, which shares the items of queues and the members that were found; nothing is prepared of it:
-    /// [`Frontier::copy`]. Takes the time of the calls, the rows, the states and what was found.
+    /// [`Frontier::copy`]. Takes the time of the calls, the rows or products, the states and what was found.
     pub fn copy(&self) -> Result<Self, AllocError>
         ensures copied { IfOk result (λ f. IsCopy (any_view_of self.now) (any_view_of f)) }
         ensures kind { IfOk result (λ f. kind_of_frontier f ≡ kind_of_frontier self.now) }
