@@ -63,7 +63,7 @@ returns-clause-sound g c sound =
     let number = c.args.number in
     let old = c.args.deeds.now in
     let new : Deeds g.row.M-State.Denot = record {
-      order = c.tell.new.order;
+      order = c.note_order.new.order;
       deeds = c.loop-call.deeds.deeds;
       stays = c.loop-call.deeds.stays;
       outcomes = c.loop-call.deeds.outcomes;
@@ -74,7 +74,7 @@ returns-clause-sound g c sound =
     let long = i.long in
     let as_many = i.as_many in
     let more : length new.deeds.items ≡ length old.deeds.items + length calls = omega arith in
-    on_ok_weaker c.tell.result
+    on_ok_weaker c.note_order.result
     (λ h.
     let order : IsOrderWith old.order.items new.order.items number (length old.deeds.items) =
     subst (λ k. IsOrderWith old.order.items new.order.items number k) before (subst (λ l. IsOrderWith l new.order.items number c.len-before.result) (ap (λ (v : Vec ℕ). v.items) i.order) h) in
@@ -85,18 +85,18 @@ returns-clause-sound g c sound =
       stays = stays_with old new number (length calls) i.front i.stays_front (omega (arith, long, as_many, same)) order
           (subst (AreStaysTo number new.deeds.items new.stays.items (length old.deeds.items)) end (i.stays same)) sound.within sound.stays;
     })
-    c.tell.ensures
+    c.note_order.ensures
 
 pub returns-clause-tried : goal.returns-clause-tried
 returns-clause-tried g c =
     let i = c.loop-call.invariant in
     let old = c.args.deeds.now in
     let new : Deeds g.row.M-State.Denot = record {
-      order = c.tell.new.order;
+      order = c.note_order.new.order;
       deeds = c.loop-call.deeds.deeds;
       stays = c.loop-call.deeds.stays;
       outcomes = c.loop-call.deeds.outcomes;
     } in
-    on_ok_weaker c.tell.result
+    on_ok_weaker c.note_order.result
     (λ h. tried_too old new c.args.number c.len-before.result (subst (λ l. IsOrderWith l new.order.items c.args.number c.len-before.result) (ap (λ (v : Vec ℕ). v.items) i.order) h))
-    c.tell.ensures
+    c.note_order.ensures

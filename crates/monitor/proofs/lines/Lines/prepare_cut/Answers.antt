@@ -6,8 +6,8 @@ use Rattle.monitor.proofs.Changing.{changed-all, line_after, none_left, nows_lef
 use Rattle.monitor.proofs.Cutting.{AreCutSoFar-skip, AreCutSoFar-more, cut_next, same_nows, same_length, all_kept, all_joined, all_counted}
 use Rattle.monitor.proofs.lines.Lines.prepare_cut.Goals as goal
 
-pub at-key-requires : goal.at-key-requires
-at-key-requires c =
+pub key_and_line-key-requires : goal.key_and_line-key-requires
+key_and_line-key-requires c =
     let seen = ap (λ (v : LinesView). length v.rows) c.self.view_is in
     let long = same_length c.args.self.now.rows c.loop-place.self.rows (same_nows c.loop-place.invariant.so_far) in
     omega (arith, seen, long, c.len-place-end.ensures.len)
