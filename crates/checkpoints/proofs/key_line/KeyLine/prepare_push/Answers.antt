@@ -13,7 +13,7 @@ invariant_of-self-in_err-next c =
     let many = many_places c.self.inside.kind c.self.inside.budget events c.self.inside.places.items c.self.inside.state c.self.inside.saved.items now in
     IsSoundLine-dropped _ _ _ _ _ _ _ _ c.self.invariant c.prepare_event.new.state
     (c.prepare_event.ensures.now c.self.inside.kind c.self.inside.budget events now.stands h)
-    _ c.reserve.ensures.items _ (c.prepare_event.ensures.saved c.self.inside.kind c.self.inside.budget events (sym many ∙ sym all) now.stands now.saved_are) _ _ c.drop_prepared.ensures
+    _ c.reserve.ensures.items _ (c.prepare_event.ensures.saved c.self.inside.kind c.self.inside.budget events (sym many ∙ sym all) now.stands now.saved_are) _ _ c.clear.ensures
 
 pub invariant_of-self-2 : goal.invariant_of-self-2
 invariant_of-self-2 c =
