@@ -153,7 +153,7 @@ module _ (monitor : MonitorView) (source : SourceView) (schedule : List (ℕ × 
       → monitor' ≡ monitor_with_next (with_event event monitor.now) monitor → IsVerdictOn (with_event event monitor.now) v
       → IsPrepared m (Finish number) (Says v, v) (seen monitor' source schedule store tickets Judged)
   finished monitor' number event v s may brought true =
-      judged monitor monitor' source schedule store tickets (with_event event monitor.now) monitor.again (Finish number) v
+      judged monitor monitor' source schedule store tickets (with_event event monitor.now) monitor.judged_again (Finish number) v
       ((may.0, may.2, (may.1, may.3, may.4, subst (Admits monitor.now) may.6 (finish_takes number event s may), ap (λ (e : Event). judged_as m (with_event e monitor.now)) may.6)), true)
       true brought
 

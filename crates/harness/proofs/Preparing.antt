@@ -71,16 +71,16 @@ module _ (monitor monitor' : MonitorView) (source : SourceView) (schedule : List
   m = machine_of monitor source schedule store tickets
 
   -- a change of the monitor alone, however many events were judged again by then
-  pub judged : (h : JudgedHistory) (again : ℕ) (command : Command) (v : Verdict) → MayStep m command (Ok (Says v)) (judged_as m h) → IsVerdictOn h v → monitor' ≡ monitor_with_next h (record monitor { again = again })
+  pub judged : (h : JudgedHistory) (judged_again : ℕ) (command : Command) (v : Verdict) → MayStep m command (Ok (Says v)) (judged_as m h) → IsVerdictOn h v → monitor' ≡ monitor_with_next h (record monitor { judged_again = judged_again })
       → IsPrepared m command (Says v, v) (seen monitor' source schedule store tickets Judged)
-  judged h again command v step true is = (judged_as m h, step, true, ap (λ (x : MonitorView). seen x source schedule store tickets Judged) is)
+  judged h judged_again command v step true is = (judged_as m h, step, true, ap (λ (x : MonitorView). seen x source schedule store tickets Judged) is)
 
   pub appended : (event : Event) (v : Verdict) → Admits monitor.now event → monitor' ≡ monitor_with_next (with_event event monitor.now) monitor → IsVerdictOn (with_event event monitor.now) v
       → IsPrepared m (Append event) (Says v, v) (seen monitor' source schedule store tickets Judged)
-  appended event v may is true = judged (with_event event monitor.now) monitor.again (Append event) v (may, refl, true) true is
+  appended event v may is true = judged (with_event event monitor.now) monitor.judged_again (Append event) v (may, refl, true) true is
 
   -- the same at once
-  pub appended_at_once : (event : Event) (v : Verdict) → Admits monitor.now event → monitor' ≡ monitor_at_rest (with_event event monitor.now) monitor.again → IsVerdictOn (with_event event monitor.now) v
+  pub appended_at_once : (event : Event) (v : Verdict) → Admits monitor.now event → monitor' ≡ monitor_at_rest (with_event event monitor.now) monitor.judged_again → IsVerdictOn (with_event event monitor.now) v
       → MayStep m (Append event) (Ok (Says v)) (machine_of monitor' source schedule store tickets)
   appended_at_once event v may is true = (
     may,
@@ -88,17 +88,17 @@ module _ (monitor monitor' : MonitorView) (source : SourceView) (schedule : List
     subst (λ (x : MonitorView). IsVerdictOn x.now v) (sym is) true,
   )
 
-  pub kind_set : (key : ℕ) (kind : ModelKind) (again : ℕ) (v : Verdict) → monitor' ≡ monitor_with_next (with_kind key kind monitor.now) (record monitor { again = again }) → IsVerdictOn (with_kind key kind monitor.now) v
+  pub kind_set : (key : ℕ) (kind : ModelKind) (judged_again : ℕ) (v : Verdict) → monitor' ≡ monitor_with_next (with_kind key kind monitor.now) (record monitor { judged_again = judged_again }) → IsVerdictOn (with_kind key kind monitor.now) v
       → IsPrepared m (SetModel key kind) (Says v, v) (seen monitor' source schedule store tickets Judged)
-  kind_set key kind again v is true = judged (with_kind key kind monitor.now) again (SetModel key kind) v (refl, true) true is
+  kind_set key kind judged_again v is true = judged (with_kind key kind monitor.now) judged_again (SetModel key kind) v (refl, true) true is
 
-  pub budget_set : (key n again : ℕ) (v : Verdict) → IsBudget n → monitor' ≡ monitor_with_next (with_budget key n monitor.now) (record monitor { again = again }) → IsVerdictOn (with_budget key n monitor.now) v
+  pub budget_set : (key n judged_again : ℕ) (v : Verdict) → IsBudget n → monitor' ≡ monitor_with_next (with_budget key n monitor.now) (record monitor { judged_again = judged_again }) → IsVerdictOn (with_budget key n monitor.now) v
       → IsPrepared m (SetBudget key n) (Says v, v) (seen monitor' source schedule store tickets Judged)
-  budget_set key n again v within is true = judged (with_budget key n monitor.now) again (SetBudget key n) v (within, refl, true) true is
+  budget_set key n judged_again v within is true = judged (with_budget key n monitor.now) judged_again (SetBudget key n) v (within, refl, true) true is
 
-  pub was_rewound : (n again : ℕ) (v : Verdict) → n ≤ length monitor.now.events → monitor' ≡ monitor_with_next (rewound n monitor.now) (record monitor { again = again }) → IsVerdictOn (rewound n monitor.now) v
+  pub was_rewound : (n judged_again : ℕ) (v : Verdict) → n ≤ length monitor.now.events → monitor' ≡ monitor_with_next (rewound n monitor.now) (record monitor { judged_again = judged_again }) → IsVerdictOn (rewound n monitor.now) v
       → IsPrepared m (Rewind n) (Says v, v) (seen monitor' source schedule store tickets (Cut n))
-  was_rewound n again v within is true = (cut_to n m, (within, refl, true), true, ap (λ (x : MonitorView). seen x source schedule store tickets (Cut n)) is)
+  was_rewound n judged_again v within is true = (cut_to n m, (within, refl, true), true, ap (λ (x : MonitorView). seen x source schedule store tickets (Cut n)) is)
 
 -- asking leaves all as it is
 pub asked_for : (monitor : MonitorView) (source : SourceView) (schedule : List (ℕ × Fault)) (store : StoreView) (tickets : List Ticket) (v : Verdict) → IsVerdictOn monitor.now v
