@@ -1,7 +1,7 @@
 """A history in Jepsen's form that is judged by shards: turned into jepmon's own, event by event."""
 from __future__ import annotations
 
-from typing import BinaryIO, Dict, Iterator, List, Optional, Sequence, cast
+from typing import BinaryIO, Dict, Iterator, List, Mapping, Optional, Sequence, cast
 
 from .. import edn, history
 from ..forms import Refused, faults
@@ -47,15 +47,16 @@ def recorded(made: Turned, account: Account) -> Recorded:
                     faults=faults.of_nemesis(made.history.nemesis, made.begun))
 
 
-def with_lines(made: Turned, events: Sequence[Event], path: Optional[str]) -> List[Event]:
-    """The events with their lines in the file, and what else these say of them."""
-    wanted = {event.index for event in events}
+def with_lines(made: Turned, keys: Mapping[int, Sequence[Event]], path: Optional[str]) -> Dict[int, List[Event]]:
+    """The events of each key with their lines in the file, and what else these say of them."""
+    wanted = {event.index for events in keys.values() for event in events}
     lines: Dict[int, int] = {}
     for index, event in enumerate(made.history.events, made.begun):
         if index in wanted and isinstance(event, JepsenEvent):
             lines[index] = event.line
     further = dict(_further(path, set(lines.values()))) if path is not None else {}
-    return [event._replace(line=lines.get(event.index, 0), fields=further.get(lines.get(event.index, 0), event.fields)) for event in events]
+    return {key: [event._replace(line=lines.get(event.index, 0), fields=further.get(lines.get(event.index, 0), event.fields))
+                  for event in events] for key, events in keys.items()}
 
 
 def _further(path: str, wanted: "set[int]") -> "Iterator[tuple[int, dict[str, object]]]":
