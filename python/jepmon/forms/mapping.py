@@ -40,6 +40,7 @@ class Mapping(NamedTuple):
     time_unit: Optional[str] = None
     order: Optional[str] = None
     skew: Optional[str] = None
+    unfinished: bool = False  # whether it is said that a client does one operation after the other
 
     def with_field(self, words: str) -> Mapping:
         """With one field more, said as FIELD=NAME."""

@@ -18,6 +18,7 @@ def add(parser: argparse.ArgumentParser) -> None:
     group.add_argument("--mapping", metavar="FILE", help="a mapping file (JSON): fields, words, lines of a log, columns")
     group.add_argument("--time-unit", choices=tuple(UNITS), help="the unit of times that are numbers and do not name one")
     group.add_argument("--order", choices=(LINES, TIMES), help="take events in the order of their lines, or of their times")
+    group.add_argument("--unfinished", choices=("info",), help="an operation that is open when its client invokes the next one never returned")
     group.add_argument("--skew", metavar="TIME", help="each clock may be wrong by so much, as 5ms: orders within it are not taken as certain")
 
 
@@ -30,4 +31,5 @@ def of(given: argparse.Namespace) -> Mapping:
         made = made.with_ignored(field)
     if given.skew is not None:
         nanoseconds(given.skew)  # which refuses what is none
-    return made._replace(time_unit=given.time_unit or made.time_unit, order=given.order, skew=given.skew)
+    return made._replace(time_unit=given.time_unit or made.time_unit, order=given.order, skew=given.skew,
+                         unfinished=given.unfinished is not None)
