@@ -5,8 +5,9 @@
     wrong_bodies.py --plan       which are due, and why; tries none
     wrong_bodies.py --release    all; writes dist/jepmon.refused if each is refused for its clause
 
-A release run that was cut off goes on where it stopped: it keeps what was refused in crates/CRATE/out, for the very same files. The last
-line is 'N passed, M failed'; the line before it says how many were due, tried, and stand by the last release.
+What was refused for its clause is kept on this machine, in ~/.cache/jepmon/refused, by the digest of all that its try read: a later run
+does not try the same again, unless --anew is given. So a run that was cut off goes on where it stopped. The last line is 'N passed, M
+failed'; the line before it says how many were due, tried, kept, and stand by the last release.
 """
 from __future__ import annotations
 
@@ -45,6 +46,7 @@ def main(words: Optional[Sequence[str]] = None) -> int:
     parser.add_argument("names", nargs="*", metavar="NAME")
     parser.add_argument("--plan", action="store_true")
     parser.add_argument("--release", action="store_true")
+    parser.add_argument("--anew", action="store_true", help="try also what an earlier run on this machine has kept")
     given = parser.parse_args(words)
     crates = Crates(TOP)
     prover = Prover(crates)
@@ -53,7 +55,7 @@ def main(words: Optional[Sequence[str]] = None) -> int:
         print(f"{len(tries.wrongs)} are tried, {tries.due} of them are due; {tries.standing} stand by the last release")
         return 0
     begin = time.monotonic()
-    outcomes = all_tried(prover, tries.wrongs, keeps=given.release)
+    outcomes = all_tried(prover, tries.wrongs, given.anew)
     failed = tries.faults + [f"{it.wrong.name}: {MEANING[it.kind]}: {it.told[:SHOWN]}" for it in outcomes if it.kind not in REFUSED]
     if given.release:
         failed += not_released(outcomes)
@@ -62,7 +64,8 @@ def main(words: Optional[Sequence[str]] = None) -> int:
     if given.release and not failed:
         write_record(prover, len(outcomes))
     refused = sum(it.kind in REFUSED for it in outcomes)
-    print(f"wrong bodies: {tries.due} due, {len(tries.wrongs)} tried, {refused} refused, {tries.standing} stand by the last release; "
+    kept = sum(it.is_kept for it in outcomes)
+    print(f"wrong bodies: {tries.due} due, {len(outcomes) - kept} tried, {kept} kept, {tries.standing} stand by the last release; "
           f"{time.monotonic() - begin:.0f} seconds, {sum(it.seconds for it in outcomes) / 60:.1f} processor minutes")
     print(f"{refused} passed, {len(failed)} failed")
     return 1 if failed else 0
@@ -70,7 +73,7 @@ def main(words: Optional[Sequence[str]] = None) -> int:
 
 def chosen(crates: Crates, prover: Prover, names: Sequence[str], is_release: bool) -> Tries:
     """What is tried. Prints the reason of each."""
-    wrongs = wrong_bodies(TOP)
+    wrongs = [wrong for wrong in wrong_bodies(TOP) if wrong.crate in crates.lines]
     faults = [f"{path}: a wrong body is wrong/CRATE/NAME.edit, of a crate of crates.txt" for path in strays(TOP, list(crates.lines))]
     if names:
         unknown = [name for name in names if not any(name in (wrong.crate, wrong.name) for wrong in wrongs)]
@@ -90,42 +93,44 @@ def chosen(crates: Crates, prover: Prover, names: Sequence[str], is_release: boo
 # --- Tries side by side ---
 
 
-def all_tried(prover: Prover, wrongs: Sequence[Wrong], keeps: bool) -> List[Outcome]:
+def all_tried(prover: Prover, wrongs: Sequence[Wrong], anew: bool) -> List[Outcome]:
     """Tries wrong bodies, those of a crate one after the other and crates side by side, the crates with the most first."""
     by_crate: Dict[str, List[Wrong]] = {}
     for wrong in wrongs:
         by_crate.setdefault(wrong.crate, []).append(wrong)
     groups = sorted(by_crate.values(), key=len, reverse=True)
     with concurrent.futures.ThreadPoolExecutor(lanes()) as pool:
-        return [outcome for outcomes in pool.map(lambda some: crate_tried(prover, some, keeps), groups) for outcome in outcomes]
+        return [outcome for outcomes in pool.map(lambda some: crate_tried(prover, some, anew), groups) for outcome in outcomes]
 
 
-def crate_tried(prover: Prover, wrongs: Sequence[Wrong], keeps: bool) -> List[Outcome]:
+def crate_tried(prover: Prover, wrongs: Sequence[Wrong], anew: bool) -> List[Outcome]:
     """Tries wrong bodies of one crate, each over what the checks before it have proved, in a folder of this run alone."""
     outcomes = []
     with tempfile.TemporaryDirectory(prefix="wrong-kept-") as kept:
         for wrong in wrongs:
-            place = kept_place(prover, wrong) if keeps else None
-            if place is not None and place.exists():
-                outcome = Outcome(wrong, CLAUSE, place.read_text(encoding="utf-8"), 0.0)
+            place = kept_place(prover, wrong)
+            if place.exists() and not anew:
+                outcome = Outcome(wrong, CLAUSE, place.read_text(encoding="utf-8"), 0.0, is_kept=True)
             else:
                 outcome = prover.tried(wrong, kept)
-            if place is not None and outcome.kind == CLAUSE:
+            if outcome.kind == CLAUSE and not outcome.is_kept:
                 place.parent.mkdir(parents=True, exist_ok=True)
                 place.write_text(outcome.told, encoding="utf-8")
             outcomes.append(outcome)
-            print(f"{wrong.name}: {MEANING[outcome.kind]} in {outcome.seconds:.0f} s: {outcome.told[:SHOWN]}", flush=True)
+            how = "kept" if outcome.is_kept else f"{outcome.seconds:.0f} s"
+            print(f"{wrong.name}: {MEANING[outcome.kind]} ({how}): {outcome.told[:SHOWN]}", flush=True)
     return outcomes
 
 
 def kept_place(prover: Prover, wrong: Wrong) -> pathlib.Path:
-    """The file that keeps the refusal of a wrong body, by the digest of all that its try reads."""
-    made = hashlib.sha256(prover.version.encode() + wrong.path.read_bytes() + (TOP / "HANDLES").read_bytes())
+    """The file that keeps the refusal of a wrong body on this machine, by the digest of all that its try reads."""
+    made = hashlib.sha256(f"{prover.version} {wrong.name} ".encode() + wrong.path.read_bytes() + (TOP / "HANDLES").read_bytes())
     for crate in [*prover.crates.below(wrong.crate), wrong.crate]:
         made.update(prover.crates.lines[crate].encode())
         for path in prover.crates.files(crate):
             made.update(f"{path.relative_to(TOP)} ".encode() + hashlib.sha256(path.read_bytes()).digest())
-    return prover.crates.folder(wrong.crate) / "out" / "refused" / made.hexdigest()
+    cache = os.environ.get("XDG_CACHE_HOME") or pathlib.Path.home() / ".cache"
+    return pathlib.Path(cache, "jepmon", "refused", made.hexdigest())
 
 
 def lanes() -> int:

@@ -48,6 +48,7 @@ class Outcome(NamedTuple):
     kind: str
     told: str  # the line that says it
     seconds: float  # of processor time
+    is_kept: bool = False  # by an earlier run on this machine, over the very same files
 
 
 class Checked(NamedTuple):
