@@ -71,7 +71,7 @@ def _given(arguments: Optional[List[str]]) -> argparse.Namespace:
 def _found(given: argparse.Namespace) -> Recorded:
     source = files.found(given.file)
     try:
-        if detect.form_of(source.text) == detect.EDN:
+        if detect.form_of(source.front) == detect.EDN:
             raise Refused(f"it is EDN: {command.tool('from-jepsen')} turns it")
         return recorded(source, Options(None if given.key is None else str(given.key), given.nil_is_absent))
     except Refused as refusal:

@@ -10,13 +10,13 @@ from typing import Any, Dict, List, Optional
 from jepmon.forms import Refused, detect, logs, rows, rows_told
 from jepmon.forms.own import read
 from jepmon.forms.recorded import Options, Recorded, recorded
-from jepmon.forms.files import Source
+from jepmon.forms.files import of_text
 from jepmon.history import of_key, read_history
 from jepmon.walk import walk
 
 
 def made(text: str, **options: Any) -> Recorded:
-    return recorded(Source("a file", None, text, ()), Options(**options))
+    return recorded(of_text(text), Options(**options))
 
 
 def events(text: str, **options: Any) -> List[str]:
@@ -248,7 +248,7 @@ class LegalStaysLegal(unittest.TestCase):
     def test_registers(self) -> None:
         for seed in range(100):
             with self.subTest(seed=seed):
-                found = recorded(Source("a file", None, operations(random.Random(seed)), ()), Options())
+                found = recorded(of_text(operations(random.Random(seed))), Options())
                 walked = walk(of_key(read_history(found.text), 0), "cas-register", 1 << 16)
                 self.assertEqual(walked.status, "alive")
 

@@ -20,8 +20,8 @@ from typing import Counter, Iterator, List, NamedTuple
 from . import Refused
 
 # What a guess may be of.
-MODEL, KEY, CLIENT, UNIT, ORDER, TYPE, ABSENT = (
-    "the model", "the key", "the client", "the unit of time", "the order", "the type of values", "the absent value")
+MODEL, KEY, CLIENT, UNIT, ORDER, TYPE, ABSENT, OUTCOME = (
+    "the model", "the key", "the client", "the unit of time", "the order", "the type of values", "the absent value", "the outcome")
 
 
 class Guess(NamedTuple):
@@ -49,6 +49,12 @@ class Account:
         """Records the lines of an event. A line that holds several events counts once."""
         if last > self._until:
             self.taken += last - max(first - 1, self._until)
+            self._until = last
+
+    def took_none(self, reason: str, first: int, last: int) -> None:
+        """Records the lines of what is no event, with the reason; those that hold a part of one too are not counted again."""
+        if last > self._until:
+            self.skip(reason, last - max(first - 1, self._until))
             self._until = last
 
     def skip(self, reason: str, lines: int = 1) -> None:
