@@ -6,7 +6,7 @@ of which one check or shards are given what they take.
 from __future__ import annotations
 
 import re
-from typing import Any, Dict, Iterable, Iterator, List, Mapping, NamedTuple, Optional, Sequence, Set
+from typing import Any, Dict, Iterable, Iterator, List, NamedTuple, Optional, Sequence, Set
 
 from .. import edn, history, kinds
 from ..from_jepsen.collect import Asked
@@ -14,9 +14,11 @@ from ..from_jepsen.events import History
 from ..from_jepsen.refusal import NoKey
 from ..from_jepsen.turn import Turned, collected, written
 from ..from_jepsen.write import OF_SHARDS, Limits
-from . import Refused, detect, edn_rows, logs, others, own_front, rows, rows_told
-from .account import KEY, Account
+from . import Refused, detect, edn_rows, log_rows, logs, others, own_front, rows, rows_told
+from .account import KEY, Account, lines_of
+from .clock import nanoseconds
 from .files import Source, of_text
+from .mapping import LINES, Mapping
 from .written import Written
 
 OWN, JEPSEN, KEYED, LOG = "jepmon's own form", "Jepsen's form", "EDN with a key in each event", "a log, an operation a line"
@@ -31,20 +33,27 @@ class Options(NamedTuple):
 
     key: Optional[str] = None  # the key of a history without keys
     nil_is_absent: bool = False
-    is_set: bool = False  # that it is to be judged as a set, whatever sort of one it seems to be
-    order: Optional[str] = None  # by which events are taken: "file", "index" or "time"
-    outcomes: Mapping[str, str] = {}  # the type of an :ok that says of itself that it is none
+    model: Optional[str] = None  # that is stated for all keys
+    mapping: Mapping = Mapping()  # what is said of the fields of rows, and of the order of events
     guesses_key: bool = True  # whether a history without keys is one object, if no key is said
+
+    def asked(self, order: Optional[str]) -> Asked:
+        """The same of events in Jepsen's form, which are taken in this order."""
+        skew = 0 if self.mapping.skew is None else nanoseconds(self.mapping.skew)
+        return Asked(self.key, self.nil_is_absent, order, self.mapping.contradictions, 0 if order == LINES else skew)
 
 
 def form_of(source: Source, options: Options) -> str:
     """The form of a history, by how it begins. Refused if it is none that is known, or has no event."""
-    form = detect.form_of(source.front)
+    if options.mapping.line is not None:
+        return detect.LINES
+    form = detect.CSV if options.mapping.columns else detect.form_of(source.front)
     if form == detect.NOTHING:
         raise Refused("there is no event in it: nothing was judged")
     if form != detect.EDN:
         return LOG if form == detect.LOG else form
-    if options.key is None and not options.nil_is_absent and options.order in (None, "file") and own_front.is_own(source.front):
+    is_plain = options.key is None and not options.nil_is_absent and options.mapping.order in (None, LINES) and options.mapping.skew is None
+    if is_plain and own_front.is_own(source.front):
         return OWN
     return KEYED if edn_rows.is_one(source.front) else JEPSEN
 
@@ -85,29 +94,47 @@ def translated(source: Source, form: str, options: Options) -> Translation:
     account = Account()
     if form == JEPSEN:
         _refuse_others(source.front, options, ())
-        return Translation(form, _collected(source, options, account, account), account, options.nil_is_absent, None, source)
-    made = _written(source, form, account)
-    options = options._replace(nil_is_absent=options.nil_is_absent or made.nil_is_absent, order=options.order if form == LOG else "file")
+        read = _collected(source, options, options.asked(options.mapping.order), account, account)
+        return Translation(form, read, account, options.nil_is_absent, None, source)
+    made = _written(source, form, options, account)
+    options = options._replace(nil_is_absent=options.nil_is_absent or made.nil_is_absent)
     _refuse_others(made.text, options, made.lines)
+    order, part = options.mapping.order if form == LOG else LINES, Account()
     try:
-        read = _collected(of_text(made.text), options, account, Account())
+        read = _collected(of_text(made.text), options, options.asked(order), part, part)
     except Refused as refusal:
         raise type(refusal)(with_lines(str(refusal), made.lines)) from refusal
+    for guess in part.guesses:
+        account.guess(guess.of, with_lines(guess.assumed, made.lines), guess.option)
     return Translation(form, read, account, options.nil_is_absent, made, source)
 
 
-def _written(source: Source, form: str, account: Account) -> Written:
+def _written(source: Source, form: str, options: Options, account: Account) -> Written:
+    asked = rows_told.Asked(options.mapping, options.model is not None)
     if form == KEYED:
-        return edn_rows.written(source.text)
+        return edn_rows.written(source.text, account, asked)
     if form == LOG:
-        return Written(*logs.turned(source.text))
-    return rows_told.written((rows.of_json if form == detect.JSON else rows.of_csv)(source.text))
+        made = logs.written(source.text, account)
+    else:
+        made = rows_told.written(lambda part: rows_of(form, source.text, options.mapping, part), account, asked)
+    account.close(lines_of(source.text))
+    return made
 
 
-def _collected(source: Source, options: Options, account: Account, lines: Account) -> History:
+def rows_of(form: str, text: str, mapping: Mapping, account: Account) -> Iterator[rows.Row]:
+    """The rows of a text of this form."""
+    if form == detect.JSON:
+        return rows.of_json(text, mapping, account)
+    if form == detect.LOGFMT:
+        return log_rows.of_logfmt(text, mapping, account)
+    if form == detect.LINES and mapping.line is not None:
+        return log_rows.of_pattern(text, mapping, mapping.line, account)
+    return rows.of_csv(text, mapping, account)
+
+
+def _collected(source: Source, options: Options, asked: Asked, account: Account, lines: Account) -> History:
     """The events; those whose values have no keys are of the one object that they are then. Lines are accounted for in an account of
     their own, if these are not the file's."""
-    asked = Asked(options.key, options.nil_is_absent, options.order, options.outcomes)
     try:
         return collected(source, asked, lines)
     except NoKey:
@@ -119,7 +146,7 @@ def _collected(source: Source, options: Options, account: Account, lines: Accoun
 
 
 def _refuse_others(text: str, options: Options, file_lines: Sequence[int]) -> None:
-    reason = others.named(text, options.is_set)
+    reason = others.named(text, options.model == "set")
     if reason is not None:
         raise Refused(with_lines(reason, file_lines))
 

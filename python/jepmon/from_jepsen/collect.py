@@ -75,8 +75,9 @@ class Asked(NamedTuple):
 
     key: Optional[str] = None  # of a history without keys: each value v becomes [key v]
     nil_is_absent: bool = False  # nil is what a missing key answers, and no read that says nothing
-    order: Optional[str] = None  # by which events are taken: "file", "index" or "time"; None: by what they say
+    order: Optional[str] = None  # by which events are taken: "lines", "index" or "times"; None: as they stand, or by what they say
     outcomes: Mapping[str, str] = {}  # the type of what is an :ok and says that it is none, by "false" and "error"
+    skew: int = 0  # nanoseconds by which each clock may be wrong
 
 
 class Collector:

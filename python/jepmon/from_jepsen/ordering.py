@@ -13,6 +13,7 @@ from typing import Callable, Dict, Iterable, Iterator, List, Optional, Set, Tupl
 from .. import edn
 from ..edn import Value, integer, spelling
 from ..forms.account import ORDER, Account
+from ..forms.mapping import INDEX, LINES, TIMES
 from ..forms.timeline import Timeline
 from ..sorted_rows import SortedRows
 from .clients import Clients
@@ -23,8 +24,7 @@ from .refusal import OutOfOrder, Refusal, refuse
 
 Texts = Callable[[], Iterator[str]]
 Fields = Dict[str, Value]
-FILE, INDEX, TIME = ORDERS = ("file", "index", "time")
-SETTLES = "--order file|index|time"
+SETTLES = "--order lines|index|times"
 
 
 class Facts:
@@ -98,12 +98,12 @@ class Facts:
 def ordered(texts: Texts, asked: Asked, account: Account, fault: Optional[Refusal]) -> History:
     """The history, with its events in their order. The fault of the order in which they stand is raised if no other one is known."""
     facts = read(texts(), account)
-    order = asked.order or found(facts, account, fault)
+    order = asked.order or (TIMES if asked.skew else found(facts, account, fault))
     collector = Collector(asked._replace(order=order), scratch := Account())
-    if order == FILE:
+    if order == LINES:
         history = collector.collect(texts())
     else:
-        history = collector.finished((by_index if order == INDEX else by_time)(texts(), facts, collector))
+        history = collector.finished(by_index(texts(), facts, collector) if order == INDEX else by_time(texts(), asked.skew, collector))
     for guess in scratch.guesses:
         account.guess(*guess)
     return history
@@ -144,7 +144,7 @@ def found(facts: Facts, account: Account, fault: Optional[Refusal]) -> str:
     if again is None and back is None:
         if fault is None or not isinstance(fault, OutOfOrder):
             raise fault or OutOfOrder("there is no order")
-        return FILE
+        return LINES
     if facts.is_indexed() and again is not None:
         if back is None and None not in facts.times:
             refuse(facts.lines[again], f"the :index goes back, and the :time does not: which is the order? say {SETTLES}")
@@ -153,18 +153,18 @@ def found(facts: Facts, account: Account, fault: Optional[Refusal]) -> str:
     both = facts.on_both_sides()
     if again is not None and both is not None:
         raise OutOfOrder(f"line {facts.lines[again]}: the :index begins again, and process {both} is on both sides: are there two runs in one "
-                         "file? judge each by itself; --order file takes them as one")
+                         "file? judge each by itself; --order lines takes them as one")
     if None in facts.times:
         place = facts.lines[again if again is not None else back or 0]
         raise OutOfOrder(f"line {place}: events do not stand in their order, and the one of line {facts.lines[facts.times.index(None)]} "
                          f"has no :time: which came first? {SETTLES}")
     if back is None:
         account.guess(ORDER, f"the :index begins again in line {facts.lines[again or 0]}, of other clients, and the :time rises: events are taken "
-                      "as they stand", "--order file")
-        return FILE
+                      "as they stand", "--order lines")
+        return LINES
     account.guess(ORDER, f"the :time goes back in line {facts.lines[back]}; operations are taken in the order of the :time, which has to be of "
-                  "one clock", "--order time")
-    return TIME
+                  "one clock", "--order times")
+    return TIMES
 
 
 def by_index(texts: Iterable[str], facts: Facts, collector: Collector) -> int:
@@ -182,9 +182,9 @@ def by_index(texts: Iterable[str], facts: Facts, collector: Collector) -> int:
     return count
 
 
-def by_time(texts: Iterable[str], facts: Facts, collector: Collector) -> int:
-    """Takes the operations in the order of their times."""
-    timeline, faults = timeline_of(texts)
+def by_time(texts: Iterable[str], skew: int, collector: Collector) -> int:
+    """Takes the operations in the order of their times, each wider by a clock error."""
+    timeline, faults = timeline_of(texts, skew)
     count = 0
     for moment in timeline.moments():
         while faults and moment.given is not None and faults[-1][0] <= moment.given[2]:
@@ -203,9 +203,9 @@ def by_time(texts: Iterable[str], facts: Facts, collector: Collector) -> int:
     return count
 
 
-def timeline_of(texts: Iterable[str]) -> Tuple[Timeline, List[Tuple[Time, int, int, str]]]:
+def timeline_of(texts: Iterable[str], skew: int) -> Tuple[Timeline, List[Tuple[Time, int, int, str]]]:
     """The operations of clients, and what the nemesis did, by its time, the latest first."""
-    timeline, faults = Timeline(), []  # type: Timeline, List[Tuple[Time, int, int, str]]
+    timeline, faults = Timeline(skew), []  # type: Timeline, List[Tuple[Time, int, int, str]]
     opened: Dict[str, Tuple[Time, int, str]] = {}
     latest: Dict[str, Time] = {}
     for element, process, fields in elements(texts):

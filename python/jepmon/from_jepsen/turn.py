@@ -4,6 +4,7 @@ from __future__ import annotations
 from typing import Dict, Iterator, List, Mapping, Optional
 
 from ..forms.account import Account
+from ..forms.mapping import INDEX, TIMES
 from ..kinds import REGISTERS
 from ..names import Names
 from .collect import Asked, Collector
@@ -50,7 +51,7 @@ def turn(source: Source, key: Optional[str] = None, nil_is_absent: bool = False,
     nil_is_absent  nil is what a missing key answers, and no read that says nothing
     limits         what is refused beyond: what one check does not take, or nothing where shards are made of it (OF_SHARDS)
     account        where lines and guesses are recorded
-    order          by which events are taken: "file", "index" or "time"; None: as they stand, or by what they say if these can't be so
+    order          by which events are taken: "lines", "index" or "times"; None: as they stand, or by what they say if these can't be so
     outcomes       the type of an :ok that is answered by false ("false"), and of one with an :error ("error")
     """
     return written(collected(source, Asked(key, nil_is_absent, order, outcomes), Account() if account is None else account), nil_is_absent, limits)
@@ -60,7 +61,7 @@ def collected(source: Source, asked: Asked, account: Account) -> History:
     """The events of a history, in their order."""
     texts, lines = texts_of(source), Account()
     try:
-        if asked.order not in (None, "file"):
+        if asked.order in (INDEX, TIMES) or asked.order is None and asked.skew:
             history = ordered(texts, asked, lines, None)
         else:
             history = Collector(asked, lines).collect(texts())
