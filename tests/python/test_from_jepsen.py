@@ -20,7 +20,7 @@ class Calls(unittest.TestCase):
         turned = from_jepsen.turn(REGISTER)
         self.assertEqual((turned.concurrency, turned.model, turned.models), (1, "register", {0: ["register", "cas-register"]}))
         self.assertEqual((turned.names.key(0), turned.names.value(0), turned.names.value(5)), (":x", '"a"', "5"))
-        self.assertEqual(turned.notes[0], "events: 2; left out: none")
+        self.assertEqual(turned.notes[0], "events: 2")
         self.assertEqual(turned.advice, ["judge it by: jepmon check FILE --concurrency 1 --model register"])
         self.assertEqual([event.value for event in history.read_history(turned.text())], [0, 0])
 

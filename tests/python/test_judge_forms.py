@@ -237,8 +237,8 @@ class Logs(unittest.TestCase):
         account = Account()
         found = logs.written(text, account)
         account.close(3)
-        self.assertEqual(found.text.splitlines(), ['{:process 0, :type :invoke, :f :write, :value [7 1]}',
-                                              '{:process 0, :type :info, :f :write, :value [7 1], :error ":timeout \\"x\\""}'])
+        self.assertEqual(found.text.splitlines(), ['{:process 0, :type :invoke, :f :write, :value [7 1], :time 1714557600101000000}',
+                                              '{:process 0, :type :info, :f :write, :value [7 1], :time 1714557600104000000, :error ":timeout \\"x\\""}'])
         self.assertEqual((found.lines, dict(account.skipped)), ([1, 3], {"of a log that tell of no operation": 1}))
 
     def test_a_last_line_that_may_be_cut_off(self) -> None:

@@ -56,4 +56,6 @@ def is_name(process: str) -> bool:
     """Whether it may be the name of a client: a keyword, a string or a symbol."""
     if process in NEMESIS or process in ("nil", "true", "false"):
         return False
-    return process[0] in ':"' and len(process) > 2 and bool(string(process).strip() if process[0] == '"' else True) or process[0].isalpha()
+    if process[0] == '"':
+        return bool(string(process).strip())
+    return process[0].isalpha() or process[0] == ":" and len(process) > 1

@@ -15,8 +15,7 @@ MOST_CLIENTS = 40  # whose names are told
 
 def notes(history: History, writer: Writer) -> Iterator[str]:
     """What was left out or changed, how the operations ended, and what numbers stand for."""
-    left_out = ", ".join(f"{count} of {process}" for process, count in history.left_out.items())
-    yield f"events: {len(history.events)}; left out: {left_out or 'none'}"
+    yield f"events: {len(history.events)}"
     yield from notes_of_outcomes(history)
     yield from clients_of(history.clients)
     yield from (f"{note}: {count}" for note, count in history.notes.items())
