@@ -11,8 +11,9 @@ from .. import command, kinds, shards
 from ..errors import ProgramError
 from ..explain.event import Options as Explained
 from ..explain.said import said as explained
-from ..forms import Refused
+from ..forms import Refused, door
 from ..forms.account import Account
+from ..forms.jepsen import notes_of
 from ..forms.own import Facts
 from ..forms.recorded import Recorded
 from ..from_jepsen import Turned
@@ -53,13 +54,15 @@ class Asked(NamedTuple):
 
 
 def asked(given: Given, found: Large) -> Asked:
-    if found.is_own and given.key is None and not given.nil_is_absent:
+    if found.made is None:
         return Asked(found.history, given.concurrency, None, Account())
-    account = Account()
-    made, notes = turned.turned(given, found, account)
-    for note in notes:
+    try:
+        made = found.made.turned(in_shards=True)
+    except Refused as refusal:
+        raise Refused(f"{found.name}: {refusal}") from refusal
+    for note in [*found.made.notes, *notes_of(made)]:
         say(note)
-    return Asked(made.texts(), given.concurrency or made.concurrency, made, account)
+    return Asked(made.texts(), given.concurrency or made.concurrency, made, found.made.account)
 
 
 @contextlib.contextmanager
@@ -68,31 +71,52 @@ def opened(given: Given, found: Large, history: Asked) -> Iterator[shards.Sessio
     options = Options(history.concurrency or 2, given.model or "register", given.budget)
     with shards.opened(history.history, options, given.jobs, temporary=given.temporary, progress=shards.Progress(sys.stderr),
                        finds_threads=history.concurrency is None) as session:
-        try:
-            session.read()
-        except shards.Refused as refused:
-            for hint in hints_of_refusal(found, str(refused), session.options):
-                say(hint)
-            raise
+        session.read()
         if session.tally.events == 0:
             raise Refused(f"{found.name}: there is no event in it: nothing was judged")
         yield session
 
 
+def judge_own(given: Given, found: Large, page: Optional[Page], folder: Optional[Folder]) -> Optional[int]:
+    """The same of a history in jepmon's own form; None if it is none after all, so that it is to be read as one of Jepsen's."""
+    try:
+        return _judge_asked(given, found, page, folder)
+    except shards.Refused as refused:
+        if not is_last_word(str(refused), given):
+            return None
+        return _refuse(given, found, str(refused))
+
+
+def is_last_word(line: str, given: Given) -> bool:
+    """Whether a refusal of jepmon's own form stands: that of processes, if the command line says how many threads there are. Whatever
+    else is refused may be a history of Jepsen's."""
+    return given.concurrency is not None and line.startswith("refused 2 ") or line.startswith("refused 20 ")
+
+
 def judge(given: Given, found: Large, page: Optional[Page], folder: Optional[Folder]) -> int:
     """Judges it, writes what was asked for, and gives the exit status."""
+    try:
+        return _judge_asked(given, found, page, folder)
+    except shards.Refused as refused:
+        return _refuse(given, found, str(refused))
+
+
+def _refuse(given: Given, found: Large, line: str) -> int:
+    for hint in hints_of_refusal(found, line, Options(given.concurrency or 2, given.model or "register", given.budget)):
+        say(hint)
+    if given.json:
+        as_json.write_refusal(line)
+    else:
+        command.write_output([f"{line}\n"])
+    return command.REFUSED
+
+
+def _judge_asked(given: Given, found: Large, page: Optional[Page], folder: Optional[Folder]) -> int:
     if found.reason:
         say(f"{found.name}: {found.reason}; it is judged in shards, {processes(given.jobs or os.cpu_count() or 1)}")
     history = asked(given, found)
-    try:
-        with opened(given, found, history) as session:
-            return _judge(given, found, history, session, page, folder)
-    except shards.Refused as refused:
-        if given.json:
-            as_json.write_refusal(str(refused))
-        else:
-            command.write_output([f"{refused}\n"])
-        return command.REFUSED
+    with opened(given, found, history) as session:
+        return _judge(given, found, history, session, page, folder)
 
 
 def _judge(given: Given, found: Large, history: Asked, session: shards.Session, page: Optional[Page], folder: Optional[Folder]) -> int:
@@ -113,7 +137,7 @@ def _judge(given: Given, found: Large, history: Asked, session: shards.Session, 
     task = task._replace(choice=of_bad_key(choice, report), wide_seconds=given.wide_seconds if decided else None)
     if not given.json:
         command.write_output(texts_of(path))
-    recorded = _recorded(history)
+    recorded = _recorded(found, history)
     of_report = bad_keys.found(filter(None, map(wide.key_line, lines_of(path))))
     keys = bad_keys.shown(recorded, task, report, of_report.bad, functools.partial(events_of, session, found, history), given.cause, decided)
     beside = [*nil_hints(session.tally, choice), *said_of_bad(report, task, keys, given.cause)]
@@ -123,16 +147,16 @@ def _judge(given: Given, found: Large, history: Asked, session: shards.Session, 
     done = results.Results(found.name, recorded, task, report, keys, terminal.told(recorded, keys), copies)
     results.write(page, folder, done)
     if given.json:
-        counted_up = as_json.Counted(session.tally.events, verdict.keys, None, form_of(history), session.tally.outcomes(), of_report)
+        counted_up = as_json.Counted(session.tally.events, verdict.keys, None, form_of(found), session.tally.outcomes(), of_report)
         as_json.write(as_json.of_results(done, found.path, counted_up, beside, given))
     return verdict.status
 
 
-def _recorded(history: Asked) -> Recorded:
+def _recorded(found: Large, history: Asked) -> Recorded:
     """What the history is beside its events."""
-    if history.made is None:
+    if found.made is None or history.made is None:
         return Recorded("", "", Facts(), history.account, is_own=True)
-    return turned.recorded(history.made, history.account)
+    return turned.recorded(found.made, history.made)
 
 
 def anew(given: Given, session: shards.Session, path: str, verdict: Verdict) -> Tuple[str, Verdict, wide.Decisions]:
@@ -155,10 +179,9 @@ def anew(given: Given, session: shards.Session, path: str, verdict: Verdict) -> 
 
 def events_of(session: shards.Session, found: Large, history: Asked, keys: List[int]) -> Dict[int, List[Event]]:
     """The events of each of these keys, as far as they are judged, with their lines in the file that was given."""
-    events = large_key.events_of(session, keys, found.path if history.made is None else None)
-    if history.made is None:
-        return events
-    return turned.with_lines(history.made, events, found.path)
+    if found.made is None or history.made is None:
+        return large_key.events_of(session, keys, found.path)
+    return turned.with_lines(found.made, history.made, large_key.events_of(session, keys, None))
 
 
 def judged(given: Given, session: shards.Session, options: Options) -> List[Judged]:
@@ -237,13 +260,13 @@ def processes(number: int) -> str:
     return f"by {number} processes side by side" if number > 1 else "by one process"
 
 
-def form_of(history: Asked) -> str:
-    return "jepmon's own form" if history.made is None else "Jepsen's form"
+def form_of(found: Large) -> str:
+    return door.OWN if found.made is None else found.made.form
 
 
 def said(found: Large, history: Asked, tally: Tally, verdict: Verdict, task: Task) -> Iterator[str]:
     """What the history was found to be."""
-    yield (f"{found.name}: {form_of(history)}, {counted(tally.events, 'event')}, concurrency {task.options.concurrency:,}, "
+    yield (f"{found.name}: {form_of(found)}, {counted(tally.events, 'event')}, concurrency {task.options.concurrency:,}, "
            f"{counted(verdict.keys, 'key')}")
     outcomes = tally.outcomes()
     for name in tally.names():
@@ -277,7 +300,7 @@ def nil_hints(tally: Tally, choice: Choice) -> Iterator[str]:
 def hints_of_refusal(found: Large, line: str, options: Options) -> Iterator[str]:
     """Why an event is refused, where it is near the front of a file of jepmon's own form."""
     index = line.rpartition(" event ")[2]
-    if found.path is not None and found.is_own and index.isdigit() and int(index) < MOST_EVENTS and options.concurrency <= kinds.THREADS:
+    if found.path is not None and found.made is None and index.isdigit() and int(index) < MOST_EVENTS and options.concurrency <= kinds.THREADS:
         yield from explained(line, large_key.front_lines(found.path, int(index) + 1), Explained(options.concurrency, options.model))
 
 

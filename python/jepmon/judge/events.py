@@ -2,14 +2,12 @@
 from __future__ import annotations
 
 import re
-from typing import Any, Dict, Iterable, List, Sequence
+from typing import Dict, Iterable, List
 
-from .. import edn, history
+from .. import history
 from ..forms.recorded import Recorded
 from ..history import Event
 
-FURTHER = ("time", "error")  # fields that are taken over from what the history was made from
-LONGEST = 200  # lines that one event of it may take
 KEY = re.compile(":value \\[([0-9]+) ")
 
 
@@ -21,9 +19,12 @@ def of_key(found: Recorded, key: int) -> List[Event]:
 def with_fields(found: Recorded, keys: Iterable[int]) -> Dict[int, List[Event]]:
     """The events of each of these keys, with their indices in the whole history and their lines in the file that was given; where that
     was of another form, also with what it says of when they came and of errors."""
-    before = found.before.split("\n") if found.before else []
-    return {key: [event._replace(fields={**event.fields, **(_further(before, found.lines[event.index]) if before else {})})
-                  for event in events] for key, events in of_keys(found, keys).items()}
+    events = of_keys(found, keys)
+    if found.translation is None:
+        return events
+    further = found.translation.beside({found.lines[event.index] for of_key in events.values() for event in of_key} - {0})
+    return {key: [event._replace(fields={**event.fields, **further.get(found.lines[event.index], {})}) for event in of_key]
+            for key, of_key in events.items()}
 
 
 def of_keys(found: Recorded, keys: Iterable[int]) -> Dict[int, List[Event]]:
@@ -39,17 +40,3 @@ def of_keys(found: Recorded, keys: Iterable[int]) -> Dict[int, List[Event]]:
                 if event.key in events:
                     events[event.key].append(event._replace(line=found.line(index)))
     return events
-
-
-def _further(before: Sequence[str], line: int) -> Dict[str, Any]:
-    """Further fields of the event that begins in this line of a text in Jepsen's form."""
-    if line == 0:
-        return {}
-    text = "\n".join(before[line - 1:line - 1 + LONGEST]).lstrip("[( ") if before[line - 1].count("{") != before[line - 1].count("}") \
-        else before[line - 1].lstrip("[( ")
-    try:
-        element = next(edn.Reader(text).elements(), None)
-    except edn.Unreadable:
-        return {}
-    fields = edn.fields_of(element.value) if element is not None else None
-    return {name: history.plain(fields[f":{name}"]) for name in FURTHER if f":{name}" in (fields or {})} if fields else {}

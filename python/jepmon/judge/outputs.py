@@ -37,7 +37,7 @@ class Page:
     def keys(self) -> pathlib.Path:
         return pathlib.Path(self.name).with_name(self.folder)
 
-    def put(self, text: str, keys: Mapping[str, str]) -> None:
+    def put(self, text: str, keys: Mapping[str, str] = {}) -> None:
         command.write_file(self.name, text)
         put_keys(self.path.with_name(self.folder), keys)
 
