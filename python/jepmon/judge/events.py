@@ -18,8 +18,8 @@ def of_key(found: Recorded, key: int) -> List[Event]:
     events = of_keys(found, [key])[key]
     if found.translation is None:
         return events
-    further = found.translation.beside({found.lines[event.index] for event in events} - {0})
-    return [event._replace(fields={**event.fields, **further.get(found.lines[event.index], {})}) for event in events]
+    further = found.translation.beside({event.index for event in events}, found.begun)
+    return [event._replace(fields={**event.fields, **further.get(event.index, {})}) for event in events]
 
 
 def of_keys(found: Recorded, keys: Iterable[int]) -> Dict[int, List[Event]]:
