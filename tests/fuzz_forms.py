@@ -1,9 +1,9 @@
 #!/usr/bin/env python3
 """Prints random histories of known verdict in every form that jepmon-judge takes, with variations as tests in the field have them, and
 compares the verdicts. A verdict that is not the right one is SILENT if no line warns of it, else NOTED; the smallest such case of each
-class is shown. A refusal is no verdict. Ends with 'N passed, M failed'.
+class is shown. A refusal is no verdict. Some cases are judged by --jobs too, which must say the same. Ends with 'N passed, M failed'.
 
-usage: tests/fuzz_forms.py [--count N] [--seed S] [--form FORM] [--out DIR] [--shares]     JEPMON names the program
+usage: tests/fuzz_forms.py [--count N] [--seed S] [--form FORM] [--jobs-of N] [--out DIR] [--shares]     JEPMON names the program
 
 With no words it runs what ./check runs: 2,000 histories of a fixed seed.
 """
@@ -21,11 +21,13 @@ sys.path[:0] = [str(TOP), str(TOP / "python")]
 from tests.forms_fuzz.cases import Case, Examiner, Wrong, cases  # noqa: E402
 from tests.forms_fuzz.judged import Judged, Room, is_fault  # noqa: E402
 from tests.forms_fuzz.printed import PRINTERS  # noqa: E402
+from tests.forms_fuzz.shards import Pair, compared  # noqa: E402
 from tests.forms_fuzz.waiting import waits_for  # noqa: E402
 
 COUNT, SEED = 2_000, 63
 NOTED_OF = 1_000  # histories among which one wrong verdict may have a warning
-SHOWN = 40  # classes
+JOBS_OF = 10  # of so many cases one is judged by --jobs too
+SHOWN, SHOWN_PAIRS = 40, 8  # classes, and pairs of verdicts
 
 
 class Tally:
@@ -36,6 +38,7 @@ class Tally:
         self.by_way: Dict[str, "Counter[str]"] = collections.defaultdict(collections.Counter)
         self.classes: Dict[str, List[Wrong]] = collections.defaultdict(list)
         self.faults: List[str] = []
+        self.pairs: Dict[str, List[Pair]] = collections.defaultdict(list)  # judged plainly and by shards, by what came of both
 
     def take(self, case: Case, judged: Judged, is_wrong: bool) -> None:
         fault, line = is_fault(judged)
@@ -57,8 +60,11 @@ def main() -> int:
     began, tally = time.process_time(), Tally()
     with Room() as room:
         examiner = Examiner(room)
-        for case in cases(given.seed, given.count, given.form):
+        for place, case in enumerate(cases(given.seed, given.count, given.form)):
             judged = examiner.judged(case)
+            if place % given.jobs_of == 0:
+                pair = compared(examiner, case, judged)
+                tally.pairs[pair.word].append(pair)
             wrong = examiner.wrong(case, judged)
             tally.take(case, judged, wrong is not None)
             if wrong is not None:
@@ -66,7 +72,8 @@ def main() -> int:
                 tally.classes[smallest.signature()].append(smallest)
     shown(tally, given)
     silent, noted, waiting = tally.count("SILENT"), tally.count("NOTED"), tally.count("waits")
-    failed = silent + len(tally.faults) + (noted if noted * NOTED_OF > given.count else 0)
+    failed = (silent + len(tally.faults) + (noted if noted * NOTED_OF > given.count else 0)
+              + sum(not waits_for(pair.case.variations()) for pair in tally.pairs["another verdict"]))
     print(f"seed {given.seed}, {given.count} histories: {silent} wrong verdicts in silence, {noted} with a warning, "
           f"{waiting} that wait for what is known, {time.process_time() - began:.0f} seconds of Python")
     print(f"{given.count - failed} passed, {failed} failed")
@@ -78,6 +85,7 @@ def words() -> argparse.Namespace:
     parser.add_argument("--count", type=int, default=COUNT)
     parser.add_argument("--seed", type=int, default=SEED)
     parser.add_argument("--form", choices=tuple(PRINTERS))
+    parser.add_argument("--jobs-of", type=int, default=JOBS_OF, metavar="N", help="judge one case of N by --jobs too")
     parser.add_argument("--out", type=pathlib.Path, help="a folder for the smallest case of each class")
     parser.add_argument("--shares", action="store_true", help="what came of each variation")
     return parser.parse_args()
@@ -94,6 +102,10 @@ def shown(tally: Tally, given: argparse.Namespace) -> None:
             print(f"         {line[:200]}")
         if given.out is not None:
             kept(given.out, signature, smallest)
+    for word, pairs in sorted(tally.pairs.items()):
+        print(f"{len(pairs):6} judged plainly and by shards: {word}")
+        for pair in pairs[:SHOWN_PAIRS] if word in ("another verdict", "refused by one") else ():
+            print(f"         {pair.said()[:200]}")
     for what, number in sorted(tally.by_form.items()):
         print(f"{number:6} {what}")
     for way, counts in sorted(tally.by_way.items()) if given.shares else ():

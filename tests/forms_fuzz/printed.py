@@ -8,6 +8,7 @@ from typing import Any, Callable, Dict, List, NamedTuple, Sequence
 from . import jepsen, recorders, rows
 from .fields import CLIENTS, KEYS, MISSING, OUTCOMES, TIMES, VALUES, WORDS, Variations
 from .histories import Op
+from .rows import MAPPED
 
 
 class Printed(NamedTuple):
@@ -36,10 +37,12 @@ CHOICES: Dict[str, Sequence[Any]] = {
     "keys": list(KEYS), "answers": list(rows.ANSWERS), "times": list(TIMES), "clients": list(CLIENTS), "missing": list(MISSING),
     "keyname": ("key", "k", "path", "account", "two", "twoknown"), "order": ("call", "clients", "shuffled", "reversed"),
     "casnames": ("old", "expected", "pair"), "setread": ("set", "list"), "delimiter": (",", ";", "\t"),
+    "several": ("clients", "nodes", "rotated", "rotated back"), "error": (1, 3, 10),
 }
+UNITS = {"iso": "ms", "isoz": "ms", "float": "ms", "epochns": "us"}  # of one mark, by the way of the times
 EDN_KEYS = list(KEYS) + ["kw", "ns"]
 BYTES = "crlf blank bom cut gz"
-ROWS = f"keyname missing words outcome values keys answers times clients order extra ids dup stringly skew nokeys {BYTES}"
+ROWS = f"keyname missing words outcome values keys answers times clients order extra ids dup stringly skew error several mapped nokeys {BYTES}"
 # The variations that a form looks at, so that none is idle.
 USED: Dict[str, List[str]] = {form: names.split() for form, names in {
     "oprows": f"{ROWS} unitmix names casnames nullret array wrapped ascii",
@@ -47,10 +50,10 @@ USED: Dict[str, List[str]] = {form: names.split() for form, names in {
     "evrows": f"{ROWS} types shortend nullvalue endsay notime starts array wrapped",
     "evcsv": f"{ROWS} types shortend endsay notime starts delimiter",
     "edn": f"values keys clients order setread tuplemap nil_fail newprocess keyfield index typefirst pprint record nemesis notime dup array "
-           f"stringly skew nokeys {BYTES}",
-    "log": "values prefix nemesis crlf blank bom cut gz dup nokeys",
-    "etcd": "crlf bom cut gz",
-    "porcupine": "gozero unknown crlf bom cut gz",
+           f"stringly skew several nokeys {BYTES}",
+    "log": "values prefix nemesis crlf blank bom cut gz dup several nokeys",
+    "etcd": "crlf bom cut gz several",
+    "porcupine": "gozero unknown crlf bom cut gz several",
 }.items()}
 OFTEN = [form for form in ("oprows", "evrows", "opcsv", "evcsv", "edn") for _ in range(3)]  # forms with many variations, three times as often
 FORMS = OFTEN + [form for form in PRINTERS if form not in OFTEN]
@@ -71,9 +74,41 @@ def drawn(chance: random.Random, form: str, nokeys: bool) -> Variations:
 
 def printed(ops: Sequence[Op], model: str, ways: Variations) -> Printed:
     chance = random.Random(ways.get("seed", 0))
+    ways = settled(ways)
     words = ["--model", model] if model == "unordered-queue" else []
-    text = PRINTERS[ways["form"]](ops, ways, chance)
-    return Printed({"history": as_bytes(text, ways, chance)}, ["history", *words])
+    if "error" in ways:
+        words += ["--skew", f"{ways['error']}{UNITS[ways['times']]}"]
+    texts = several(ops, ways, chance) if "several" in ways else {"history": PRINTERS[ways["form"]](ops, ways, chance)}
+    if "mapped" in ways:
+        words += [word for name, meaning in MAPPED.items() if any(name in text for text in texts.values())
+                  for word in ("--map", f"{name}={meaning}")]
+    files = {name: as_bytes(text, {**ways, "cut": ways.get("cut") and place == len(texts) - 1}, chance)
+             for place, (name, text) in enumerate(texts.items())}
+    return Printed(files, [*texts, *words])
+
+
+def settled(ways: Variations) -> Variations:
+    """The variations without those that make no sense together."""
+    if "error" in ways and (ways.get("times") not in UNITS or ways.get("skew")):
+        ways = {**ways, "times": "iso", "skew": 0}
+    if "several" in ways:  # an index and new processes are of the whole history
+        ways = {name: way for name, way in ways.items() if name not in ("index", "newprocess", "array", "wrapped", "order")}
+    return ways
+
+
+def several(ops: Sequence[Op], ways: Variations, chance: random.Random) -> Dict[str, str]:
+    """The history as several files: one of each client, one of each of two nodes, or one log in two pieces, given in order or not."""
+    printer = PRINTERS[ways["form"]]
+    way = ways["several"]
+    if way in ("clients", "nodes"):
+        of = {op.client if way == "clients" else op.client % 2 for op in ops}
+        parts = {f"n{node}": [op for op in ops if node == (op.client if way == "clients" else op.client % 2)] for node in sorted(of)}
+        return {name: printer(part, ways, chance) for name, part in parts.items()}
+    lines = printer(ops, ways, chance).splitlines(True)
+    head, lines = (lines[:1], lines[1:]) if "csv" in ways["form"] else ([], lines)
+    place = chance.randrange(len(lines) + 1)
+    pieces = [("log.1", lines[:place]), ("log", lines[place:])]
+    return {name: "".join(head + piece) for name, piece in (pieces if way == "rotated" else reversed(pieces)) if piece}
 
 
 def as_bytes(text: str, ways: Variations, chance: random.Random) -> bytes:

@@ -23,6 +23,10 @@ TYPES = {
 }
 ANSWERS = {"result": "result", "value": "value", "output": "output", "odd": "returned_value", "data": "data", "object": "output"}
 MILLISECOND = 10 ** 6
+MAPPED = {"who": "client", "step": "type", "what": "f", "thing": "key", "payload": "value", "t0": "call", "t1": "return", "how": "outcome",
+          "moment": "time"}  # names that nobody knows, with what they mean
+UNKNOWN = {name: unknown for unknown, meaning in MAPPED.items()
+           for name in {"client": ("client", "process"), "f": ("f", "op"), "outcome": ("status",)}.get(meaning, (meaning,))}
 
 
 def is_answered(op: Op) -> bool:
@@ -106,7 +110,7 @@ def row_with_more(row: Row, place: int, op: Op, ways: Variations) -> Row:
         row["id"] = place % 5
     if ways.get("extra"):
         row.update({"node": f"n{op.client % 3}", "attempt": 1, "latency_ms": 3})
-    return row
+    return {UNKNOWN.get(name, name): field for name, field in row.items()} if ways.get("mapped") else row
 
 
 # --- Order, and texts ---
