@@ -2,10 +2,11 @@
 from __future__ import annotations
 
 import gzip
+import json
 import random
 from typing import Any, Callable, Dict, List, NamedTuple, Sequence
 
-from . import jepsen, recorders, rows
+from . import jepsen, logs, recorders, rows
 from .fields import CLIENTS, KEYS, MISSING, OUTCOMES, TIMES, VALUES, WORDS, Variations
 from .histories import Op
 from .rows import MAPPED
@@ -28,7 +29,10 @@ PRINTERS: Dict[str, Printer] = {
     "log": jepsen.log,
     "etcd": lambda ops, ways, _: recorders.etcd(ops, ways),
     "porcupine": lambda ops, ways, _: recorders.porcupine(ops, ways),
+    "slog": logs.slog, "logfmt": logs.logfmt, "lines": logs.lines, "headless": logs.headless, "otlp": logs.otlp,
 }
+MAPPINGS = {"lines": logs.line_mapping(), "headless": logs.headless_mapping()}  # the mapping files that users write for these forms
+SAID = {"slog": ["--map", "msg=type"], "logfmt": ["--map", "msg=type"]}  # and what they say on the command line
 REGISTERS_ALONE = ("etcd", "porcupine")
 
 # The ways of a variation that has several; each other variation is there or not.
@@ -43,6 +47,7 @@ UNITS = {"iso": "ms", "isoz": "ms", "float": "ms", "epochns": "us"}  # of one ma
 EDN_KEYS = list(KEYS) + ["kw", "ns"]
 BYTES = "crlf blank bom cut gz"
 ROWS = f"keyname missing words outcome values keys answers times clients order extra ids dup stringly skew error several mapped nokeys {BYTES}"
+LOGGED = f"words values keys times clients order extra dup shortend stringly skew error several nokeys {BYTES}"
 # The variations that a form looks at, so that none is idle.
 USED: Dict[str, List[str]] = {form: names.split() for form, names in {
     "oprows": f"{ROWS} unitmix names casnames nullret array wrapped ascii",
@@ -54,6 +59,9 @@ USED: Dict[str, List[str]] = {form: names.split() for form, names in {
     "log": "values prefix nemesis crlf blank bom cut gz dup several nokeys",
     "etcd": "crlf bom cut gz several",
     "porcupine": "gozero unknown crlf bom cut gz several",
+    "slog": f"{LOGGED} array ascii nullvalue", "logfmt": f"{LOGGED} nullvalue", "lines": f"{LOGGED} others",
+    "headless": f"values keys times clients order dup casnames delimiter stringly skew error several nokeys {BYTES}",
+    "otlp": "values keys words order pretty stringly nokeys crlf bom cut gz",
 }.items()}
 OFTEN = [form for form in ("oprows", "evrows", "opcsv", "evcsv", "edn") for _ in range(3)]  # forms with many variations, three times as often
 FORMS = OFTEN + [form for form in PRINTERS if form not in OFTEN]
@@ -76,6 +84,9 @@ def printed(ops: Sequence[Op], model: str, ways: Variations) -> Printed:
     chance = random.Random(ways.get("seed", 0))
     ways = settled(ways)
     words = ["--model", model] if model == "unordered-queue" else []
+    words += SAID.get(ways["form"], [])
+    mapping = {"mapping.json": json.dumps(MAPPINGS[ways["form"]]).encode()} if ways["form"] in MAPPINGS else {}
+    words += [word for name in mapping for word in ("--mapping", name)]
     if "error" in ways:
         words += ["--skew", f"{ways['error']}{UNITS[ways['times']]}"]
     texts = several(ops, ways, chance) if "several" in ways else {"history": PRINTERS[ways["form"]](ops, ways, chance)}
@@ -84,7 +95,7 @@ def printed(ops: Sequence[Op], model: str, ways: Variations) -> Printed:
                   for word in ("--map", f"{name}={meaning}")]
     files = {name: as_bytes(text, {**ways, "cut": ways.get("cut") and place == len(texts) - 1}, chance)
              for place, (name, text) in enumerate(texts.items())}
-    return Printed(files, [*texts, *words])
+    return Printed({**files, **mapping}, [*texts, *words])
 
 
 def settled(ways: Variations) -> Variations:
