@@ -40,9 +40,12 @@ def main(arguments: Optional[List[str]] = None) -> int:
 def _turn(arguments: Optional[List[str]]) -> int:
     output, status = NOTHING, command.REFUSED
     try:
-        found = _found(arguments)
+        given = _given(arguments)
+        found = _found(given)
         for line in _told(found):
             command.say(NAME, line)
+        if given.strict_input:
+            found.account.test_strict()
         output, status = found.text, 0
     except Refused as refusal:
         command.say(NAME, f"refused: {refusal}")
@@ -52,16 +55,20 @@ def _turn(arguments: Optional[List[str]]) -> int:
     return status
 
 
-def _found(arguments: Optional[List[str]]) -> Recorded:
+def _given(arguments: Optional[List[str]]) -> argparse.Namespace:
     called = command.tool(NAME)
     parser = Words(prog=called, description=(__doc__ or "").format(tool=called), formatter_class=argparse.RawDescriptionHelpFormatter)
     parser.add_argument("file", nargs="?", default="-", metavar="FILE", help="a history of JSON or CSV, or a log; - for standard input")
     parser.add_argument("--key", metavar="K", type=number("a key", KEYS), help="the history has no keys: each value is of key K")
     parser.add_argument("--nil-is-absent", action="store_true", help="null is what a missing key answers, and is judged")
+    parser.add_argument("--strict-input", action="store_true", help="refuse each guess, as of the key, in place of turning by it")
     try:
-        given = parser.parse_args(arguments)
+        return parser.parse_args(arguments)
     except Refused as fault:
         raise Refused(f"{fault}; see {called} --help") from fault
+
+
+def _found(given: argparse.Namespace) -> Recorded:
     source = files.found(given.file)
     try:
         if detect.form_of(source.text) == detect.EDN:
@@ -75,6 +82,7 @@ def _told(found: Recorded) -> Iterator[str]:
     """What standard error says of what was turned."""
     yield f"{found.form}: {found.facts.events} events"
     yield from found.notes
+    yield from found.account.told()
     yield from outcomes(found.facts)
     if found.key_names or found.value_names:
         yield "keys or values are numbered: comments at the end of the output tell what they are"

@@ -161,7 +161,7 @@ class Rows(unittest.TestCase):
 
     def test_no_keys(self) -> None:
         found = made('{"process":0,"type":"invoke","f":"write","value":3}\n{"process":0,"type":"ok","f":"write","value":3}\n')
-        self.assertIn("its values have no keys: all of it is one object, key 0", found.notes)
+        self.assertEqual([guess.option for guess in found.account.guesses], ["--key K"])
 
     def test_refusals(self) -> None:
         for text, reason in (

@@ -9,9 +9,10 @@ from ..from_jepsen.events import Event
 from ..from_jepsen.refusal import NoKey, TooMany
 from ..notes import Fault
 from . import Beyond, Refused, faults
+from .account import KEY, Account
 
 INDEX = re.compile(r", :jepsen-index [0-9]+")
-NO_KEYS = "its values have no keys: all of it is one object, key 0"
+NO_KEYS = (KEY, "its values have no keys: all of it is one object, key 0", "--key K")
 
 
 class FromJepsen(NamedTuple):
@@ -26,9 +27,8 @@ class FromJepsen(NamedTuple):
     notes: List[str]  # what is to be told of it
 
 
-def turned(text: str, key: Optional[str], nil_is_absent: bool) -> FromJepsen:
+def turned(text: str, key: Optional[str], nil_is_absent: bool, account: Account) -> FromJepsen:
     """The history that the text tells; one whose values have no keys as the one object that it then is."""
-    notes: List[str] = []
     try:
         try:
             found = turn(text, key, nil_is_absent)
@@ -36,14 +36,14 @@ def turned(text: str, key: Optional[str], nil_is_absent: bool) -> FromJepsen:
             if key is not None:
                 raise
             found = turn(text, "0", nil_is_absent)
-            notes.append(NO_KEYS)
+            account.guess(*NO_KEYS)
     except TooMany as refusal:
         raise Beyond(str(refusal)) from refusal
     except Refusal as refusal:
         raise Refused(str(refusal)) from refusal
     lines = [0] * found.begun + [event.line if isinstance(event, Event) else 0 for event in found.history.events]
     return FromJepsen(found.text(), found.models, found.names.keys, found.names.values, lines,
-                      faults.of_nemesis(found.history.nemesis, found.begun), notes + list(notes_of(found)))
+                      faults.of_nemesis(found.history.nemesis, found.begun), list(notes_of(found)))
 
 
 def with_lines(text: str, lines: Sequence[int], file_lines: Sequence[int]) -> str:

@@ -7,6 +7,7 @@ from typing import List, Mapping, NamedTuple, Optional, Sequence
 from ..names import Names
 from ..notes import Fault
 from . import Refused, detect, edn_rows, faults, jepsen, logs, others, own, rows, rows_told
+from .account import Account
 from .files import Source
 from .own import Facts
 from .written import Written
@@ -29,6 +30,7 @@ class Recorded(NamedTuple):
     form: str  # what it was, in words
     text: str  # events alone, and what check passes over
     facts: Facts
+    account: Account  # what became of each line of the input, and what was guessed
     possible: Mapping[int, Sequence[str]] = {}  # the models that a key may have, where that is not seen in its events
     stated: Mapping[int, str] = {}  # the models of keys that the history itself states, and their budgets
     budgets: Mapping[int, int] = {}
@@ -50,6 +52,7 @@ class Recorded(NamedTuple):
 
 def recorded(source: Source, options: Options) -> Recorded:
     """The history that was found, in jepmon's own form."""
+    account = Account()
     form = detect.form_of(source.text)
     if form == detect.NOTHING:
         raise Refused("there is no event in it: nothing was judged")
@@ -57,38 +60,39 @@ def recorded(source: Source, options: Options) -> Recorded:
         found = own.read(source.text)
         if found is not None and found.facts.events and own.concurrency_of(found.facts) is not None:
             names = Names.read(source.text) if "; " in source.text else Names()
-            return Recorded("jepmon's own form", found.text, found.facts, {}, found.models, found.budgets, names.keys, names.values,
+            return Recorded("jepmon's own form", found.text, found.facts, account, {}, found.models, found.budgets, names.keys, names.values,
                             faults=faults.of_text(found.text), lines=found.facts.lines, is_own=True,
                             has_commands=found.has_commands)
     if form == detect.EDN:
-        return _edn(source.text, options)
+        return _edn(source.text, options, account)
     if form == detect.LOG:
-        return _from_written("a log, an operation a line", Written(*logs.turned(source.text)), options)
+        return _from_written("a log, an operation a line", Written(*logs.turned(source.text)), options, account)
     of_rows = rows.of_json if form == detect.JSON else rows.of_csv
-    return _from_written(form, rows_told.written(of_rows(source.text)), options)
+    return _from_written(form, rows_told.written(of_rows(source.text)), options, account)
 
 
-def _edn(text: str, options: Options) -> Recorded:
+def _edn(text: str, options: Options, account: Account) -> Recorded:
     reason = others.named(text, options.is_set)
     if reason is not None:
         raise Refused(reason)
     written = edn_rows.written(text)
     if written is not None:
-        return _from_written("EDN with a key in each event", written, options)
-    return _from_jepsen("Jepsen's form", text, options, [], NO_FILE)
+        return _from_written("EDN with a key in each event", written, options, account)
+    return _from_jepsen("Jepsen's form", text, options, account, [], NO_FILE)
 
 
-def _from_written(form: str, written: Written, options: Options) -> Recorded:
+def _from_written(form: str, written: Written, options: Options, account: Account) -> Recorded:
     options = options._replace(nil_is_absent=options.nil_is_absent or written.nil_is_absent)
     reason = others.named(written.text, options.is_set)
     if reason is not None:
         raise Refused(_with_lines(reason, written.lines))
-    return _from_jepsen(form, written.text, options, written.notes, written.lines)
+    return _from_jepsen(form, written.text, options, account, written.notes, written.lines)
 
 
-def _from_jepsen(form: str, text: str, options: Options, notes: List[str], file_lines: Sequence[int]) -> Recorded:
+def _from_jepsen(form: str, text: str, options: Options, account: Account, notes: List[str],
+                 file_lines: Sequence[int]) -> Recorded:
     try:
-        made = jepsen.turned(text, options.key, options.nil_is_absent)
+        made = jepsen.turned(text, options.key, options.nil_is_absent, account)
     except Refused as refusal:
         raise type(refusal)(_with_lines(str(refusal), file_lines)) from refusal
     if file_lines:
@@ -96,7 +100,7 @@ def _from_jepsen(form: str, text: str, options: Options, notes: List[str], file_
     found = own.read(made.text)
     if found is None:
         raise Refused("a fault of this program: what it made of the history is not in jepmon's form")
-    return Recorded(form, made.text, found.facts, made.models, key_names=made.key_names, value_names=made.value_names,
+    return Recorded(form, made.text, found.facts, account, made.models, key_names=made.key_names, value_names=made.value_names,
                     notes=notes + made.notes, faults=made.faults + faults.of_text(made.text), before=text, lines=made.lines,
                     file_lines=file_lines)
 

@@ -12,6 +12,7 @@ from ..errors import ProgramError
 from ..explain.event import Options as Explained
 from ..explain.said import said as explained
 from ..forms import Refused
+from ..forms.account import Account
 from ..forms.own import Facts
 from ..forms.recorded import Recorded
 from ..from_jepsen import Turned
@@ -29,7 +30,7 @@ from . import causes, large_key, results, turned, wide
 from .hints import MOST_EVENTS, PATIENCE, counted
 from .judging import Task
 from .large import Large
-from .models import ALIKE, Choice
+from .models import ALIKE, Choice, account_for, by_operations
 from .outputs import Folder, Page
 from .words import NAME, Given
 
@@ -48,15 +49,17 @@ class Asked(NamedTuple):
     history: History
     concurrency: Optional[int]  # None: it is found
     made: Optional[Turned]
+    account: Account
 
 
 def asked(given: Given, found: Large) -> Asked:
     if found.is_own and given.key is None and not given.nil_is_absent:
-        return Asked(found.history, given.concurrency, None)
-    made, notes = turned.turned(given, found)
+        return Asked(found.history, given.concurrency, None, Account())
+    account = Account()
+    made, notes = turned.turned(given, found, account)
     for note in notes:
         say(note)
-    return Asked(made.texts(), given.concurrency or made.concurrency, made)
+    return Asked(made.texts(), given.concurrency or made.concurrency, made, account)
 
 
 @contextlib.contextmanager
@@ -91,6 +94,7 @@ def judge(given: Given, found: Large, page: Optional[Page], folder: Optional[Fol
 
 def _judge(given: Given, found: Large, history: Asked, session: shards.Session, page: Optional[Page], folder: Optional[Folder]) -> int:
     choice = chosen(session.tally, given.model, history.made)
+    account_for(choice, history.account)
     options = session.options._replace(model=choice.common or EACH)
     path = os.path.join(session.tools.folder, "report.txt")
     with open(path, "wb") as file:
@@ -98,18 +102,28 @@ def _judge(given: Given, found: Large, history: Asked, session: shards.Session, 
     task = Task("", choice, {}, options, in_shards=True)
     for line in said(found, history, session.tally, verdict, task):
         say(line)
+    if given.strict_input:
+        history.account.test_strict()
+    say(judged_by(found, history, task))
     path, verdict, decided = anew(given, session, path, verdict)
     report = report_of(path, verdict)
     task = task._replace(choice=of_bad_key(choice, report), wide_seconds=given.wide_seconds if decided else None)
     command.write_output(texts_of(path))
     for line in nil_hints(session.tally, choice):
         say(line)
-    recorded = turned.recorded(history.made) if history.made is not None else Recorded("", "", Facts(), is_own=True)
+    recorded = _recorded(history)
     key = shown(recorded, task, report, given.cause, bad_events(session, report, found, history, decided), decided)
     if page is not None or folder is not None:
         copies = {results.HISTORY: session.file.path, results.REPORT: path} if folder is not None else {}
         results.write(page, folder, results.Results(found.name, recorded, task, report, key, copies))
     return verdict.status
+
+
+def _recorded(history: Asked) -> Recorded:
+    """What the history is beside its events."""
+    if history.made is None:
+        return Recorded("", "", Facts(), history.account, is_own=True)
+    return turned.recorded(history.made, history.account)
 
 
 def anew(given: Given, session: shards.Session, path: str, verdict: Verdict) -> Tuple[str, Verdict, wide.Decisions]:
@@ -198,15 +212,15 @@ def chosen(tally: Tally, model: Optional[str], made: Optional[Turned] = None) ->
     if model is not None:
         return Choice({}, model, "as --model says")
     if made is not None and made.model is not None:
-        return Choice({}, made.model, by_operations(made.model, tally.names()))
+        return Choice({}, made.model, by_operations(made.model, tally.names()), is_guess=True)
     names, answers = tally.names(), tally.number_of("read", "ok") - tally.reads_of_nil() - tally.sets
     models = tally.models()
     found = "set" if names == ["read"] and tally.sets else models[0] if models else ""
     if not found or found in kinds.REGISTERS and tally.sets or found == "set" and answers > 0:
         if made is not None and made.history.drained:
             raise Refused("its keys are of several kinds, and of some all was drained, which has no order; say --model NAME")
-        return Choice({}, None, f"its keys are of several kinds, each judged by its own operations: {', '.join(names)}")
-    return Choice({}, found, by_operations(found, names))
+        return Choice({}, None, f"its keys are of several kinds, each judged by its own operations: {', '.join(names)}", is_guess=True)
+    return Choice({}, found, by_operations(found, names), is_guess=True)
 
 
 def of_bad_key(choice: Choice, report: Report) -> Choice:
@@ -214,13 +228,6 @@ def of_bad_key(choice: Choice, report: Report) -> Choice:
     if choice.common is not None or not report.keys:
         return choice
     return choice._replace(models={report.keys[0].key: report.keys[0].model})
-
-
-def by_operations(model: str, names: Sequence[str]) -> str:
-    """Why it is this model."""
-    other = ALIKE.get(model)
-    more = f"; the stricter of two: where no order was promised, say --model {other}" if other else ""
-    return f"by its operations: {', '.join(names)}{more}"
 
 
 # --- What is told ---
@@ -240,11 +247,16 @@ def said(found: Large, history: Asked, tally: Tally, verdict: Verdict, task: Tas
         yield f"{name}: " + ", ".join(f"{outcomes[f'{name} {kind}']} {kind}" for kind in ("ok", "fail", "info"))
     if not any(outcome.endswith(" ok") for outcome in outcomes):
         yield "no operation is ok: nothing was judged"
-    yield f"model {task.choice.common}, {task.choice.reason}" if task.choice.common else task.choice.reason
+    yield from history.account.told()
+    if not task.choice.is_guess:
+        yield f"model {task.choice.common}, {task.choice.reason}"
+
+
+def judged_by(found: Large, history: Asked, task: Task) -> str:
+    """The command that judges it."""
     if history.made is None and found.path is not None:
-        yield f"judged in shards: {task.again(found.path)}"
-    else:
-        yield f"judged in shards: {task.again('FILE')}, where FILE is history.edn of --out DIR"
+        return f"judged in shards: {task.again(found.path)}"
+    return f"judged in shards: {task.again('FILE')}, where FILE is history.edn of --out DIR"
 
 
 def nil_hints(tally: Tally, choice: Choice) -> Iterator[str]:

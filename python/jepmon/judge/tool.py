@@ -97,6 +97,9 @@ def _judge_whole(source: files.Source, given: Given, page: Optional[Page], folde
         raise Refused(f"{source.name}: {refusal}") from refusal
     for line in hints.found(source, found, task):
         say(line)
+    if given.strict_input:
+        found.account.test_strict()
+    say(hints.judged_by(source, found, task))
     report = judged(task)
     report, decided = wide.anew(report, task.options, functools.partial(events.of_keys, found), given.wide_seconds)
     task = task._replace(wide_seconds=given.wide_seconds if decided else None)
@@ -113,6 +116,7 @@ def _judge_whole(source: files.Source, given: Given, page: Optional[Page], folde
 def _task(found: Recorded, given: Given) -> Task:
     """How the history is to be judged."""
     choice = models.chosen(found.facts, given.model, found.stated, found.possible)
+    models.account_for(choice, found.account)
     concurrency = given.concurrency or models.concurrency_of(found.facts)
     if concurrency is None:
         raise Refused("its processes fit no concurrency from 1 to 64")

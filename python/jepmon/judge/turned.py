@@ -5,6 +5,7 @@ from typing import BinaryIO, Dict, Iterator, List, Optional, Sequence, cast
 
 from .. import edn, history
 from ..forms import Refused, faults
+from ..forms.account import Account
 from ..forms.jepsen import NO_KEYS, notes_of
 from ..forms.own import Facts
 from ..forms.recorded import Recorded
@@ -18,18 +19,19 @@ from .large import Large, Pieces
 from .words import Given
 
 
-def turned(given: Given, found: Large) -> "tuple[Turned, List[str]]":
+def turned(given: Given, found: Large, account: Account) -> "tuple[Turned, List[str]]":
     """What comes of it, and what is to be told."""
     try:
         try:
-            made, notes = _turn(found, given.key, given), []  # type: Turned, List[str]
+            made = _turn(found, given.key, given)
         except NoKey:
             if given.key is not None or found.path is None:
                 raise
-            made, notes = _turn(found, "0", given), [NO_KEYS]
+            made = _turn(found, "0", given)
+            account.guess(*NO_KEYS)
     except Refusal as refusal:
         raise Refused(f"{found.name}: {refusal}") from refusal
-    return made, [*notes, *notes_of(made)]
+    return made, list(notes_of(made))
 
 
 def _turn(found: Large, key: Optional[str], given: Given) -> Turned:
@@ -39,9 +41,9 @@ def _turn(found: Large, key: Optional[str], given: Given) -> Turned:
     return turn(cast(BinaryIO, Pieces(cast("Iterator[bytes]", found.history))), key, given.nil_is_absent, OF_SHARDS)
 
 
-def recorded(made: Turned) -> Recorded:
+def recorded(made: Turned, account: Account) -> Recorded:
     """What the history is beside its events."""
-    return Recorded("", "", Facts(), key_names=made.names.keys, value_names=made.names.values,
+    return Recorded("", "", Facts(), account, key_names=made.names.keys, value_names=made.names.values,
                     faults=faults.of_nemesis(made.history.nemesis, made.begun))
 
 
