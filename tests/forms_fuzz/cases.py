@@ -1,14 +1,15 @@
 """Cases of the fuzzer: a history, its right verdict, and how it is printed; and the smallest case with the same wrong verdict."""
 from __future__ import annotations
 
+import functools
 import random
 from typing import Dict, Iterator, List, NamedTuple, Optional, Sequence
 
 from . import truth
-from .fields import Variations
+from .fields import Variations, clock_of
 from .histories import MODELS, Op, simulated, size_of
 from .judged import Judged, Room, Usual
-from .printed import FORMS, REGISTERS_ALONE, Printed, drawn, printed
+from .printed import FORMS, REGISTERS_ALONE, Printed, drawn, printed, settled
 
 TOGETHER = 100  # cases whose verdicts are asked for at once
 PLAIN = 18  # histories of each model by which the usual lines of a form are learned
@@ -88,11 +89,18 @@ class Examiner:
     def wrong(self, case: Case, judged: Judged) -> Optional[Wrong]:
         """What is wrong with the verdict; None if it is right, or if there is none. A wrong one is asked for again as a user would, with
         all that is said beside it."""
-        if judged.word not in ("legal", "illegal") or judged.word == case.right:
+        if judged.word not in ("legal", "illegal") or judged.word == case.right or self.is_within_errors(case):
             return None
         again = self.room.judged(case.printed())
         self.learn(case.form)
         return Wrong(case, again, self.usual.warnings(case.form, again))
+
+    def is_within_errors(self, case: Case) -> bool:
+        """Whether an illegal history may have been legal, by the errors of clocks that were stated."""
+        if "error" not in case.ways or case.right == "legal":
+            return False
+        clock = functools.partial(clock_of, ways=settled(case.ways))
+        return truth.verdict(case.model, truth.widened(case.ops, case.ways["error"], clock)) == "legal"
 
     def learn(self, form: str) -> None:
         if self.usual.knows(form):

@@ -2,7 +2,7 @@
 from __future__ import annotations
 
 import random
-from typing import Dict, Iterator, List, Optional, Sequence, Tuple
+from typing import Callable, Dict, Iterator, List, Optional, Sequence, Tuple
 
 from jepmon.kinds import BUDGETS
 from jepmon.program import Options
@@ -40,6 +40,13 @@ def verdicts(model: str, histories: Sequence[Sequence[Op]]) -> List[str]:
     for (place, _), key in keys.items():
         found[place].append(WORDS.get(told[key].status, "unknown"))
     return [max(words, key=("legal", "unknown", "illegal").index, default="legal") for words in found]
+
+
+def widened(ops: Sequence[Op], error: int, clock: Callable[[int, int], int]) -> List[Op]:
+    """The operations as they may have been, if the clock of each client may be wrong by so much: by these times, no more is known. A call
+    and a return of one time may have been in either order."""
+    return [op._replace(call=2 * (clock(op.call, op.client) - error),
+                        end=None if op.end is None else 2 * (clock(op.end, op.client) + error) + 1) for op in ops]
 
 
 def _events(ops: Sequence[Op], place: int, keys: Dict[Tuple[int, int], int], processes: List[int]) -> Iterator[Told]:
