@@ -15,7 +15,7 @@ import sys
 from typing import Iterator, List, Optional
 
 from . import command
-from .forms import Refused, detect, files
+from .forms import Refused, detect, files, mapping_words
 from .forms.recorded import Options, Recorded, recorded
 from .judge import models
 from .judge.hints import outcomes
@@ -61,6 +61,7 @@ def _given(arguments: Optional[List[str]]) -> argparse.Namespace:
     parser.add_argument("file", nargs="?", default="-", metavar="FILE", help="a history of JSON or CSV, or a log; - for standard input")
     parser.add_argument("--key", metavar="K", type=number("a key", KEYS), help="the history has no keys: each value is of key K")
     parser.add_argument("--nil-is-absent", action="store_true", help="null is what a missing key answers, and is judged")
+    mapping_words.add(parser)
     parser.add_argument("--strict-input", action="store_true", help="refuse each guess, as of the key, in place of turning by it")
     try:
         return parser.parse_args(arguments)
@@ -73,7 +74,7 @@ def _found(given: argparse.Namespace) -> Recorded:
     try:
         if detect.form_of(source.text) == detect.EDN:
             raise Refused(f"it is EDN: {command.tool('from-jepsen')} turns it")
-        return recorded(source, Options(None if given.key is None else str(given.key), given.nil_is_absent))
+        return recorded(source, Options(None if given.key is None else str(given.key), given.nil_is_absent, None, mapping_words.of(given)))
     except Refused as refusal:
         raise Refused(f"{source.name}: {refusal}") from refusal
 

@@ -60,7 +60,7 @@ class Garbage(unittest.TestCase):
                 except Refused as refusal:
                     self.assertNotIn("\n", str(refusal))
                     self.assertLess(len(str(refusal)), 600)
-        self.assertGreater(judged, COUNT // 20)
+        self.assertGreater(judged, COUNT // 40)
 
 
 if __name__ == "__main__":

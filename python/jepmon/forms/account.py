@@ -20,8 +20,8 @@ from typing import Counter, Iterator, List, NamedTuple
 from . import Refused
 
 # What a guess may be of.
-MODEL, KEY, CLIENT, UNIT, ORDER, TYPE, ABSENT = (
-    "the model", "the key", "the client", "the unit of time", "the order", "the type of values", "the absent value")
+MODEL, KEY, CLIENT, UNIT, ORDER, TYPE, ABSENT, OUTCOME = (
+    "the model", "the key", "the client", "the unit of time", "the order", "the type of values", "the absent value", "the outcome")
 
 
 class Guess(NamedTuple):
@@ -43,6 +43,7 @@ class Account:
         self.taken = 0  # lines that hold an event or a part of one
         self.skipped: Counter[str] = collections.Counter()  # lines that hold none, by the reason
         self.guesses: List[Guess] = []
+        self.fields: List[str] = []  # that were not looked at, as a user names them
         self._until = 0  # the last line that was taken
 
     def took(self, first: int, last: int) -> None:
@@ -62,6 +63,17 @@ class Account:
         if guess not in self.guesses:
             self.guesses.append(guess)
 
+    def field(self, name: str) -> None:
+        """Records a field that was not looked at."""
+        if name not in self.fields:
+            self.fields.append(name)
+
+    def skip_to(self, line: int, reason: str) -> None:
+        """Records the lines between the last one taken and this one."""
+        if line > self._until + 1:
+            self.skipped[reason] += line - 1 - self._until
+            self._until = line - 1
+
     def close(self, lines: int) -> None:
         """Tests that each line of the input is accounted for."""
         self.lines = lines
@@ -76,12 +88,16 @@ class Account:
         self.skipped.update(other.skipped)
         for guess in other.guesses:
             self.guess(*guess)
+        for name in other.fields:
+            self.field(name)
 
     def told(self) -> Iterator[str]:
         """What is said of the lines and of each guess."""
         if self.skipped:
             reasons = ", ".join(f"{count} {reason}" for reason, count in self.skipped.items())
             yield f"{self.lines} lines, {self.taken} of events; skipped: {reasons}"
+        if self.fields:
+            yield f"fields that were not looked at: {', '.join(self.fields)}"
         yield from map(str, self.guesses)
 
     def test_strict(self) -> None:

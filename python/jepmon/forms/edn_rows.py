@@ -10,33 +10,34 @@ from typing import Iterator, Optional
 
 from .. import edn, history
 from . import Refused, rows_told
-from .rows import Row, named
+from .account import Account
+from .rows import Row
 from .written import Written
 
 LOOKED_AT = 50  # elements within which the first event of a client is looked for
 PORCUPINE = ("get", "put", "append")
 
 
-def written(text: str) -> Optional[Written]:
+def written(text: str, account: Account, asked: rows_told.Asked) -> Optional[Written]:
     """The history, where its events are of this form."""
     if not _is_one(text):
         return None
     is_porcupine = True
 
-    def rows() -> Iterator[Row]:
+    def rows(_account: Account) -> Iterator[Row]:
         nonlocal is_porcupine
         for element in edn.Reader(text).history():
             fields = history.plain(element.value)
             if not isinstance(fields, dict):
                 raise Refused(f"line {element.line}: this is no map, so no event: {edn.shown(element.value, 60)}")
-            row = Row(element.line, named(fields))
+            row = Row(element.line, fields)
             is_porcupine = is_porcupine and row.fields.get("f") in PORCUPINE
             if is_porcupine and row.fields.get("value") == "":
                 row.fields["value"] = None
             yield row
 
     try:
-        found = rows_told.written(rows())
+        found = rows_told.written(rows, account, asked)
     except edn.Unreadable as fault:
         raise Refused(str(fault)) from fault
     return found._replace(nil_is_absent=is_porcupine)

@@ -2,13 +2,14 @@
 from __future__ import annotations
 
 import re
-from typing import List, Mapping, NamedTuple, Optional, Sequence
+from typing import Iterator, List, Mapping, NamedTuple, Optional, Sequence
 
 from ..names import Names
 from ..notes import Fault
-from . import Refused, detect, edn_rows, faults, jepsen, logs, others, own, rows, rows_told
-from .account import Account
+from . import Refused, detect, edn_rows, faults, jepsen, log_rows, logs, others, own, rows, rows_told
+from .account import Account, lines_of
 from .files import Source
+from .mapping import Mapping as Fields
 from .own import Facts
 from .written import Written
 
@@ -21,7 +22,12 @@ class Options(NamedTuple):
 
     key: Optional[str] = None  # the key of a history without keys
     nil_is_absent: bool = False
-    is_set: bool = False  # that it is to be judged as a set, whatever sort of one it seems to be
+    model: Optional[str] = None  # that is stated for all keys
+    mapping: Fields = Fields()  # what is said of the fields of rows
+
+    @property
+    def of_rows(self) -> rows_told.Asked:
+        return rows_told.Asked(self.mapping, self.model is not None)
 
 
 class Recorded(NamedTuple):
@@ -53,7 +59,7 @@ class Recorded(NamedTuple):
 def recorded(source: Source, options: Options) -> Recorded:
     """The history that was found, in jepmon's own form."""
     account = Account()
-    form = detect.form_of(source.text)
+    form = _form_of(source.text, options.mapping)
     if form == detect.NOTHING:
         raise Refused("there is no event in it: nothing was judged")
     if form == detect.EDN and options.key is None and not options.nil_is_absent:
@@ -66,16 +72,36 @@ def recorded(source: Source, options: Options) -> Recorded:
     if form == detect.EDN:
         return _edn(source.text, options, account)
     if form == detect.LOG:
-        return _from_written("a log, an operation a line", Written(*logs.turned(source.text)), options, account)
-    of_rows = rows.of_json if form == detect.JSON else rows.of_csv
-    return _from_written(form, rows_told.written(of_rows(source.text)), options, account)
+        written = logs.written(source.text, account)
+        form = "a log, an operation a line"
+    else:
+        written = rows_told.written(lambda part: rows_of(form, source.text, options.mapping, part), account, options.of_rows)
+    account.close(lines_of(source.text))
+    return _from_written(form, written, options, account)
+
+
+def _form_of(text: str, mapping: Fields) -> str:
+    if mapping.line is not None:
+        return detect.LINES
+    return detect.CSV if mapping.columns else detect.form_of(text)
+
+
+def rows_of(form: str, text: str, mapping: Fields, account: Account) -> Iterator[rows.Row]:
+    """The rows of a text of this form."""
+    if form == detect.JSON:
+        return rows.of_json(text, mapping, account)
+    if form == detect.LOGFMT:
+        return log_rows.of_logfmt(text, mapping, account)
+    if form == detect.LINES and mapping.line is not None:
+        return log_rows.of_pattern(text, mapping, mapping.line, account)
+    return rows.of_csv(text, mapping, account)
 
 
 def _edn(text: str, options: Options, account: Account) -> Recorded:
-    reason = others.named(text, options.is_set)
+    reason = others.named(text, options.model == "set")
     if reason is not None:
         raise Refused(reason)
-    written = edn_rows.written(text)
+    written = edn_rows.written(text, account, options.of_rows)
     if written is not None:
         return _from_written("EDN with a key in each event", written, options, account)
     return _from_jepsen("Jepsen's form", text, options, account, [], NO_FILE)
@@ -83,7 +109,7 @@ def _edn(text: str, options: Options, account: Account) -> Recorded:
 
 def _from_written(form: str, written: Written, options: Options, account: Account) -> Recorded:
     options = options._replace(nil_is_absent=options.nil_is_absent or written.nil_is_absent)
-    reason = others.named(written.text, options.is_set)
+    reason = others.named(written.text, options.model == "set")
     if reason is not None:
         raise Refused(_with_lines(reason, written.lines))
     return _from_jepsen(form, written.text, options, account, written.notes, written.lines)

@@ -87,7 +87,7 @@ def _judge_whole(source: files.Source, given: Given, page: Optional[Page], folde
         say(note)
     if len(source.text) > LARGE:
         say(f"{source.name}: {len(source.text):,} characters, which take some time to read")
-    said = Said(given.key, given.nil_is_absent, given.model == "set")
+    said = Said(given.key, given.nil_is_absent, given.model, given.mapping)
     try:
         found = recorded(source, said)
         task = _task(found, given)
