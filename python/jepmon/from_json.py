@@ -15,7 +15,7 @@ import sys
 from typing import Iterator, List, Optional
 
 from . import command
-from .forms import Refused, detect, files, mapping_words
+from .forms import Refused, door, files, mapping_words
 from .forms.recorded import Options, Recorded, recorded
 from .judge import models
 from .judge.hints import outcomes
@@ -71,10 +71,11 @@ def _given(arguments: Optional[List[str]]) -> argparse.Namespace:
 
 def _found(given: argparse.Namespace) -> Recorded:
     source = files.found(given.file)
+    options = Options(None if given.key is None else str(given.key), given.nil_is_absent, None, mapping_words.of(given))
     try:
-        if detect.form_of(source.text) == detect.EDN:
+        if door.form_of(source, options) in (door.OWN, door.JEPSEN, door.KEYED):
             raise Refused(f"it is EDN: {command.tool('from-jepsen')} turns it")
-        return recorded(source, Options(None if given.key is None else str(given.key), given.nil_is_absent, None, mapping_words.of(given)))
+        return recorded(source, options)
     except Refused as refusal:
         raise Refused(f"{source.name}: {refusal}") from refusal
 

@@ -11,13 +11,13 @@ from jepmon.forms import Refused, detect, logs
 from jepmon.forms.account import Account
 from jepmon.forms.own import read
 from jepmon.forms.recorded import Options, Recorded, recorded
-from jepmon.forms.files import Source
+from jepmon.forms.files import of_text
 from jepmon.history import of_key, read_history
 from jepmon.walk import walk
 
 
 def made(text: str, **options: Any) -> Recorded:
-    return recorded(Source("a file", None, text, ()), Options(**options))
+    return recorded(of_text(text), Options(**options))
 
 
 def events(text: str, **options: Any) -> List[str]:
@@ -237,8 +237,8 @@ class Logs(unittest.TestCase):
         account = Account()
         found = logs.written(text, account)
         account.close(3)
-        self.assertEqual(found.text.splitlines(), ['{:process 0, :type :invoke, :f :write, :value [7 1]}',
-                                              '{:process 0, :type :info, :f :write, :value [7 1], :error ":timeout \\"x\\""}'])
+        self.assertEqual(found.text.splitlines(), ['{:process 0, :type :invoke, :f :write, :value [7 1], :time 1714557600101000000}',
+                                              '{:process 0, :type :info, :f :write, :value [7 1], :time 1714557600104000000, :error ":timeout \\"x\\""}'])
         self.assertEqual((found.lines, dict(account.skipped)), ([1, 3], {"of a log that tell of no operation": 1}))
 
     def test_a_last_line_that_may_be_cut_off(self) -> None:
@@ -252,7 +252,7 @@ class LegalStaysLegal(unittest.TestCase):
     def test_registers(self) -> None:
         for seed in range(100):
             with self.subTest(seed=seed):
-                found = recorded(Source("a file", None, operations(random.Random(seed)), ()), Options())
+                found = recorded(of_text(operations(random.Random(seed))), Options())
                 walked = walk(of_key(read_history(found.text), 0), "cas-register", 1 << 16)
                 self.assertEqual(walked.status, "alive")
 

@@ -52,6 +52,12 @@ class Account:
             self.taken += last - max(first - 1, self._until)
             self._until = last
 
+    def took_none(self, reason: str, first: int, last: int) -> None:
+        """Records the lines of what is no event, with the reason; those that hold a part of one too are not counted again."""
+        if last > self._until:
+            self.skip(reason, last - max(first - 1, self._until))
+            self._until = last
+
     def skip(self, reason: str, lines: int = 1) -> None:
         """Records lines without an event."""
         if lines:

@@ -8,10 +8,9 @@ from __future__ import annotations
 
 import json
 import re
-from typing import Optional
 
-from . import Refused
 from .account import Account, lines_of
+from .clock import Clock
 from .log_rows import OTHERS
 from .order import Blocks
 from .rows import BLANK, test_end
@@ -28,39 +27,24 @@ def written(text: str, account: Account) -> Written:
     """The events of a log as Jepsen writes them in EDN, and the line of each in the log."""
     test_end(text)
     events, lines, place, line = [], [], 0, 1
-    order = Order()
+    blocks, clock, has_times = Blocks(), Clock(account), False
     for found in LINE.finditer(text):
         line += text.count("\n", place, found.start())
         place = found.start()
         stamp, process, kind, name, value, error = found.groups()
-        order.take(line, process, stamp)
-        further = f", :error {json.dumps(error)}" if error else ""
+        blocks.take(process)
+        time = clock.time(line, stamp, None)
+        further = ("" if time is None else f", :time {time}") + (f", :error {json.dumps(error)}" if error else "")
         events.append(f"{{:process {process}, :type :{kind}, :f {name}, :value {value or 'nil'}{further}}}\n")
         lines.append(line)
-        account.took(line, line)
+        has_times = has_times or time is not None
+        if process == ":nemesis":
+            account.took_none("of :nemesis", line, line)
+        else:
+            account.took(line, line)
     others = sum(1 for each in text.split("\n") if each.strip()) - len(lines)
     account.skip(OTHERS, others)
     account.skip(BLANK, lines_of(text) - len(lines) - others)
-    order.close(account)
+    if not has_times:
+        blocks.close(account)
     return Written("".join(events), lines, [])
-
-
-class Order:
-    """Tests the order of the lines: by their stamps, if they have some, else by whether clients take turns."""
-
-    def __init__(self) -> None:
-        self._latest = ""
-        self._blocks = Blocks()
-
-    def take(self, line: int, process: str, stamp: Optional[str]) -> None:
-        self._blocks.take(process)
-        if stamp is None:
-            return
-        if stamp < self._latest:
-            raise Refused(f"line {line}: the times of the log go back, from {self._latest} to {stamp}: are these several logs, one behind the "
-                          "other? put them in the order of their times")
-        self._latest = stamp
-
-    def close(self, account: Account) -> None:
-        if not self._latest:
-            self._blocks.close(account)

@@ -21,7 +21,7 @@ from typing import Any, Dict, List, Mapping as Map, NamedTuple, Optional, Patter
 from . import Refused
 from .vocabulary import ABSENT, MEANINGS, OPERATIONS, TYPES, UNITS, Slot, plain, slot_of
 
-LINES, TIMES = "lines", "times"  # the orders in which event rows are taken
+LINES, INDEX, TIMES = ORDERS = ("lines", "index", "times")  # the orders in which events are taken
 MEMBERS = ("fields", "ignore", "rows", "line", "columns", "operations", "outcomes", "absent", "time_unit")
 
 
@@ -40,6 +40,7 @@ class Mapping(NamedTuple):
     time_unit: Optional[str] = None
     order: Optional[str] = None
     skew: Optional[str] = None
+    contradictions: Map[str, str] = {}  # the type of an :ok of EDN that is answered by false ("false"), or has an :error ("error")
 
     def with_field(self, words: str) -> Mapping:
         """With one field more, said as FIELD=NAME."""

@@ -11,8 +11,9 @@ from .. import command, kinds, shards
 from ..errors import ProgramError
 from ..explain.event import Options as Explained
 from ..explain.said import said as explained
-from ..forms import Refused
+from ..forms import Refused, door
 from ..forms.account import Account
+from ..forms.jepsen import notes_of
 from ..forms.own import Facts
 from ..forms.recorded import Recorded
 from ..from_jepsen import Turned
@@ -53,13 +54,15 @@ class Asked(NamedTuple):
 
 
 def asked(given: Given, found: Large) -> Asked:
-    if found.is_own and given.key is None and not given.nil_is_absent:
+    if found.made is None:
         return Asked(found.history, given.concurrency, None, Account())
-    account = Account()
-    made, notes = turned.turned(given, found, account)
-    for note in notes:
+    try:
+        made = found.made.turned(in_shards=True)
+    except Refused as refusal:
+        raise Refused(f"{found.name}: {refusal}") from refusal
+    for note in [*found.made.notes, *notes_of(made)]:
         say(note)
-    return Asked(made.texts(), given.concurrency or made.concurrency, made, account)
+    return Asked(made.texts(), given.concurrency or made.concurrency, made, found.made.account)
 
 
 @contextlib.contextmanager
@@ -68,28 +71,49 @@ def opened(given: Given, found: Large, history: Asked) -> Iterator[shards.Sessio
     options = Options(history.concurrency or 2, given.model or "register", given.budget)
     with shards.opened(history.history, options, given.jobs, temporary=given.temporary, progress=shards.Progress(sys.stderr),
                        finds_threads=history.concurrency is None) as session:
-        try:
-            session.read()
-        except shards.Refused as refused:
-            for hint in hints_of_refusal(found, str(refused), session.options):
-                say(hint)
-            raise
+        session.read()
         if session.tally.events == 0:
             raise Refused(f"{found.name}: there is no event in it: nothing was judged")
         yield session
 
 
+def judge_own(given: Given, found: Large, page: Optional[Page], folder: Optional[Folder]) -> Optional[int]:
+    """The same of a history in jepmon's own form; None if it is none after all, so that it is to be read as one of Jepsen's."""
+    try:
+        return _judge_asked(given, found, page, folder)
+    except shards.Refused as refused:
+        if not is_last_word(str(refused), given):
+            return None
+        return _refuse(given, found, str(refused))
+
+
+def is_last_word(line: str, given: Given) -> bool:
+    """Whether a refusal of jepmon's own form stands: that of processes, if the command line says how many threads there are. Whatever
+    else is refused may be a history of Jepsen's."""
+    return given.concurrency is not None and line.startswith("refused 2 ") or line.startswith("refused 20 ")
+
+
 def judge(given: Given, found: Large, page: Optional[Page], folder: Optional[Folder]) -> int:
     """Judges it, writes what was asked for, and gives the exit status."""
+    try:
+        return _judge_asked(given, found, page, folder)
+    except shards.Refused as refused:
+        return _refuse(given, found, str(refused))
+
+
+def _refuse(given: Given, found: Large, line: str) -> int:
+    for hint in hints_of_refusal(found, line, Options(given.concurrency or 2, given.model or "register", given.budget)):
+        say(hint)
+    command.write_output([f"{line}\n"])
+    return command.REFUSED
+
+
+def _judge_asked(given: Given, found: Large, page: Optional[Page], folder: Optional[Folder]) -> int:
     if found.reason:
         say(f"{found.name}: {found.reason}; it is judged in shards, {processes(given.jobs or os.cpu_count() or 1)}")
     history = asked(given, found)
-    try:
-        with opened(given, found, history) as session:
-            return _judge(given, found, history, session, page, folder)
-    except shards.Refused as refused:
-        command.write_output([f"{refused}\n"])
-        return command.REFUSED
+    with opened(given, found, history) as session:
+        return _judge(given, found, history, session, page, folder)
 
 
 def _judge(given: Given, found: Large, history: Asked, session: shards.Session, page: Optional[Page], folder: Optional[Folder]) -> int:
@@ -111,7 +135,7 @@ def _judge(given: Given, found: Large, history: Asked, session: shards.Session, 
     command.write_output(texts_of(path))
     for line in nil_hints(session.tally, choice):
         say(line)
-    recorded = _recorded(history)
+    recorded = _recorded(found, history)
     key = shown(recorded, task, report, given.cause, bad_events(session, report, found, history, decided), decided)
     if page is not None or folder is not None:
         copies = {results.HISTORY: session.file.path, results.REPORT: path} if folder is not None else {}
@@ -119,11 +143,11 @@ def _judge(given: Given, found: Large, history: Asked, session: shards.Session, 
     return verdict.status
 
 
-def _recorded(history: Asked) -> Recorded:
+def _recorded(found: Large, history: Asked) -> Recorded:
     """What the history is beside its events."""
-    if history.made is None:
+    if found.made is None or history.made is None:
         return Recorded("", "", Facts(), history.account, is_own=True)
-    return turned.recorded(history.made, history.account)
+    return turned.recorded(found.made, history.made)
 
 
 def anew(given: Given, session: shards.Session, path: str, verdict: Verdict) -> Tuple[str, Verdict, wide.Decisions]:
@@ -150,9 +174,9 @@ def bad_events(session: shards.Session, report: Report, found: Large, history: A
     key = next(iter(decided), None) if report.key is None else report.key
     if key is None or report.keys and report.keys[0].status in CUT:
         return []
-    if history.made is None:
+    if found.made is None or history.made is None:
         return large_key.events_of(session, key, found.path)
-    return turned.with_lines(history.made, large_key.events_of(session, key, None), found.path)
+    return turned.with_lines(found.made, history.made, large_key.events_of(session, key, None))
 
 
 def judged(given: Given, session: shards.Session, options: Options) -> List[Judged]:
@@ -239,7 +263,7 @@ def processes(number: int) -> str:
 
 def said(found: Large, history: Asked, tally: Tally, verdict: Verdict, task: Task) -> Iterator[str]:
     """What the history was found to be."""
-    form = "jepmon's own form" if history.made is None else "Jepsen's form"
+    form = door.OWN if found.made is None else found.made.form
     yield (f"{found.name}: {form}, {counted(tally.events, 'event')}, concurrency {task.options.concurrency:,}, "
            f"{counted(verdict.keys, 'key')}")
     outcomes = tally.outcomes()
@@ -274,7 +298,7 @@ def nil_hints(tally: Tally, choice: Choice) -> Iterator[str]:
 def hints_of_refusal(found: Large, line: str, options: Options) -> Iterator[str]:
     """Why an event is refused, where it is near the front of a file of jepmon's own form."""
     index = line.rpartition(" event ")[2]
-    if found.path is not None and found.is_own and index.isdigit() and int(index) < MOST_EVENTS and options.concurrency <= kinds.THREADS:
+    if found.path is not None and found.made is None and index.isdigit() and int(index) < MOST_EVENTS and options.concurrency <= kinds.THREADS:
         yield from explained(line, large_key.front_lines(found.path, int(index) + 1), Explained(options.concurrency, options.model))
 
 

@@ -7,6 +7,7 @@ from typing import List, NamedTuple, Optional
 
 from .. import __version__, command, kinds
 from ..forms import Refused, mapping_words
+from ..forms.door import Options as Said
 from ..forms.mapping import Mapping
 
 NAME = "judge"
@@ -43,6 +44,11 @@ class Given(NamedTuple):
     wide_seconds: int = 0  # for keys that are over their budget
     strict_input: bool = False
     mapping: Mapping = Mapping()  # what is said of the fields of rows
+
+    @property
+    def said(self) -> Said:
+        """What is said of the history."""
+        return Said(self.key, self.nil_is_absent, self.model, self.mapping)
 
 
 class Words(command.Words):
