@@ -16,9 +16,11 @@ from .account import Account
 from .mapping import Mapping
 from .vocabulary import plain
 
-SPACE = re.compile(r"[\s,]*")
+SPACE = re.compile(r"(?:[\s,]+|(?:#|//)[^\n]*)*")  # also comments
+COMMENT = re.compile(r"\n[ \t]*(?:#|//)")
 CELL = re.compile(r"-?[0-9]+(\.[0-9]+)?([eE][+-]?[0-9]+)?|true|false|null|[\[{].*[\]}]", re.S)
 DATA = re.compile(r"-?[0-9]+([.:T ,-][0-9TZ:. ,-]*)?")  # a cell that is no name of a column
+COMMENTS = re.compile(r"(?:\s*#[ #!][^\n]*\n)+")  # before the first row
 BLANK, BRACKETS, HEADING = "blank", "brackets alone", "the heading"
 OF_A_ROW = {"f", "op", "process", "client", "clientid"}  # an object with a field of these is a row
 
@@ -45,14 +47,14 @@ def of_json(texts: Iterable[str], mapping: Mapping, account: Account) -> Iterato
         text.pass_gap()
     while text.more() and not (in_array and text.begins("]")):
         line, begin = text.line(), text.at
-        account.skip_to(line, gap)
+        account.skip_to(line, gap, text.comments)
         value, begin = _decoded(decoder, text)
         account.took(line, text.line())
         if mapping.rows is None and _is_plain(value):
             yield Row(line, value)
         else:
             yield from _rows(decoder, value, line, (text.text, begin, text.at), mapping, account)
-        gap = BLANK
+        gap, text.comments = BLANK, 0
         text.pass_gap()
     if in_array and not text.more():
         raise Refused(f"line {text.line()}: the text ends within the array: was the file cut off?")
@@ -62,7 +64,7 @@ def of_json(texts: Iterable[str], mapping: Mapping, account: Account) -> Iterato
         text.pass_gap()
         if text.more():
             raise Refused(f"line {line}: more follows the array that has the history")
-    account.skip_to(text.lines() + 1, BRACKETS if in_array else BLANK)
+    account.skip_to(text.lines() + 1, BRACKETS if in_array else BLANK, text.comments)
 
 
 class _Pieces:
@@ -73,6 +75,7 @@ class _Pieces:
         self.text, self.at = "", 0
         self._line, self._counted = 1, 0  # the line of a place in the text
         self._last = ""
+        self.comments = 0  # in the gap that was passed last
 
     def add(self) -> bool:
         """Adds the next piece; whether there is one."""
@@ -85,9 +88,11 @@ class _Pieces:
         return True
 
     def pass_gap(self) -> None:
-        """Goes on to what is neither white space nor a comma."""
+        """Goes on to what is neither white space, nor a comma, nor a comment; counts the comments."""
         while True:
-            self.at = SPACE.match(self.text, self.at).end()  # type: ignore[union-attr]
+            before, self.at = self.at, SPACE.match(self.text, self.at).end()  # type: ignore[union-attr]
+            if self.at - before > 1:
+                self.comments += len(COMMENT.findall(self.text[before:self.at] if before else "\n" + self.text[:self.at]))
             if self.at < len(self.text) or not self.add():
                 return
 
@@ -209,8 +214,8 @@ def of_csv(texts: Iterable[str], mapping: Mapping, account: Account) -> Iterator
     try:
         for cells in reader:
             line, first = first, reader.line_num + 1
-            if not any(cells):
-                account.skip(BLANK, reader.line_num + 1 - line)
+            if not any(cells) or columns is None and cells[0].startswith("#"):
+                account.skip("comment" if any(cells) else BLANK, reader.line_num + 1 - line)
                 continue
             if columns is None:
                 columns = _columns(line, cells)
@@ -250,7 +255,7 @@ class Lines:
                 self._take()
             except StopIteration:
                 return ""
-        return next((line.rstrip("\r\n") for line in reversed(self._held) if line.strip("\r\n")), "")
+        return next((line.rstrip("\r\n") for line in reversed(self._held) if line.strip("\r\n") and not line.startswith("#")), "")
 
     def _take(self) -> None:
         piece = next(self._texts)

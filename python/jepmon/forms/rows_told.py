@@ -8,6 +8,7 @@ from ..from_jepsen import collect
 from . import etcd, intervals
 from .account import ORDER, Account
 from .clock import nanoseconds
+from .log_rows import OTHERS
 from .mapping import LINES, TIMES, Mapping
 from .meaning import Reader, Told
 from .pairs import Pairs
@@ -57,6 +58,8 @@ class _Turning:
         told = self._told()
         first = next(told, None)
         if first is None:
+            if self._account.skipped[OTHERS]:
+                self._reader.refuse_bare()
             return self._writer.written([])
         told = itertools.chain([first], told)
         if self._reader.of_operations:
@@ -89,7 +92,7 @@ class _Turning:
             notes.append(f"each clock may be wrong by {skew}: {operations.lost(error)} orders of two operations of a key are not certain, and "
                          "what is illegal by these alone is not seen")
         elif operations.are_of_several():
-            self._account.guess(ORDER, "the times of all clients are of one clock, or of clocks that agree", "--skew")
+            self._account.guess(ORDER, "the times of all clients are of one clock, or of clocks that agree", "--skew 0ms")
         operations.write(faults, error, self._reader.clock.coarsest())
         return self._writer.written(notes, self._is_etcd)
 
@@ -106,4 +109,8 @@ class _Turning:
                 if turned is None:
                     continue
                 row = turned
-            yield self._reader.told(row)
+            told = self._reader.told(row)
+            if told is None:
+                self._account.drop(OTHERS)
+            else:
+                yield told
