@@ -7,7 +7,7 @@ import re
 import unittest
 from typing import Any, Dict, List, Optional
 
-from jepmon.forms import Refused, detect, logs
+from jepmon.forms import Refused, detect
 from jepmon.forms.account import Account
 from jepmon.forms.own import read
 from jepmon.forms.recorded import Options, Recorded, recorded
@@ -15,19 +15,7 @@ from jepmon.forms.files import of_text
 from jepmon.history import of_key, read_history
 from jepmon.walk import walk
 
-
-def made(text: str, **options: Any) -> Recorded:
-    return recorded(of_text(text), Options(**options))
-
-
-def events(text: str, **options: Any) -> List[str]:
-    """The events in short: type, process, name and value."""
-    return [" ".join(line.replace(",", "").replace("{", "").replace("}", "").split()) for line in short(made(text, **options).text)]
-
-
-def short(text: str) -> List[str]:
-    return [re.split(", :(?:jepsen-index|line|time) ", line)[0].replace(":type :", "").replace(":process ", "").replace(":f :", "")
-            .replace(":value ", "") for line in text.splitlines() if line.startswith("{")]
+from .translated import events, made
 
 
 class Forms(unittest.TestCase):
@@ -185,7 +173,7 @@ class Rows(unittest.TestCase):
             ('[{"process":0,"type":"invoke","f":"write","key":1,"value":1}', "line 1: the text ends within the array"),
             ('[{"process":0,"type":"invoke","f":"write","key":1,"value":1}] {}', "line 1: more follows the array"),
             ('{"process":0}\n17', "line 1: this event has no type"),
-            ('{"a":1}\n17', "line 1: "),
+            ('{"a":1}\n17', "line 2: this is no object"),
             ('{"process":0,"type":"invoke","f":"write","value":1e}', "line 1: this is no JSON"),
             ('{"a":' + "[" * 100_000, "line 1: "),
             ("client,op,key,call\n0,read,1\n", "line 2: it has 3 cells for 4 columns"),
@@ -234,16 +222,14 @@ class Logs(unittest.TestCase):
         text = ("2024-05-01 10:00:00,101{GMT}\tINFO\t[jepsen worker 0] jepsen.util: 0\t:invoke\t:write\t[7 1]\n"
                 "2024-05-01 10:00:00,102{GMT}\tINFO\t[jepsen test runner] jepsen.core: Running test\n"
                 "2024-05-01 10:00:00,104{GMT}\tINFO\t[jepsen worker 0] jepsen.util: 0\t:info\t:write\t[7 1]\t:timeout \"x\"\n")
-        account = Account()
-        found = logs.written(text, account)
-        account.close(3)
-        self.assertEqual(found.text.splitlines(), ['{:process 0, :type :invoke, :f :write, :value [7 1], :time 1714557600101000000}',
-                                              '{:process 0, :type :info, :f :write, :value [7 1], :time 1714557600104000000, :error ":timeout \\"x\\""}'])
-        self.assertEqual((found.lines, dict(account.skipped)), ([1, 3], {"of a log that tell of no operation": 1}))
+        found = made(text)
+        self.assertEqual(found.text.splitlines(), ["{:type :invoke, :process 0, :f :write, :value [7 1], :line 1}",
+                                                   "{:type :info, :process 0, :f :write, :value [7 1], :line 3}"])
+        self.assertEqual((list(found.lines), found.account.lines, sum(found.account.skipped.values())), ([1, 3], 3, 1))
 
     def test_a_last_line_that_may_be_cut_off(self) -> None:
-        with self.assertRaisesRegex(Refused, "line 2: the last line has no line feed: was the file cut off?"):
-            logs.written("0\t:invoke\t:read\tnil\n0\t:ok\t:read\t12", Account())
+        with self.assertRaisesRegex(Refused, "the last line has no line feed: was the file cut off?"):
+            made("0\t:invoke\t:read\tnil\n0\t:ok\t:read\t12")
 
 
 class LegalStaysLegal(unittest.TestCase):
