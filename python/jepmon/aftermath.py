@@ -11,7 +11,6 @@ from .notes import Fault, faults_of
 from .program import STATUSES, KeyLine, ProgramError, Report
 from .run_folder import HISTORY, RunFolder
 
-SECONDS = 10.0  # for the smallest illegal part
 PLAIN = re.compile(r"\{:type :([a-z]+), :process ([0-9]+), :f :([a-z]+), :value \[([0-9]+) (nil|-?[0-9]+)\], :time ([0-9]+)\}")
 
 
@@ -48,7 +47,7 @@ def _told(folder: RunFolder, bad: Bad) -> Told:
 
     events, faults = read(folder.path / HISTORY, bad.key)
     report = report_of(bad, len(events))
-    found = cause.explain(events, report, folder.options, program=folder.program, seconds=SECONDS)
+    found = cause.explain(events, report, folder.options, program=folder.program)
     walked = page.walked(walk.walk(events, bad.model, bad.budget), {})
     drawn = page.render(page.PageInput(
         verdict=bad.reply, key=bad.key, events=events, model=bad.model, concurrency=folder.options.concurrency, budget=bad.budget,

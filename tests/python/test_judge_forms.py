@@ -7,16 +7,17 @@ import re
 import unittest
 from typing import Any, Dict, List, Optional
 
-from jepmon.forms import Refused, detect, logs, rows, rows_told
+from jepmon.forms import Refused, detect, logs
+from jepmon.forms.account import Account
 from jepmon.forms.own import read
 from jepmon.forms.recorded import Options, Recorded, recorded
-from jepmon.forms.files import Source
+from jepmon.forms.files import of_text
 from jepmon.history import of_key, read_history
 from jepmon.walk import walk
 
 
 def made(text: str, **options: Any) -> Recorded:
-    return recorded(Source("a file", None, text, ()), Options(**options))
+    return recorded(of_text(text), Options(**options))
 
 
 def events(text: str, **options: Any) -> List[str]:
@@ -142,7 +143,7 @@ class Rows(unittest.TestCase):
 
     def test_dates(self) -> None:
         text = ('{"client":0,"op":"put","key":1,"value":5,"start":"2024-05-01T10:00:00.2Z","end":"2024-05-01 12:00:00,300+02:00"}\n'
-                '{"client":1,"op":"get","key":1,"result":5,"start":"2024-05-01T10:00:00.250","end":"2024-05-01T10:00:00.4000001Z"}\n')
+                '{"client":1,"op":"get","key":1,"result":5,"start":"2024-05-01T10:00:00.250+0000","end":"2024-05-01T10:00:00.4000001Z"}\n')
         self.assertEqual([line.split(" ")[0:2] for line in events(text)], [["invoke", "0"], ["invoke", "1"], ["ok", "0"], ["ok", "1"]])
 
     def test_csv(self) -> None:
@@ -161,7 +162,7 @@ class Rows(unittest.TestCase):
 
     def test_no_keys(self) -> None:
         found = made('{"process":0,"type":"invoke","f":"write","value":3}\n{"process":0,"type":"ok","f":"write","value":3}\n')
-        self.assertIn("its values have no keys: all of it is one object, key 0", found.notes)
+        self.assertEqual([guess.option for guess in found.account.guesses], ["--key K"])
 
     def test_refusals(self) -> None:
         for text, reason in (
@@ -169,11 +170,11 @@ class Rows(unittest.TestCase):
             ('\n\n{"client":0,"op":"get","key":1,"arg":"x","ret":5,"call":1,"return":2}', 'line 3: a read has the argument "x"'),
             ('{"client":0,"op":"put","key":1,"value":5,"call":1,"return":2,"result":7}', "line 1: a write is answered by 7"),
             ('{"client":0,"op":"put","key":1,"value":5,"call":1,"outcome":"ok"}', "line 1: it is ok, and the time of its return is missing"),
-            ('{"client":0,"op":"put","key":1,"value":5,"call":"noon"}', "line 1: \"noon\" is no time"),
-            ('{"client":0,"op":"put","key":1,"value":5,"call":true}', "line 1: true is no time"),
+            ('{"client":0,"op":"put","key":1,"value":5,"call":"noon"}', "line 1: \"noon\" is not a time"),
+            ('{"client":0,"op":"put","key":1,"value":5,"call":true}', "line 1: true is not a time"),
             ('{"client":0,"op":1,"key":1,"value":5,"call":1}', "line 1: its operation is 1, which says nothing here"),
-            ('{"client":0,"op":"put","key":1,"value":5,"call":1}\n{"process":0,"type":"ok","f":"write"}', "line 2: this is an event, and"),
-            ('{"process":0,"type":"maybe","f":"write"}', 'line 1: its type is "maybe"'),
+            ('{"client":0,"op":"put","key":1,"value":5,"call":1}\n{"process":0,"type":"ok","f":"write"}', "line 2: this operation has no time of its call"),
+            ('{"process":0,"type":"maybe","f":"write"}', 'line 1: type is "maybe", which is none of invoke, ok, fail, info'),
             ('{"process":[],"type":"ok","f":"write"}', "line 1: its process is []"),
             ('{"process":0,"type":"ok","key":1}', "line 1: this event has no operation"),
             ('{"process":0,"type":"invoke","f":"write","key":1,"value":1}\n{"process":"a","type":"ok","f":"read"}',
@@ -233,13 +234,16 @@ class Logs(unittest.TestCase):
         text = ("2024-05-01 10:00:00,101{GMT}\tINFO\t[jepsen worker 0] jepsen.util: 0\t:invoke\t:write\t[7 1]\n"
                 "2024-05-01 10:00:00,102{GMT}\tINFO\t[jepsen test runner] jepsen.core: Running test\n"
                 "2024-05-01 10:00:00,104{GMT}\tINFO\t[jepsen worker 0] jepsen.util: 0\t:info\t:write\t[7 1]\t:timeout \"x\"\n")
-        found, lines, notes = logs.turned(text)
-        self.assertEqual(found.splitlines(), ['{:process 0, :type :invoke, :f :write, :value [7 1]}',
-                                              '{:process 0, :type :info, :f :write, :value [7 1], :error ":timeout \\"x\\""}'])
-        self.assertEqual((lines, notes), ([1, 3], ["lines that tell of no operation, which were passed over: 1"]))
+        account = Account()
+        found = logs.written(text, account)
+        account.close(3)
+        self.assertEqual(found.text.splitlines(), ['{:process 0, :type :invoke, :f :write, :value [7 1], :time 1714557600101000000}',
+                                              '{:process 0, :type :info, :f :write, :value [7 1], :time 1714557600104000000, :error ":timeout \\"x\\""}'])
+        self.assertEqual((found.lines, dict(account.skipped)), ([1, 3], {"of a log that tell of no operation": 1}))
 
     def test_a_last_line_that_may_be_cut_off(self) -> None:
-        self.assertIn("its last line has no line feed: was the file cut off?", logs.turned("0\t:invoke\t:read\tnil\n0\t:ok\t:read\t12")[2])
+        with self.assertRaisesRegex(Refused, "line 2: the last line has no line feed: was the file cut off?"):
+            logs.written("0\t:invoke\t:read\tnil\n0\t:ok\t:read\t12", Account())
 
 
 class LegalStaysLegal(unittest.TestCase):
@@ -248,7 +252,7 @@ class LegalStaysLegal(unittest.TestCase):
     def test_registers(self) -> None:
         for seed in range(100):
             with self.subTest(seed=seed):
-                found = recorded(Source("a file", None, operations(random.Random(seed)), ()), Options())
+                found = recorded(of_text(operations(random.Random(seed))), Options())
                 walked = walk(of_key(read_history(found.text), 0), "cas-register", 1 << 16)
                 self.assertEqual(walked.status, "alive")
 

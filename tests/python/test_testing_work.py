@@ -178,10 +178,21 @@ class Works(Monitored):
                 outcome = self.ran(InThisProcess, model, parts=3)
                 self.assertEqual((outcome.verdict, outcome.status, outcome.reason), ("legal", 0, ""))
                 self.assertGreater(outcome.parts, 2)
-                self.assertEqual([line for line in outcome.not_judged if not line.startswith("not judged: ")], [])
+                self.assertEqual(outcome.not_judged, [])
                 self.assertEqual(self.verdict_by(outcome.folder), "legal")
                 most = {"set": 40, "mutex": 400, "fifo-queue": 300, "unordered-queue": 300}.get(model, 200)
                 self.assertLessEqual(max(HELD[-1].changes.values()), most + 5)
+
+    def test_where_not_all_was_judged_the_test_does_not_end_well(self) -> None:
+        given = Given(InThisProcess, "register", "", 1.0, 1, 1, SEED, "none", 0.0, 1, "auto", 1, 0.0, str(self.room), None)
+        monitor = mock.Mock(counts={"read": Counter(ok=5), "write": Counter(ok=5)}, lost=None, length=20, parts=1, folder=self.room)
+        work = mock.Mock(names=("read", "write"), lost=0)
+        for said, verdict, status in (("legal", "legal", 0), ("legal\nnot judged: 1 operations, ..", "unknown", 2),
+                                      ("unknown key 1 index 2 of part-0001\nnot judged to their end: ..", "unknown key 1 index 2 of part-0001", 2),
+                                      ("illegal key 1 index 2 of part-0001\nnot judged: ..", "illegal key 1 index 2 of part-0001", 1)):
+            monitor.close.return_value = said
+            outcome = Test(given, mock.Mock())._outcome(monitor, work, "")
+            self.assertEqual((outcome.verdict, outcome.status, outcome.not_judged), (verdict, status, said.split("\n")[1:]))
 
     def test_one_client(self) -> None:
         for model in InThisProcess.objects:

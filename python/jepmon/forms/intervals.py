@@ -7,14 +7,15 @@ nothing to linearizability, so those that overlap on one client are spread over 
 """
 from __future__ import annotations
 
+from bisect import bisect_right
 from typing import Any, Dict, Iterable, Iterator, List, NamedTuple, Optional, Tuple
 
 from . import Refused
+from .answers import DECIDES, UNANSWERED, answered
 from .clock import Time
-from .meaning import MISSING, Told
+from .meaning import ANSWERED, MISSING, Told
 from .written import Writer, Written, element, value_of, word
 
-ANSWERED = ("read", "dequeue")
 THREADS = 64
 Step = Tuple[int, str]  # an operation by its place, and the type of the event
 
@@ -32,6 +33,16 @@ class Interval(NamedTuple):
     ends: Optional[Time]  # None where it never returned
     outcome: str  # "ok", "fail" or "info"
     error: Optional[str]
+    mark: int  # by which rows are told apart; 0 of a read
+
+
+class Fault(NamedTuple):
+    """What a nemesis did."""
+
+    time: Time
+    line: int
+    name: str
+    value: str
 
 
 def of_told(told: Told, writer: Writer) -> Interval:
@@ -40,18 +51,18 @@ def of_told(told: Told, writer: Writer) -> Interval:
     if told.call is None:
         raise Refused(f"line {line}: this operation has no time of its call, which those before it have")
     if told.name is None:
-        raise Refused(f"line {line}: this operation has no name, as read or write")
+        raise Refused(f"line {line}: this operation has no name, as read or write; say --map FIELD=op for the field that names it")
     if told.ends is not None and told.ends < told.call:
         raise Refused(f"line {line}: it returns at {told.ends}, before its call at {told.call}; leave the return out where there is none")
     argument, answer, outcome = told.value, told.answer, told.outcome
     if told.name in ANSWERED:
         if answer is MISSING:
             argument, answer = None, argument
-        elif argument not in (MISSING, None):
+        elif argument not in (MISSING, None, ""):
             raise Refused(f"line {line}: a {told.name} has the argument {element(argument)[:60]}, and only an answer is known; "
                           "is it the key? let its field be called key")
-    elif answer is not MISSING and outcome is None:
-        outcome = _answered(line, told.name, answer)
+    elif answer is not MISSING and told.name in UNANSWERED and (outcome is None or outcome == "ok" and told.name in DECIDES and answer in (False, "false", "False")):
+        outcome = answered(line, told.name, answer) or outcome
     if outcome is None:
         outcome = "info" if told.ends is None else "ok"
     if outcome == "ok" and told.ends is None:
@@ -61,29 +72,63 @@ def of_told(told: Told, writer: Writer) -> Interval:
     ends = told.ends
     if ends is None:
         writer.counts["operations that never returned, which may take place at any later time"] += outcome == "info"
-    return Interval(line, _hashable(told.client), word(line, told.name), told.key, argument, answer, told.call, ends, outcome, told.error)
-
-
-def _answered(line: int, name: str, answer: Any) -> Optional[str]:
-    """What the answer of an operation that has none says of how it ended."""
-    if answer is None or answer is True or isinstance(answer, str) and answer.lower() in ("", "ok", "true", "success"):
-        return None
-    if answer is False:
-        return "fail" if name in ("cas", "acquire") else "info"
-    if isinstance(answer, str) and answer.lower() in ("fail", "failed", "false"):
-        return "fail"
-    if isinstance(answer, str) and answer.lower() in ("info", "timeout", "unknown", "error"):
-        return "info"
-    raise Refused(f"line {line}: a {name} is answered by {element(answer)[:60]}: did it take place? let an outcome say ok, fail or info")
+    mark = 0 if told.name == "read" else hash(repr(told.fields))
+    return Interval(line, _hashable(told.client), word(line, told.name), told.key, argument, answer, told.call, ends, outcome, told.error, mark)
 
 
 def _hashable(client: Any) -> Any:
-    return client if client is None or isinstance(client, (str, int, float)) else element(client)
+    return None if client is MISSING else client if client is None or isinstance(client, (str, int, float)) else element(client)
 
 
-def written(intervals: List[Interval], writer: Writer, notes: List[str], nil_is_absent: bool = False) -> Written:
+def test_twice(intervals: List[Interval]) -> None:
+    """Refuses an operation that is there twice, in each field, also in its times. A read that is there twice changes nothing."""
+    seen: Dict[Tuple[Time, int], int] = {}
+    latest: Optional[Time] = None
+    for call, mark, line in sorted((interval.call, interval.mark, interval.line) for interval in intervals if interval.mark):
+        if call != latest:
+            seen, latest = {}, call
+        first = seen.setdefault((call, mark), line)
+        if first != line:
+            raise Refused(f"line {line}: this operation is that of line {first} in each field, also in its times: does the file have some lines "
+                          "twice? If they are two operations, let a field tell them apart")
+
+
+def test_returns(intervals: List[Interval], names: str) -> None:
+    """Refuses a history in which no operation has returned."""
+    if intervals and all(interval.ends is None for interval in intervals):
+        raise Refused(f"none of its {len(intervals)} operations has a time of its return. The fields are {names}; say --map FIELD=return for the "
+                      "field that has it")
+
+
+def widened(intervals: List[Interval], skew: Time, coarse: int) -> List[Interval]:
+    """The operations, each begun earlier and ended later by a clock error; a return in a coarse unit is at the end of that unit."""
+    return [each._replace(call=each.call - skew, ends=None if each.ends is None else each.ends + skew + coarse) for each in intervals]
+
+
+def lost(intervals: List[Interval], skew: Time) -> int:
+    """How many pairs of operations of one key stand in an order by their times, and in none if each interval is wider by a clock error."""
+    calls: Dict[Any, List[Time]] = {}
+    for interval in intervals:
+        calls.setdefault(_name_of(interval.key), []).append(interval.call)
+    for of_key in calls.values():
+        of_key.sort()
+    count = 0
+    for interval in intervals:
+        if interval.ends is not None and interval.outcome != "info":
+            of_key = calls[_name_of(interval.key)]
+            count += bisect_right(of_key, interval.ends + 2 * skew) - bisect_right(of_key, interval.ends)
+    return count
+
+
+def _name_of(key: Any) -> Any:
+    return None if key is MISSING else key if isinstance(key, (str, int, float)) else element(key)
+
+
+def written(intervals: List[Interval], writer: Writer, notes: List[str], nil_is_absent: bool = False,
+            faults: Iterable[Fault] = ()) -> Written:
     """The events of operations, in Jepsen's form."""
     steps, processes = _scheduled(intervals)
+    waiting = sorted(faults, reverse=True)
     overlaps = _overlaps(intervals, steps)
     if overlaps:
         writer.counts["operations that overlap or touch another one of their client, on threads of their own"] += overlaps
@@ -91,10 +136,18 @@ def written(intervals: List[Interval], writer: Writer, notes: List[str], nil_is_
         interval = intervals[place]
         is_answer = kind == "ok" and interval.name in ANSWERED
         time = interval.call if kind == "invoke" else interval.ends
+        while waiting and time is not None and waiting[-1].time < time:
+            _write(writer, waiting.pop())
         writer.event(interval.line, kind, str(process), interval.name,
                      value_of(interval.key, interval.answer if is_answer else interval.argument), time,
                      interval.error if kind != "invoke" else None)
+    for fault in reversed(waiting):
+        _write(writer, fault)
     return writer.written(notes, nil_is_absent)
+
+
+def _write(writer: Writer, fault: Fault) -> None:
+    writer.event(fault.line, "info", ":nemesis", fault.name, fault.value, fault.time)
 
 
 def _scheduled(intervals: List[Interval]) -> Tuple[List[Step], List[int]]:

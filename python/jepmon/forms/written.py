@@ -6,7 +6,9 @@ import json
 from typing import Any, Counter, List, NamedTuple, Optional
 
 from . import Refused
-from .meaning import MISSING
+from .clock import Time
+
+MISSING: Any = object()  # if a row has no such field
 
 
 class Written(NamedTuple):
@@ -26,8 +28,8 @@ class Writer:
         self._lines: List[int] = []
         self.counts: Counter[str] = collections.Counter()  # of what is to be told
 
-    def event(self, line: int, kind: str, process: str, name: str, value: str, time: Any = None, error: Optional[str] = None) -> None:
-        further = f", :time {time}" if isinstance(time, int) and 0 <= time < 1 << 63 else ""
+    def event(self, line: int, kind: str, process: str, name: str, value: str, time: Optional[Time] = None, error: Optional[str] = None) -> None:
+        further = f", :time {int(time)}" if time is not None and 0 <= time < 1 << 63 else ""
         if error:
             further += f", :error {element(error)}"
         self._events.append(f"{{:process {process}, :type :{kind}, :f :{name}, :value {value}{further}}}\n")

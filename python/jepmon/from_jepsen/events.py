@@ -89,6 +89,7 @@ class History:
         self.nemesis: List[Left] = []
         self.notes: Counter[str] = collections.Counter()
         self.drained: Set[Value] = set()  # the keys that have drains
+        self.clients: Dict[int, str] = {}  # the names of clients by their numbers, if they have names
         self.is_plain = True  # whether the part of each event is nil, or one or more plain integers
         self._begun: Set[int] = set()  # the processes that have begun, and have not crashed
         self._open = 0

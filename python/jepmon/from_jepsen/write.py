@@ -34,7 +34,7 @@ class Writer:
         self.history = history
         self.registers = {key for key, possible in models.items() if nil_is_absent and possible[0] in REGISTERS}
         self.sets = {key for key, possible in models.items() if possible == ["set"]}
-        self.keys = Numbering(lambda: history.keys, limits.keys)
+        self.keys = Numbering(lambda: history.keys, KEYS if len(history.keys) <= len(KEYS) else limits.keys)
         self.values = Numbering(self._values, VALUES)
         self.absent = str(self.values.another()) if nil_is_absent else "nil"
         self.processes = processes_of(history, limits.threads)
@@ -53,6 +53,9 @@ class Writer:
             else:
                 event = event_of(row)
                 values = values_of(event, event.key in self.sets)
+                if event.name == ":read" and event.key in self.sets:  # in which nil is a member as any other
+                    yield from values
+                    continue
             yield from (value for value in values if value != "nil")
 
     def names(self) -> Names:
@@ -94,17 +97,17 @@ class Writer:
             text = f":f {name}, :value [{self.keys(event.key)} {self.part(event)}]"
             if len(self.known) < MOST_KNOWN and isinstance(part, str):
                 self.known[kind, name, key, part] = text
-        own = f", :jepsen-process {process}" if self.processes.renumbered else ""
+        own = f", :jepsen-process {process}" if self.processes.renumbered and process not in self.history.clients else ""
         return f"{{:type {kind}, :process {processes.process_of(kind, process)}, {text}, :jepsen-index {own_index}{own}}}\n"
 
     def part(self, event: Event) -> str:
         of_set = event.key in self.sets
+        if of_set and event.name == ":read" and isinstance(event.part, Many):
+            return f"#{{{' '.join(dict.fromkeys(map(self.values, event.part.members)))}}}"
         absent = "nil" if of_set else self.absent
         values = [absent if value == "nil" else self.values(value) for value in values_of(event, of_set)]
         if event.name == ":cas":
             return f"[{' '.join(values)}]"
-        if of_set and event.name == ":read" and isinstance(event.part, Many):
-            return f"#{{{' '.join(dict.fromkeys(values))}}}"
         return values[0] if values else "nil"
 
 

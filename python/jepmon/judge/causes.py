@@ -20,7 +20,6 @@ BY_PART = ("Proved is what jepmon was asked, and of each sort of removal that a 
            "is left by such removals is tested, and not proved.")
 BY_ORDER = ("The verdict is jepmon's, and proved, and so is the order: jepmon confirm says that it is one of the operations of this key. The "
             "other sentences are not proved.")
-SECONDS = 10.0  # for the smallest part
 WIDTH = 130  # columns, where standard error is no terminal
 
 
@@ -49,7 +48,7 @@ def shown(found: Recorded, task: Task, report: Report, with_cause: bool, events:
     if not with_cause or report.word == "legal":
         return key
     try:
-        key = key._replace(cause=causes.explain(events, report, options, Names(found.value_names, found.key_names), seconds=SECONDS,
+        key = key._replace(cause=causes.explain(events, report, options, Names(found.value_names, found.key_names),
                                                 known=key.decided.part if key.decided is not None else None))
         if key.cause is not None and proviso(key):
             key = key._replace(cause=key.cause._replace(proviso=proviso(key)))

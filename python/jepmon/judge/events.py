@@ -3,26 +3,23 @@ from __future__ import annotations
 
 import heapq
 import re
-from typing import Any, Dict, Iterable, List, Sequence
+from typing import Dict, Iterable, List
 
-from .. import edn, history
+from .. import history
 from ..forms.recorded import Recorded
 from ..history import Event
 
-FURTHER = ("time", "error")  # fields that are taken over from what the history was made from
-LONGEST = 200  # lines that one event of it may take
 KEY = re.compile(":value \\[([0-9]+) ")
 
 
 def of_key(found: Recorded, key: int) -> List[Event]:
     """The events of a key, with their indices in the whole history and their lines in the file that was given; where that was of
     another form, also with what it says of when they came and of errors."""
-    before = found.before.split("\n") if found.before else []
-    events: List[Event] = []
-    for event in of_keys(found, [key])[key]:
-        fields = {**event.fields, **(_further(before, found.lines[event.index]) if before else {})}
-        events.append(event._replace(fields=fields))
-    return events
+    events = of_keys(found, [key])[key]
+    if found.translation is None:
+        return events
+    further = found.translation.beside({found.lines[event.index] for event in events} - {0})
+    return [event._replace(fields={**event.fields, **further.get(found.lines[event.index], {})}) for event in events]
 
 
 def of_keys(found: Recorded, keys: Iterable[int]) -> Dict[int, List[Event]]:
@@ -38,20 +35,6 @@ def of_keys(found: Recorded, keys: Iterable[int]) -> Dict[int, List[Event]]:
                 if event.key in events:
                     events[event.key].append(event._replace(line=found.line(index)))
     return events
-
-
-def _further(before: Sequence[str], line: int) -> Dict[str, Any]:
-    """Further fields of the event that begins in this line of a text in Jepsen's form."""
-    if line == 0:
-        return {}
-    text = "\n".join(before[line - 1:line - 1 + LONGEST]).lstrip("[( ") if before[line - 1].count("{") != before[line - 1].count("}") \
-        else before[line - 1].lstrip("[( ")
-    try:
-        element = next(edn.Reader(text).elements(), None)
-    except edn.Unreadable:
-        return {}
-    fields = edn.fields_of(element.value) if element is not None else None
-    return {name: history.plain(fields[f":{name}"]) for name in FURTHER if f":{name}" in (fields or {})} if fields else {}
 
 
 def alone(events: List[Event], concurrency: int) -> str:

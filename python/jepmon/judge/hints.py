@@ -33,14 +33,16 @@ def found(source: Source, history: Recorded, task: Task) -> Iterator[str]:
     if history.faults:
         yield f"faults, which the page shows: {len(history.faults)}"
     yield from outcomes(facts)
-    if task.choice.common:
-        yield f"model {task.choice.common}, {task.choice.reason}"
-    else:
-        yield task.choice.reason
+    yield from history.account.told()
+    if not task.choice.is_guess:
+        yield f"model {task.choice.common}, {task.choice.reason}" if task.choice.common else task.choice.reason
+
+
+def judged_by(source: Source, history: Recorded, task: Task) -> str:
+    """The command that judges it."""
     if source.path is not None and source.is_plain and history.is_own and not task.commands:
-        yield f"judged by: {task.again(source.path)}"
-    else:
-        yield f"judged by: {task.again('FILE')}, where FILE is history.edn of --out DIR"
+        return f"judged by: {task.again(source.path)}"
+    return f"judged by: {task.again('FILE')}, where FILE is history.edn of --out DIR"
 
 
 def outcomes(facts: Facts) -> Iterator[str]:

@@ -205,6 +205,8 @@ class Test:
             status, reason = 1, f"{work.lost} messages were acknowledged, and never came: this was counted, and is not proved"
         elif not verdict.startswith("legal"):
             status = 2
+        elif not_judged:
+            verdict, status, reason = "unknown", 2, "what was judged is legal, and not all was judged"
         return Outcome(verdict, reason, status, counts, monitor.length, self.at_work, max(self.ended - self.begun, 0.001), monitor.parts,
                        not_judged, self.struck, work.lost, monitor.folder)
 

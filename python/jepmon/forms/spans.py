@@ -1,0 +1,44 @@
+"""Rows within objects: the members of nested lists, and the spans of OTLP, whose attributes are lists of keys and values."""
+from __future__ import annotations
+
+from typing import Any, Dict, Iterator, List
+
+from . import Refused
+
+PATH = "resourceSpans[].scopeSpans[].spans[]"
+STATUSES = {0: "unset", 1: "ok", 2: "error", "STATUS_CODE_UNSET": "unset", "STATUS_CODE_OK": "ok", "STATUS_CODE_ERROR": "error"}
+
+
+def members(line: int, value: Any, path: str) -> Iterator[Any]:
+    """The objects to which a path leads: names with dots between them, and [] behind the name of a list."""
+    found: List[Any] = [value]
+    for name in path.split("."):
+        inner = [one[name.replace("[]", "")] for one in found if isinstance(one, dict) and name.replace("[]", "") in one]
+        found = [member for one in inner for member in (one if isinstance(one, list) else [one])] if name.endswith("[]") else inner
+    for member in found:
+        if not isinstance(member, dict):
+            raise Refused(f"line {line}: a member of {path} is no object, so no row")
+        yield member
+
+
+def row(span: Dict[str, Any]) -> Dict[str, Any]:
+    """The span with its attributes as one object, and its status as a word; any other object as it is."""
+    made = dict(span)
+    attributes = span.get("attributes")
+    if isinstance(attributes, list) and all(isinstance(one, dict) and "key" in one and isinstance(one.get("value"), dict) for one in attributes):
+        made["attributes"] = {one["key"]: _value(one["value"]) for one in attributes}
+    status = span.get("status")
+    if isinstance(status, dict) and "startTimeUnixNano" in span:
+        made["status"] = STATUSES.get(status.get("code", 0), status.get("code"))
+        if status.get("message"):
+            made["error"] = status["message"]
+    return made
+
+
+def _value(value: Dict[str, Any]) -> Any:
+    """The value of an attribute."""
+    if "intValue" in value:
+        return int(value["intValue"])
+    if "arrayValue" in value:
+        return [_value(one) for one in value["arrayValue"].get("values", [])]
+    return next((value[kind] for kind in ("stringValue", "boolValue", "doubleValue", "bytesValue") if kind in value), None)

@@ -1,0 +1,17 @@
+"""The variations whose wrong verdicts are known and not mended yet, and what each waits for."""
+from __future__ import annotations
+
+from typing import Dict, List
+
+WAITS: Dict[str, str] = {
+    "gozero": "absent values", "missing": "absent values", "stringly": "types that look alike", "values": "types that look alike",
+    "skew": "clock errors", "unitmix": "units", "answers": "accounting of fields", "outcome": "words for outcomes", "starts": "accounting of fields",
+    "dup": "rows that stand twice", "keyname": "accounting of fields", "order": "order by time", "cut": "a last line without line feed",
+    "several": "several files", "error": "--skew", "mapped": "--map",
+    "tuplemap": "one front door", "keyfield": "one front door",
+}
+
+
+def waits_for(variations: List[str]) -> str:
+    """What a wrong verdict of these variations waits for; nothing if it is new."""
+    return next((WAITS[name] for name in variations if name in WAITS), "")
