@@ -7,6 +7,7 @@ from typing import Callable, Iterable, Iterator, List, NamedTuple, Optional
 from . import Refused, etcd, intervals
 from .account import ORDER, Account
 from .clock import nanoseconds
+from .log_rows import OTHERS
 from .mapping import TIMES, Mapping
 from .meaning import Reader, Told
 from .pairs import Pairs
@@ -54,6 +55,8 @@ class _Turning:
         told = self._told()
         first = next(told, None)
         if first is None:
+            if self._account.skipped[OTHERS]:
+                self._reader.refuse_bare()
             return self._writer.written([])
         told = itertools.chain([first], told)
         if self._reader.of_operations:
@@ -109,4 +112,8 @@ class _Turning:
                 if turned is None:
                     continue
                 row = turned
-            yield self._reader.told(row)
+            told = self._reader.told(row)
+            if told is None:
+                self._account.drop(OTHERS)
+            else:
+                yield told
