@@ -94,7 +94,7 @@ def bodies_gone():
     gone = []
     for line in (TOP / "docs" / "WRONG_BODIES.md").read_text().splitlines():
         for crates, edits in re.findall(r"((?:`\w+`(?:, )?)+): ((?:`\w+`(?:, )?)+)", line):
-            paths = [f"crates/{crate}/must-fail/{edit}.edit" for crate in WORD.findall(crates) for edit in WORD.findall(edits)]
+            paths = [f"wrong/{crate}/{edit}.edit" for crate in WORD.findall(crates) for edit in WORD.findall(edits)]
             gone += [path for path in paths if not (TOP / path).exists()]
     return gone
 

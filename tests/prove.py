@@ -1,8 +1,9 @@
 #!/usr/bin/env python3
-"""Runs `rt ci` as the gate does, its output passed on, and says how much was proved anew and where the processor time went.
+"""Runs `rt ci` as the gate does, passes its output on, and says how much was proved anew, where the processor time went, and how much
+memory the checks took.
 
-The time is that of the checks that `rt ci` starts, read once a second from /proc: of proofs, of tests, and of wrong bodies, whose
-checks run in a copy of the crate. What is too short to be seen counts as other. The last line is that of `rt ci`.
+It reads the time and the memory of the checks that `rt ci` starts once a second from /proc: those of proofs, and those of tests. The time
+of shorter processes counts as other. The last line is that of `rt ci`.
 """
 import collections
 import os
@@ -15,10 +16,13 @@ import threading
 import time
 
 TICKS = os.sysconf("SC_CLK_TCK")
-MOST_OF_A_CHECK = 4_000_000_000  # bytes: more than any check of a crate has been seen to take
-KINDS = ("proofs", "tests", "wrong bodies")
+MOST_OF_A_CHECK = 3_300_000_000  # bytes: the most that a check of a crate has taken (docs/PERFORMANCE_RUNS.md)
+PLANNED = 7_500_000_000  # bytes that `rt ci` plans for a check of an upper crate; a part of the free memory stays unplanned
+UNPLANNED = 0.15
+KINDS = ("proofs", "tests")
 COUNTS = re.compile(rb"\d+ passed, \d+ failed")
-SHARE = re.compile(r"^rt: ok.*?(\d+) of the (\d+) proofs(?: .*?(\d+) of the (\d+) must-fail edits)?")
+SHARE = re.compile(r"^rt: ok.*?(\d+) of the (\d+) proofs")
+PEAK = re.compile(r"VmHWM:\s+(\d+) kB")
 
 
 def processes():
@@ -46,21 +50,27 @@ def kind_of(number):
     """What a check is for, and of which crate; None for what is no check."""
     try:
         words = pathlib.Path("/proc", str(number), "cmdline").read_bytes().decode(errors="replace").split("\0")
-        folder = os.readlink(f"/proc/{number}/cwd")
     except OSError:
         return None
     if "--crate-name" not in words:
         return None
-    crate = words[words.index("--crate-name") + 1]
-    kind = "wrong bodies" if "/rt-edit" in folder else "tests" if "--test" in words else "proofs"
-    return crate, kind
+    return words[words.index("--crate-name") + 1], "tests" if "--test" in words else "proofs"
+
+
+def peak_of(number):
+    """The most memory that a process has had at once so far, in bytes; 0 if it has ended."""
+    try:
+        found = PEAK.search(pathlib.Path("/proc", str(number), "status").read_text())
+    except OSError:
+        return 0
+    return 1024 * int(found[1]) if found else 0
 
 
 class Times:
-    """The processor seconds of the checks that a process starts, by crate and kind, while it runs."""
+    """The processor seconds and the memory of the checks that a process starts, by crate and kind, while it runs."""
 
     def __init__(self, root):
-        self.root, self.kinds, self.ticks = root, {}, {}
+        self.root, self.kinds, self.ticks, self.peaks = root, {}, {}, collections.Counter()
         self.ended = threading.Event()
         self.watcher = threading.Thread(target=self.watch, daemon=True)
         self.watcher.start()
@@ -68,8 +78,10 @@ class Times:
     def watch(self):
         while not self.ended.wait(1.0):
             for process, ticks in descendants(self.root).items():
-                self.kinds[process] = self.kinds.get(process) or kind_of(process[0])
+                self.kinds[process] = kind = self.kinds.get(process) or kind_of(process[0])
                 self.ticks[process] = ticks
+                if kind:
+                    self.peaks[kind] = max(self.peaks[kind], peak_of(process[0]))
 
     def end(self):
         """Minutes by crate and kind, once nothing runs any more."""
@@ -82,39 +94,40 @@ class Times:
         return minutes
 
 
-def table(minutes, whole):
-    """The lines of a table: a crate each, and the sums."""
-    yield f"{'processor minutes':<20}" + "".join(f"{kind:>14}" for kind in KINDS)
+def table(minutes, peaks, whole):
+    """The lines of a table: a crate each, with the minutes and the memory of its checks, and the sums."""
+    yield f"{'':<20}" + "".join(f"{kind + ', min':>14}{'GB':>6}" for kind in KINDS)
     for crate in dict.fromkeys(crate for crate, _ in minutes):
-        yield f"{crate:<20}" + "".join(f"{minutes[crate, kind]:14.1f}" for kind in KINDS)
+        yield f"{crate:<20}" + "".join(f"{minutes[crate, kind]:14.1f}{peaks[crate, kind] / 1e9:6.1f}" for kind in KINDS)
     sums = [sum(of for (_, each), of in minutes.items() if each == kind) for kind in KINDS]
-    yield f"{'together':<20}" + "".join(f"{of:14.1f}" for of in sums) + f", and {max(0, whole - sum(sums)):.1f} other"
+    most = [max((of for (_, each), of in peaks.items() if each == kind), default=0) for kind in KINDS]
+    yield f"{'together, most':<20}" + "".join(f"{of:14.1f}{peak / 1e9:6.1f}" for of, peak in zip(sums, most))
+    yield f"processor minutes of `rt ci`: {sum(sums):.1f} of checks, and {max(0, whole - sum(sums)):.1f} other"
 
 
 def share(line):
     """How much was done in this run and how much is kept from earlier ones, by the line of `rt ci`."""
     if "every proof and must-fail edit was done" in line:
-        return "every proof and every wrong body was done in this run"
+        return "every proof was done in this run"
     of = SHARE.match(line)
-    if not of:
-        return None
-    done = [f"{int(whole)} {what}: {new} done in this run, {int(whole) - int(new)} kept"
-            for new, whole, what in ((of[1], of[2], "proofs"), (of[3], of[4], "wrong bodies")) if whole]
-    return "; ".join(done)
+    return f"{of[2]} proofs: {of[1]} done in this run, {int(of[2]) - int(of[1])} kept" if of else None
 
 
-def lanes():
-    """How many checks to run side by side: one a processor, as many as the free memory holds. Left to itself `rt ci` plans with twice
-    the memory that checks of the upper crates take, and leaves processors idle."""
+def settings():
+    """How `rt ci` shares the processors. Left to itself it also gives a check that no other one waits beside more than one processor, but
+    it plans with twice the memory that the checks of the upper crates take. Where the free memory holds fewer of these than there are
+    processors, it is told how many checks to run side by side."""
     with open("/proc/meminfo", encoding="ascii") as meminfo:
         free = int(re.search(r"MemAvailable:\s+(\d+)", meminfo.read())[1]) * 1024
-    return max(1, min(len(os.sched_getaffinity(0)), free // MOST_OF_A_CHECK))
+    processors = len(os.sched_getaffinity(0))
+    if (1 - UNPLANNED) * free >= min(processors, 2) * PLANNED:
+        return {}
+    return {"RT_JOBS": str(max(1, min(processors, free // MOST_OF_A_CHECK)))}
 
 
 def main(words):
     begin = time.monotonic()
-    settings = {"RT_JOBS": str(lanes())} | os.environ
-    ran = subprocess.Popen(["rt", "ci", *words], stdout=subprocess.PIPE, stderr=subprocess.STDOUT, env=settings)
+    ran = subprocess.Popen(["rt", "ci", *words], stdout=subprocess.PIPE, stderr=subprocess.STDOUT, env=settings() | os.environ)
     times, told, counts = Times(ran.pid), None, b""
     for line in ran.stdout:
         told = share(line.decode(errors="replace")) or told
@@ -125,7 +138,7 @@ def main(words):
             sys.stdout.flush()
     status = ran.wait()
     minutes, used = times.end(), resource.getrusage(resource.RUSAGE_CHILDREN)
-    for line in table(minutes, (used.ru_utime + used.ru_stime) / 60):
+    for line in table(minutes, times.peaks, (used.ru_utime + used.ru_stime) / 60):
         print(line)
     print(f"rt ci took {time.monotonic() - begin:.0f} seconds" + (f"; {told}" if told else ""), flush=True)
     sys.stdout.buffer.write(counts or b"0 passed, 1 failed\n")

@@ -158,7 +158,16 @@ class WrongRegister(InThisProcess):
 
 
 class Works(Monitored):
-    def ran(self, server: Type[Server], model: str, seconds: float = 2.0, keep: Optional[int] = None, clients: int = 5) -> Outcome:
+    def ran(self, server: Type[Server], model: str, seconds: float = 2.0, keep: Optional[int] = None, clients: int = 5,
+            parts: int = 1) -> Outcome:
+        """A run of so many seconds; of more, if the machine is so busy that it then has no verdict, or fewer parts than these."""
+        for longer in (1, 4, 16):
+            outcome = self.ran_once(server, model, longer * seconds, keep, clients)
+            if outcome.verdict and outcome.parts >= parts:
+                break
+        return outcome
+
+    def ran_once(self, server: Type[Server], model: str, seconds: float, keep: Optional[int], clients: int) -> Outcome:
         given = Given(server, model, "", seconds, clients, 5, SEED, "none", 0.0, 1, "auto", 20, 0.0, str(self.room / "runs"), keep)
         with mock.patch.object(test_run, "EVENTS", 600), mock.patch.dict("os.environ", {"JEPMON": self.program}):
             return Test(given, lambda seconds, monitor, strikes: None).run()
@@ -166,7 +175,7 @@ class Works(Monitored):
     def test_each_kind_goes_on_over_parts(self) -> None:
         for model in InThisProcess.objects:
             with self.subTest(model):
-                outcome = self.ran(InThisProcess, model)
+                outcome = self.ran(InThisProcess, model, parts=3)
                 self.assertEqual((outcome.verdict, outcome.status, outcome.reason), ("legal", 0, ""))
                 self.assertGreater(outcome.parts, 2)
                 self.assertEqual(outcome.not_judged, [])

@@ -1,11 +1,12 @@
 //! States by number.
 ghost use Rattle.std.specs.Prelude.{◌≡◌, ◌<◌, [], length, Some, slice_get, option_copied, vec_capacity, IfOk, OnOk};
+ghost use Rattle.buckets.specs.Hashes.{hash_by};
 ghost use Rattle.events.specs.Events.{IsFront};
-ghost use Rattle.interned.specs.Index.{AreStates, hash_by};
+ghost use Rattle.interned.specs.Index.{AreStates};
 ghost use Rattle.interned.specs.Numbers.{IsOnceIn};
 
-use crate::index::{hash_of, index_hashes, place_of};
-use buckets::{Bucketed, Index, put_behind};
+use crate::index::place_of;
+use buckets::{Bucketed, Index, hash_of, index_hashes, put_behind};
 use models::SeqObject;
 use std::alloc::{AllocError, Global};
 use std::hash::Hash;

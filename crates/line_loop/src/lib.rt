@@ -23,6 +23,3 @@ pub use refusal_line::{append_refusal, place_text, refusal_text};
 pub use session::LINE_LIMIT;
 pub use watched::{Failed, Flushes, ReadsBeside, Watched};
 pub use writing::{flush_all, write_text};
-
-#[cfg(test)]
-mod tests;

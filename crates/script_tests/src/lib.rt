@@ -1,4 +1,5 @@
-//! Scripts and checks over readers and writers that give and take little, and that fail. What must be written stands in each test.
+//! The loop over lines, scripts and checks, over readers and writers that give and take little, and that fail. What must be written
+//! stands in each test.
 //! It has tests alone.
 #![tactic(auto)]
 
@@ -6,5 +7,7 @@
 mod cutting;
 #[cfg(test)]
 mod failing;
+#[cfg(test)]
+mod readers_and_writers;
 #[cfg(test)]
 mod streams;

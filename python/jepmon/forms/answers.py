@@ -4,12 +4,13 @@ from __future__ import annotations
 from typing import Any, Counter, Optional
 
 from . import Refused
-from .meaning import ANSWERED, MISSING, Told
+from .meaning import MISSING, Told
 from .written import element
 
 YES = ("", "ok", "true", "success", "yes", "1", "acquired", "released", "stored", "applied")
 NO = ("fail", "failed", "false", "no", "0")
 OPEN = ("info", "timeout", "unknown", "error")
+UNANSWERED = ("write", "cas", "acquire", "release", "enqueue", "add")
 DECIDES = ("cas", "acquire", "release")  # whose answer is true or false
 
 
@@ -42,12 +43,12 @@ def completed(told: Told, kind: str, name: Optional[str], counts: Counter[str]) 
     if told.outcome is not None and told.outcome != "ok":
         counts[f"completions that say of themselves that they are no ok, as :{told.outcome}"] += 1
         return told.outcome
-    if name is None or name in ANSWERED:
+    if name not in UNANSWERED:
         return kind
     said = told.answer
     if said is MISSING and isinstance(told.value, bool) and name in DECIDES:
         said = told.value
-    found = answered(told.line, name, said) if said is not MISSING else None
+    found = answered(told.line, name, said) if said is not MISSING and said is not None else None
     if found is not None:
         counts[f"completions whose answer says that they are no ok, as :{found}"] += 1
     return found or kind

@@ -34,7 +34,7 @@ class Clock:
         self._is_known: Optional[bool] = None  # whether the unit of the times is known
         self._has_zone: Optional[bool] = None
         self._units: Set[str] = set()
-        self.needs_unit = False  # as a duration or a clock error has one
+        self.needs_unit = False  # whether the unit has to be known, as for a duration or a clock error
 
     def time(self, line: int, field: Any, unit: Optional[str]) -> Optional[Time]:
         """The time that a field says, whose name may say its unit. None where it says none."""

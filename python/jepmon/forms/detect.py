@@ -33,5 +33,5 @@ def form_of(text: str) -> str:
     if log_rows.LOGFMT.fullmatch(first):
         return LOGFMT
     shown = text[begin:begin + 60].split("\n", 1)[0]
-    raise Refused(f"this is no form of a history that is known: it begins with {shown!r}; a mapping file reads the lines of a log by a regular "
-                  "expression, and columns without names")
+    raise Refused(f"this is no form of a history that is known: it begins with {shown!r}; --mapping FILE reads the lines of a log by a "
+                  "regular expression")

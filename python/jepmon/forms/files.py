@@ -94,21 +94,31 @@ def opened(word: str, notes: Sequence[str] = ()) -> Source:
 
 def of_pipe(name: str, file: IO[bytes]) -> Source:
     """The history that a pipe gives, which is kept to be read again: in memory, or in a file that has no name."""
-    kept = tempfile.SpooledTemporaryFile(HELD)
+    kept = _Kept()
     for piece in decoding.pieces_of(file):  # type: ignore[arg-type]
-        kept.write(piece)
+        kept.file.write(piece)
     return Source(name, None, lambda: _Again(kept))  # type: ignore[arg-type,return-value]
+
+
+class _Kept:
+    """A file without a name, which is gone with the last one who reads it."""
+
+    def __init__(self) -> None:
+        self.file = tempfile.SpooledTemporaryFile(HELD)
+
+    def __del__(self) -> None:
+        self.file.close()
 
 
 class _Again:
     """A file that stays open, read from its beginning."""
 
-    def __init__(self, file: IO[bytes]) -> None:
-        self._file, self._at = file, 0
+    def __init__(self, kept: _Kept) -> None:
+        self._kept, self._at = kept, 0
 
     def read(self, size: int) -> bytes:
-        self._file.seek(self._at)
-        piece = self._file.read(size)
+        self._kept.file.seek(self._at)
+        piece = self._kept.file.read(size)
         self._at += len(piece)
         return piece
 

@@ -40,6 +40,7 @@ class Mapping(NamedTuple):
     time_unit: Optional[str] = None
     order: Optional[str] = None
     skew: Optional[str] = None
+    unfinished: bool = False  # whether it is said that a client does one operation after the other
     contradictions: Map[str, str] = {}  # the type of an :ok of EDN that is answered by false ("false"), or has an :error ("error")
 
     def with_field(self, words: str) -> Mapping:

@@ -21,6 +21,7 @@ def add(parser: argparse.ArgumentParser) -> None:
     group.add_argument("--ignore", metavar="FIELD", action="append", default=[], help="a field that says nothing of the history")
     group.add_argument("--mapping", metavar="FILE", help="a mapping file (JSON): fields, words, lines of a log, columns")
     group.add_argument("--time-unit", choices=tuple(UNITS), help="the unit of times that are numbers and do not name one")
+    group.add_argument("--unfinished", choices=("info",), help="an operation that is open when its client invokes the next one never returned")
     add_order(parser)
 
 
@@ -56,4 +57,4 @@ def of(given: argparse.Namespace) -> Mapping:
         made = made.with_ignored(field)
     any_form = of_order(given)
     return made._replace(time_unit=given.time_unit or made.time_unit, order=any_form.order, skew=any_form.skew,
-                         contradictions=any_form.contradictions)
+                         contradictions=any_form.contradictions, unfinished=given.unfinished is not None)

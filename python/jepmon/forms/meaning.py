@@ -49,6 +49,7 @@ class Reader:
         self._operations = {**mapping.operations, **OF_STACKS} if has_model else mapping.operations
         self._words: Dict[Any, str] = {}  # the operations by their words
         self._last_index = -1
+        self._by_duration: Optional[bool] = None  # whether returns are calls and durations
 
     def told(self, row: Row) -> Told:
         """What a row tells."""
@@ -182,15 +183,19 @@ class Reader:
             return (None if use is None else clock.time(line, field, use.slot.unit)), None, None
         for other in uses.get("time", ()):
             self.shapes.unused(line, other.name, None)
-        if "duration" in uses and ends[1] in (MISSING, None):
-            clock.needs_unit = True
+        durations = uses.get("duration", ())
+        if self._by_duration is None and (ends[1] not in (MISSING, None) or durations):
+            self._by_duration = clock.needs_unit = ends[1] in (MISSING, None)
         at = None if call[0] is None else clock.time(line, call[1], call[0].slot.unit)
         end_at = None if ends[0] is None else clock.end(line, ends[1], ends[0].slot.unit)
-        for use in uses.get("duration", ()):
-            if end_at is None and at is not None and fields[use.name] is not None:
-                end_at = at + clock.span(line, fields[use.name], use.slot.unit)
-            else:
+        if self._by_duration and end_at is not None:
+            raise Refused(f"line {line}: this operation has a return, and those before it have durations: say --ignore for the durations, or for "
+                          "the returns")
+        for use in durations:
+            if not self._by_duration or at is None:
                 self.shapes.unused(line, use.name, None)
+            elif fields[use.name] is not None:
+                end_at = at + clock.span(line, fields[use.name], use.slot.unit)
         return None, at, end_at
 
     def refuse_no_kind(self, told: Told) -> None:

@@ -7,9 +7,10 @@ from . import Refused
 from .account import ORDER, Account
 from .answers import answered, completed
 from .clock import Time
-from .mapping import LINES
+from .mapping import LINES, Mapping
 from .meaning import ANSWERED, MISSING, Reader, Told
 from .order import Blocks
+from .unfinished import Unfinished
 from .written import Writer, element, value_of, word
 
 NEMESIS = "nemesis"
@@ -26,8 +27,9 @@ class TimesGoBack(Exception):
 class Events:
     """Writes events as they come. Clients that are no numbers get numbers at first sight."""
 
-    def __init__(self, writer: Writer, reader: Reader, account: Account, order: Optional[str]) -> None:
-        self._writer, self._reader, self._account, self._order = writer, reader, account, order
+    def __init__(self, writer: Writer, reader: Reader, account: Account, mapping: Mapping) -> None:
+        self._writer, self._reader, self._account, self._order = writer, reader, account, mapping.order
+        self._unfinished = Unfinished(account, mapping.unfinished)
         self._are_numbers: Optional[bool] = None  # whether clients are numbers, as the first one says
         self._clients: Dict[Any, int] = {}
         self._opened: Dict[str, Told] = {}  # the invocation of each process
@@ -48,9 +50,15 @@ class Events:
         self._blocks.take(process)
         invoked = self._opened.pop(process, None)
         kind = completed(told, kind, told.name or (invoked.name if invoked else None), self._writer.counts)
-        name, key, value = parts(told, kind, invoked)
         if kind == "invoke":
+            if invoked is not None:
+                self._unfinished.leave(invoked, told)
+                name, key, value = parts(invoked, "invoke", None)
+                self._writer.event(invoked.line, "info", process, word(invoked.line, name), value_of(key, value))
             self._opened[process] = told
+        elif invoked is not None:
+            self._unfinished.test(invoked, told)
+        name, key, value = parts(told, kind, invoked)
         error = told.error if kind != "invoke" else None
         self._writer.event(told.line, kind, process, word(told.line, name), value_of(key, value), told.time, error)
 
@@ -86,6 +94,7 @@ class Events:
 
     def notes(self) -> List[str]:
         """What is to be told: the clients that got numbers, and what is guessed of the order."""
+        self._unfinished.close()
         if self._order is None and self._ties:
             self._account.guess(ORDER, f"events of several clients have one time, {self._ties} times, first in line {self._first_tie}: they are taken "
                                 "in the order in which they stand, and --order times takes them as open at once", "--order")

@@ -60,7 +60,7 @@ class _Turning:
             return self._of_operations(intervals.of_told(each, self._writer) for each in told)
         if self._mapping.order == TIMES or self._mapping.skew is not None:
             return self._of_events_by_times(told, 0)
-        events = Events(self._writer, self._reader, self._account, self._mapping.order)
+        events = Events(self._writer, self._reader, self._account, self._mapping)
         for each in told:
             events.take(each)
         self._close()
@@ -71,7 +71,7 @@ class _Turning:
         return self._of_events_by_times(self._told(), first_back)
 
     def _of_events_by_times(self, told: Iterable[Told], first_back: int) -> Written:
-        pairs = Pairs(self._writer, self._reader, first_back)
+        pairs = Pairs(self._writer, self._reader, self._account, self._mapping, first_back)
         return self._of_operations(pairs.of(told), pairs.faults)
 
     def _of_operations(self, operations: Iterable[intervals.Interval], faults: Iterable[intervals.Fault] = ()) -> Written:
@@ -79,6 +79,7 @@ class _Turning:
         intervals.test_returns(made, ", ".join(map(shown, self._reader.shapes.names())))
         self._close()
         intervals.test_twice(made)
+        self._guess_clocks(made)
         skew, coarse = self._mapping.skew, self._reader.clock.coarsest()
         error = 0 if skew is None else nanoseconds(skew)
         if skew is not None:
@@ -87,6 +88,11 @@ class _Turning:
         if error or coarse:
             made = intervals.widened(made, error, coarse)
         return intervals.written(made, self._writer, notes, self._is_etcd, faults)
+
+    def _guess_clocks(self, made: List[intervals.Interval]) -> None:
+        clients = {each.client for each in made}
+        if self._mapping.skew is None and len(made) > 1 and (len(clients) > 1 or None in clients):
+            self._account.guess(ORDER, "the times of all clients are of one clock, or of clocks that agree", "--skew")
 
     def _close(self) -> None:
         for name in self._reader.close():

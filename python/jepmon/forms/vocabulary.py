@@ -34,7 +34,7 @@ FIELDS: Dict[str, Sequence[str]] = {
     "index": ("index",),
 }
 TIMES: Dict[str, Sequence[str]] = {
-    "time": ("time", "timestamp", "ts", "at"),
+    "time": ("time", "timestamp", "ts", "at", "t"),
     "call": ("call", "start", "invoke", "begin", "invocation", "sent", "started", "invoked"),
     "return": ("return", "end", "complete", "finish", "completion", "received", "ended", "finished", "completed", "stop", "stopped"),
     "duration": ("duration", "elapsed", "latency", "took"),

@@ -6,7 +6,7 @@ import re
 from typing import NamedTuple, Optional
 
 from .. import kinds
-from ..forms import door
+from ..forms import Refused, door, own
 from ..forms.door import Translation
 from ..forms.files import Source
 from ..shards.source import History
@@ -71,6 +71,14 @@ def has_too_many(source: Source) -> bool:
         if count > kinds.EVENTS:
             return True
     return False
+
+
+def refuse_commands(text: str) -> None:
+    """Refuses a history in jepmon's own form that has a command beside its events."""
+    found = own.COMMAND_LINE.search(text)
+    if found is not None:
+        line = text.count("\n", 0, found.start()) + 1
+        raise Refused(f"line {line}: {found.group().strip()} is a command of jepmon script, which shards do not take: leave --jobs out")
 
 
 def has_wide_key(text: str) -> bool:

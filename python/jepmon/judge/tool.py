@@ -114,6 +114,8 @@ def _judge_own(source: files.Source, given: Given, page: Optional[Page], folder:
     with named(source):
         reason = "" if large.is_asked(given) else large.reason_of_own(source)
         found = of_own(source) if reason is None else None
+        if reason == "":
+            large.refuse_commands(source.front)
         if reason is None and found is None and large.has_wide_key(source.text):
             reason = f"a key above {kinds.KEYS[-1]}, which one check does not take"
     if found is not None:

@@ -1,11 +1,9 @@
-//! Readers and writers that give or take little, stutter and fail. The built program shows the rest.
+//! The loop over lines, with readers and writers that give or take little, stutter and fail. The built program shows the rest.
 ghost use Rattle.std.specs.Prelude.{◌≡◌, nat_le, false, None, OnOk};
 ghost use Rattle.std.specs.Io.{ReadsAtMost};
 ghost use Rattle.std.specs.Io.KnownBytes.{ReadConsumes};
 
-use crate::answering::answer_lines;
-use crate::line_machine::LineMachine;
-use crate::watched::{Failed, ReadsBeside, Watched};
+use line_loop::{Failed, LineMachine, ReadsBeside, Watched, answer_lines};
 use std::alloc::{AllocError, Global};
 use std::io;
 use std::io::{ErrorKind, Read, Write};
