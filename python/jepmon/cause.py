@@ -99,7 +99,7 @@ def of_illegal(options: Options, front: List[Event], later: List[Event], names: 
     """What there is to say of a key that is illegal at the last of these events; None where the walk does not come to that."""
     made = operations(front, options.concurrency)
     fatal = next(operation for operation in made if operation.completion is front[-1])
-    walked = walk(front, options.model, options.budget)
+    walked = walk(front, options.model, options.budget, effort.work)
     effort.learn(walked)
     if walked.status != "dead" or walked.fatal != front[-1]:
         return None

@@ -8,7 +8,7 @@ from ..history import Event, Operation
 from ..objects import State
 from ..program import Options, check
 from ..shrinking.part import as_asked, text_of
-from ..walk import UNBOUNDED, WORK, GaveUp, Stop, Walk, Walker
+from ..walk import UNBOUNDED, GaveUp, Stop, Walk, Walker
 from .names import Names
 
 ASKED = 4  # other answers that the program is asked about
@@ -71,7 +71,7 @@ class Case(NamedTuple):
 
     def held(self) -> Optional[List[Any]]:
         """The states that were possible while the fatal operation was open; None where they can't be told."""
-        states = self.walked.while_open(self.fatal.invocation.index)
+        states = self.walked.while_open(self.fatal.invocation.index, self.effort.work)
         if states is None:
             self.effort.leave_out(f"what {self.object} can have held while the operation was open")
         return None if states is None else sorted(states, key=_by_size)
@@ -85,7 +85,7 @@ class Case(NamedTuple):
     def last_possible(self, test: Callable[[Any], bool]) -> Last:
         """When the object can last have had a state that passes the test, as the fatal operation needs it, or that operation can have
         taken place: looked for from behind, stop by stop."""
-        until, left = len(self.front) - 1, WORK
+        until, left = len(self.front) - 1, self.effort.work
         try:
             for stop in reversed(self.walked.stops):
                 last, left = self._last_between(stop, until, test, left)
@@ -111,7 +111,7 @@ class Case(NamedTuple):
 
     def forced_by(self) -> Optional[Event]:
         """The event from which on the fatal operation has taken place in each end. None where it can't be told."""
-        walker = Walker(self.model, UNBOUNDED, WORK)
+        walker = Walker(self.model, UNBOUNDED, self.effort.work)
         try:
             for event in self.front[:-1]:
                 walker.take(event)

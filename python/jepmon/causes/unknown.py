@@ -80,7 +80,7 @@ def may_still_take_place(operation: Operation, index: int) -> bool:
 
 def growth_of(over: Over, pending: List[Operation]) -> Optional[Growth]:
     """None where there are too many to try, or the walk says another event than the program."""
-    walker = Walker(over.model, COUNTED)
+    walker = Walker(over.model, COUNTED, over.effort.work)
     steps: List[Tuple[int, int]] = []
     most = 1
     try:
@@ -142,7 +142,7 @@ def with_greatest_budget(over: Over) -> str:
     """What the program says of the key with the greatest budget, if a walk comes to an end with it."""
     if over.options.budget >= GREATEST:
         return ""
-    walked = walk(over.whole, over.model, GREATEST)
+    walked = walk(over.whole, over.model, GREATEST, over.effort.work)
     text = text_of(over.whole, over.options.concurrency)
     over.effort.learn(walked)
     if walked.status == "gave up" or not over.effort.may_ask(text, len(over.whole)):

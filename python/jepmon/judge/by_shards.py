@@ -5,7 +5,7 @@ import contextlib
 import functools
 import os
 import sys
-from typing import Iterator, List, NamedTuple, Optional, Sequence, Tuple
+from typing import Dict, Iterator, List, NamedTuple, Optional, Sequence, Tuple
 
 from .. import command, kinds, shards
 from ..errors import ProgramError
@@ -27,8 +27,8 @@ from ..shards.source import History
 from ..shards.splitting import judged_elsewhere
 from ..shards.tally import Tally
 from ..shrinking.part import as_asked, text_of
-from . import causes, large_key, results, turned, wide
-from .hints import MOST_EVENTS, PATIENCE, counted
+from . import as_json, bad_keys, causes, large_key, results, terminal, turned, wide
+from .hints import MOST_EVENTS, counted, is_legal_as
 from .judging import Task
 from .large import Large
 from .models import ALIKE, Choice, account_for, by_operations
@@ -104,7 +104,10 @@ def judge(given: Given, found: Large, page: Optional[Page], folder: Optional[Fol
 def _refuse(given: Given, found: Large, line: str) -> int:
     for hint in hints_of_refusal(found, line, Options(given.concurrency or 2, given.model or "register", given.budget)):
         say(hint)
-    command.write_output([f"{line}\n"])
+    if given.json:
+        as_json.write_refusal(line)
+    else:
+        command.write_output([f"{line}\n"])
     return command.REFUSED
 
 
@@ -132,14 +135,20 @@ def _judge(given: Given, found: Large, history: Asked, session: shards.Session, 
     path, verdict, decided = anew(given, session, path, verdict)
     report = report_of(path, verdict)
     task = task._replace(choice=of_bad_key(choice, report), wide_seconds=given.wide_seconds if decided else None)
-    command.write_output(texts_of(path))
-    for line in nil_hints(session.tally, choice):
-        say(line)
+    if not given.json:
+        command.write_output(texts_of(path))
     recorded = _recorded(found, history)
-    key = shown(recorded, task, report, given.cause, bad_events(session, report, found, history, decided), decided)
-    if page is not None or folder is not None:
-        copies = {results.HISTORY: session.file.path, results.REPORT: path} if folder is not None else {}
-        results.write(page, folder, results.Results(found.name, recorded, task, report, key, copies))
+    of_report = bad_keys.found(filter(None, map(wide.key_line, lines_of(path))))
+    keys = bad_keys.shown(recorded, task, report, of_report.bad, functools.partial(events_of, session, found, history), given.cause, decided)
+    beside = [*nil_hints(session.tally, choice), *said_of_bad(report, task, keys, given.cause)]
+    for line in beside:
+        say(line)
+    copies = {results.HISTORY: session.file.path, results.REPORT: path} if folder is not None else {}
+    done = results.Results(found.name, recorded, task, report, keys, terminal.told(recorded, keys), copies)
+    results.write(page, folder, done)
+    if given.json:
+        counted_up = as_json.Counted(session.tally.events, verdict.keys, None, form_of(found), session.tally.outcomes(), of_report)
+        as_json.write(as_json.of_results(done, found.path, counted_up, beside, given))
     return verdict.status
 
 
@@ -168,15 +177,11 @@ def anew(given: Given, session: shards.Session, path: str, verdict: Verdict) -> 
     return marked, Verdict(found.line, found.word, found.found, found.status, verdict.keys), decided
 
 
-def bad_events(session: shards.Session, report: Report, found: Large, history: Asked, decided: wide.Decisions) -> List[Event]:
-    """The events of the bad key, where it was judged to its end, or of the first that was decided afterwards, with their lines in the
-    file that was given."""
-    key = next(iter(decided), None) if report.key is None else report.key
-    if key is None or report.keys and report.keys[0].status in CUT:
-        return []
+def events_of(session: shards.Session, found: Large, history: Asked, keys: List[int]) -> Dict[int, List[Event]]:
+    """The events of each of these keys, as far as they are judged, with their lines in the file that was given."""
     if found.made is None or history.made is None:
-        return large_key.events_of(session, key, found.path)
-    return turned.with_lines(found.made, history.made, large_key.events_of(session, key, None))
+        return large_key.events_of(session, keys, found.path)
+    return turned.with_lines(found.made, history.made, large_key.events_of(session, keys, None))
 
 
 def judged(given: Given, session: shards.Session, options: Options) -> List[Judged]:
@@ -187,21 +192,15 @@ def judged(given: Given, session: shards.Session, options: Options) -> List[Judg
     return judged_elsewhere(session, options, engine)
 
 
-def shown(recorded: Recorded, task: Task, report: Report, with_cause: bool, events: Sequence[Event],
-          decided: wide.Decisions) -> Optional[causes.Shown]:
-    """What there is to show of the bad key, and tells it."""
-    line = report.keys[0] if report.keys else None
-    if line is not None and line.status in CUT:
-        say(CUT[line.status].format(line.key, line.index))
-    if line is None and not decided or line is not None and line.status in CUT:
-        return None
-    if line is not None and report.word == "illegal" and with_cause:
-        for hint in hints_of_order(events, task.options, line):
-            say(hint)
-    key = causes.shown(recorded, task, report, with_cause, events, decided)
-    for text in key.lines if key else []:
-        command.write_error(text)
-    return key
+def said_of_bad(report: Report, task: Task, keys: Sequence[causes.Shown], with_cause: bool) -> Iterator[str]:
+    """What is told of the first bad key beside its cause."""
+    if not keys:
+        return
+    line = keys[0].line
+    if line.status in CUT:
+        yield CUT[line.status].format(line.key, line.index)
+    elif report.word == "illegal" and with_cause:
+        yield from hints_of_order(keys[0].events, task.options, line)
 
 
 # --- The report ---
@@ -261,10 +260,13 @@ def processes(number: int) -> str:
     return f"by {number} processes side by side" if number > 1 else "by one process"
 
 
+def form_of(found: Large) -> str:
+    return door.OWN if found.made is None else found.made.form
+
+
 def said(found: Large, history: Asked, tally: Tally, verdict: Verdict, task: Task) -> Iterator[str]:
     """What the history was found to be."""
-    form = door.OWN if found.made is None else found.made.form
-    yield (f"{found.name}: {form}, {counted(tally.events, 'event')}, concurrency {task.options.concurrency:,}, "
+    yield (f"{found.name}: {form_of(found)}, {counted(tally.events, 'event')}, concurrency {task.options.concurrency:,}, "
            f"{counted(verdict.keys, 'key')}")
     outcomes = tally.outcomes()
     for name in tally.names():
@@ -307,9 +309,5 @@ def hints_of_order(events: Sequence[Event], options: Options, line: KeyLine) -> 
     other = ALIKE.get(line.model)
     if other is None:
         return
-    try:
-        asked = check(text_of(events, options.concurrency).encode(), as_asked(options)._replace(model=other), timeout=PATIENCE)
-    except ProgramError:
-        return
-    if asked.word == "legal":
+    if is_legal_as(other, events, options):
         yield f"key {line.key} is judged as a {line.model}, and is legal as an {other}: where no order was promised, say --model {other}"

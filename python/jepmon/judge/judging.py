@@ -102,10 +102,3 @@ def _key_lines(task: Task, raw: bytes) -> List[str]:
                 lines[line.key] = text
     return [lines[key] for key in order]
 
-
-def legal_as(events: str, options: Options, seconds: float) -> Optional[Report]:
-    """What the program says of these events by other options; None where it does not say so in time."""
-    try:
-        return program.check(events.encode(), options, timeout=seconds)
-    except program.ProgramError:
-        return None

@@ -16,7 +16,7 @@ from ..forms import Beyond, Refused, door, files
 from ..forms.door import Translation
 from ..forms.recorded import Recorded, of_own, of_translation
 from ..program import CURE, Options, find_program
-from . import by_shards, causes, events, hints, large, models, results, wide, words
+from . import as_json, bad_keys, by_shards, events, hints, large, models, results, terminal, wide, words
 from .judging import Task, judged
 from .outputs import Folder, Page
 from .words import NAME, Given
@@ -31,21 +31,28 @@ def say(line: str) -> None:
 def main(arguments: Optional[List[str]] = None) -> int:
     """Judges what the words of the command line name. Gives the exit status."""
     command.collect_seldom()
+    is_json = "--json" in (sys.argv[1:] if arguments is None else arguments)
     try:
         if threading.current_thread() is threading.main_thread():
             signal.signal(signal.SIGTERM, _terminated)
         return _judge(words.given(arguments))
-    except (Refused, ProgramError, OutputError) as fault:
+    except OutputError as fault:
         say(str(fault))
+        return command.REFUSED
+    except (Refused, ProgramError) as fault:
+        reason = str(fault)
     except KeyboardInterrupt:
         say("interrupted")
         return command.INTERRUPTED
     except MemoryError:
-        say("the memory does not suffice for this history")
+        reason = "the memory does not suffice for this history"
     except OSError as fault:
-        say(f"{fault.filename or 'a file'}: {fault.strerror}")
+        reason = f"{fault.filename or 'a file'}: {fault.strerror}"
     except Exception as fault:
-        say(f"a fault of {NAME} itself: {fault!r}")
+        reason = f"a fault of {NAME} itself: {fault!r}"
+    say(reason)
+    if is_json:
+        as_json.write_refusal(reason)
     return command.REFUSED
 
 
@@ -136,13 +143,20 @@ def _judge_whole(source: files.Source, found: Recorded, given: Given, page: Opti
     report = judged(task)
     report, decided = wide.anew(report, task.options, functools.partial(events.of_keys, found), given.wide_seconds)
     task = task._replace(wide_seconds=given.wide_seconds if decided else None)
-    command.write_output([report.text or report.error])
-    for line in hints.after(found, task, report, source, given.said, given.cause):
+    if not given.json:
+        command.write_output([report.text or report.error])
+    beside = list(hints.after(found, task, report, source, given.said, given.cause))
+    for line in beside:
         say(line)
-    key = causes.shown(found, task, report, given.cause, decided=decided)
-    for line in key.lines if key else []:
-        command.write_error(line)
-    results.write(page, folder, results.Results(source.name, found, task, report, key))
+    of_report = bad_keys.found(report.keys)
+    keys = bad_keys.shown(found, task, report, of_report.bad, functools.partial(events.with_fields, found), given.cause, decided)
+    done = results.Results(source.name, found, task, report, keys, terminal.told(found, keys))
+    results.write(page, folder, done)
+    if given.json:
+        facts = found.facts
+        counted = as_json.Counted(facts.events, len(facts.keys), models.clients_of(facts, task.options.concurrency), found.form, facts.outcomes,
+                                  of_report)
+        as_json.write(as_json.of_results(done, source.path, counted, [*source.notes, *found.notes, *beside], given))
     return report.status
 
 

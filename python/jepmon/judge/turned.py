@@ -1,7 +1,7 @@
 """A history of another form than jepmon's own that is judged by shards: its events as those of the file."""
 from __future__ import annotations
 
-from typing import Dict, List, Sequence
+from typing import Dict, List, Mapping, Sequence
 
 from ..forms import faults
 from ..forms.door import Translation
@@ -18,13 +18,14 @@ def recorded(made: Translation, turned: Turned) -> Recorded:
                     faults=faults.of_nemesis(turned.history.nemesis, turned.begun))
 
 
-def with_lines(made: Translation, turned: Turned, events: Sequence[Event]) -> List[Event]:
-    """The events with their lines in the file, and what else these say of them."""
-    wanted = {event.index for event in events}
+def with_lines(made: Translation, turned: Turned, keys: Mapping[int, Sequence[Event]]) -> Dict[int, List[Event]]:
+    """The events of each key with their lines in the file, and what else these say of them."""
+    wanted = {event.index for events in keys.values() for event in events}
     lines: Dict[int, int] = {}
     for index, event in enumerate(turned.history.events, turned.begun):
         if index in wanted and isinstance(event, JepsenEvent):
             lines[index] = event.line
     further = made.beside(set(lines.values()))
-    return [event._replace(line=made.line(lines.get(event.index, 0)), fields={**event.fields, **further.get(lines.get(event.index, 0), {})})
-            for event in events]
+    return {key: [event._replace(line=made.line(lines.get(event.index, 0)),
+                                 fields={**event.fields, **further.get(lines.get(event.index, 0), {})}) for event in events]
+            for key, events in keys.items()}

@@ -43,6 +43,7 @@ class Given(NamedTuple):
     temporary: Optional[str]
     wide_seconds: int = 0  # for keys that are over their budget
     strict_input: bool = False
+    json: bool = False
     mapping: Mapping = Mapping()  # what is said of the fields of rows
 
     @property
@@ -101,6 +102,8 @@ def given(words: Optional[List[str]]) -> Given:
     parser.add_argument("--html", metavar="PAGE", help="write a page that shows the cause")
     parser.add_argument("--out", metavar="DIR", help="write the history as judged, the report, the cause, the page, and the command "
                         "that judges it again, into this folder")
+    parser.add_argument("--json", action="store_true", help="print one JSON object in place of the report, for other programs "
+                        "(docs/FORMATS.md has its fields)")
     parser.add_argument("--version", action="version", version=f"jepmon (Python) {__version__}")
     parser.add_argument("--no-cause", dest="cause", action="store_false", help="the verdict alone")
     try:
@@ -113,4 +116,5 @@ def given(words: Optional[List[str]]) -> Given:
     key = None if parsed.key is None else str(parsed.key)
     seconds = parsed.wide_seconds if parsed.wide_seconds is not None else LONG if parsed.wide else SHORT
     return Given(parsed.history or "-", parsed.model, parsed.concurrency, parsed.budget, parsed.workers, key, parsed.nil_is_absent,
-                 parsed.html, parsed.out, parsed.cause, parsed.jobs, parsed.dask, parsed.temporary, seconds, parsed.strict_input, mapping)
+                 parsed.html, parsed.out, parsed.cause, parsed.jobs, parsed.dask, parsed.temporary, seconds, parsed.strict_input,
+                 parsed.json, mapping)
