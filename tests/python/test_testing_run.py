@@ -9,9 +9,10 @@ import subprocess
 import sys
 import tempfile
 import time
+import unittest
 from typing import List, Optional
 
-from jepmon.testing import ServerError, template
+from jepmon.testing import ServerError, mounts, template
 from jepmon.testing.words import given
 from tests.python import TOP
 from tests.python.monitored import Monitored
@@ -73,8 +74,9 @@ class Runs(Monitored):
         return "./mine.py"
 
     def nothing_is_left(self) -> None:
-        """No process of a server, and no folder of one."""
+        """No process of a server, no folder of one, and no mount."""
         self.assertEqual(self.left(), [])
+        self.assertEqual(mounts.points_below(str(self.room)), [])
         self.assertEqual(os.listdir(self.room / "tmp"), [])
 
     def left(self) -> List[str]:
@@ -110,6 +112,13 @@ class TheTemplate(Runs):
         self.assertRegex(ran.stdout.splitlines()[-1], "^illegal key ")
         self.assertRegex(ran.stderr.splitlines()[0], r"^Client \d+ read ABSENT from key \d+, which could not hold ABSENT any more\.$")
         self.assertIn("by kill -9", (self.room / "runs" / "latest" / "part-0001" / "page.html").read_text())
+
+    @unittest.skipIf(mounts.why_not(), "no file system by FUSE")
+    def test_it_does_not_sync_and_a_loss_of_power_shows_it(self) -> None:
+        ran = self.ran(str(TEMPLATE), "--time", "60", "--nemesis", "power")
+        self.assertEqual(ran.returncode, 1, ran.stdout + ran.stderr)
+        self.assertRegex(ran.stdout.splitlines()[-1], "^illegal key ")
+        self.assertRegex((self.room / "runs" / "latest" / "n1.log").read_text(), r"--- power: lost [1-9]")
 
     def test_strikes_and_workloads_of_its_own(self) -> None:
         ran = self.ran(self.mine(HAS_ITS_OWN), "--time", "2", "--least", "5", "--nemesis", "touch:n1:times=2@0.5+0.2,kill@0.6+0.4")
@@ -178,7 +187,8 @@ class NoVerdict(Runs):
 
 class BrokenOff(Runs):
     def broken_off(self, number: signal.Signals) -> "tuple[int, str]":
-        test = subprocess.Popen(self.words(str(TEMPLATE), "--time", "600"), stdout=subprocess.PIPE, stderr=subprocess.PIPE,
+        power = "" if mounts.why_not() else ",power@900"  # each node's folder is a mount, and nothing is lost
+        test = subprocess.Popen(self.words(str(TEMPLATE), "--time", "600", "--nemesis", f"kill@0.5+600{power}"), stdout=subprocess.PIPE, stderr=subprocess.PIPE,
                                 universal_newlines=True, env=self.environment(), cwd=self.room)
         history = self.room / "runs" / "latest" / "part-0001" / "history.edn"
         end = time.monotonic() + PATIENCE

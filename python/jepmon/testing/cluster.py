@@ -8,8 +8,9 @@ import random
 import tempfile
 import threading
 from types import TracebackType
-from typing import List, Optional, Type
+from typing import Dict, List, Optional, Type
 
+from .disks import Disk
 from .guard import Guard
 from .links import DIRECT, NAMESPACES, Links, Proxied, Switched
 from .node import Node, Ports
@@ -17,10 +18,11 @@ from .server import Server
 
 
 class Cluster:
-    """It starts with its block. `network` says by what links others reach the nodes (links.py)."""
+    """It starts with its block. `network` says by what links others reach the nodes (links.py), `has_disks` whether each node's folder is
+    a disk of its own, which can lose power (disks.py)."""
 
     def __init__(self, kind: Type[Server], model: str, plant: str, size: int, logs: pathlib.Path, network: str,
-                 patience: float = 0.0) -> None:
+                 patience: float = 0.0, has_disks: bool = False, durability: str = "") -> None:
         self._ended = contextlib.ExitStack()
         self.stopped = threading.Event()  # nobody waits any more for a node to be ready
         try:
@@ -34,12 +36,17 @@ class Cluster:
                 name = f"n{number + 1}"
                 (folder / name).mkdir()
                 self.nodes.append(Node(number, folder / name, logs / f"{name}.log", {port: ports.free() for port in kind.ports}, guard))
+            self.disks: Dict[str, Disk] = {}  # by the names of nodes
+            for node in self.nodes if has_disks else []:
+                self.disks[node.name] = Disk(node.folder, folder / f"{node.name}.disk")
+                self._ended.callback(self.disks[node.name].end)
             self.links: Optional[Links] = None
             if network != DIRECT:
                 self.links = Switched(self.nodes) if network == NAMESPACES else Proxied(self.nodes, ports)
                 self._ended.callback(self.links.end)
             self.server = kind(self.nodes, model, plant)
             self.server.patience = patience or self.server.patience
+            self.server.durability = durability or self.server.durability
         except BaseException:
             self._ended.close()
             raise
@@ -55,6 +62,8 @@ class Cluster:
             self.wait_until_all_ready()
             with self.clients():
                 self.server.begun()
+            for disk in self.disks.values():
+                disk.sync()
         except BaseException:
             self.end()
             raise

@@ -138,6 +138,11 @@ class Node:
         """Raises an OSError where it does not listen at this port."""
         socket.create_connection((self.address, self.ports[name]), 1.0).close()
 
+    def write_log(self, text: str) -> None:
+        """Says in its log what the test did to it."""
+        with open(self.log, "a", encoding="utf-8") as log:
+            log.write(f"--- {text}\n")
+
     def said(self) -> str:
         """Where its log is, and its last lines, for an error."""
         try:

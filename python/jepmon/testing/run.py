@@ -19,7 +19,7 @@ from .generators import Pace, Phases
 from .links import network
 from .needs import planned
 from .server import Client, Server
-from .strikes.kind import NEEDS_LINKS
+from .strikes.kind import NEEDS_DISK, NEEDS_LINKS
 from .strikes.nemesis import Nemesis
 from .workloads import Work, works_of
 
@@ -49,6 +49,7 @@ class Given(NamedTuple):
     patience: float  # 0: the server's own
     out: str
     keep: Optional[int]  # of parts that are legal
+    durability: str = ""  # how the server keeps what it acknowledges; empty: as its first one
 
 
 class Outcome(NamedTuple):
@@ -126,7 +127,8 @@ class Test:
     def _run(self, monitor: LongMonitor, work: Work) -> None:
         given = self.given
         assert monitor.folder is not None
-        with Cluster(given.server, given.model, given.plant, given.nodes, monitor.folder, self.network, given.patience) as cluster:
+        with Cluster(given.server, given.model, given.plant, given.nodes, monitor.folder, self.network, given.patience,
+                     self.plan.needs(NEEDS_DISK), given.durability) as cluster:
             self.begun = time.monotonic()
             nemesis = Nemesis(monitor, cluster, self.plan.known, self.plan.lanes(given.seed, given.seconds), given.seconds)
             self.struck = nemesis.struck
