@@ -10,6 +10,7 @@ import threading
 from types import TracebackType
 from typing import Dict, List, Optional, Type
 
+from . import clocks
 from .disks import Disk
 from .guard import Guard
 from .links import DIRECT, NAMESPACES, Links, Proxied, Switched
@@ -19,10 +20,10 @@ from .server import Server
 
 class Cluster:
     """It starts with its block. `network` says by what links others reach the nodes (links.py), `has_disks` whether each node's folder is
-    a disk of its own, which can lose power (disks.py)."""
+    a disk of its own, which can lose power (disks.py), and `has_clocks` whether each has a wall clock of its own (clocks.py)."""
 
-    def __init__(self, kind: Type[Server], model: str, plant: str, size: int, logs: pathlib.Path, network: str,
-                 patience: float = 0.0, has_disks: bool = False, durability: str = "") -> None:
+    def __init__(self, kind: Type[Server], model: str, plant: str, size: int, logs: pathlib.Path, network: str, patience: float = 0.0,
+                 has_disks: bool = False, has_clocks: bool = False, durability: str = "") -> None:
         self._ended = contextlib.ExitStack()
         self.stopped = threading.Event()  # nobody waits any more for a node to be ready
         try:
@@ -40,6 +41,8 @@ class Cluster:
             for node in self.nodes if has_disks else []:
                 self.disks[node.name] = Disk(node.folder, folder / f"{node.name}.disk")
                 self._ended.callback(self.disks[node.name].end)
+            library = clocks.compiled(folder) if has_clocks else None
+            self.clocks = {node.name: clocks.Clock(node, library) for node in self.nodes} if library is not None else {}
             self.links: Optional[Links] = None
             if network != DIRECT:
                 self.links = Switched(self.nodes) if network == NAMESPACES else Proxied(self.nodes, ports)
@@ -60,6 +63,8 @@ class Cluster:
                 if self.server.in_turn:
                     self.wait_until_ready(node)
             self.wait_until_all_ready()
+            for node in self.nodes if self.clocks else []:
+                self.clocks[node.name].test_reached(node)
             with self.clients():
                 self.server.begun()
             for disk in self.disks.values():

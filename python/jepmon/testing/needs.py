@@ -3,11 +3,11 @@ from __future__ import annotations
 
 from typing import TYPE_CHECKING, Callable, Dict, Optional
 
-from . import disks, places
+from . import clocks, disks, places
 from .links import PROXY
 from .server import ALL_STRIKES, Server
 from .strikes import power
-from .strikes.kind import NEEDS_DISK, NEEDS_PACKETS
+from .strikes.kind import NEEDS_CLOCK, NEEDS_DISK, NEEDS_PACKETS
 from .strikes.known import strikes_of
 from .strikes.plan import Plan
 
@@ -19,7 +19,8 @@ def planned(given: Given) -> Plan:
     """What --nemesis asks for. A ServerError says what can't be, and which strikes are left."""
     server = given.server
     strikes = strikes_of(server)
-    here: Dict[str, Callable[[], Optional[str]]] = {NEEDS_PACKETS: lambda: packets(given.network), NEEDS_DISK: disks.why_not}
+    here: Dict[str, Callable[[], Optional[str]]] = {NEEDS_PACKETS: lambda: packets(given.network), NEEDS_DISK: disks.why_not,
+                                                        NEEDS_CLOCK: clocks.why_not}
     found: Dict[str, Optional[str]] = {}  # by what is needed
 
     def why_not(name: str) -> Optional[str]:

@@ -38,6 +38,7 @@ class Node:
         self.place: Optional[Place] = None  # its network namespace, where it has one
         self.user: Optional[str] = None  # by whom it is run, where it must not be root
         self.environment: Dict[str, str] = {}
+        self.preloaded: Dict[str, str] = {}  # of the environment too: the test's own
         self.words: List[str] = []
         self.starts = 0  # how often it was started
         self._guard = guard
@@ -75,7 +76,7 @@ class Node:
             try:
                 process = subprocess.Popen(
                     as_user(self.user, self.words), stdin=subprocess.DEVNULL, stdout=log, stderr=subprocess.STDOUT, start_new_session=True,
-                    cwd=self.folder, env={**os.environ, **self.environment})
+                    cwd=self.folder, env={**os.environ, **self.environment, **self.preloaded})
             except OSError as fault:
                 raise ServerError(f"{self.name} can't be started: {self.words[0]}: {fault.strerror}") from fault
             self._process = process

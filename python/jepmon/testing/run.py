@@ -19,7 +19,7 @@ from .generators import Pace, Phases
 from .links import network
 from .needs import planned
 from .server import Client, Server
-from .strikes.kind import NEEDS_DISK, NEEDS_LINKS
+from .strikes.kind import NEEDS_CLOCK, NEEDS_DISK, NEEDS_LINKS
 from .strikes.nemesis import Nemesis
 from .workloads import Work, works_of
 
@@ -128,7 +128,7 @@ class Test:
         given = self.given
         assert monitor.folder is not None
         with Cluster(given.server, given.model, given.plant, given.nodes, monitor.folder, self.network, given.patience,
-                     self.plan.needs(NEEDS_DISK), given.durability) as cluster:
+                     self.plan.needs(NEEDS_DISK), self.plan.needs(NEEDS_CLOCK), given.durability) as cluster:
             self.begun = time.monotonic()
             nemesis = Nemesis(monitor, cluster, self.plan.known, self.plan.lanes(given.seed, given.seconds), given.seconds)
             self.struck = nemesis.struck

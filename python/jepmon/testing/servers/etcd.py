@@ -136,6 +136,7 @@ class Etcd(Server):
     objects = CLIENTS
     ports = ("client", "peer")
     size, sizes, survives_power = 3, range(1, 8), True
+    cannot = {name: "etcd is written in Go, and does not ask the C library for the time" for name in ("bump", "strobe")}
     plants = {
         "serializable": Plant("reads are serializable: a member answers without asking the others", "cas-register", "pause,part"),
         "lease": Plant("the lease is shorter than the work", "mutex"),
