@@ -38,6 +38,8 @@ CLIENT_IS_WRONG = ("class Client(MyClient):\n    def read(self, key):\n        r
                    "class Mine(MyServer):\n    objects = {'register': Client}\n"
                    "    def client(self, number):\n        return Client(self.nodes[0].at)\n")
 
+LEAVES_ORPHANS = ("class Mine(MyServer):\n    def command(self, node):\n        code = \"(setsid sh -c '(sleep 600.25 &)'); {}\"\n"
+                  "        return ['sh', '-c', code, 'sh', *super().command(node)]\n")
 HAS_ITS_OWN = """
 import contextlib
 from jepmon.testing import Parameter, Strike
@@ -183,6 +185,23 @@ class NoVerdict(Runs):
     def test_a_folder_that_can_not_be_made(self) -> None:
         ran = self.ran(str(TEMPLATE), "--out", "/dev/null/runs")
         self.assertEqual((ran.returncode, ran.stderr), (3, "test: /dev/null/runs: the folder of a run can't be made: Not a directory\n"))
+
+
+class Orphans(Runs):
+    """A server starts a helper that leaves its family, by two forks."""
+
+    def test_they_go_with_the_server(self) -> None:
+        ran = self.ran(self.mine(LEAVES_ORPHANS.format("exec \\\"$@\\\"")), "--time", "2", "--least", "1", "--nemesis", "kill@0.5+0.2")
+        self.assertEqual((ran.returncode, ran.stderr), (0, ""), ran.stdout)
+
+    def test_they_go_where_the_server_has_ended_by_itself(self) -> None:
+        ran = self.ran(self.mine(LEAVES_ORPHANS.format("sleep 0.3; exit 4")), "--time", "2")
+        self.assertEqual(ran.returncode, 3, ran.stdout)
+        self.assertIn("died by itself, with status 4", ran.stderr)
+
+    def left(self) -> List[str]:
+        return [*super().left(), *(word for word in subprocess.run(["ps", "-eo", "args"], stdout=subprocess.PIPE, universal_newlines=True)
+                                   .stdout.splitlines() if word.startswith("sleep 600.25"))]
 
 
 class BrokenOff(Runs):

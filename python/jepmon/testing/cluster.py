@@ -12,6 +12,7 @@ from typing import Dict, List, Optional, Type
 
 from . import clocks
 from .disks import Disk
+from .family import adopt
 from .guard import Guard
 from .links import DIRECT, NAMESPACES, Links, Proxied, Switched
 from .node import Node, Ports
@@ -26,6 +27,7 @@ class Cluster:
                  has_disks: bool = False, has_clocks: bool = False, durability: str = "") -> None:
         self._ended = contextlib.ExitStack()
         self.stopped = threading.Event()  # nobody waits any more for a node to be ready
+        adopt()  # the orphans of servers that have ended
         try:
             folder = pathlib.Path(tempfile.mkdtemp(prefix="jepmon-test-"))
             folder.chmod(0o755)  # a node's user reaches its own folder in it

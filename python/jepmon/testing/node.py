@@ -12,7 +12,7 @@ import time
 from typing import TYPE_CHECKING, Callable, Dict, List, Optional, Sequence, Tuple
 
 from .errors import ServerError
-from .family import continue_family, kill_family, stop_family
+from .family import MARK, adopt, continue_family, kill_family, kill_strays, stop_family
 
 if TYPE_CHECKING:
     from .guard import Guard
@@ -41,6 +41,7 @@ class Node:
         self.preloaded: Dict[str, str] = {}  # of the environment too: the test's own
         self.words: List[str] = []
         self.starts = 0  # how often it was started
+        self._mark = str(folder)
         self._guard = guard
         self._process: Optional["subprocess.Popen[bytes]"] = None
         self._lock = threading.RLock()
@@ -76,7 +77,7 @@ class Node:
             try:
                 process = subprocess.Popen(
                     as_user(self.user, self.words), stdin=subprocess.DEVNULL, stdout=log, stderr=subprocess.STDOUT, start_new_session=True,
-                    cwd=self.folder, env={**os.environ, **self.environment, **self.preloaded})
+                    cwd=self.folder, env={**os.environ, **self.environment, **self.preloaded, MARK: self._mark}, preexec_fn=adopt)
             except OSError as fault:
                 raise ServerError(f"{self.name} can't be started: {self.words[0]}: {fault.strerror}") from fault
             self._process = process
@@ -87,8 +88,11 @@ class Node:
         """By SIGKILL, all its processes at once, so that none can write anything down any more."""
         with self._lock:
             if self._process is not None:
+                had_ended = self._process.poll() is not None
                 kill_family(self._process.pid)
                 self._process.wait()
+                if had_ended:
+                    kill_strays(self._mark)
                 self._guard.leave(self._process.pid)
                 self._process = None
 
