@@ -17,9 +17,11 @@ from .cluster import Cluster
 from .errors import ServerError, where
 from .generators import Pace, Phases
 from .links import network
-from .server import ALL_STRIKES, Client, Server
-from .strikes import Nemesis, Plan
-from .workloads import WORKS, Work
+from .needs import planned
+from .server import Client, Server
+from .strikes.kind import NEEDS_CLOCK, NEEDS_DISK, NEEDS_LINKS
+from .strikes.nemesis import Nemesis
+from .workloads import Work, works_of
 
 if TYPE_CHECKING:
     from ..long import LongMonitor, LongOperation
@@ -47,6 +49,7 @@ class Given(NamedTuple):
     patience: float  # 0: the server's own
     out: str
     keep: Optional[int]  # of parts that are legal
+    durability: str = ""  # how the server keeps what it acknowledges; empty: as its first one
 
 
 class Outcome(NamedTuple):
@@ -80,8 +83,8 @@ class Test:
     def __init__(self, given: Given, progress: Callable[[float, LongMonitor, int], None]) -> None:
         self.given, self._progress = given, progress
         self.client = given.server.objects[given.model]
-        self.plan = Plan(given.nemesis, given.nodes, given.server.bears.get(given.model, ALL_STRIKES))
-        self.network = network(given.network, self.plan.needs_links)
+        self.plan = planned(given)
+        self.network = network(given.network, self.plan.needs(NEEDS_LINKS))
         self.begun = self.ended = 0.0
         self.at_work: Dict[str, Counter[str]] = {}
         self.struck: Counter[str] = Counter()
@@ -92,8 +95,8 @@ class Test:
         from ..long import LongMonitor
 
         given = self.given
-        client, kind = self.client, WORKS[given.model]
-        monitor = LongMonitor(model=given.model, budget=BUDGETS[-1], expected=client.unsure, failed=client.certain, out=given.out,
+        client, kind = self.client, works_of(given.server)[given.model]
+        monitor = LongMonitor(model=kind.model or given.model, budget=BUDGETS[-1], expected=client.unsure, failed=client.certain, out=given.out,
                               keep=given.keep, events=EVENTS, names="")
         assert monitor.folder is not None
         work = kind(monitor, given.clients, given.keys)
@@ -124,9 +127,10 @@ class Test:
     def _run(self, monitor: LongMonitor, work: Work) -> None:
         given = self.given
         assert monitor.folder is not None
-        with Cluster(given.server, given.model, given.plant, given.nodes, monitor.folder, self.network, given.patience) as cluster:
+        with Cluster(given.server, given.model, given.plant, given.nodes, monitor.folder, self.network, given.patience,
+                     self.plan.needs(NEEDS_DISK), self.plan.needs(NEEDS_CLOCK), given.durability) as cluster:
             self.begun = time.monotonic()
-            nemesis = Nemesis(monitor, cluster, self.plan.strikes(given.seed, given.seconds), given.seconds)
+            nemesis = Nemesis(monitor, cluster, self.plan.known, self.plan.lanes(given.seed, given.seconds), given.seconds)
             self.struck = nemesis.struck
             phases = Phases(given.seed)
 
