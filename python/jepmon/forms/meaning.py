@@ -188,7 +188,8 @@ class Reader:
         durations = uses.get("duration", ())
         has_both = call[1] not in (MISSING, None) and ends[1] not in (MISSING, None)
         if self._by_duration is None and (has_both or durations):
-            self._by_duration = clock.needs_unit = not has_both
+            self._by_duration = not has_both
+            clock.needs_unit = clock.needs_unit or self._by_duration
         at = None if call[0] is None else clock.time(line, call[1], call[0].slot.unit)
         end_at = None if ends[0] is None else clock.end(line, ends[1], ends[0].slot.unit)
         if self._by_duration and has_both:

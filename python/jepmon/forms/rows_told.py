@@ -95,7 +95,7 @@ class _Turning:
     def _guess_clocks(self, made: List[intervals.Interval]) -> None:
         clients = {each.client for each in made}
         if self._mapping.skew is None and len(made) > 1 and (len(clients) > 1 or None in clients):
-            self._account.guess(ORDER, "the times of all clients are of one clock, or of clocks that agree", "--skew")
+            self._account.guess(ORDER, "the times of all clients are of one clock, or of clocks that agree", "--skew 0ms")
 
     def _close(self) -> None:
         for name in self._reader.close():
