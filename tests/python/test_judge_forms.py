@@ -15,19 +15,7 @@ from jepmon.forms.files import of_text
 from jepmon.history import of_key, read_history
 from jepmon.walk import walk
 
-
-def made(text: str, **options: Any) -> Recorded:
-    return recorded(of_text(text), Options(**options))
-
-
-def events(text: str, **options: Any) -> List[str]:
-    """The events in short: type, process, name and value."""
-    return [" ".join(line.replace(",", "").replace("{", "").replace("}", "").split()) for line in short(made(text, **options).text)]
-
-
-def short(text: str) -> List[str]:
-    return [re.split(", :(?:jepsen-index|line|time) ", line)[0].replace(":type :", "").replace(":process ", "").replace(":f :", "")
-            .replace(":value ", "") for line in text.splitlines() if line.startswith("{")]
+from .translated import events, made
 
 
 class Forms(unittest.TestCase):
@@ -185,7 +173,7 @@ class Rows(unittest.TestCase):
             ('[{"process":0,"type":"invoke","f":"write","key":1,"value":1}', "line 1: the text ends within the array"),
             ('[{"process":0,"type":"invoke","f":"write","key":1,"value":1}] {}', "line 1: more follows the array"),
             ('{"process":0}\n17', "line 1: this event has no type"),
-            ('{"a":1}\n17', "line 1: "),
+            ('{"a":1}\n17', "line 2: this is no object"),
             ('{"process":0,"type":"invoke","f":"write","value":1e}', "line 1: this is no JSON"),
             ('{"a":' + "[" * 100_000, "line 1: "),
             ("client,op,key,call\n0,read,1\n", "line 2: it has 3 cells for 4 columns"),

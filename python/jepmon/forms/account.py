@@ -45,12 +45,19 @@ class Account:
         self.guesses: List[Guess] = []
         self.fields: List[str] = []  # that were not looked at, as a user names them
         self._until = 0  # the last line that was taken
+        self._latest = 0  # how many lines were taken last
 
     def took(self, first: int, last: int) -> None:
         """Records the lines of an event. A line that holds several events counts once."""
-        if last > self._until:
-            self.taken += last - max(first - 1, self._until)
-            self._until = last
+        self._latest = max(last - max(first - 1, self._until), 0)
+        self.taken += self._latest
+        self._until = max(self._until, last)
+
+    def drop(self, reason: str) -> None:
+        """Skips the lines that were taken last: they hold no event."""
+        self.taken -= self._latest
+        self.skip(reason, self._latest)
+        self._latest = 0
 
     def took_none(self, reason: str, first: int, last: int) -> None:
         """Records the lines of what is no event, with the reason; those that hold a part of one too are not counted again."""
@@ -74,10 +81,11 @@ class Account:
         if name not in self.fields:
             self.fields.append(name)
 
-    def skip_to(self, line: int, reason: str) -> None:
-        """Records the lines between the last one taken and this one."""
+    def skip_to(self, line: int, reason: str, comments: int = 0) -> None:
+        """Records the lines between the last one taken and this one, of which so many are comments."""
         if line > self._until + 1:
-            self.skipped[reason] += line - 1 - self._until
+            self.skip(reason, line - 1 - self._until - comments)
+            self.skip("comment", comments)
             self._until = line - 1
 
     def close(self, lines: int) -> None:

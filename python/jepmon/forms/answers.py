@@ -36,6 +36,11 @@ def answered(line: int, name: str, answer: Any) -> Optional[str]:
                   "--ignore for the field with this answer")
 
 
+def says_no(name: str, answer: Any) -> bool:
+    """Whether an operation that is ok is answered by false, as a cas whose compare failed."""
+    return name in DECIDES and (answer is False or isinstance(answer, str) and answer.strip().lower() == "false")
+
+
 def completed(told: Told, kind: str, name: Optional[str], counts: Counter[str]) -> str:
     """The type of a completion, which may say of itself that it is not ok."""
     if kind != "ok":

@@ -11,7 +11,7 @@ from bisect import bisect_right
 from typing import Any, Dict, Iterable, Iterator, List, NamedTuple, Optional, Tuple
 
 from . import Refused
-from .answers import DECIDES, UNANSWERED, answered
+from .answers import UNANSWERED, answered, says_no
 from .clock import Time
 from .meaning import ANSWERED, MISSING, Told
 from .written import Writer, Written, element, value_of, word
@@ -58,10 +58,12 @@ def of_told(told: Told, writer: Writer) -> Interval:
     if told.name in ANSWERED:
         if answer is MISSING:
             argument, answer = None, argument
-        elif argument not in (MISSING, None, ""):
+        elif argument in (MISSING, None, ""):  # Go prints an empty text where there is none
+            argument = None
+        else:
             raise Refused(f"line {line}: a {told.name} has the argument {element(argument)[:60]}, and only an answer is known; "
                           "is it the key? let its field be called key")
-    elif answer is not MISSING and told.name in UNANSWERED and (outcome is None or outcome == "ok" and told.name in DECIDES and answer in (False, "false", "False")):
+    elif answer is not MISSING and told.name in UNANSWERED and (outcome is None or outcome == "ok" and says_no(told.name, answer)):
         outcome = answered(line, told.name, answer) or outcome
     if outcome is None:
         outcome = "info" if told.ends is None else "ok"

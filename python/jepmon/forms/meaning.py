@@ -51,16 +51,18 @@ class Reader:
         self._last_index = -1
         self._by_duration: Optional[bool] = None  # whether returns are calls and durations
 
-    def told(self, row: Row) -> Told:
-        """What a row tells."""
+    def told(self, row: Row) -> Optional[Told]:
+        """What a row tells; None if it names no client, operation, key or value."""
         line = row.line
         shape, fields = self.shapes.of(line, row.fields)
         uses = shape.uses
+        if shape.is_bare and self._kind(self._one(line, "type", uses, fields)[1]) is None:
+            return None
         call = self._one(line, "call", uses, fields)
         word, said = self._one(line, "type", uses, fields), self._one(line, "f", uses, fields)[1]
         if self.of_operations is None:
             self.of_operations = (call[1] not in (None, MISSING) and self._kind(word[1]) != "invoke"
-                                  or "return" in uses and not {"type", "time"} & set(uses))
+                                  or "return" in uses and ("duration" in uses or not {"type", "time"} & set(uses)))
         kind, name, of_type = self._kind_and_name(line, word, said)
         if "index" in uses:
             self._test_index(line, uses["index"][0], fields)
@@ -184,25 +186,37 @@ class Reader:
         for other in uses.get("time", ()):
             self.shapes.unused(line, other.name, None)
         durations = uses.get("duration", ())
-        if self._by_duration is None and (ends[1] not in (MISSING, None) or durations):
-            self._by_duration = clock.needs_unit = ends[1] in (MISSING, None)
+        has_both = call[1] not in (MISSING, None) and ends[1] not in (MISSING, None)
+        if self._by_duration is None and (has_both or durations):
+            self._by_duration = not has_both
+            clock.needs_unit = clock.needs_unit or self._by_duration
         at = None if call[0] is None else clock.time(line, call[1], call[0].slot.unit)
         end_at = None if ends[0] is None else clock.end(line, ends[1], ends[0].slot.unit)
-        if self._by_duration and end_at is not None:
-            raise Refused(f"line {line}: this operation has a return, and those before it have durations: say --ignore for the durations, or for "
-                          "the returns")
+        if self._by_duration and has_both:
+            raise Refused(f"line {line}: this operation has a call and a return, and those before it have durations: say --ignore for one of the "
+                          "three")
         for use in durations:
-            if not self._by_duration or at is None:
+            if not self._by_duration or at is None and end_at is None:
                 self.shapes.unused(line, use.name, None)
             elif fields[use.name] is not None:
-                end_at = at + clock.span(line, fields[use.name], use.slot.unit)
+                span = clock.span(line, fields[use.name], use.slot.unit)
+                at, end_at = (at, at + span) if at is not None else ((end_at or 0) - span, end_at)
         return None, at, end_at
+
+    def refuse_bare(self) -> None:
+        """Refuses rows that all tell of no operation."""
+        raise Refused(f"no row names a client, an operation, a key or a value; {_listed(self.shapes.names())}")
 
     def refuse_no_kind(self, told: Told) -> None:
         """Refuses an event without a type."""
-        names = ", ".join(map(shown, told.fields))
-        raise Refused(f"line {told.line}: this event has no type (invoke, ok, fail or info), and no times of a call and a return. Its fields are "
-                      f"{names}; say which one is the type, as --map FIELD=type, or the times, as --map FIELD=call. {allowed()}")
+        raise Refused(f"line {told.line}: this event has no type (invoke, ok, fail or info), and no times of a call and a return; "
+                      f"{_listed(list(told.fields))}")
+
+
+def _listed(names: List[str]) -> str:
+    """The fields that were seen, and those that are known."""
+    seen = "its columns have no names" if "1" in names else f"its fields are {', '.join(map(shown, names))}"
+    return f"{seen}. Say what they are, as --map {shown(names[0]) if names else 'FIELD'}=key, or in a --mapping FILE. {allowed()}"
 
 
 NOTHING: "Tuple[Optional[Use], Any]" = (None, MISSING)

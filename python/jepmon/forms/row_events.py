@@ -125,6 +125,8 @@ def parts(told: Told, kind: str, invoked: Optional[Told]) -> Tuple[str, Any, Any
             value = told.answer
         elif name not in ANSWERED and value in (MISSING, None):
             value = invoked.value
+    elif name in ANSWERED and value == "":  # Go prints an empty text where there is none
+        value = MISSING
     if name is None:
         raise Refused(f"line {told.line}: this event has no operation, as read or write; say --map FIELD=op for the field that names it")
     return name, key, value

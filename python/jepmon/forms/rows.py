@@ -17,9 +17,11 @@ from .account import Account, lines_of
 from .mapping import Mapping
 from .vocabulary import plain
 
-SPACE = re.compile(r"[\s,]*")
+SPACE = re.compile(r"(?:[\s,]+|(?:#|//)[^\n]*)*")  # also comments
+COMMENT = re.compile(r"\n[ \t]*(?:#|//)")
 CELL = re.compile(r"-?[0-9]+(\.[0-9]+)?([eE][+-]?[0-9]+)?|true|false|null|[\[{].*[\]}]", re.S)
 DATA = re.compile(r"-?[0-9]+([.:T ,-][0-9TZ:. ,-]*)?")  # a cell that is no name of a column
+COMMENTS = re.compile(r"(?:\s*#[ #!][^\n]*\n)+")  # before the first row
 BLANK, BRACKETS, HEADING = "blank", "brackets alone", "the heading"
 OF_A_ROW = {"f", "op", "process", "client", "clientid"}  # an object with a field of these is a row
 
@@ -37,7 +39,7 @@ class Row(NamedTuple):
 def of_json(text: str, mapping: Mapping, account: Account) -> Iterator[Row]:
     """The objects of a JSON text."""
     decoder = json.JSONDecoder(object_pairs_hook=_object)
-    place = SPACE.match(text).end()  # type: ignore[union-attr]
+    end, place = 0, SPACE.match(text).end()  # type: ignore[union-attr]
     lines = _Lines(text)
     in_array = text[place:place + 1] == "["
     gap = BRACKETS if in_array else BLANK
@@ -45,9 +47,9 @@ def of_json(text: str, mapping: Mapping, account: Account) -> Iterator[Row]:
         place = SPACE.match(text, place + 1).end()  # type: ignore[union-attr]
     while place < len(text) and not (in_array and text[place] == "]"):
         line, begin = lines.at(place), place
-        account.skip_to(line, gap)
+        account.skip_to(line, gap, _comments(text, end, place))
         value, place = _decoded(decoder, text, place, line)
-        last = lines.at(place)
+        end, last = place, lines.at(place)
         account.took(line, last)
         if mapping.rows is None and _is_plain(value):
             yield Row(line, value)
@@ -56,9 +58,16 @@ def of_json(text: str, mapping: Mapping, account: Account) -> Iterator[Row]:
         gap, place = BLANK, SPACE.match(text, place).end()  # type: ignore[union-attr]
     if in_array and place == len(text):
         raise Refused(f"line {lines.at(place)}: the text ends within the array: was the file cut off?")
-    if in_array and text[place + 1:].strip():
+    if in_array and SPACE.fullmatch(text, place + 1) is None:
         raise Refused(f"line {lines.at(place)}: more follows the array that has the history")
-    account.skip_to(lines_of(text) + 1, BRACKETS if in_array else BLANK)
+    account.skip_to(lines_of(text) + 1, BRACKETS if in_array else BLANK, _comments(text, end, len(text)))
+
+
+def _comments(text: str, begin: int, end: int) -> int:
+    """How many lines between two events are comments."""
+    if end - begin < 2:
+        return 0
+    return len(COMMENT.findall(text[begin:end])) + (begin == 0 and text[:end].lstrip(" \t").startswith(("#", "//")))
 
 
 def _object(pairs: "List[Tuple[str, Any]]") -> Dict[str, Any]:
@@ -164,8 +173,8 @@ def of_csv(text: str, mapping: Mapping, account: Account) -> Iterator[Row]:
     try:
         for cells in reader:
             line, first = first, reader.line_num + 1
-            if not any(cells):
-                account.skip(BLANK, reader.line_num + 1 - line)
+            if not any(cells) or columns is None and cells[0].startswith("#"):
+                account.skip("comment" if any(cells) else BLANK, reader.line_num + 1 - line)
                 continue
             if columns is None:
                 columns = _columns(line, cells)
@@ -187,7 +196,7 @@ def test_end(text: str) -> None:
 
 
 def delimiter(text: str) -> str:
-    front = text[:10_000].lstrip("\r\n").split("\n", 1)[0]
+    front = COMMENTS.sub("", text[:10_000]).lstrip("\r\n").split("\n", 1)[0]
     return max(",;\t", key=front.count)
 
 

@@ -7,6 +7,7 @@ from typing import Callable, Iterable, Iterator, List, NamedTuple, Optional
 from . import Refused, etcd, intervals
 from .account import ORDER, Account
 from .clock import nanoseconds
+from .log_rows import OTHERS
 from .mapping import TIMES, Mapping
 from .meaning import Reader, Told
 from .pairs import Pairs
@@ -54,6 +55,8 @@ class _Turning:
         told = self._told()
         first = next(told, None)
         if first is None:
+            if self._account.skipped[OTHERS]:
+                self._reader.refuse_bare()
             return self._writer.written([])
         told = itertools.chain([first], told)
         if self._reader.of_operations:
@@ -92,7 +95,7 @@ class _Turning:
     def _guess_clocks(self, made: List[intervals.Interval]) -> None:
         clients = {each.client for each in made}
         if self._mapping.skew is None and len(made) > 1 and (len(clients) > 1 or None in clients):
-            self._account.guess(ORDER, "the times of all clients are of one clock, or of clocks that agree", "--skew")
+            self._account.guess(ORDER, "the times of all clients are of one clock, or of clocks that agree", "--skew 0ms")
 
     def _close(self) -> None:
         for name in self._reader.close():
@@ -109,4 +112,8 @@ class _Turning:
                 if turned is None:
                     continue
                 row = turned
-            yield self._reader.told(row)
+            told = self._reader.told(row)
+            if told is None:
+                self._account.drop(OTHERS)
+            else:
+                yield told

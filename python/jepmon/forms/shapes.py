@@ -10,9 +10,10 @@ from typing import Any, Dict, List, NamedTuple, Optional, Sequence, Tuple
 
 from . import Refused
 from .mapping import Mapping
-from .vocabulary import CONTAINERS, HARMLESS, MEANINGS, Slot, plain, slot_of
+from .vocabulary import ARGUMENTS, CONTAINERS, HARMLESS, MEANINGS, Slot, plain, slot_of
 
 Fields = Dict[str, Any]
+SAYS = {"client", "f", "key", "value", "answer", "call", "return", "id"}  # a row without one of these is of no operation
 DEEPEST = 4  # objects within one another that are laid open
 ASKS = ("f", "type", "key")  # an object with one of these is no value: it has the operation
 ANSWERED = ("value", "answer", "ok", "failed", "unknown", "error", "outcome", "found")  # what the members of an answer may be
@@ -34,12 +35,14 @@ class Shape:
         self.count = 0  # rows that have it
         self.uses: Dict[str, List[Use]] = {}
         self.unknown: List[str] = []
+        mapped = {mapping.fields[plain(name)].meaning for name in names if plain(name) in mapping.fields}
         for name in names:
             slot = slot_in(name, mapping)
-            if slot is not None:
+            if slot is not None and (slot.meaning not in mapped or plain(name) in mapping.fields):
                 self.uses.setdefault(slot.meaning, []).append(Use(name, slot))
-            elif plain(name) not in mapping.ignored:
+            elif plain(name) not in mapping.ignored and (slot is None or slot.meaning not in mapped):
                 self.unknown.append(name)
+        self.is_bare = not SAYS & set(self.uses)
         for uses in self.uses.values():
             uses.sort(key=lambda use: use.slot.rank)
         # Fields that may hold an object to be laid open.
@@ -55,7 +58,7 @@ def slot_in(name: str, mapping: Mapping) -> Optional[Slot]:
     outer, dot, inner = name.rpartition("\0")
     if not dot:
         slot = slot_of(name)
-        return slot if slot is not None else Slot("value", None, 99) if plain(name) in CONTAINERS else None
+        return slot if slot is not None else Slot("value", None, 99) if plain(name) in ARGUMENTS else None
     return _member(plain(outer.rpartition("\0")[2]), slot_of(inner), inner)
 
 
@@ -93,6 +96,8 @@ class Shapes:
                 if opened is not fields:
                     return self.of(line, opened)
                 break
+        if shape.is_bare:
+            return shape, fields
         shape.count += 1
         for name in shape.unknown:
             self.unused(line, name, fields[name])

@@ -22,11 +22,8 @@ def members(line: int, value: Any, path: str) -> Iterator[Any]:
 
 
 def row(span: Dict[str, Any]) -> Dict[str, Any]:
-    """The span with its attributes as one object, and its status as a word; any other object as it is."""
-    made = dict(span)
-    attributes = span.get("attributes")
-    if isinstance(attributes, list) and all(isinstance(one, dict) and "key" in one and isinstance(one.get("value"), dict) for one in attributes):
-        made["attributes"] = {one["key"]: _value(one["value"]) for one in attributes}
+    """The object, with lists of keys and values as objects, as attributes and tags are; a span of OTLP with its status as a word."""
+    made = {name: _members(field) if type(field) is list and field else field for name, field in span.items()}
     status = span.get("status")
     if isinstance(status, dict) and "startTimeUnixNano" in span:
         made["status"] = STATUSES.get(status.get("code", 0), status.get("code"))
@@ -35,8 +32,17 @@ def row(span: Dict[str, Any]) -> Dict[str, Any]:
     return made
 
 
-def _value(value: Dict[str, Any]) -> Any:
-    """The value of an attribute."""
+def _members(field: List[Any]) -> Any:
+    """A list of keys and values as an object; any other one as it is."""
+    if all(isinstance(one, dict) and isinstance(one.get("key"), str) and "value" in one for one in field):
+        return {one["key"]: _value(one["value"]) for one in field}
+    return field
+
+
+def _value(value: Any) -> Any:
+    """The value of an attribute, in OTLP an object that says its type."""
+    if not isinstance(value, dict):
+        return value
     if "intValue" in value:
         return int(value["intValue"])
     if "arrayValue" in value:

@@ -48,6 +48,7 @@ HARMLESS = frozenset((
     "sequence", "comment", "note", "test", "run", "runid", "service", "servicename", "version", "droppedattributescount"))
 # Fields with an object, whose members are read as if they were fields of the row.
 CONTAINERS = frozenset(("input", "request", "req", "args", "params", "attributes", "attrs", "tags", "labels", "fields", "properties"))
+ARGUMENTS = ("input", "request", "args")  # fields that are the value if they hold no object
 
 OPERATIONS = {
     "read": "read", "get": "read", "r": "read", "load": "read",
