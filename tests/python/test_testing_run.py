@@ -38,6 +38,9 @@ CLIENT_IS_WRONG = ("class Client(MyClient):\n    def read(self, key):\n        r
                    "class Mine(MyServer):\n    objects = {'register': Client}\n"
                    "    def client(self, number):\n        return Client(self.nodes[0].at)\n")
 
+LOGS = ("import logging, warnings\nclass Client(MyClient):\n    def read(self, key):\n        logging.getLogger('pool').warning('a connection was "
+        "lost')\n        warnings.warn('old')\n        return super().read(key)\nclass Mine(MyServer):\n    objects = {'register': Client}\n"
+        "    def client(self, number):\n        return Client(self.nodes[0].at)\n")
 LEAVES_ORPHANS = ("class Mine(MyServer):\n    def command(self, node):\n        code = \"(setsid sh -c '(sleep 600.25 &)'); {}\"\n"
                   "        return ['sh', '-c', code, 'sh', *super().command(node)]\n")
 HAS_ITS_OWN = """
@@ -187,6 +190,20 @@ class NoVerdict(Runs):
         self.assertEqual((ran.returncode, ran.stderr), (3, "test: /dev/null/runs: the folder of a run can't be made: Not a directory\n"))
 
 
+class Snags(Runs):
+    def test_what_a_client_logs_does_not_flood_the_terminal(self) -> None:
+        ran = self.ran(self.mine(LOGS), "--time", "1", "--nemesis", "none", "--least", "1")
+        self.assertEqual((ran.returncode, ran.stderr), (0, ""), ran.stdout)
+        self.assertIn("a connection was lost", (self.room / "runs" / "latest" / "clients.log").read_text())
+
+    def test_a_folder_is_judged_again_without_a_program_on_the_path(self) -> None:
+        self.ran(str(TEMPLATE), "--time", "1", "--nemesis", "none", "--least", "1")
+        environment = {name: value for name, value in os.environ.items() if name != "JEPMON"}
+        again = subprocess.run([self.room / "runs" / "latest" / "judge-again"], stdout=subprocess.PIPE, universal_newlines=True,
+                               env={**environment, "PATH": "/usr/bin:/bin"})
+        self.assertEqual((again.returncode, again.stdout.splitlines()[-1]), (0, "legal"))
+
+
 class Orphans(Runs):
     """A server starts a helper that leaves its family, by two forks."""
 
@@ -214,12 +231,16 @@ class BrokenOff(Runs):
         while not (history.exists() and "begin-fault" in history.read_text()) and time.monotonic() < end:
             time.sleep(0.1)
         test.send_signal(number)
-        said = test.communicate(timeout=PATIENCE)[1]
+        self.output, said = test.communicate(timeout=PATIENCE)
         return test.returncode, said
 
     def test_by_ctrl_c(self) -> None:
         status, said = self.broken_off(signal.SIGINT)
         self.assertEqual((status, said), (130, "test: interrupted: no server is left\n"))
+        self.assertRegex(self.output, r"(?m)^read +\d")
+        self.assertRegex(self.output, r"(?m)^folder: .*runs/")
+        self.assertEqual(self.output.splitlines()[-1], "no verdict")
+        self.assertEqual(self.verdict_file(), "no verdict: the test was broken off")
         self.nothing_is_left()
 
     def test_by_a_kill(self) -> None:

@@ -13,6 +13,7 @@ from ..errors import OutputError
 from ..kinds import BUDGETS
 from ..run_folder import VERDICT
 from ..verdicts import NotLegal, Refused
+from . import client_log
 from .cluster import Cluster
 from .errors import ServerError, where
 from .generators import Pace, Phases
@@ -88,6 +89,7 @@ class Test:
         self.begun = self.ended = 0.0
         self.at_work: Dict[str, Counter[str]] = {}
         self.struck: Counter[str] = Counter()
+        self.broken_off: Optional[Outcome] = None  # what there was, where Ctrl-C or a signal ended the test
 
     def run(self) -> Outcome:
         """Ctrl-C goes through, once all is ended. Raises a Refused of jepmon, as where there is no program, and an OSError where
@@ -102,7 +104,7 @@ class Test:
         work = kind(monitor, given.clients, given.keys)
         reason = ""
         try:
-            with monitor:
+            with monitor, client_log.kept_in(monitor.folder):
                 self._run(monitor, work)
         except NotLegal as found:
             reason = "" if not isinstance(found, Refused) else first_line(str(found))
@@ -111,8 +113,8 @@ class Test:
         except Exception as fault:
             reason = self._fault(fault)
         except BaseException:  # Ctrl-C
-            verdict = first_line(monitor.close())
-            leave(monitor.folder, verdict if verdict.startswith("illegal") else "", "the test was broken off")
+            self.broken_off = self._outcome(monitor, work, "the test was broken off")
+            leave(monitor.folder, self.broken_off.verdict, self.broken_off.reason)
             raise
         outcome = self._outcome(monitor, work, reason)
         leave(outcome.folder, outcome.verdict, outcome.reason)

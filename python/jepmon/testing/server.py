@@ -22,7 +22,7 @@ class Client:
     certain  it certainly did not take place, as where the connection was refused, so that nothing was sent: a :fail
     unsure   it may have taken place, or may yet, as after a timeout: an :info
 
-    Any other exception is a fault of the client, and ends the test. It must try nothing again by itself."""
+    Failed (jepmon.testing.Failed) is certain without being named, as where a message has come before. Any other exception is a fault of the client, and ends the test. It must try nothing again by itself."""
 
     certain: Exceptions = (ConnectionRefusedError,)
     unsure: Exceptions = (OSError,)
