@@ -3,7 +3,7 @@ from __future__ import annotations
 
 from typing import Iterator, List
 
-from ..run_folder import CAUSE, PAGE
+from ..run_folder import CAUSE, PAGE, RUN_PAGE
 from .links import NAMESPACES, PROXY
 from .run import Given, Outcome
 from .strikes import KINDS, Plan
@@ -38,8 +38,9 @@ def _lines(outcome: Outcome) -> Iterator[str]:
     yield from outcome.not_judged
     if outcome.strikes:
         yield "strikes: " + ", ".join(f"{outcome.strikes[kind]} {kind}" for kind in KINDS if outcome.strikes[kind])
-    has_page = (outcome.part / PAGE).exists()
-    yield f"folder: {outcome.folder}" + (f", its page: {outcome.part / PAGE}" if has_page else "")
+    yield f"folder: {outcome.folder}, its page: {outcome.folder / RUN_PAGE}"
+    if (outcome.part / PAGE).exists():
+        yield f"page of the bad key: {outcome.part / PAGE}"
     yield (outcome.verdict or "no verdict") + (f", and {outcome.lost} messages are lost" if outcome.lost else "")
 
 

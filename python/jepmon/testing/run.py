@@ -15,6 +15,7 @@ from ..run_folder import VERDICT
 from ..verdicts import NotLegal, Refused
 from .cluster import Cluster
 from .errors import ServerError, where
+from .facts import facts_of, leave_facts, leave_pages
 from .generators import Pace, Phases
 from .links import network
 from .server import ALL_STRIKES, Client, Server
@@ -94,8 +95,9 @@ class Test:
         given = self.given
         client, kind = self.client, WORKS[given.model]
         monitor = LongMonitor(model=given.model, budget=BUDGETS[-1], expected=client.unsure, failed=client.certain, out=given.out,
-                              keep=given.keep, events=EVENTS, names="")
+                              keep=given.keep, events=EVENTS, names="", page=False)
         assert monitor.folder is not None
+        leave_facts(monitor.folder, facts_of(given, self.network, self.plan.kinds))
         work = kind(monitor, given.clients, given.keys)
         reason = ""
         try:
@@ -110,9 +112,11 @@ class Test:
         except BaseException:  # Ctrl-C
             verdict = first_line(monitor.close())
             leave(monitor.folder, verdict if verdict.startswith("illegal") else "", "the test was broken off")
+            leave_pages(monitor.folder)
             raise
         outcome = self._outcome(monitor, work, reason)
         leave(outcome.folder, outcome.verdict, outcome.reason)
+        leave_pages(outcome.folder)
         return outcome
 
     def _fault(self, fault: Exception) -> str:

@@ -81,6 +81,11 @@ class Server:
             packages = " ".join(sorted({cls.programs[program] for program in missing}))
             raise ServerError(f"{', '.join(missing)} is not installed: on Debian, apt-get install {packages}")
 
+    @classmethod
+    def version(cls) -> Sequence[str]:
+        """The words that print the version of the server, which the page of a run shows; none, where it has none."""
+        return ()
+
     def command(self, node: Node) -> List[str]:
         """The words that start a node, by the whole path of its program: it is run in node.folder, where its data go. It listens at
         node.address, at node.ports."""
