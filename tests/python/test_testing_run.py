@@ -37,6 +37,22 @@ CLIENT_IS_WRONG = ("class Client(MyClient):\n    def read(self, key):\n        r
                    "class Mine(MyServer):\n    objects = {'register': Client}\n"
                    "    def client(self, number):\n        return Client(self.nodes[0].at)\n")
 
+HAS_ITS_OWN = """
+import contextlib
+from jepmon.testing import Parameter, Strike
+from jepmon.testing.workloads import Registers
+@contextlib.contextmanager
+def touched(cluster, node, values):
+    yield
+class Writes(Registers):
+    model, names = "register", ("write",)
+    def step(self, number, client, draws, changes):
+        return super().step(number, client, draws, 1.0)
+class Mine(MyServer):
+    objects, workloads = {"writes": MyClient}, {"writes": Writes}
+    strikes = {"touch": Strike("{node} is touched {times:g} times", touched, parameters={"times": Parameter(1, 3)})}
+"""
+
 
 class Runs(Monitored):
     def words(self, server: str, *words: str) -> List[str]:
@@ -94,6 +110,15 @@ class TheTemplate(Runs):
         self.assertRegex(ran.stdout.splitlines()[-1], "^illegal key ")
         self.assertRegex(ran.stderr.splitlines()[0], r"^Client \d+ read ABSENT from key \d+, which could not hold ABSENT any more\.$")
         self.assertIn("by kill -9", (self.room / "runs" / "latest" / "part-0001" / "page.html").read_text())
+
+    def test_strikes_and_workloads_of_its_own(self) -> None:
+        ran = self.ran(self.mine(HAS_ITS_OWN), "--time", "2", "--least", "5", "--nemesis", "touch:n1:times=2@0.5+0.2,kill@0.6+0.4")
+        self.assertEqual((ran.returncode, ran.stderr), (0, ""), ran.stdout)
+        self.assertRegex(ran.stdout, r"^Mine, writes: .*; kill, touch")
+        self.assertIn("strikes: 1 kill, 1 touch", ran.stdout)
+        history = (self.room / "runs" / "latest" / "part-0001" / "history.edn").read_text()
+        self.assertEqual(history.count('"n1 is touched 2 times [touch n1, other, times=2]"'), 2)
+        self.assertEqual(history.count('"n1 is down, by kill -9 [kill n1, process; while touch n1]"'), 2)
 
     def test_it_is_short(self) -> None:
         """What a user writes: all but the server that stands for the user's own."""

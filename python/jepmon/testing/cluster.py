@@ -11,11 +11,9 @@ from types import TracebackType
 from typing import List, Optional, Type
 
 from .guard import Guard
-from .links import CLIENTS, DIRECT, NAMESPACES, Links, Proxied, Switched
+from .links import DIRECT, NAMESPACES, Links, Proxied, Switched
 from .node import Node, Ports
 from .server import Server
-
-SLOW = 0.05  # seconds by which a slow link is slower, each way
 
 
 class Cluster:
@@ -51,7 +49,6 @@ class Cluster:
             for node in self.nodes:
                 with node.inside():
                     self.server.prepare(node)
-                node.words = self.server.command(node)
                 self._start(node)
                 if self.server.in_turn:
                     self.wait_until_ready(node)
@@ -79,6 +76,8 @@ class Cluster:
         return contextlib.nullcontext() if self.links is None else self.links.clients()
 
     def _start(self, node: Node) -> None:
+        """Its words are made anew at each start: a server may say others, by node.starts."""
+        node.words = self.server.command(node)
         node.start()
         if self.links is not None:
             self.links.up(node)
@@ -86,6 +85,21 @@ class Cluster:
     def wait_until_ready(self, node: Node) -> None:
         with node.inside():
             node.wait_until(lambda: self.server.ready(node), self.server.patience, "was not ready", self.stopped)
+
+    def is_ready(self, node: Node) -> bool:
+        with node.inside():
+            try:
+                self.server.ready(node)
+            except Exception:  # whatever it is, it is not ready
+                return False
+        return True
+
+    def leader(self) -> Optional[Node]:
+        """The node that the server says leads now; None where it names none."""
+        try:
+            return self.server.leader()
+        except Exception:  # nodes that are struck do not answer
+            return None
 
     # --- What strikes do ---
 
@@ -97,33 +111,6 @@ class Cluster:
     def restart(self, node: Node) -> None:
         """It is ready some time later: while the others are cut off it may have to wait for them."""
         self._start(node)
-
-    def pause(self, node: Node) -> None:
-        node.pause()
-
-    def go_on(self, node: Node) -> None:
-        node.go_on()
-
-    def cut(self, node: Node) -> None:
-        """Clients do not reach it any more; other nodes do."""
-        self._links().cut(node.name, [CLIENTS])
-
-    def part(self, node: Node) -> None:
-        """The other nodes do not reach it any more; clients do."""
-        self._links().cut(node.name, self._others(node))
-
-    def slow(self, node: Node) -> None:
-        self._links().slow(node.name, [CLIENTS, *self._others(node)], SLOW)
-
-    def mend(self, node: Node) -> None:
-        self._links().open(node.name, [CLIENTS, *self._others(node)])
-
-    def _links(self) -> Links:
-        assert self.links is not None, "a strike on links in a cluster without any"
-        return self.links
-
-    def _others(self, node: Node) -> List[str]:
-        return [other.name for other in self.nodes if other is not node]
 
     def test_alive(self) -> None:
         for node in self.nodes:

@@ -39,6 +39,7 @@ class Node:
         self.user: Optional[str] = None  # by whom it is run, where it must not be root
         self.environment: Dict[str, str] = {}
         self.words: List[str] = []
+        self.starts = 0  # how often it was started
         self._guard = guard
         self._process: Optional["subprocess.Popen[bytes]"] = None
         self._lock = threading.RLock()
@@ -78,6 +79,7 @@ class Node:
             except OSError as fault:
                 raise ServerError(f"{self.name} can't be started: {self.words[0]}: {fault.strerror}") from fault
             self._process = process
+            self.starts += 1
             self._guard.watch(process.pid)
 
     def kill(self) -> None:

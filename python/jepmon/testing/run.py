@@ -18,9 +18,11 @@ from .errors import ServerError, where
 from .facts import facts_of, leave_facts, leave_pages
 from .generators import Pace, Phases
 from .links import network
-from .server import ALL_STRIKES, Client, Server
-from .strikes import Nemesis, Plan
-from .workloads import WORKS, Work
+from .needs import planned
+from .server import Client, Server
+from .strikes.kind import NEEDS_LINKS
+from .strikes.nemesis import Nemesis
+from .workloads import Work, works_of
 
 if TYPE_CHECKING:
     from ..long import LongMonitor, LongOperation
@@ -81,8 +83,8 @@ class Test:
     def __init__(self, given: Given, progress: Callable[[float, LongMonitor, int], None]) -> None:
         self.given, self._progress = given, progress
         self.client = given.server.objects[given.model]
-        self.plan = Plan(given.nemesis, given.nodes, given.server.bears.get(given.model, ALL_STRIKES))
-        self.network = network(given.network, self.plan.needs_links)
+        self.plan = planned(given)
+        self.network = network(given.network, self.plan.needs(NEEDS_LINKS))
         self.begun = self.ended = 0.0
         self.at_work: Dict[str, Counter[str]] = {}
         self.struck: Counter[str] = Counter()
@@ -93,11 +95,11 @@ class Test:
         from ..long import LongMonitor
 
         given = self.given
-        client, kind = self.client, WORKS[given.model]
-        monitor = LongMonitor(model=given.model, budget=BUDGETS[-1], expected=client.unsure, failed=client.certain, out=given.out,
+        client, kind = self.client, works_of(given.server)[given.model]
+        monitor = LongMonitor(model=kind.model or given.model, budget=BUDGETS[-1], expected=client.unsure, failed=client.certain, out=given.out,
                               keep=given.keep, events=EVENTS, names="", page=False)
         assert monitor.folder is not None
-        leave_facts(monitor.folder, facts_of(given, self.network, self.plan.kinds))
+        leave_facts(monitor.folder, facts_of(given, self.network, self.plan.names))
         work = kind(monitor, given.clients, given.keys)
         reason = ""
         try:
@@ -130,7 +132,7 @@ class Test:
         assert monitor.folder is not None
         with Cluster(given.server, given.model, given.plant, given.nodes, monitor.folder, self.network, given.patience) as cluster:
             self.begun = time.monotonic()
-            nemesis = Nemesis(monitor, cluster, self.plan.strikes(given.seed, given.seconds), given.seconds)
+            nemesis = Nemesis(monitor, cluster, self.plan.known, self.plan.lanes(given.seed, given.seconds), given.seconds)
             self.struck = nemesis.struck
             phases = Phases(given.seed)
 

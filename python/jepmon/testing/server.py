@@ -2,13 +2,15 @@
 from __future__ import annotations
 
 import shutil
-from typing import Callable, List, Mapping, NamedTuple, Sequence, Tuple, Type
+from typing import Callable, List, Mapping, NamedTuple, Optional, Sequence, Tuple, Type
 
 from ..endings import Exceptions
 from .errors import ServerError
 from .node import Node
+from .strikes.kind import Strike
+from .workloads import Work
 
-ALL_STRIKES = ("kill", "pause", "cut", "part", "slow")
+ALL_STRIKES = ("kill", "pause", "cut", "part", "slow", "halves", "oneway", "ring", "bridge", "loss", "reorder", "corrupt")
 
 
 class Client:
@@ -63,7 +65,10 @@ class Server:
 
     programs: Mapping[str, str] = {}  # each program that it needs, and the package of Debian that has it
     objects: Mapping[str, Type[Client]] = {}  # the models that it can be, and the client of each; the first is the default
-    bears: Mapping[str, Tuple[str, ...]] = {}  # of a model: the strikes under which it ought to be right, where not all are
+    bears: Mapping[str, Tuple[str, ...]] = {}  # of a model: the strikes under which it ought to be right, where not ALL_STRIKES are
+    strikes: Mapping[str, Strike] = {}  # of its own, by name (strikes/kind.py)
+    cannot: Mapping[str, str] = {}  # strikes that it can't be tested under, and why
+    workloads: Mapping[str, Type[Work]] = {}  # of its own, by model: what clients do (workloads.py)
     plants: Mapping[str, Plant] = {}
     ports: Tuple[str, ...] = ("client",)  # the names of the ports of each node
     size: int = 1  # how many nodes there are, where --nodes does not say
@@ -104,6 +109,10 @@ class Server:
 
     def begun(self) -> None:
         """All nodes are ready, before the first operation: makes tables, queues and the like."""
+
+    def leader(self) -> Optional[Node]:
+        """The node that leads, where the server has such a one and can say which. It may take a second at most, and raise."""
+        return None
 
     def node_of(self, number: int) -> Node:
         """The node of a client: each has one of its own, as far as they reach."""

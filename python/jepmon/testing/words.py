@@ -11,9 +11,11 @@ from typing import Dict, Iterable, Iterator, List, Optional, Type
 from .. import command, kinds
 from .errors import ServerError, where
 from .links import AUTO, NETWORKS
+from .needs import planned
 from .run import Given
 from .server import Server
-from .strikes import KINDS, Plan
+from .strikes.known import STRIKES
+from .workloads import works_of
 
 NAME = "test"
 SERVERS: Dict[str, str] = {"redis": "Redis", "etcd": "Etcd", "postgresql": "PostgreSQL", "rabbitmq": "RabbitMQ"}
@@ -58,16 +60,17 @@ def given(words: Optional[List[str]]) -> Optional[Given]:
     if nodes not in server.sizes:
         raise ServerError(f"--nodes {nodes}: {parsed.server} takes {server.sizes[0]} to {server.sizes[-1]}")
     nemesis = parsed.nemesis or (plant.nemesis if plant else "all")
-    Plan(nemesis, nodes, tuple(KINDS))  # what can't be is said before anything starts
-    return Given(server, model, parsed.plant or "", parsed.time, parsed.clients, parsed.keys, parsed.seed, nemesis, parsed.rate, nodes,
-                 parsed.network, parsed.least, parsed.patience, parsed.out, parsed.keep)
+    given = Given(server, model, parsed.plant or "", parsed.time, parsed.clients, parsed.keys, parsed.seed, nemesis, parsed.rate, nodes,
+                  parsed.network, parsed.least, parsed.patience, parsed.out, parsed.keep)
+    planned(given)  # what can't be is said before anything starts
+    return given
 
 
 def _parser() -> Words:
     called = command.tool(NAME)
     parser = Words(prog=called, description=DESCRIPTION.format(tool=called), formatter_class=argparse.RawDescriptionHelpFormatter)
     parser.add_argument("server", metavar="SERVER", help=f"{', '.join(SERVERS)}, or a Python file that has a Server; {TEMPLATE} prints one")
-    parser.add_argument("--object", metavar="MODEL", choices=tuple(kinds.MODELS), help="what each key is: " + ", ".join(kinds.MODELS))
+    parser.add_argument("--object", metavar="MODEL", help="what each key is: " + ", ".join(kinds.MODELS))
     parser.add_argument("--plant", metavar="NAME", help="a fault of the server that is known, by its name")
     parser.add_argument("--time", metavar="SECONDS", type=_positive("seconds"), default=20.0, help="how long clients are at work (20)")
     parser.add_argument("--clients", metavar="N", type=_within("clients", 1, MOST_CLIENTS), default=5, help="threads of clients (5)")
@@ -75,8 +78,8 @@ def _parser() -> Words:
     parser.add_argument("--rate", metavar="N", type=_positive("operations a second", zero=True), default=400.0,
                         help="operations a second of all clients; 0 is as many as they can (400)")
     parser.add_argument("--seed", metavar="N", type=int, default=1, help="of what is drawn: operations, phases and strikes (1)")
-    parser.add_argument("--nemesis", metavar="STRIKES", help=f"all, none, or some of {', '.join(KINDS)}, as kill,pause; or a schedule, "
-                        "as kill:n1@3+0.5,pause@6: at 3 seconds, for half a second (all)")
+    parser.add_argument("--nemesis", metavar="STRIKES", help=f"all, none, or some of {', '.join(STRIKES)}, as kill,pause; with "
+                        "numbers, as slow:delay=0.2:lasting=1..5; or a schedule, as kill:n1@3+0.5,pause@6: at 3 seconds, for half a second (all)")
     parser.add_argument("--nodes", metavar="N", type=_within("nodes", 1, 9), default=0, help="how many, where the server can have several")
     parser.add_argument("--network", choices=NETWORKS, default=AUTO, help="by what links are cut and slow: namespaces, of which each node "
                         "has one (as root on Linux), or a proxy on the loopback; auto takes namespaces where it can")
@@ -158,7 +161,8 @@ def _of_file(path: pathlib.Path) -> Type[Server]:
     if not found:
         raise ServerError(f"{path} has no class that is a jepmon.testing.Server")
     server: Type[Server] = found[-1]
-    unknown = [model for model in server.objects if model not in kinds.MODELS]
+    works = works_of(server)
+    unknown = [model for model in server.objects if model not in works or (works[model].model or model) not in kinds.MODELS]
     if not server.objects or unknown:
         raise ServerError(f"{path}: {server.__name__}.objects names models and their clients, of {', '.join(kinds.MODELS)}; "
                           + (f"not {unknown[0]}" if unknown else "it is empty"))

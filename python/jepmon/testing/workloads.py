@@ -10,6 +10,7 @@ from .messages import Messages
 
 if TYPE_CHECKING:
     from ..long import Handle, LongMonitor, LongObject, LongOperation
+    from .server import Server
 
 Attempt = Callable[[Any], "LongOperation"]  # an operation by a client
 Asked = Callable[[Attempt], "LongOperation"]  # tries it until it is ok, by one client after the other
@@ -20,6 +21,7 @@ class Work:
     must be ok before anything is said. An object is left after CHANGES, for a new one; its key is the number that is its name."""
 
     names: Tuple[str, ...] = ()
+    model = ""  # by which it is judged, where that is not its name among a server's objects
     CHANGES = 200
 
     def __init__(self, monitor: LongMonitor, clients: int, keys: int) -> None:
@@ -233,3 +235,8 @@ def key_of(op: LongOperation) -> int:
 WORKS: Dict[str, Type[Work]] = {
     "register": Registers, "cas-register": CasRegisters, "mutex": Locks, "set": Sets, "fifo-queue": Queues, "unordered-queue": Queues,
 }
+
+
+def works_of(server: Type[Server]) -> Dict[str, Type[Work]]:
+    """What clients of a server do to each kind of object: to the known ones, and to its own."""
+    return {**WORKS, **server.workloads}

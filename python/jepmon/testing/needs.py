@@ -1,0 +1,43 @@
+"""What strikes need of this machine, and whether it is here: asked before anything starts."""
+from __future__ import annotations
+
+from typing import TYPE_CHECKING, Callable, Dict, Optional
+
+from . import places
+from .links import PROXY
+from .server import ALL_STRIKES, Server
+from .strikes.kind import NEEDS_PACKETS
+from .strikes.known import strikes_of
+from .strikes.plan import Plan
+
+if TYPE_CHECKING:
+    from .run import Given
+
+
+def planned(given: Given) -> Plan:
+    """What --nemesis asks for. A ServerError says what can't be, and which strikes are left."""
+    server = given.server
+    strikes = strikes_of(server)
+    here: Dict[str, Callable[[], Optional[str]]] = {NEEDS_PACKETS: lambda: packets(given.network)}
+    found: Dict[str, Optional[str]] = {}  # by what is needed
+
+    def why_not(name: str) -> Optional[str]:
+        if name in server.cannot:
+            return server.cannot[name]
+        for need in sorted(strikes[name].needs & here.keys()):
+            if need not in found:
+                found[need] = here[need]()
+            if found[need]:
+                return found[need]
+        return None
+
+    default = server.bears.get(given.model, (*ALL_STRIKES, *server.strikes))
+    return Plan(given.nemesis, given.nodes, strikes, default, why_not, has_leader=server.leader is not Server.leader)
+
+
+def packets(network: str) -> Optional[str]:
+    """Why packets can't be struck; None where they can."""
+    if network == PROXY:
+        return "the proxy carries bytes, not packets: it takes --network namespaces"
+    reason = places.why_not()
+    return f"it takes network namespaces, which can't be had here: {reason}" if reason else None
