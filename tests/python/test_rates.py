@@ -8,11 +8,12 @@ import unittest
 from typing import List
 
 from jepmon import rates
+from jepmon.fault_texts import kind_of, nodes_of, plain
 from jepmon.rates.charts import nice, ticks
 from jepmon.rates.gathered import COLUMNS, Gathered
 from jepmon.rates.history import Fault, joined
 from jepmon.rates.moments import Moments
-from jepmon.rates.strips import depths, kind_of, rows
+from jepmon.rates.strips import depths, rows
 from jepmon.rates.tables import effects
 
 SECOND = 1_000_000_000
@@ -103,6 +104,8 @@ class Faults(unittest.TestCase):
 
     def test_rows_of_kinds(self) -> None:
         self.assertEqual(kind_of("n1 is cut off from n2"), "\u2026 is cut off from \u2026")
+        strike = "n1 is down, by kill -9 [kill n1, process; while slow n2]"
+        self.assertEqual((kind_of(strike), nodes_of(strike), plain(strike)), ("kill", ["n1"], "n1 is down, by kill -9"))
         laid = rows([Fault("n1 down", 0, 50), Fault("n2 down", 40, 60), Fault("clock", 10, 20), Fault("n3 down", 70, 80)], 100, 100)
         self.assertEqual([(row.name, [bar.who for bar in row.bars]) for row in laid],
                          [("\u2026 down", ["n1", "n3"]), ("", ["n2"]), ("clock", [""])])

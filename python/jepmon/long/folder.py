@@ -52,6 +52,12 @@ for part in part-*; do
     11 | 22 | 33) [ "$said of $part" != "$told" ] || verdict=$told ;;
   esac
 done
+# what no history shows: messages that are lost, a server that has crashed, and that there is no verdict
+case $status/$told in
+  1/*) ;;
+  */lost* | */crashed*) status=1 verdict=$told ;;
+  */"no verdict"*) status=3 verdict=$told ;;
+esac
 grep -e removed -e 'not written' parts.txt >&2
 echo "$verdict"
 exit "$status"

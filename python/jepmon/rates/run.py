@@ -7,7 +7,7 @@ import re
 import sys
 from typing import Dict, Iterator, List, NamedTuple, Optional, Tuple
 
-from ..run_folder import AGAIN, CAUSE, COUNTS, HISTORY, NAMES, PAGE, PART, RUN_FACTS, RUN_PAGE, VERDICT, write_whole
+from ..run_folder import AGAIN, CAUSE, COUNTS, HISTORY, LOST, NAMES, PAGE, PART, RUN_FACTS, RUN_PAGE, VERDICT, write_whole
 from .document import render
 from .gathered import OUTCOMES, Gathered
 from .given import KeyRow, RatesPage, Section
@@ -17,7 +17,6 @@ MOST = 1 << 29  # bytes of histories, some five million events, that are read fo
 NO_VERDICT = "no verdict"
 BAD = re.compile(r"(illegal|unknown) key ([0-9]+) index ([0-9]+)")
 NAME = re.compile(r"([0-9]+) is '(.*)'$", re.M)
-FINDINGS = (("after.txt", "The object, read again once the faults were over"), ("lost.txt", "Lost messages"), ("crash.txt", "Crash"))
 
 
 class Drawn(NamedTuple):
@@ -47,9 +46,11 @@ def page_of(folder: pathlib.Path, whole: bool = False) -> RatesPage:
     facts = facts_of(folder)
     command = facts.pop("command", "")
     counts = [(outcome, f"{sum(drawn.gathered.count(name, outcome) for name in drawn.gathered.names):,}") for outcome in OUTCOMES]
-    sections = [Section(title, text) for name, title in (*FINDINGS, ("cause.txt", "Cause")) for text in [text_of(folder / name)] if text]
-    sections += [Section(f"Cause, in {part.name}" if part != folder else "Cause", text)
-                 for part in parts_of(folder) if part != folder for text in [text_of(part / CAUSE)] if text]
+    sections = [Section("Cause" if part == folder else f"Cause, in {part.name}", text)
+                for part in parts_of(folder) for text in [text_of(part / CAUSE)] if text]
+    lost = text_of(folder / LOST)
+    if lost:
+        sections.append(Section("Lost messages", lost))
     return RatesPage(verdict_of(folder), drawn.gathered, drawn.faults, drawn.keys,
                      [("run", folder.absolute().name), *facts.items(), *counts], command, list(links(folder)), sections, drawn.notes)
 

@@ -1,12 +1,11 @@
 """Faults as bars above the charts: a row for each kind of fault, or several where faults of a kind overlap; and how many hold when."""
 from __future__ import annotations
 
-import re
 from typing import Dict, Iterator, List, NamedTuple, Sequence, Tuple
 
+from ..fault_texts import kind_of, nodes_of
 from .history import Fault
 
-NODE = re.compile(r"\bn[0-9]+\b")
 KINDS = 24  # that have rows of their own
 ROWS = 6  # of a kind
 BARS = 1500  # from so many on, bars that have no pixel between them are one
@@ -30,11 +29,6 @@ class Row(NamedTuple):
     bars: List[Bar]
 
 
-def kind_of(text: str) -> str:
-    """The text of a fault without the nodes that it hits."""
-    return NODE.sub("\u2026", text)
-
-
 def rows(faults: Sequence[Fault], end: int, pixels: int) -> List[Row]:
     """The rows, by the first fault of each kind."""
     pixel = max(1, end // pixels)
@@ -55,7 +49,7 @@ def _laid(faults: Sequence[Fault], pixel: int) -> List[List[Bar]]:
     """In as many rows as overlaps need; what has no row any more stands in the last one."""
     laid: List[List[Bar]] = []
     for fault in faults:
-        bar = Bar([fault.text], ", ".join(dict.fromkeys(NODE.findall(fault.text))), fault.begin, fault.end)
+        bar = Bar([fault.text], ", ".join(nodes_of(fault.text)), fault.begin, fault.end)
         free = next((place for place, bars in enumerate(laid) if bars[-1].end + pixel <= fault.begin), len(laid))
         if free == len(laid) and free < ROWS:
             laid.append([])

@@ -5,10 +5,10 @@ import collections
 import html
 from typing import Dict, Iterable, List, NamedTuple, Optional, Sequence, Tuple
 
+from ..fault_texts import kind_of
 from .gathered import OUTCOMES, Gathered
 from .given import KeyRow
 from .history import Fault
-from .strips import kind_of
 
 SHARES = ((0.5, "50 %"), (0.9, "90 %"), (0.99, "99 %"), (0.999, "99.9 %"))
 FAULTS = 400  # that are listed one by one: those with the longest time without an ok

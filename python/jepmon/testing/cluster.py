@@ -10,6 +10,7 @@ import threading
 from types import TracebackType
 from typing import List, Optional, Type
 
+from .crashes import LogWatch
 from .guard import Guard
 from .links import DIRECT, NAMESPACES, Links, Proxied, Switched
 from .node import Node, Ports
@@ -40,6 +41,7 @@ class Cluster:
                 self._ended.callback(self.links.end)
             self.server = kind(self.nodes, model, plant)
             self.server.patience = patience or self.server.patience
+            self._logs = LogWatch(self.nodes, self.server.crashes)
         except BaseException:
             self._ended.close()
             raise
@@ -113,8 +115,10 @@ class Cluster:
         self._start(node)
 
     def test_alive(self) -> None:
+        """Raises a Died where a node has ended by itself, or its log says that it has crashed."""
         for node in self.nodes:
             node.test_alive()
+        self._logs.look()
 
     def wait_until_all_ready(self) -> None:
         """Where nothing strikes any more."""

@@ -11,10 +11,14 @@ from typing import TYPE_CHECKING, Any, Callable, Counter, Dict, Iterator, List, 
 from .. import command
 from ..errors import OutputError
 from ..kinds import BUDGETS
+from ..notes import OVER
 from ..run_folder import VERDICT
 from ..verdicts import NotLegal, Refused
+from . import losses
+from .after import FINDING, after_a_finding
 from .cluster import Cluster
-from .errors import ServerError, where
+from .crashes import finding
+from .errors import Died, ServerError, where
 from .facts import facts_of, leave_facts, leave_pages
 from .generators import Pace, Phases
 from .links import network
@@ -29,6 +33,7 @@ if TYPE_CHECKING:
 
 EVENTS = 1 << 18  # of a part
 PART = " of part-"  # in a verdict
+COUNTED = ("lost", "crashed")  # the first words of verdicts that no history shows
 PAUSE = 0.01  # seconds after an operation that was not ok: not thousands of refused connections a second
 
 
@@ -50,6 +55,7 @@ class Given(NamedTuple):
     patience: float  # 0: the server's own
     out: str
     keep: Optional[int]  # of parts that are legal
+    keep_nodes: str = FINDING  # when the nodes' data are kept
 
 
 class Outcome(NamedTuple):
@@ -88,6 +94,7 @@ class Test:
         self.begun = self.ended = 0.0
         self.at_work: Dict[str, Counter[str]] = {}
         self.struck: Counter[str] = Counter()
+        self.crash = ""  # the verdict on a server that has crashed
 
     def run(self) -> Outcome:
         """Ctrl-C goes through, once all is ended. Raises a Refused of jepmon, as where there is no program, and an OSError where
@@ -107,6 +114,9 @@ class Test:
                 self._run(monitor, work)
         except NotLegal as found:
             reason = "" if not isinstance(found, Refused) else first_line(str(found))
+        except Died as died:
+            self.crash = (finding(died) or "") if self.begun else ""
+            reason = str(died)
         except ServerError as fault:
             reason = str(fault)
         except Exception as fault:
@@ -130,7 +140,8 @@ class Test:
     def _run(self, monitor: LongMonitor, work: Work) -> None:
         given = self.given
         assert monitor.folder is not None
-        with Cluster(given.server, given.model, given.plant, given.nodes, monitor.folder, self.network, given.patience) as cluster:
+        with Cluster(given.server, given.model, given.plant, given.nodes, monitor.folder, self.network, given.patience) as cluster, \
+                after_a_finding(cluster, monitor.folder, given.keep_nodes, lambda: work.lost):
             self.begun = time.monotonic()
             nemesis = Nemesis(monitor, cluster, self.plan.known, self.plan.lanes(given.seed, given.seconds), given.seconds)
             self.struck = nemesis.struck
@@ -169,7 +180,7 @@ class Test:
 
     def _finish(self, monitor: LongMonitor, work: Work, cluster: Cluster) -> None:
         """All is mended by now. Each node must answer what is left to ask."""
-        monitor.note("the faults are over")
+        monitor.note(OVER)
         with contextlib.ExitStack() as over:
             cluster.wait_until_all_ready()
             over.enter_context(cluster.clients())
@@ -202,13 +213,16 @@ class Test:
                if counts.get(name, Counter())["ok"] < self.given.least]
         if verdict.startswith("illegal"):
             status = 1
+        elif self.crash:
+            verdict, status, reason = self.crash, 1, ""
         elif reason:
             verdict, status = "", 3
         elif few:
             verdict, status = "", 3
             reason = f"fewer than {self.given.least} operations were ok ({', '.join(few)}), of which nothing is said"
         elif work.lost:
-            status, reason = 1, f"{work.lost} messages were acknowledged, and never came: this was counted, and is not proved"
+            verdict, status = f"lost {work.lost} messages: acknowledged, and never dequeued; this was counted, and is not proved", 1
+            losses.leave(monitor.folder, work.lost, work.missing)
         elif not verdict.startswith("legal"):
             status = 2
         return Outcome(verdict, reason, status, counts, monitor.length, self.at_work, max(self.ended - self.begun, 0.001), monitor.parts,
@@ -217,9 +231,10 @@ class Test:
 
 def leave(folder: pathlib.Path, verdict: str, reason: str) -> None:
     """The folder must not say legal where the test does not."""
-    if reason:
+    if reason or verdict.split(" ")[0] in COUNTED:
         try:
-            command.write_file(folder / VERDICT, (f"{verdict}; {reason}" if verdict else f"no verdict: {reason}") + "\n")
+            said = f"no verdict: {reason}" if not verdict else f"{verdict}; {reason}" if reason else verdict
+            command.write_file(folder / VERDICT, said + "\n")
         except OutputError:
             (folder / VERDICT).unlink(missing_ok=True)  # on a disk that is full
 

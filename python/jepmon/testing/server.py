@@ -74,6 +74,7 @@ class Server:
     size: int = 1  # how many nodes there are, where --nodes does not say
     sizes: range = range(1, 8)
     in_turn: bool = False  # whether a node is started once the one before is ready
+    crashes: Sequence[str] = ()  # regular expressions: a line of a node's log that one of them matches is a crash, which is a finding
     patience: float = 120.0  # seconds until a node is ready, and until it answers again at the end
 
     def __init__(self, nodes: Sequence[Node], model: str, plant: str) -> None:
