@@ -20,6 +20,7 @@ import contextlib
 import datetime
 import os
 import pathlib
+import shlex
 import shutil
 import sys
 from typing import Iterator, Optional, Union
@@ -34,6 +35,8 @@ PART = "part-"  # how the folders of parts begin, in that of a run without an en
 SCRIPT = """#!/bin/sh
 # Judges history.edn, beside this file, again by the proved program. The run began at {begun}, by {program!r}
 cd "$(dirname "$0")" || exit 3
+here={path}
+[ -n "$JEPMON" ] || ! [ -x "$here" ] || JEPMON=$here
 exec "${{JEPMON:-jepmon}}" {again}
 """
 
@@ -98,7 +101,8 @@ class RunFolder:
         return f"script {words} < {HISTORY}" if self.is_script else f"check {HISTORY} {words}"
 
     def _script(self) -> str:
-        return SCRIPT.format(begun=self.begun.isoformat(), program=self.program, again=self.again)
+        path = shlex.quote(os.path.abspath(self.program) if os.sep in self.program else self.program)
+        return SCRIPT.format(begun=self.begun.isoformat(), program=self.program, path=path, again=self.again)
 
     def put(self, name: str, text: str, executable: bool = False) -> None:
         """Writes a file as a whole, under its name only once it is whole."""

@@ -13,7 +13,7 @@ import unittest
 from typing import Callable, List
 
 from jepmon.testing.errors import ServerError
-from jepmon.testing.family import continue_family, family, kill_family, stop_family
+from jepmon.testing.family import adopt, continue_family, family, kill_family, parent_of, stop_family
 from jepmon.testing.guard import Guard, environment
 from jepmon.testing.links import CLIENTS, CUT, Effect, Proxied, both_ways
 from jepmon.testing.node import ADDRESS, Node, Ports, is_free, last_words
@@ -129,6 +129,20 @@ class Families(unittest.TestCase):
         kill_family(process.pid)
         process.wait()
         self.assertTrue(wait_for(lambda: not any(map(is_alive, members))))
+
+    def test_orphans_stay_in_the_family(self) -> None:
+        with tempfile.TemporaryDirectory() as room:
+            code = "setsid sh -c '(sleep 600 & echo $! >orphan)'; exec sleep 600"
+            process = subprocess.Popen(["sh", "-c", code], cwd=room, preexec_fn=adopt)
+            self.addCleanup(process.wait)
+            self.addCleanup(kill_family, process.pid)
+            self.assertTrue(wait_for(lambda: len(family(process.pid)) == 2))
+            orphan = int(pathlib.Path(room, "orphan").read_text())
+            self.assertEqual(parent_of(orphan), process.pid)
+            stop_family(process.pid)
+            self.assertTrue(wait_for(lambda: self.states([process.pid, orphan]) == "TT"))
+            kill_family(process.pid)
+            self.assertTrue(wait_for(lambda: not is_alive(orphan)))
 
     def test_nothing_is_left_where_the_test_is_killed(self) -> None:
         with tempfile.TemporaryDirectory() as room:

@@ -8,9 +8,12 @@ import random
 import tempfile
 import threading
 from types import TracebackType
-from typing import List, Optional, Type
+from typing import Dict, List, Optional, Type
 
+from . import clocks
 from .crashes import LogWatch
+from .disks import Disk
+from .family import adopt
 from .guard import Guard
 from .links import DIRECT, NAMESPACES, Links, Proxied, Switched
 from .node import Node, Ports
@@ -18,12 +21,14 @@ from .server import Server
 
 
 class Cluster:
-    """It starts with its block. `network` says by what links others reach the nodes (links.py)."""
+    """It starts with its block. `network` says by what links others reach the nodes (links.py), `has_disks` whether each node's folder is
+    a disk of its own, which can lose power (disks.py), and `has_clocks` whether each has a wall clock of its own (clocks.py)."""
 
-    def __init__(self, kind: Type[Server], model: str, plant: str, size: int, logs: pathlib.Path, network: str,
-                 patience: float = 0.0) -> None:
+    def __init__(self, kind: Type[Server], model: str, plant: str, size: int, logs: pathlib.Path, network: str, patience: float = 0.0,
+                 has_disks: bool = False, has_clocks: bool = False, durability: str = "") -> None:
         self._ended = contextlib.ExitStack()
         self.stopped = threading.Event()  # nobody waits any more for a node to be ready
+        adopt()  # the orphans of servers that have ended
         try:
             folder = pathlib.Path(tempfile.mkdtemp(prefix="jepmon-test-"))
             folder.chmod(0o755)  # a node's user reaches its own folder in it
@@ -35,6 +40,12 @@ class Cluster:
                 name = f"n{number + 1}"
                 (folder / name).mkdir()
                 self.nodes.append(Node(number, folder / name, logs / f"{name}.log", {port: ports.free() for port in kind.ports}, guard))
+            self.disks: Dict[str, Disk] = {}  # by the names of nodes
+            for node in self.nodes if has_disks else []:
+                self.disks[node.name] = Disk(node.folder, folder / f"{node.name}.disk")
+                self._ended.callback(self.disks[node.name].end)
+            library = clocks.compiled(folder) if has_clocks else None
+            self.clocks = {node.name: clocks.Clock(node, library) for node in self.nodes} if library is not None else {}
             self.links: Optional[Links] = None
             if network != DIRECT:
                 self.links = Switched(self.nodes) if network == NAMESPACES else Proxied(self.nodes, ports)
@@ -42,6 +53,7 @@ class Cluster:
             self.server = kind(self.nodes, model, plant)
             self.server.patience = patience or self.server.patience
             self._logs = LogWatch(self.nodes, self.server.crashes)
+            self.server.durability = durability or self.server.durability
         except BaseException:
             self._ended.close()
             raise
@@ -55,8 +67,12 @@ class Cluster:
                 if self.server.in_turn:
                     self.wait_until_ready(node)
             self.wait_until_all_ready()
+            for node in self.nodes if self.clocks else []:
+                self.clocks[node.name].test_reached(node)
             with self.clients():
                 self.server.begun()
+            for disk in self.disks.values():
+                disk.sync()
         except BaseException:
             self.end()
             raise

@@ -3,10 +3,11 @@ from __future__ import annotations
 
 from typing import TYPE_CHECKING, Callable, Dict, Optional
 
-from . import places
+from . import clocks, disks, places
 from .links import PROXY
 from .server import ALL_STRIKES, Server
-from .strikes.kind import NEEDS_PACKETS
+from .strikes import power
+from .strikes.kind import NEEDS_CLOCK, NEEDS_DISK, NEEDS_PACKETS
 from .strikes.known import strikes_of
 from .strikes.plan import Plan
 
@@ -18,7 +19,8 @@ def planned(given: Given) -> Plan:
     """What --nemesis asks for. A ServerError says what can't be, and which strikes are left."""
     server = given.server
     strikes = strikes_of(server)
-    here: Dict[str, Callable[[], Optional[str]]] = {NEEDS_PACKETS: lambda: packets(given.network)}
+    here: Dict[str, Callable[[], Optional[str]]] = {NEEDS_PACKETS: lambda: packets(given.network), NEEDS_DISK: disks.why_not,
+                                                        NEEDS_CLOCK: clocks.why_not}
     found: Dict[str, Optional[str]] = {}  # by what is needed
 
     def why_not(name: str) -> Optional[str]:
@@ -31,7 +33,8 @@ def planned(given: Given) -> Plan:
                 return found[need]
         return None
 
-    default = server.bears.get(given.model, (*ALL_STRIKES, *server.strikes))
+    on_power = tuple(power.STRIKES) if server.survives_power else ()
+    default = server.bears.get(given.model, (*ALL_STRIKES, *on_power, *server.strikes))
     return Plan(given.nemesis, given.nodes, strikes, default, why_not, has_leader=server.leader is not Server.leader)
 
 

@@ -18,7 +18,9 @@ def heading(given: Given, plan: Plan, network: str) -> str:
     nodes = "one node" if given.nodes == 1 else f"{given.nodes} nodes"
     strikes = ", ".join(plan.names) or "no faults"
     planted = f"; planted: {given.server.plants[given.plant].text}" if given.plant else ""
-    left_out = "".join(f"left out: {name}: {reason}\n" for name, reason in plan.left_out.items())
+    reasons = list(dict.fromkeys(plan.left_out.values()))
+    left_out = "".join(f"left out: {', '.join(name for name, one in plan.left_out.items() if one == reason)}: {reason}\n"
+                       for reason in reasons)
     return (f"{name}, {given.model}: {nodes}, {given.clients} clients, {given.seconds:g} seconds, seed {given.seed}; {strikes}"
             f"{NETWORKS.get(network, '')}{planted}\n{left_out}")
 

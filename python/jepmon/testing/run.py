@@ -14,7 +14,7 @@ from ..kinds import BUDGETS
 from ..notes import OVER
 from ..run_folder import VERDICT
 from ..verdicts import NotLegal, Refused
-from . import losses
+from . import client_log, losses
 from .after import FINDING, after_a_finding
 from .cluster import Cluster
 from .crashes import finding
@@ -24,7 +24,7 @@ from .generators import Pace, Phases
 from .links import network
 from .needs import planned
 from .server import Client, Server
-from .strikes.kind import NEEDS_LINKS
+from .strikes.kind import NEEDS_CLOCK, NEEDS_DISK, NEEDS_LINKS
 from .strikes.nemesis import Nemesis
 from .workloads import Work, works_of
 
@@ -55,6 +55,7 @@ class Given(NamedTuple):
     patience: float  # 0: the server's own
     out: str
     keep: Optional[int]  # of parts that are legal
+    durability: str = ""  # how the server keeps what it acknowledges; empty: as its first one
     keep_nodes: str = FINDING  # when the nodes' data are kept
 
 
@@ -95,6 +96,7 @@ class Test:
         self.at_work: Dict[str, Counter[str]] = {}
         self.struck: Counter[str] = Counter()
         self.crash = ""  # the verdict on a server that has crashed
+        self.broken_off: Optional[Outcome] = None  # what there was, where Ctrl-C or a signal ended the test
 
     def run(self) -> Outcome:
         """Ctrl-C goes through, once all is ended. Raises a Refused of jepmon, as where there is no program, and an OSError where
@@ -110,7 +112,7 @@ class Test:
         work = kind(monitor, given.clients, given.keys)
         reason = ""
         try:
-            with monitor:
+            with monitor, client_log.kept_in(monitor.folder):
                 self._run(monitor, work)
         except NotLegal as found:
             reason = "" if not isinstance(found, Refused) else first_line(str(found))
@@ -122,8 +124,8 @@ class Test:
         except Exception as fault:
             reason = self._fault(fault)
         except BaseException:  # Ctrl-C
-            verdict = first_line(monitor.close())
-            leave(monitor.folder, verdict if verdict.startswith("illegal") else "", "the test was broken off")
+            self.broken_off = self._outcome(monitor, work, "the test was broken off")
+            leave(monitor.folder, self.broken_off.verdict, self.broken_off.reason)
             leave_pages(monitor.folder)
             raise
         outcome = self._outcome(monitor, work, reason)
@@ -140,7 +142,8 @@ class Test:
     def _run(self, monitor: LongMonitor, work: Work) -> None:
         given = self.given
         assert monitor.folder is not None
-        with Cluster(given.server, given.model, given.plant, given.nodes, monitor.folder, self.network, given.patience) as cluster, \
+        with Cluster(given.server, given.model, given.plant, given.nodes, monitor.folder, self.network, given.patience,
+                     self.plan.needs(NEEDS_DISK), self.plan.needs(NEEDS_CLOCK), given.durability) as cluster, \
                 after_a_finding(cluster, monitor.folder, given.keep_nodes, lambda: work.lost):
             self.begun = time.monotonic()
             nemesis = Nemesis(monitor, cluster, self.plan.known, self.plan.lanes(given.seed, given.seconds), given.seconds)

@@ -22,7 +22,7 @@ class Client:
     certain  it certainly did not take place, as where the connection was refused, so that nothing was sent: a :fail
     unsure   it may have taken place, or may yet, as after a timeout: an :info
 
-    Any other exception is a fault of the client, and ends the test. It must try nothing again by itself."""
+    Failed (jepmon.testing.Failed) is certain without being named, as where a message has come before. Any other exception is a fault of the client, and ends the test. It must try nothing again by itself."""
 
     certain: Exceptions = (ConnectionRefusedError,)
     unsure: Exceptions = (OSError,)
@@ -66,6 +66,8 @@ class Server:
     programs: Mapping[str, str] = {}  # each program that it needs, and the package of Debian that has it
     objects: Mapping[str, Type[Client]] = {}  # the models that it can be, and the client of each; the first is the default
     bears: Mapping[str, Tuple[str, ...]] = {}  # of a model: the strikes under which it ought to be right, where not ALL_STRIKES are
+    survives_power: bool = False  # by its first durability: what it has acknowledged is synced, so that `all` has power and tear too
+    durabilities: Mapping[str, str] = {}  # how it may keep what it acknowledges, each with a text; --durability NAME sets self.durability
     strikes: Mapping[str, Strike] = {}  # of its own, by name (strikes/kind.py)
     cannot: Mapping[str, str] = {}  # strikes that it can't be tested under, and why
     workloads: Mapping[str, Type[Work]] = {}  # of its own, by model: what clients do (workloads.py)
@@ -79,6 +81,7 @@ class Server:
 
     def __init__(self, nodes: Sequence[Node], model: str, plant: str) -> None:
         self.nodes, self.model, self.plant = nodes, model, plant
+        self.durability = next(iter(self.durabilities), "")
 
     @classmethod
     def test_installed(cls) -> None:

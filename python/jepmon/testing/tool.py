@@ -56,6 +56,11 @@ def _test(given: Given) -> int:
     command.write_output([report.heading(given, test.plan, test.network)])
     try:
         outcome = test.run()
+    except (KeyboardInterrupt, SystemExit):
+        progress.end()
+        if test.broken_off is not None:
+            command.write_output([report.text(test.broken_off)])
+        raise
     finally:
         progress.end()
     for line in report.cause(outcome):
@@ -82,5 +87,6 @@ class Progress:
 
     def end(self) -> None:
         if self._shown:
+            self._shown = 0.0
             sys.stderr.write("\r\x1b[K")
             sys.stderr.flush()

@@ -60,9 +60,11 @@ def given(words: Optional[List[str]]) -> Optional[Given]:
     nodes = parsed.nodes or (plant.nodes if plant else 0) or server.size
     if nodes not in server.sizes:
         raise ServerError(f"--nodes {nodes}: {parsed.server} takes {server.sizes[0]} to {server.sizes[-1]}")
+    if parsed.durability and parsed.durability not in server.durabilities:
+        raise ServerError(f"--durability {parsed.durability}: {parsed.server} has {_listed(server.durabilities) or 'none'}")
     nemesis = parsed.nemesis or (plant.nemesis if plant else "all")
     given = Given(server, model, parsed.plant or "", parsed.time, parsed.clients, parsed.keys, parsed.seed, nemesis, parsed.rate, nodes,
-                  parsed.network, parsed.least, parsed.patience, parsed.out, parsed.keep, keep_nodes=parsed.keep_nodes)
+                  parsed.network, parsed.least, parsed.patience, parsed.out, parsed.keep, parsed.durability or "", parsed.keep_nodes)
     planned(given)  # what can't be is said before anything starts
     return given
 
@@ -73,6 +75,7 @@ def _parser() -> Words:
     parser.add_argument("server", metavar="SERVER", help=f"{', '.join(SERVERS)}, or a Python file that has a Server; {TEMPLATE} prints one")
     parser.add_argument("--object", metavar="MODEL", help="what each key is: " + ", ".join(kinds.MODELS))
     parser.add_argument("--plant", metavar="NAME", help="a fault of the server that is known, by its name")
+    parser.add_argument("--durability", metavar="NAME", help="how the server keeps what it acknowledges (the safest that it has)")
     parser.add_argument("--time", metavar="SECONDS", type=_positive("seconds"), default=20.0, help="how long clients are at work (20)")
     parser.add_argument("--clients", metavar="N", type=_within("clients", 1, MOST_CLIENTS), default=5, help="threads of clients (5)")
     parser.add_argument("--keys", metavar="N", type=_within("keys", 1, 1000), default=5, help="keys that are open to changes at once (5)")
@@ -105,6 +108,8 @@ def _described() -> Iterator[str]:
         yield f"  {name:<12}{', '.join(server.objects)}"
         for plant, planted in server.plants.items():
             yield f"      --plant {plant:<16}{planted.text}"
+        for name, text in server.durabilities.items():
+            yield f"      --durability {name:<11}{text}"
 
 
 def _positive(name: str, zero: bool = False) -> "type[float]":
