@@ -86,7 +86,8 @@ def _read_again(cluster: Cluster, illegal: Illegal, part: pathlib.Path) -> List[
     if fatal is None:
         return []
     key = int(Statuses(part).names.get(illegal.key, str(illegal.key)))
-    acknowledged = Acknowledged.of(events, fatal.index, faults)
+    begun = max(event.index for event in events if event.process == fatal.process and event.index < fatal.index)
+    acknowledged = Acknowledged.of(events, begun, faults)
     last = since(faults, fatal.fields.get("time", 0))
     client = cluster.server.objects[cluster.server.model]
     sentences = [f"The event came {last}." if last else ""]
@@ -181,7 +182,7 @@ def one_reading(cluster: Cluster, number: int, key: int) -> Reading:
 
 
 def verdict_on(fatal: Event, readings: Dict[str, Reading], acknowledged: Acknowledged) -> str:
-    """What the readings tell: lost, stale or diverged."""
+    """What the readings tell: lost, stale or diverged. `acknowledged` is what was, before the operation began."""
     values = [reading.value for reading in readings.values() if not reading.fault]
     if not values:
         return "No node answered, so it can't be told whether something is lost."
@@ -192,8 +193,10 @@ def verdict_on(fatal: Event, readings: Dict[str, Reading], acknowledged: Acknowl
     if fatal.name != "read":
         return ""
     wrong = None if fatal.value == ABSENT else fatal.value
+    if values[0] != wrong and any(one.value == values[0] for one in acknowledged.values):
+        return f"The read was STALE: the nodes hold {shown(values[0])}, which had been acknowledged before the read began."
     if values[0] != wrong:
-        return f"The read was STALE: {shown(fatal.value)} is not what the nodes hold."
+        return f"LOST or STALE, which can't be told: a write of {shown(values[0])}, not acknowledged when the read began, took place since."
     newest = acknowledged.newest
     if newest is None:
         return "The wrong answer stays."
