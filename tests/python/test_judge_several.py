@@ -48,8 +48,9 @@ class Several(unittest.TestCase):
     def test_by_their_times(self) -> None:
         operations = ("client,op,value,start,end\na,write,1,1,2\na,write,2,5,6\n", "client,op,value,start,end\nb,read,1,3,4\n")
         stamp = "2024-05-01 10:00:00,00{}{{GMT}}\tINFO\t[jepsen worker] jepsen.util: {}\t:{}\t:{}\t{}\n"
+        clients: List[Tuple[int, List[Any]]] = [(0, A), (1, B)]
         logs = ["".join(stamp.format(at, client, kind, name, "nil" if value is None else value) for kind, name, value, at in events)
-                for client, events in ((0, A), (1, B))]
+                for client, events in clients]
         couples: List[Tuple[str, str]] = [(edn("0", A), edn("1", B)), (edn(":a", A), edn(":b", B)), (f"[{edn('0', A)}]", f"[{edn('1', B)}]\n"),
                               (rows("a", A), rows("b", B)), (rows(0, A).rstrip(), rows(1, B)),
                               (json.dumps([json.loads(line) for line in rows(0, A).split("\n")[:-1]]), rows(1, B)), operations, (logs[0], logs[1])]

@@ -5,7 +5,10 @@ import unittest
 from typing import Any, Dict, List
 
 from jepmon.forms import intervals
+from jepmon.forms.account import Account
 from jepmon.forms.mapping import Mapping
+from jepmon.forms.written import Writer
+from jepmon.from_jepsen.collect import Asked, Collector
 
 from .translated import Case, events, lines, made, operation
 
@@ -176,7 +179,10 @@ class Lost(unittest.TestCase):
                     for call in (draw.randrange(40) for _ in range(12))]
             pairs = [(one, other) for one in made for other in made if one.key == other.key and one.ends is not None]
             want = sum(one.ends < other.call <= one.ends + 6 for one, other in pairs if one.ends is not None)
-            self.assertEqual(intervals.lost(made, 3), want)
+            operations = intervals.Operations(Writer(Collector(Asked("0"), Account())))
+            for each in made:
+                operations.take(each, True)
+            self.assertEqual(operations.lost(3), want)
 
 
 if __name__ == "__main__":
