@@ -127,7 +127,8 @@ class Ways(unittest.TestCase):
 
     def test_two_processes(self) -> None:
         (self.room / "h.edn").write_text("".join(
-            f"{{:process 0, :type :{kind}, :f :write, :key :{key}, :value 1}}\n" for key in "abc" for kind in ("invoke", "ok")))
+            f"{{:process 0, :type :{kind}, :f :{name}, :key :{key}, :value 1}}\n" for key in "abc" for name in ("write", "read")
+            for kind in ("invoke", "ok")))
         self.assertEqual(self.agree(["h.edn"], "1", "2"), (0, "legal"))
 
 
