@@ -18,7 +18,8 @@ from .strikes.known import STRIKES
 from .workloads import works_of
 
 NAME = "test"
-SERVERS: Dict[str, str] = {"redis": "Redis", "etcd": "Etcd", "postgresql": "PostgreSQL", "rabbitmq": "RabbitMQ"}
+SERVERS: Dict[str, str] = {"redis": "Redis", "etcd": "Etcd", "postgresql": "PostgreSQL", "rabbitmq": "RabbitMQ",
+                           "zookeeper": "ZooKeeper", "beanstalkd": "Beanstalkd"}
 TEMPLATE = "template"
 MOST_CLIENTS = kinds.THREADS - 1
 DESCRIPTION = """Starts a server, lets clients use it while faults strike, and has it judged live by the proved program.
