@@ -68,7 +68,7 @@ def words():
 
 def main():
     given, store, begin, faults = words(), Store(), time.monotonic(), []
-    monitor = LongMonitor(given.jepmon, expected=(TimeoutError,), forget=store.forget, out=given.out, keep=2)
+    monitor = LongMonitor(given.jepmon, expected=(TimeoutError,), forget=store.forget, out=given.out, keep=2, unknown="drop")
     registers = [monitor.fresh() for _ in range(REGISTERS)]
     told = [0] * given.threads
 

@@ -23,6 +23,8 @@ PROGRAM = os.environ.get("JEPMON", str(cases.PROGRAM))
 
 # Two values whose numbers in an earlier hash differed in the upper half alone, so that all orders of their pairs had few hashes.
 CHOSEN = (-6352474062820459772, -1994686264887664066)
+# Two values whose numbers in another earlier hash were both zero, so that all queues of them had one hash.
+ZERO = (2685821657736338717, -1479727394191664291)
 
 
 class Load(NamedTuple):
@@ -86,6 +88,7 @@ def loads(size: int) -> list[Load]:
         Load("14 pairs of different values", "fifo-queue", pairs(list(range(28))), budget=65_536),
         Load("14 pairs of two values", "fifo-queue", pairs([1, 2] * 14), budget=65_536),
         Load("14 pairs of chosen values", "fifo-queue", pairs(list(CHOSEN) * 14), budget=65_536),
+        Load("15 pairs of values without a number", "fifo-queue", pairs(list(ZERO) * 15), budget=65_536),
         Load("collections in a map", "register", collections(min(size, 50_000))),
     ]
 

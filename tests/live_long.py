@@ -117,7 +117,7 @@ def clients_of_each_kind(monitor: LongMonitor, store: Objects, threads: int, rou
 
 def three_hundred_clients_of_many_programs() -> None:
     store = Objects()
-    with LongMonitor(PROGRAM, events=2000, expected=(TimeoutError,), forget=store.forget) as monitor:
+    with LongMonitor(PROGRAM, events=2000, expected=(TimeoutError,), forget=store.forget, unknown="drop") as monitor:
         clients_of_each_kind(monitor, store, 300, 8)
     verdict = monitor.close().split("\n")
     assert verdict[0] == "legal" or monitor.dropped and verdict[0].startswith("unknown "), verdict

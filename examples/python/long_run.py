@@ -91,7 +91,8 @@ def words() -> argparse.Namespace:
 def main() -> int:
     given = words()
     store, values, done = Store(given.stale), itertools.count(), threading.Event()
-    monitor = LongMonitor(given.jepmon, expected=(OSError,), out=given.out, keep=3, forget=store.forget, events=given.events)
+    monitor = LongMonitor(given.jepmon, expected=(OSError,), out=given.out, keep=3, forget=store.forget, events=given.events,
+                          unknown="drop")  # it says what was not judged by itself, below
     registers = [monitor.fresh("register") for _ in range(REGISTERS)]
     signal.signal(signal.SIGINT, lambda *_: done.set())
     try:

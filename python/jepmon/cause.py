@@ -10,7 +10,6 @@ said is told, or what is true of the smallest illegal part.
 from __future__ import annotations
 
 import textwrap
-import time
 from typing import Callable, Dict, List, Mapping, NamedTuple, Optional, Protocol, Sequence
 
 from . import names as spelling
@@ -22,6 +21,7 @@ from .causes.queues import of_queue
 from .causes.registers import of_register
 from .causes.sets import of_set
 from .causes.unknown import Over, of_unknown
+from .effort import Effort
 from .history import Event, of_key, operations
 from .kinds import MODELS
 from .program import Options, Report
@@ -64,44 +64,46 @@ class Named(Protocol):
 
 
 def explain(events: Sequence[Event], report: Report, options: Options, names: Named = Names(), program: Optional[str] = None,
-            seconds: float = 10.0, shrink: bool = True, known: Optional[Part] = None) -> Optional[Cause]:
+            effort: Optional[Effort] = None, shrink: bool = True, known: Optional[Part] = None) -> Optional[Cause]:
     """The cause of a verdict: the events are those of the whole history, report is what the program said of them with these
-    options. It takes about so many seconds at most, most of them for the smallest part; `shrink=False` leaves that out, and a part that
-    is known to be illegal at the same event takes its place. None where the verdict is neither illegal nor unknown. A ProgramError comes where the program can't be asked."""
+    options. Most of the effort is for the smallest part; `shrink=False` leaves that out, and a part that is known to be illegal at the
+    same event takes its place. None where the verdict is neither illegal nor unknown. A ProgramError comes where the program can't be
+    asked."""
     line = next((line for line in report.keys if line.key == report.key), None)
     if line is None or line.index is None or report.word not in ("illegal", "unknown"):
         return None
     own, named = Options(options.concurrency, line.model, line.budget), Names(names.values, names.keys)
     whole = of_key(events, line.key)
     front = [event for event in whole if event.index <= (line.index or 0)]
-    until = time.monotonic() + seconds
+    effort = effort or Effort()
     part: Optional[Part] = None
     if report.word == "unknown":
-        found = of_unknown(Over(line.model, line.key, front, whole, own, named, program, until))
+        found = of_unknown(Over(line.model, line.key, front, whole, own, named, program, effort))
     else:
         later = whole[len(front):]
-        walked = of_illegal(own, front, later, named, program, until - seconds / 2)
+        walked = of_illegal(own, front, later, named, program, effort)
         part = known
         if shrink and known is None:
             hints = [mention.event.index for mention in walked.mentions] if walked is not None else []
-            part = smallest(events, report, options, program, max(0.0, until - time.monotonic()), hints)
+            part = smallest(events, report, options, program, effort, hints)
         if walked is None and part is not None:
-            walked = of_part_alone(of_illegal(own, part.events, later, named, program, until))
+            walked = of_part_alone(of_illegal(own, part.events, later, named, program, effort))
         found = walked or untold(own, front, named)
     told = {mention.event.index: mention for mention in sorted(found.mentions, key=lambda mention: bool(mention.note))}
-    sentences = [sentence for sentence in found.sentences if sentence]
+    sentences = [sentence for sentence in [*found.sentences, effort.said] if sentence]
     return Cause(report.verdict, line.key, found.headline, sentences, [told[index] for index in sorted(told)], part, named)
 
 
 def of_illegal(options: Options, front: List[Event], later: List[Event], names: Names, program: Optional[str],
-               until: float) -> Optional[Found]:
+               effort: Effort) -> Optional[Found]:
     """What there is to say of a key that is illegal at the last of these events; None where the walk does not come to that."""
     made = operations(front, options.concurrency)
     fatal = next(operation for operation in made if operation.completion is front[-1])
-    walked = walk(front, options.model, options.budget, until=until)
+    walked = walk(front, options.model, options.budget, effort.work)
+    effort.learn(walked)
     if walked.status != "dead" or walked.fatal != front[-1]:
         return None
-    case = Case(options.model, front[-1].key, front, made, fatal, later, walked, options, names, program, until)
+    case = Case(options.model, front[-1].key, front, made, fatal, later, walked, options, names, program, effort)
     if fatal.invocation.name not in MODELS[options.model]:
         return of_another_model(case)
     return of_failure(case) if fatal.outcome == "fail" else BY_MODEL[options.model](case)
@@ -111,7 +113,7 @@ def of_part_alone(found: Optional[Found]) -> Optional[Found]:
     """What is said of the smallest part, where the whole has too many orders."""
     if found is None:
         return None
-    proviso = "There were too many orders of the whole history to try in the time: what follows is true of the part below by itself."
+    proviso = "There were too many orders of the whole history to try within the limit of work: what follows is true of the part below by itself."
     return found._replace(sentences=[proviso] + found.sentences)
 
 
@@ -120,7 +122,7 @@ def untold(options: Options, front: List[Event], names: Names) -> Found:
     fatal = next(operation for operation in operations(front, options.concurrency) if operation.completion is front[-1])
     where = names.object(options.model, front[-1].key)
     said = f"{capital(client(fatal))}'s {names.operation(fatal)} on {where} fits no order of the operations."
-    return Found(said, ["There were too many orders to try in the time: which it might have fitted can't be told."], mentions([fatal]))
+    return Found(said, ["There were too many orders to try within the limit of work: which it might have fitted can't be told."], mentions([fatal]))
 
 
 # --- As text ---
@@ -145,7 +147,7 @@ def of_part(part: Part) -> List[str]:
         what = {1: "The only operation", 2: "Both operations"}.get(part.of, f"All {part.of} operations")
         return [f"{what} of the key up to there:"]
     which, verb = ("This one", "is") if part.operations == 1 else (f"These {part.operations}", "are")
-    asked = f"jepmon was asked {ordinal_times(part.checks)}{'' if part.finished else '; time was up, and more might go out'}"
+    asked = f"jepmon was asked {ordinal_times(part.checks)}{'' if part.finished else '; the limit of the search was met, and more might go out'}"
     said = [f"{which} of the key's {part.of} operations up to there {verb} illegal alone ({asked}):"]
     return said + ["    (of sets only the members that matter are shown)"] if part.values else said
 

@@ -1,7 +1,8 @@
 """What a run of a live test leaves in its folder: the verdict as soon as it has fallen, and at the end the cause and the page."""
 from __future__ import annotations
 
-from typing import Counter, Dict, Hashable, List, NamedTuple, Optional
+import sys
+from typing import Counter, Dict, List, Mapping, NamedTuple, Optional
 
 from . import aftermath
 from .run_folder import CAUSE, COUNTS, NAMES, PAGE, VERDICT, RunFolder
@@ -18,13 +19,13 @@ class Conclusion(NamedTuple):
     ended_by: Optional[BaseException]  # that the test raised, where it did not come to its end
     model: str  # of the key that is not legal
     budget: int
-    numbers: Dict[Hashable, int]  # that stand for other things
+    names: Mapping[int, object]  # what numbers stand for
 
 
 def leave_verdict(folder: RunFolder, conclusion: Conclusion) -> None:
     folder.put(COUNTS, counts_text(conclusion, folder.lost))
-    if conclusion.numbers:
-        folder.put(NAMES, "".join(f"{number} is {thing!r}\n" for thing, number in conclusion.numbers.items()))
+    if conclusion.names:
+        folder.put(NAMES, "".join(f"{number} is {thing!r}\n" for number, thing in conclusion.names.items()))
     folder.put(VERDICT, (conclusion.failure.reply if conclusion.failure is not None else "legal") + "\n")
 
 
@@ -40,6 +41,14 @@ def leave_cause(folder: RunFolder, conclusion: Conclusion) -> None:
         folder.put(PAGE, told.page)
 
 
+def leave_page(folder: RunFolder) -> None:
+    """The page of the whole run, legal or not; of a part the run has it."""
+    if not folder.is_part:
+        from .rates.run import leave  # here, since a test without a folder needs no page
+
+        leave(folder.path, folder.lost is not None)
+
+
 def counts_text(conclusion: Conclusion, lost: Optional[str]) -> str:
     """How many operations ended how, and what else is to be known of the run."""
     lines: List[str] = [f"events: {conclusion.length}", *count_lines(conclusion.counts)]
@@ -49,6 +58,13 @@ def counts_text(conclusion: Conclusion, lost: Optional[str]) -> str:
     if lost is not None:
         lines.append(lost)
     return "\n".join(lines) + "\n"
+
+
+def say_if_idle(counts: Dict[str, Counter[str]]) -> None:
+    """Says on standard error that nothing worked: that is legal, and says nothing of the store."""
+    total = sum(sum(counted.values()) for counted in counts.values())
+    if total and not any(counted["ok"] for counted in counts.values()):
+        print(f"jepmon: none of {total} operations was ok, so nothing was judged", file=sys.stderr)
 
 
 def count_lines(counts: Dict[str, Counter[str]]) -> List[str]:

@@ -30,6 +30,11 @@ class Element(NamedTuple):
     value: Value
     rows: Rows = ()  # of a run: what was asked for of its elements, flat maps, one a line
 
+    @property
+    def last_line(self) -> int:
+        """The line on which it ends."""
+        return self.line + self.text.count("\n")
+
     def each(self) -> Iterator[Element]:
         """It, or the elements of the run, each with its value."""
         if not self.rows:

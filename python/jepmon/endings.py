@@ -6,6 +6,7 @@ from typing import NamedTuple, Optional, Tuple, Type
 from .verdicts import Failed
 
 Exceptions = Tuple[Type[BaseException], ...]
+CUT = (ConnectionResetError, ConnectionAbortedError, BrokenPipeError)  # while the answer was awaited, for all that is known
 
 
 class Endings(NamedTuple):
@@ -31,11 +32,17 @@ def outcome_of(error: BaseException, ends: Endings) -> Optional[str]:
 
     Where it is of classes in both, the more special one decides: with failed=(ConnectionRefusedError,) and expected=(OSError,) a
     refused connection is a "fail". Where no class of failed is below each of expected that it is of, it is an "info", which is
-    the cautious one: an :info makes no false alarm."""
+    the cautious one: an :info makes no false alarm. So is a timeout, or a connection that was cut, where failed has no such class
+    itself: with failed=(OSError,) a TimeoutError is an "info", with failed=(TimeoutError,) a "fail"."""
     if isinstance(error, Failed):
         return "fail"
     as_info = [one for one in ends.expected if isinstance(error, one)]
     as_fail = [one for one in ends.failed if isinstance(error, one)]
-    if any(all(issubclass(one, other) for other in as_info) for one in as_fail):
+    if any(all(issubclass(one, other) for other in as_info) and (is_unsure(one) or not is_unsure(type(error))) for one in as_fail):
         return "fail"
     return "info" if as_info or as_fail else None
+
+
+def is_unsure(kind: Type[BaseException]) -> bool:
+    """Whether exceptions of the class leave open whether the request was carried out."""
+    return any(one in CUT or "timeout" in one.__name__.lower() for one in kind.__mro__)

@@ -15,7 +15,7 @@ import sys
 from typing import Iterator, List, Optional
 
 from . import command
-from .forms import Refused, detect, files
+from .forms import Refused, door, files, mapping_words
 from .forms.recorded import Options, Recorded, recorded
 from .judge import models
 from .judge.hints import outcomes
@@ -40,9 +40,12 @@ def main(arguments: Optional[List[str]] = None) -> int:
 def _turn(arguments: Optional[List[str]]) -> int:
     output, status = NOTHING, command.REFUSED
     try:
-        found = _found(arguments)
+        given = _given(arguments)
+        found = _found(given)
         for line in _told(found):
             command.say(NAME, line)
+        if given.strict_input:
+            found.account.test_strict()
         output, status = found.text, 0
     except Refused as refusal:
         command.say(NAME, f"refused: {refusal}")
@@ -52,21 +55,27 @@ def _turn(arguments: Optional[List[str]]) -> int:
     return status
 
 
-def _found(arguments: Optional[List[str]]) -> Recorded:
+def _given(arguments: Optional[List[str]]) -> argparse.Namespace:
     called = command.tool(NAME)
     parser = Words(prog=called, description=(__doc__ or "").format(tool=called), formatter_class=argparse.RawDescriptionHelpFormatter)
     parser.add_argument("file", nargs="?", default="-", metavar="FILE", help="a history of JSON or CSV, or a log; - for standard input")
     parser.add_argument("--key", metavar="K", type=number("a key", KEYS), help="the history has no keys: each value is of key K")
     parser.add_argument("--nil-is-absent", action="store_true", help="null is what a missing key answers, and is judged")
+    mapping_words.add(parser)
+    parser.add_argument("--strict-input", action="store_true", help="refuse each guess, as of the key, in place of turning by it")
     try:
-        given = parser.parse_args(arguments)
+        return parser.parse_args(arguments)
     except Refused as fault:
         raise Refused(f"{fault}; see {called} --help") from fault
+
+
+def _found(given: argparse.Namespace) -> Recorded:
     source = files.found(given.file)
+    options = Options(None if given.key is None else str(given.key), given.nil_is_absent, None, mapping_words.of(given))
     try:
-        if detect.form_of(source.text) == detect.EDN:
+        if door.form_of(source, options) in (door.OWN, door.JEPSEN, door.KEYED):
             raise Refused(f"it is EDN: {command.tool('from-jepsen')} turns it")
-        return recorded(source, Options(None if given.key is None else str(given.key), given.nil_is_absent))
+        return recorded(source, options)
     except Refused as refusal:
         raise Refused(f"{source.name}: {refusal}") from refusal
 
@@ -75,6 +84,7 @@ def _told(found: Recorded) -> Iterator[str]:
     """What standard error says of what was turned."""
     yield f"{found.form}: {found.facts.events} events"
     yield from found.notes
+    yield from found.account.told()
     yield from outcomes(found.facts)
     if found.key_names or found.value_names:
         yield "keys or values are numbered: comments at the end of the output tell what they are"

@@ -3,8 +3,9 @@ next one sends all of them together; an invocation, which changes no verdict, wa
 from __future__ import annotations
 
 import _thread
-import threading
 from typing import Callable, List, Optional
+
+from .owner import OwnedLock
 
 
 class End:
@@ -38,7 +39,7 @@ Answer = Callable[[List[Line]], None]
 class LineQueue:
     """The caller has the lock, and has it again when a call returns."""
 
-    def __init__(self, lock: threading.Lock) -> None:
+    def __init__(self, lock: OwnedLock) -> None:
         self.lines: List[Line] = []  # those that nobody has sent yet
         self._lock = lock
         self._is_led = False

@@ -34,19 +34,22 @@ import os
 import pathlib
 import time
 from types import TracebackType
-from typing import Callable, Counter, Dict, Hashable, Iterator, Optional, TextIO, Type, Union
+from typing import Callable, Counter, Dict, Hashable, Iterator, NoReturn, Optional, TextIO, Type, Union
 
 from .clients import run_clients
+from .conclusion import say_if_idle
 from .endings import Exceptions, endings
 from .exchange import Exchange
 from .keys import Keys
 from .kinds import ABSENT
 from .notes import BEGIN, END, NOTE, folded
+from .numbered import Numbers
 from .operation import Operation
+from .owner import not_sent
 from .program import Options
 from .record import Record
 from .run_folder import RunFolder, new_folder
-from .telling import Telling
+from .telling import Telling, test_unknown
 from .values import integer, key_of, told
 from .verdicts import NotLegal, Unknown
 
@@ -89,8 +92,7 @@ class Monitor:
         failed: Exceptions = (),
         out: Union[str, os.PathLike[str], None] = None,
     ) -> None:
-        if unknown not in ("raise", "drop"):
-            raise ValueError(f"unknown is 'raise' or 'drop', not {unknown!r}")
+        test_unknown(unknown)
         ends = endings(expected, failed)
         options = Options(concurrency, model, budget)
         begun, clock = datetime.datetime.now().astimezone(), time.monotonic_ns()
@@ -103,6 +105,7 @@ class Monitor:
         self.concurrency = concurrency
         self.folder: Optional[pathlib.Path] = folder.path if folder is not None else None  # of this run
         self._telling = Telling(exchange, Record(log, folder, clock), options, unknown, ends)
+        self._numbers = Numbers(self._telling.names)
 
     # --- Operations, each a block ---
 
@@ -111,17 +114,17 @@ class Monitor:
         return Operation(self._telling, "read", key)
 
     def write(self, key: int, value: Optional[int]) -> Operation:
-        return Operation(self._telling, "write", key, integer(told(value)))
+        return Operation(self._telling, "write", key, self._brought(key, value))
 
     def cas(self, key: int, old: Optional[int], new: Optional[int]) -> Operation:
         """Sets the key to new where it is old. Where the store says that it was not: op.fail()."""
-        return Operation(self._telling, "cas", key, f"[{integer(told(old))} {integer(told(new))}]")
+        return Operation(self._telling, "cas", key, f"[{integer(told(old))} {self._brought(key, new)}]")
 
     def add(self, key: int, value: int) -> Operation:
-        return Operation(self._telling, "add", key, integer(value))
+        return Operation(self._telling, "add", key, self._brought(key, value))
 
     def enqueue(self, key: int, value: int) -> Operation:
-        return Operation(self._telling, "enqueue", key, integer(value))
+        return Operation(self._telling, "enqueue", key, self._brought(key, value))
 
     def dequeue(self, key: int) -> Operation:
         """Set op.value to the integer that came. None, for an empty queue, counts as op.fail()."""
@@ -133,6 +136,13 @@ class Monitor:
 
     def release(self, key: int = 0) -> Operation:
         return Operation(self._telling, "release", key)
+
+    def _brought(self, key: int, value: Optional[int]) -> str:
+        """The text of a value that an operation brings in."""
+        text = integer(told(value))
+        if value is not None and value != ABSENT:
+            self._numbers.test(key_of(key), value)
+        return text
 
     # --- Clients, keys and faults ---
 
@@ -166,7 +176,7 @@ class Monitor:
 
     def begin(self, key: int, value: Optional[int] = ABSENT) -> None:
         """Says what a register holds at first; without it, the first operation on the key says ABSENT."""
-        self._telling.begin(key_of(key), integer(told(value)))
+        self._telling.begin(key_of(key), self._brought(key, value))
 
     def set_model(self, key: int, model: str) -> None:
         self._telling.set_model(key_of(key), model)
@@ -175,10 +185,9 @@ class Monitor:
         self._telling.set_budget(key_of(key), budget)
 
     def number(self, thing: Hashable) -> int:
-        """A number for the thing, the same whenever it is asked for: 0, 1, .. So number each value of a key, or none."""
-        with self._telling.lock:
-            numbers = self._telling.numbers
-            return numbers.setdefault(thing, len(numbers))
+        """A number for the thing, the same whenever it is asked for: 0, 1, .. True, 1 and 1.0 have one each. A value of a key that is no
+        such number is a ValueError where the others of the key are, since both may be equal."""
+        return self._numbers.number(thing)
 
     # --- What has come of it ---
 
@@ -217,15 +226,27 @@ class Monitor:
 
     def close(self) -> str:
         """Ends the program. Gives the final verdict: `legal`, or the reply that was not; of dropped keys that of the first one."""
-        return self._telling.close(None)
+        return self._close(None)
+
+    def _close(self, error: Optional[BaseException]) -> str:
+        is_first = self._telling.verdict is None
+        verdict = self._telling.close(error)
+        if is_first and verdict == "legal" and error is None:
+            say_if_idle(self.counts)
+        return verdict
 
     def __enter__(self) -> Monitor:
         return self
 
+    def __reduce__(self) -> NoReturn:
+        not_sent(self)
+
     def __exit__(
         self, kind: Optional[Type[BaseException]], error: Optional[BaseException], trace: Optional[TracebackType]
     ) -> None:
-        self._telling.close(error)
+        if error is not None and not self._telling.lock.is_here:
+            return  # a forked process ends, and the test goes on elsewhere
+        self._close(error)
         if error is None and self.failure is not None:
             raise copy.copy(self.failure)
 

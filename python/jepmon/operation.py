@@ -5,10 +5,12 @@ from types import TracebackType
 from typing import Any, Optional, Protocol, Type
 
 from .endings import Endings, outcome_of
+from .kinds import ANSWERED
 from .values import Value, integer, key_of, members, told
 from .verdicts import NotLegal
 
 UNSET: Any = object()
+CALLS = "call op.fail() if it did not take place, op.info() if it may have"
 
 
 class Teller(Protocol):
@@ -26,39 +28,91 @@ class Teller(Protocol):
         """Whether the answers of its reads are integers."""
 
 
-class Operation:
-    """Each block has its own; the methods of Monitor make them."""
+class Block:
+    """What a client may say in the block of an operation. It may set `value`, of a read or a dequeue, until the block ends. Whatever else
+    it sets is an AttributeError at once, which the end of the block raises again if the client has caught it: the operation is then told
+    as an :info, since nobody knows what the client meant. The package itself writes into __dict__."""
 
-    def __init__(self, telling: Teller, name: str, key: int, part: str = "nil") -> None:
-        self.key = key_of(key)
-        self.value: Value = UNSET  # of a read or a dequeue: what it answered
-        self.outcome: Optional[str] = None  # "ok", "fail" or "info", once the block has ended
-        self.told = False  # whether jepmon was told of it: not where its key was dropped before
-        self._telling, self._name, self._part = telling, name, part
-        self._said: Optional[str] = None
-        self._has_begun = False
-        self._thread: Optional[int] = None  # of jepmon, once the block has begun
+    value: Value = UNSET  # of a read or a dequeue: what it answered
+    _name: str
+    _outcome: Optional[str] = None
+    _told = False
+    _said: Optional[str] = None
+    _misused: Optional[AttributeError] = None
+
+    def __setattr__(self, name: str, value: object) -> None:
+        if name == "value" and self._name in ANSWERED and self._outcome is None:
+            self.__dict__.update(value=value)
+        else:
+            misused = AttributeError(self._why_not(name))
+            self.__dict__.update(_misused=misused)
+            raise misused
+
+    def _take(self, other: Block) -> None:
+        """What was said of another one holds for this one."""
+        self.__dict__.update(value=other.value, _said=other._said, _misused=other._misused)
+
+    def _why_not(self, name: str) -> str:
+        if name == "value":
+            return (f"{self._name} has no op.value: {CALLS}" if self._name not in ANSWERED else
+                    f"the block of this {self._name} has ended: set op.value in it")
+        if name == "outcome":
+            return f"op.outcome says how the block ended: {CALLS}"
+        if hasattr(type(self), name):
+            return f"op.{name} can't be set"
+        return f"an operation has no {name}: {CALLS}; op.value is what a read or a dequeue answered"
+
+    @property
+    def outcome(self) -> Optional[str]:
+        """"ok", "fail" or "info", once the block has ended."""
+        return self._outcome
+
+    @property
+    def told(self) -> bool:
+        """Whether jepmon was told of it: not if its key or object was judged no more."""
+        return self._told
 
     def fail(self) -> None:
         """The operation certainly did not take place."""
-        self._said = "fail"
+        self.__dict__.update(_said="fail")
 
     def info(self) -> None:
         """The operation may have taken place, or may yet, as after a timeout that raised nothing."""
-        self._said = "info"
+        self.__dict__.update(_said="info")
+
+
+class Operation(Block):
+    """Each block has its own; the methods of Monitor make them."""
+
+    _telling: Teller
+    _key: int
+    _part: str
+    _has_begun = False
+    _thread: Optional[int] = None  # of jepmon, once the block has begun
+
+    def __init__(self, telling: Teller, name: str, key: int, part: str = "nil") -> None:
+        self.__dict__.update(_telling=telling, _name=name, _key=key_of(key), _part=part)
+
+    @property
+    def key(self) -> int:
+        return self._key
 
     def __enter__(self) -> Operation:
         if self._has_begun:
             raise ValueError(f"this {self._name} has had its block already: call Monitor.{self._name} for each block")
-        self._thread = self._telling.invoke(self._name, self.key, self._part)
-        self._has_begun, self.told = True, self._thread is not None
+        thread = self._telling.invoke(self._name, self._key, self._part)
+        self.__dict__.update(_thread=thread, _has_begun=True, _told=thread is not None)
         return self
 
     def __exit__(
         self, kind: Optional[Type[BaseException]], error: Optional[BaseException], trace: Optional[TracebackType]
     ) -> bool:
+        if self._outcome is not None:
+            raise ValueError(f"the block of this {self._name} has ended already")
+        if self._misused is not None:
+            return self._end_misused(error)
         if error is None:
-            self._end(self._outcome())
+            self._end(self._said_outcome())
             return False
         outcome = outcome_of(error, self._telling.endings)
         try:
@@ -68,7 +122,15 @@ class Operation:
                 raise
         return outcome is not None
 
-    def _outcome(self) -> str:
+    def _end_misused(self, error: Optional[BaseException]) -> bool:
+        """Tells an :info, and lets the fault of the client go further whatever the test expects."""
+        assert self._misused is not None
+        self._complete("info", self._part)
+        if error is None:
+            raise self._misused
+        return False
+
+    def _said_outcome(self) -> str:
         """That of a block without an exception."""
         found_empty = self._name == "dequeue" and self.value is None
         return self._said or ("fail" if found_empty else "ok")
@@ -83,16 +145,16 @@ class Operation:
 
     def _answer(self) -> str:
         """The part of the :ok: an answer, or what the invocation had."""
-        if self._name not in ("read", "dequeue"):
+        if self._name not in ANSWERED:
             return self._part
         if self.value is UNSET:
             raise ValueError(f"the block of a {self._name} has to set op.value")
-        if self._name == "dequeue" or self._telling.is_register(self.key):
+        if self._name == "dequeue" or self._telling.is_register(self._key):
             return integer(told(self.value))
         return members(self.value)
 
     def _complete(self, outcome: str, part: str) -> None:
-        self.outcome = outcome
+        self.__dict__.update(_outcome=outcome)
         assert self._has_begun, "no block has begun"
         if self._thread is not None:
-            self._telling.complete(outcome, self._thread, self._name, self.key, part, self._part)
+            self._telling.complete(outcome, self._thread, self._name, self._key, part, self._part)

@@ -14,6 +14,7 @@ import subprocess
 import sys
 import tempfile
 import time
+import weakref
 from typing import IO, Iterator, List, NamedTuple, Optional, Tuple, Union
 
 from .errors import ProgramError
@@ -172,6 +173,7 @@ class Script:
             raise
         assert self._child.stdin is not None and self._child.stdout is not None
         self._input, self._output = self._child.stdin, self._child.stdout
+        _running.add(self)
         self._answers = select.poll()
         self._answers.register(self._output, select.POLLIN)
         try:
@@ -250,6 +252,18 @@ class Script:
         if self._child.poll() is None:
             os.killpg(self._child.pid, signal.SIGKILL)
             self._child.wait()
+
+
+_running: "weakref.WeakSet[Script]" = weakref.WeakSet()
+
+
+def _leave_to_parent() -> None:
+    """In a process that was forked: a program ends at the end of its input, which this process is not to keep open."""
+    for script in _running:
+        script._input.close()
+
+
+os.register_at_fork(after_in_child=_leave_to_parent)
 
 
 def _await(poll: select.poll, deadline: float) -> None:

@@ -9,11 +9,11 @@ more of it may go out; there may be smaller ones.
 """
 from __future__ import annotations
 
-import time
 from typing import Collection, FrozenSet, List, NamedTuple, Optional, Sequence, Set
 
+from .effort import Effort
 from .history import Event, Operation, of_key, operations
-from .program import Options, ProgramError, Report, check
+from .program import Options, Report, check
 from .shrinking import ways
 from .shrinking.kept import kept
 from .shrinking.part import as_asked, events_of, text_of, without
@@ -30,27 +30,28 @@ class Part(NamedTuple):
     operations: int  # how many of them are left
     values: FrozenSet[int]  # of a set: what was taken out of each answer
     checks: int  # how often the program was asked
-    finished: bool  # False: time was up, and more might go out
+    finished: bool  # False: the limit of work was met, and more might go out
 
 
-def smallest(events: Sequence[Event], report: Report, options: Options, program: Optional[str] = None, seconds: float = 10.0,
+def smallest(events: Sequence[Event], report: Report, options: Options, program: Optional[str] = None, effort: Optional[Effort] = None,
              hints: Collection[int] = ()) -> Optional[Part]:
-    """The smallest illegal part that is found within about so many seconds. The events are those of the whole history, and the
-    report is the program's on them, with these options. Hints are indices of events that may be to blame: whether their operations
-    are illegal alone is tried first. None where the verdict is not illegal, or nothing was taken out by the time. A ProgramError
-    comes where the program can't be asked."""
+    """The smallest illegal part that is found with so much effort. The events are those of the whole history, and the report is the
+    program's on them, with these options. Hints are indices of events that may be to blame: whether their operations are illegal alone is
+    tried first. None where the verdict is not illegal, or the effort did not suffice to take anything out. A ProgramError comes where the
+    program can't be asked."""
     line = next((line for line in report.keys if report.word == "illegal" and line.key == report.key), None)
     if line is None or line.index is None:
         return None
     own = Options(options.concurrency, line.model, line.budget)
     whole = operations((event for event in of_key(events, line.key) if event.index <= (line.index or 0)), options.concurrency)
-    search = Search(own, line.index, frozenset(hints), program, time.monotonic() + seconds)
+    search = Search(own, line.index, frozenset(hints), program, effort or Effort())
     left = search.run(whole)
-    if left is None or search.is_late() and len(left.operations) == len(whole):
+    if left is None or search.is_spent and len(left.operations) == len(whole):
+        search.effort.leave_out("the smallest illegal part")
         return None
     made = events_of(left.operations)
     return Part(made, text_of(made, own.concurrency), as_asked(own), len(whole), len(left.operations), left.values, search.checks,
-                not search.is_late())
+                not search.is_spent)
 
 
 class Left(NamedTuple):
@@ -63,21 +64,19 @@ class Left(NamedTuple):
 class Search:
     """The search for the smallest part that the program calls illegal at the event of index fatal, its last."""
 
-    def __init__(self, options: Options, fatal: int, hints: FrozenSet[int], program: Optional[str], until: float) -> None:
-        self.options, self.fatal, self.hints, self.program, self.until = options, fatal, hints, program, until
+    def __init__(self, options: Options, fatal: int, hints: FrozenSet[int], program: Optional[str], effort: Effort) -> None:
+        self.options, self.fatal, self.hints, self.program, self.effort = options, fatal, hints, program, effort
         self.checks = 0
-        self.patience = until - time.monotonic()  # seconds that a check may take
+        self.is_spent = False  # whether there was no effort left for a check
 
     def run(self, whole: List[Operation]) -> Optional[Left]:
-        """What is left of the operations when nothing more may go out, or time is up."""
-        began = time.monotonic()
+        """What is left of the operations when nothing more may go out, or no effort is left."""
         some = self.without_idle(whole)
         left = self.hinted_alone(some) or next((Left(each, frozenset()) for each in (some, whole) if self.is_illegal(each)), None)
         if left is None:
             return None
-        self.patience = max(2 * (time.monotonic() - began), self.patience / 10)
         before = -1
-        while before != len(left.operations) and not self.is_late():
+        while before != len(left.operations) and not self.is_over():
             before = len(left.operations)
             for number in range(len(ways(self.options.model, []))):
                 less = self.round(left.operations, ways(self.options.model, left.operations)[number])
@@ -122,7 +121,7 @@ class Search:
         free = self.free(whole, units)
         best, out = Left(whole, frozenset()), set()  # type: Left, Set[int]
         size = len(free)
-        while size > 0 and not self.is_late():
+        while size > 0 and not self.is_over():
             for piece in [free[at:at + size] for at in range(0, len(free), size)]:
                 tried = with_dragged(units, [*out, *piece])
                 less = taken_out(whole, units, tried)
@@ -135,23 +134,18 @@ class Search:
     def is_hinted(self, operation: Operation) -> bool:
         return any(event is not None and event.index in self.hints for event in (operation.invocation, operation.completion))
 
-    def is_late(self) -> bool:
-        return time.monotonic() >= self.until
+    def is_over(self) -> bool:
+        return self.is_spent
 
     def is_illegal(self, part: List[Operation]) -> bool:
-        """Whether the program calls it illegal at its last event. No, where it takes too long over it, or time is up."""
-        began = time.monotonic()
-        limit = min(self.patience, self.until - began)
-        if limit <= 0:
-            return False
+        """Whether the program calls it illegal at its last event. No, where there is no effort left for that."""
         events = events_of(part)
+        text = text_of(events, self.options.concurrency)
+        if not self.effort.may_ask(text, len(events)):
+            self.is_spent = True
+            return False
         self.checks += 1
-        try:
-            report = check(text_of(events, self.options.concurrency).encode(), as_asked(self.options), self.program, timeout=limit)
-        except ProgramError:
-            if time.monotonic() - began >= limit:
-                return False
-            raise
+        report = check(text.encode(), as_asked(self.options), self.program)
         return report.word == "illegal" and report.index == len(events) - 1
 
 

@@ -3,16 +3,16 @@ from __future__ import annotations
 
 import copy
 import re
-import threading
-from typing import Dict, Hashable, List, Optional, Set, Tuple
+from typing import Dict, List, Optional, Set, Tuple
 
-from .conclusion import Conclusion, leave_cause, leave_verdict
+from .conclusion import Conclusion, leave_cause, leave_page, leave_verdict
 from .endings import Endings
 from .exchange import Exchange
 from .hints import hint_of_model, hint_of_refusal, hint_of_unknown
 from .kinds import ABSENT, REGISTERS
 from .lines import End, Line, LineQueue
 from .notes import BEGIN
+from .owner import OwnedLock
 from .processes import Processes
 from .program import Options
 from .record import Record
@@ -22,6 +22,12 @@ from .verdicts import Illegal, NotLegal, Refused, Unknown
 
 BROKEN_OFF = "the exchange with jepmon was broken off"
 VERDICT = re.compile(r"(illegal|unknown) key ([0-9]+) index ([0-9]+)")
+
+
+def test_unknown(unknown: str) -> None:
+    """Tests what a monitor is to do where it does not know."""
+    if unknown not in ("raise", "drop"):
+        raise ValueError(f"unknown is 'raise' or 'drop', not {unknown!r}")
 
 
 def event_line(kind: str, process: int, name: str, key: int, part: str) -> str:
@@ -34,7 +40,7 @@ class Telling:
 
     def __init__(self, exchange: Exchange, record: Record, options: Options, unknown: str, endings: Endings,
                  homes: Optional[Dict[int, int]] = None) -> None:
-        self.lock = threading.Lock()
+        self.lock = OwnedLock()
         self.unknown, self.endings = unknown, endings
         self.told = Told()
         self.dropped: Dict[int, Unknown] = {}  # keys over their budget that are not told any more, and what was said of them
@@ -44,9 +50,9 @@ class Telling:
         self.verdict: Optional[str] = None
         self._exchange, self._record, self._options = exchange, record, options
         self._queue = LineQueue(self.lock)
-        self._closing, self._is_closing = threading.Lock(), False
+        self._closing, self._is_closing = OwnedLock(), False
         self._processes = Processes(options.concurrency, homes)
-        self.numbers: Dict[Hashable, int] = {}  # that stand for other things
+        self.names: Dict[int, object] = {}  # what numbers stand for
         self._models: Dict[int, str] = {}  # of keys that have another one
         self._budgets: Dict[int, int] = {}  # likewise
         self._begun: Set[int] = set()
@@ -290,7 +296,7 @@ class Telling:
         failure = self.failure or next(iter(self.dropped.values()), None)
         key = failure.key if failure is not None and failure.key is not None else -1
         model, budget = self.model_of(key), self._budgets.get(key, self._options.budget)
-        return Conclusion(failure, self.length, self.told.counts(), self.dropped, ended_by, model, budget, self.numbers)
+        return Conclusion(failure, self.length, self.told.counts(), self.dropped, ended_by, model, budget, self.names)
 
     def _conclude(self, ended_by: Optional[BaseException]) -> None:
         """Leaves in the run's folder what came of it."""
@@ -299,6 +305,7 @@ class Telling:
             self._record.folder.close()
             leave_verdict(self._record.folder, conclusion)
             leave_cause(self._record.folder, conclusion)
+            leave_page(self._record.folder)
 
     def _hint_of_illegal(self, key: int, index: int, line: str) -> str:
         model, names = self.model_of(key), self.told.names(key)

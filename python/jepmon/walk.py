@@ -18,7 +18,6 @@ An operation is named by the index of its invocation throughout.
 from __future__ import annotations
 
 import dataclasses
-import time
 from typing import Any, Callable, Dict, FrozenSet, Iterable, List, Mapping, NamedTuple, Optional, Set, Tuple
 
 from .history import Event
@@ -26,6 +25,7 @@ from .kinds import REGISTERS
 from .objects import START, Found, Outcome, Part, Rule, State, rule
 
 WORK = 4_000_000  # outcomes that a walk tries at most before it gives up: some seconds
+MEMBERS = 32  # of a state, as a set or a queue, that cost as much as one outcome
 
 Link = Optional[Tuple[int, Any]]  # an order, backwards: the last operation, and the link of those before it
 Find = Tuple[int, Found]  # what the operation in this seat found
@@ -33,7 +33,6 @@ Place = Tuple[State, int, FrozenSet[Find]]  # an end: the state, the seats of th
 Move = Tuple[int, int, State, FrozenSet[Find]]  # an operation's seat and id, the state after it, and what it finds
 NOTHING: FrozenSet[Find] = frozenset()
 UNBOUNDED = 1 << 62
-FOREVER = float("inf")
 BETWEEN = 2000  # steps between two stops
 
 
@@ -84,10 +83,10 @@ class Live(NamedTuple):
 class Walker:
     """The walk, event by event. Where an event kills the key, the ends just before it are kept, and the walk goes no further. A
     probe is an invocation that is taken for an operation that changes nothing and finds the state. It gives up when too much was
-    tried, or it is too late."""
+    tried."""
 
-    def __init__(self, model: str, budget: int, work: int = WORK, until: float = FOREVER) -> None:
-        self.model, self.budget, self.work, self.until = model, budget, work, until
+    def __init__(self, model: str, budget: int, work: int = WORK) -> None:
+        self.model, self.budget, self.work = model, budget, work
         self._probe: Optional[int] = None
         self.dead = False
         self.live: Dict[int, Live] = {}
@@ -99,7 +98,7 @@ class Walker:
 
     def copy(self, budget: int, work: int = WORK, probe: Optional[int] = None) -> Walker:
         """A walker that stands where this one does."""
-        other = Walker(self.model, budget, work, self.until)
+        other = Walker(self.model, budget, work)
         other.dead, other.live, other._open, other._ends = self.dead, dict(self.live), dict(self._open), dict(self._ends)
         other._fresh, other._seats, other._seated, other._probe = list(self._fresh), list(self._seats), self._seated, probe
         return other
@@ -107,8 +106,6 @@ class Walker:
     def take(self, event: Event) -> Optional[int]:
         """Goes on by an event of the key: the number of ends just before it, where it is an ok. TooMany where these are more than
         the budget."""
-        if time.monotonic() > self.until:
-            raise GaveUp
         if event.kind == "invoke":
             self._invoke(event)
             return None
@@ -234,6 +231,7 @@ class Walker:
             state, seats, finds = place
             if state not in moves:
                 moves[state] = _moves(operations, state)
+                self.work -= len(moves[state]) * (len(state) // MEMBERS) if isinstance(state, (tuple, frozenset)) else 0
             for seat, id, after, find in moves[state]:
                 if not seats & seat:
                     reached = (after, seats | seat, finds | find)
@@ -271,6 +269,7 @@ class Walk:
     steps: List[Step]  # up to the event at which it is dead or over, or gave up
     stops: List[Stop]  # on the way, from its beginning on
     walker: Walker
+    tried: int  # outcomes
 
     @property
     def index(self) -> Optional[int]:
@@ -301,10 +300,9 @@ class Walk:
             return None
 
 
-def walk(events: Iterable[Event], model: str, budget: int, work: int = WORK, until: float = FOREVER) -> Walk:
-    """Walks through the events of one key, up to the one at which it is dead or over, or to the end. It gives up after so much work,
-    and when it is so late by time.monotonic()."""
-    walker = Walker(model, budget, work, until)
+def walk(events: Iterable[Event], model: str, budget: int, work: int = WORK) -> Walk:
+    """Walks through the events of one key, up to the one at which it is dead or over, or to the end. It gives up after so much work."""
+    walker = Walker(model, budget, work)
     steps: List[Step] = []
     stops = [Stop(0, walker.copy(UNBOUNDED))]
     for event in events:
@@ -313,12 +311,12 @@ def walk(events: Iterable[Event], model: str, budget: int, work: int = WORK, unt
         try:
             steps.append(Step(event, walker.take(event)))
         except TooMany:
-            return Walk(model, budget, "over", steps + [Step(event, None)], stops, walker)
+            return Walk(model, budget, "over", steps + [Step(event, None)], stops, walker, work - walker.work)
         except GaveUp:
-            return Walk(model, budget, "gave up", steps + [Step(event, None)], stops, walker)
+            return Walk(model, budget, "gave up", steps + [Step(event, None)], stops, walker, work - walker.work)
         if walker.dead:
-            return Walk(model, budget, "dead", steps, stops, walker)
-    return Walk(model, budget, "alive", steps, stops, walker)
+            return Walk(model, budget, "dead", steps, stops, walker, work - walker.work)
+    return Walk(model, budget, "alive", steps, stops, walker, work - walker.work)
 
 
 def _probing(state: State, _part: Part) -> List[Outcome]:

@@ -10,6 +10,7 @@ from unittest import mock
 from jepmon import cause, history, program
 from jepmon.causes.case import Case
 from jepmon.causes.names import Names
+from jepmon.effort import ASKING, WHOLE, Effort
 from jepmon.kinds import ABSENT
 from jepmon.walk import UNBOUNDED, walk
 
@@ -18,7 +19,7 @@ from .histories import NAMES, Clients, Way
 
 
 def explained(text: str, options: program.Options, names: Names = Names(), shrink: bool = True) -> cause.Cause:
-    found = cause.explain(history.read_history(text), program.check(text.encode(), options), options, names, seconds=60, shrink=shrink)
+    found = cause.explain(history.read_history(text), program.check(text.encode(), options), options, names, shrink=shrink)
     assert found is not None
     return found
 
@@ -185,23 +186,31 @@ In the next test let fewer clients use one key at once.""")
         made = stores.WRONG["stale_replica"]()
         for shrink, want in ((True, """\
 Client 3 read 200 from key 3, which could not hold 200 any more.
-There were too many orders of the whole history to try in the time: what follows is true of the part below by itself.
+There were too many orders of the whole history to try within the limit of work: what follows is true of the part below by itself.
 While it was open (events 39 to 47), key 3 can have held 203, never 200. Asked of jepmon: the answer 203 would have been legal.
 200 was last possible just before event 38, the :ok of client 0's read of 203.
 200 was brought in by client 1's write of 200 (events 4 to 14)."""), (False, """\
 Client 3's read of 200 on key 3 fits no order of the operations.
-There were too many orders to try in the time: which it might have fitted can't be told.""")):
+There were too many orders to try within the limit of work: which it might have fitted can't be told.""")):
             with self.subTest(shrink=shrink), mock.patch.object(cause, "walk", functools.partial(walk, work=100)):
                 options = program.Options(made.concurrency, made.model)
                 self.assertEqual(said_of(explained(made.text, options, shrink=shrink)), want)
 
-    def test_without_time(self) -> None:
-        text = (TOP / "examples" / "stale-read.edn").read_text()
-        found = cause.explain(history.read_history(text), program.check(text.encode()), program.Options(), seconds=0)
-        assert found is not None
-        self.assertIsNone(found.part)
-        self.assertEqual(said_of(found), "Client 1's read of 1 on key 7 fits no order of the operations.\n"
-                         "There were too many orders to try in the time: which it might have fitted can't be told.")
+    def test_without_effort(self) -> None:
+        """What is left out is said, and the same at each try, however busy the machine is."""
+        made = stores.WRONG["stale_replica"]()
+        options = program.Options(made.concurrency, made.model)
+        events, report = history.read_history(made.text), program.check(made.text.encode(), options)
+        another, smallest = "what jepmon says of another answer", "the smallest illegal part"
+        for effort, left_out, finished in ((0, [another, smallest], None), (4 * ASKING, [smallest], None), (5 * ASKING, [], False),
+                                           (WHOLE, [], True)):
+            found = cause.explain(events, report, options, effort=Effort(effort))
+            assert found is not None
+            self.assertEqual(found.part.finished if found.part is not None else None, finished, effort)
+            self.assertEqual([sentence for sentence in found.sentences if "limit of work" in sentence],
+                             [f"Left out, since the limit of work was met: {'; '.join(left_out)}."] if left_out else [])
+            met = "the limit of the search was met, and more might go out"
+            self.assertEqual(any(met in line for line in cause.lines(found)), finished is False)
 
     def test_legal(self) -> None:
         text = (TOP / "examples" / "write-then-read.edn").read_text()

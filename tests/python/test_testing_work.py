@@ -178,10 +178,21 @@ class Works(Monitored):
                 outcome = self.ran(InThisProcess, model, parts=3)
                 self.assertEqual((outcome.verdict, outcome.status, outcome.reason), ("legal", 0, ""))
                 self.assertGreater(outcome.parts, 2)
-                self.assertEqual([line for line in outcome.not_judged if not line.startswith("not judged: ")], [])
+                self.assertEqual(outcome.not_judged, [])
                 self.assertEqual(self.verdict_by(outcome.folder), "legal")
                 most = {"set": 40, "mutex": 400, "fifo-queue": 300, "unordered-queue": 300}.get(model, 200)
                 self.assertLessEqual(max(HELD[-1].changes.values()), most + 5)
+
+    def test_where_not_all_was_judged_the_test_does_not_end_well(self) -> None:
+        given = Given(InThisProcess, "register", "", 1.0, 1, 1, SEED, "none", 0.0, 1, "auto", 1, 0.0, str(self.room), None)
+        monitor = mock.Mock(counts={"read": Counter(ok=5), "write": Counter(ok=5)}, lost=None, length=20, parts=1, folder=self.room)
+        work = mock.Mock(names=("read", "write"), lost=0)
+        for said, verdict, status in (("legal", "legal", 0), ("legal\nnot judged: 1 operations, ..", "unknown", 2),
+                                      ("unknown key 1 index 2 of part-0001\nnot judged to their end: ..", "unknown key 1 index 2 of part-0001", 2),
+                                      ("illegal key 1 index 2 of part-0001\nnot judged: ..", "illegal key 1 index 2 of part-0001", 1)):
+            monitor.close.return_value = said
+            outcome = Test(given, mock.Mock())._outcome(monitor, work, "")
+            self.assertEqual((outcome.verdict, outcome.status, outcome.not_judged), (verdict, status, said.split("\n")[1:]))
 
     def test_one_client(self) -> None:
         for model in InThisProcess.objects:
@@ -196,7 +207,13 @@ class Works(Monitored):
         with mock.patch("jepmon.testing.workloads.Queues.SETTLING", 0.5):
             outcome = self.ran(WrongQueue, "unordered-queue")
         enqueued = outcome.counts["enqueue"]["ok"]
-        self.assertEqual((outcome.verdict, outcome.status, outcome.lost), ("legal", 1, enqueued // 100))
+        self.assertEqual((outcome.status, outcome.lost), (1, enqueued // 100))
+        said = f"lost {outcome.lost} messages: acknowledged, and never dequeued; this was counted, and is not proved"
+        self.assertEqual((outcome.verdict, (outcome.folder / "verdict.txt").read_text()), (said, said + "\n"))
+        listed = (outcome.folder / "lost.txt").read_text().splitlines()
+        self.assertEqual(len(listed), 1 + outcome.lost)
+        self.assertRegex(listed[1], r"^queue [0-9]+: [0-9]+ was acknowledged at [0-9.]+ s")
+        self.assertIn("Lost messages", (outcome.folder / "run.html").read_text())
 
     def test_of_a_queue_that_was_not_drained_nothing_is_said_to_be_lost(self) -> None:
         outcome = self.ran(TwiceTaken, "unordered-queue", 30.0)

@@ -1,13 +1,16 @@
 //! Where things stand, by buckets: the index of a list that grows and shrinks at its end.
 //!
 //! A bucket has the place of its last thing, and each thing that of the one before it in its bucket. So a look goes back through
-//! one bucket, and the last thing is taken away in constant time. Things are words or hashes ([`Bucketed`]).
+//! one bucket, and the last thing is taken away in constant time. Things are words or hashes ([`Bucketed`]); anything
+//! else is indexed by its hash ([`hash_of`], [`index_hashes`]).
 //!
 //! A call takes memory only where its result can be `AllocError`.
 #![tactic(auto)]
 
 mod bucketed;
+mod hashes;
 mod index;
 
 pub use bucketed::Bucketed;
+pub use hashes::{hash_of, index_hashes};
 pub use index::{Index, find, index_all, put_behind};

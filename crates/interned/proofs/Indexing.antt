@@ -4,8 +4,9 @@ use Rattle.std.specs.Hash.{HashWrites}
 use Rattle.std.proofs.lemmas.List.{map_push, length-map}
 use Rattle.std.proofs.lemmas.Option.{slice_get_within, get_or_from_slice_get}
 use Rattle.interned.specs.Numbers.{IsOnceIn}
+use Rattle.buckets.specs.Hashes.{hash_by}
 use Rattle.buckets.specs.Index.{Indexes, hash_bucket}
-use Rattle.interned.specs.Index.{AreStates, hash_by}
+use Rattle.interned.specs.Index.{AreStates}
 use Rattle.interned.proofs.Lists.{mapped_at, once_push, place_of}
 
 module _ {S : Type 0} (feeds : S → HashWrites) (items : List S) (hashes : List ℕ) (hashed : hashes ≡ map (hash_by feeds) items) where

@@ -1,8 +1,21 @@
 //! Whether values are the same in the same order.
-ghost use Rattle.std.specs.Prelude.{◌≡◌, ◌↔◌, ◌+◌, ◌≤◌, IsTrue, length};
+ghost use Rattle.std.specs.Prelude.{◌≡◌, ◌↔◌, ◌+◌, ◌<◌, ◌≤◌, IsTrue, get_or, length};
 ghost use Rattle.persistent.specs.Eights.{AreSameAt};
 
 use crate::placed::Placed;
+
+// Whether the two values at each of these places are the same. Those at both places are compared, whatever comes of the first.
+#[inline(always)]
+fn two_are_same<T: Placed>(xs: &[T], ys: &[T], first: usize, second: usize) -> bool
+    requires first_of_xs { first < length xs.now }
+    requires first_of_ys { first < length ys.now }
+    requires second_of_xs { second < length xs.now }
+    requires second_of_ys { second < length ys.now }
+    ensures { (d : T) → IsTrue result
+        ↔ ((get_or xs.now first d ≡ get_or ys.now first d) × (get_or xs.now second d ≡ get_or ys.now second d)) }
+{
+    xs[first].is_same(&ys[first]) & xs[second].is_same(&ys[second])
+}
 
 // Whether the eight values from this place on are the same. All are compared, whatever comes of one, which takes a processor fewer
 // steps than to ask after each.
@@ -11,10 +24,10 @@ fn eight_are_same<T: Placed>(xs: &[T], ys: &[T], at: usize) -> bool
     requires ys { at + 8 ≤ length ys.now }
     ensures { (d : T) → IsTrue result ↔ AreSameAt xs.now ys.now at d }
 {
-    let first = xs[at].is_same(&ys[at]) & xs[at + 1].is_same(&ys[at + 1]);
-    let second = xs[at + 2].is_same(&ys[at + 2]) & xs[at + 3].is_same(&ys[at + 3]);
-    let third = xs[at + 4].is_same(&ys[at + 4]) & xs[at + 5].is_same(&ys[at + 5]);
-    let fourth = xs[at + 6].is_same(&ys[at + 6]) & xs[at + 7].is_same(&ys[at + 7]);
+    let first = two_are_same(xs, ys, at, at + 1);
+    let second = two_are_same(xs, ys, at + 2, at + 3);
+    let third = two_are_same(xs, ys, at + 4, at + 5);
+    let fourth = two_are_same(xs, ys, at + 6, at + 7);
     first & second & third & fourth
 }
 

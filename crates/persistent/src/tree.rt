@@ -175,6 +175,67 @@ fn fork<T: Copy>(alloc: Global, left: Tree<T>, right: Tree<T>) -> Result<Tree<T>
     })
 }
 
+// The same, with a copy of the left one.
+#[inline(always)]
+fn fork_with_left<T: Copy>(
+    alloc: Global,
+    left: &Tree<T>,
+    right: Tree<T>,
+) -> Result<Tree<T>, AllocError>
+    requires left { 0 < length left.now }
+    requires right { 0 < length right }
+    ensures { IfOk result (λ tree. tree ≡ left.now ++ right) }
+{
+    fork(alloc, left.copy()?, right)
+}
+
+// The same, with a copy of the right one.
+#[inline(always)]
+fn fork_with_right<T: Copy>(
+    alloc: Global,
+    left: Tree<T>,
+    right: &Tree<T>,
+) -> Result<Tree<T>, AllocError>
+    requires left { 0 < length left }
+    requires right { 0 < length right.now }
+    ensures { IfOk result (λ tree. tree ≡ left ++ right.now) }
+{
+    fork(alloc, left, right.copy()?)
+}
+
+// The row of these values with one more at this place, which is not behind the half, as two leaves, one with each half.
+fn parted_in_front<T: Copy>(
+    alloc: Global,
+    values: &[T],
+    half: usize,
+    at: usize,
+    value: T,
+) -> Result<Tree<T>, AllocError>
+    requires order { at ≤ half }
+    requires within { half < length values.now }
+    ensures { IfOk result (λ tree. tree ≡ insert values.now at value) }
+{
+    let left = leaf_around(alloc, &values[..at], value, &values[at..half])?;
+    fork(alloc, left, leaf(alloc, &values[half..], &[])?)
+}
+
+// The same, where the place is behind the half.
+fn parted_behind<T: Copy>(
+    alloc: Global,
+    values: &[T],
+    half: usize,
+    at: usize,
+    value: T,
+) -> Result<Tree<T>, AllocError>
+    requires some { 0 < half }
+    requires order { half ≤ at }
+    requires within { at ≤ length values.now }
+    ensures { IfOk result (λ tree. tree ≡ insert values.now at value) }
+{
+    let right = leaf_around(alloc, &values[half..at], value, &values[at..])?;
+    fork(alloc, leaf(alloc, &values[..half], &[])?, right)
+}
+
 // The row of these values with one more at this place, which is not the end, as two leaves, each with half of them.
 fn parted<T: Copy>(alloc: Global, values: &[T], at: usize, value: T) -> Result<Tree<T>, AllocError>
     requires { at < length values.now }
@@ -182,11 +243,28 @@ fn parted<T: Copy>(alloc: Global, values: &[T], at: usize, value: T) -> Result<T
 {
     let half = values.len() / 2;
     if at <= half {
-        let left = leaf_around(alloc, &values[..at], value, &values[at..half])?;
-        return fork(alloc, left, leaf(alloc, &values[half..], &[])?);
+        return parted_in_front(alloc, values, half, at, value);
     }
-    let right = leaf_around(alloc, &values[half..at], value, &values[at..])?;
-    fork(alloc, leaf(alloc, &values[..half], &[])?, right)
+    parted_behind(alloc, values, half, at, value)
+}
+
+// The four rows, one behind the other, as a fork of two forks.
+fn fork_of_forks<T: Copy>(
+    alloc: Global,
+    left: Tree<T>,
+    first: &Tree<T>,
+    second: &Tree<T>,
+    right: Tree<T>,
+) -> Result<Tree<T>, AllocError>
+    requires left { 0 < length left }
+    requires first { 0 < length first.now }
+    requires second { 0 < length second.now }
+    requires right { 0 < length right }
+    ensures { IfOk result (λ tree. tree ≡ (left ++ first.now) ++ (second.now ++ right)) }
+{
+    let left = fork_with_right(alloc, left, first)?;
+    let right = fork_with_left(alloc, second, right)?;
+    fork(alloc, left, right)
 }
 
 // The three rows, one behind the other. The one in the middle is divided, where it has two halves.
@@ -202,12 +280,30 @@ fn fork_around<T: Copy>(
     ensures { IfOk result (λ tree. tree ≡ left ++ middle.now ++ right) }
 {
     if let Node::Fork(pair) = &middle.node {
-        let left = fork(alloc, left, pair.left.copy()?)?;
-        let right = fork(alloc, pair.right.copy()?, right)?;
-        return fork(alloc, left, right);
+        return fork_of_forks(alloc, left, &pair.left, &pair.right, right);
     }
-    let right = fork(alloc, middle.copy()?, right)?;
+    let right = fork_with_left(alloc, middle, right)?;
     fork(alloc, left, right)
+}
+
+// The three rows, one behind the other. The two on the left are those of a fork that is too high for a fork with the right one.
+fn lean_left_apart<T: Copy>(
+    alloc: Global,
+    outer: &Tree<T>,
+    inner: &Tree<T>,
+    right: Tree<T>,
+) -> Result<Tree<T>, AllocError>
+    requires outer { 0 < length outer.now }
+    requires inner { 0 < length inner.now }
+    requires right { 0 < length right }
+    ensures { IfOk result (λ tree. tree ≡ outer.now ++ inner.now ++ right) }
+{
+    let is_low = outer.height() < inner.height();
+    let outer = outer.copy()?;
+    if is_low {
+        return fork_around(alloc, outer, inner, right);
+    }
+    fork(alloc, outer, fork_with_left(alloc, inner, right)?)
 }
 
 // The two rows, of which the left one is too high for a fork of both.
@@ -217,14 +313,29 @@ fn lean_left<T: Copy>(alloc: Global, left: &Tree<T>, right: Tree<T>) -> Result<T
     ensures { IfOk result (λ tree. tree ≡ left.now ++ right) }
 {
     if let Node::Fork(pair) = &left.node {
-        let outer = pair.left.copy()?;
-        if pair.left.height() < pair.right.height() {
-            return fork_around(alloc, outer, &pair.right, right);
-        }
-        let inner = fork(alloc, pair.right.copy()?, right)?;
-        return fork(alloc, outer, inner);
+        return lean_left_apart(alloc, &pair.left, &pair.right, right);
     }
-    fork(alloc, left.copy()?, right)
+    fork_with_left(alloc, left, right)
+}
+
+// The three rows, one behind the other. The two on the right are those of a fork that is too high for a fork with the left one.
+fn lean_right_apart<T: Copy>(
+    alloc: Global,
+    left: Tree<T>,
+    inner: &Tree<T>,
+    outer: &Tree<T>,
+) -> Result<Tree<T>, AllocError>
+    requires left { 0 < length left }
+    requires inner { 0 < length inner.now }
+    requires outer { 0 < length outer.now }
+    ensures { IfOk result (λ tree. tree ≡ left ++ inner.now ++ outer.now) }
+{
+    let is_low = outer.height() < inner.height();
+    let outer = outer.copy()?;
+    if is_low {
+        return fork_around(alloc, left, inner, outer);
+    }
+    fork(alloc, fork_with_right(alloc, left, inner)?, outer)
 }
 
 // The two rows, of which the right one is too high for a fork of both.
@@ -234,14 +345,9 @@ fn lean_right<T: Copy>(alloc: Global, left: Tree<T>, right: &Tree<T>) -> Result<
     ensures { IfOk result (λ tree. tree ≡ left ++ right.now) }
 {
     if let Node::Fork(pair) = &right.node {
-        let outer = pair.right.copy()?;
-        if pair.right.height() < pair.left.height() {
-            return fork_around(alloc, left, &pair.left, outer);
-        }
-        let inner = fork(alloc, left, pair.left.copy()?)?;
-        return fork(alloc, inner, outer);
+        return lean_right_apart(alloc, left, &pair.left, &pair.right);
     }
-    fork(alloc, left, right.copy()?)
+    fork_with_right(alloc, left, right)
 }
 
 // The two rows, one behind the other, of which one may be too high for a fork of both.
@@ -259,7 +365,35 @@ fn balanced<T: Copy>(alloc: Global, left: Tree<T>, right: Tree<T>) -> Result<Tre
     fork(alloc, left, right)
 }
 
-// The same, where one may be empty.
+// The same, with a copy of the left one.
+#[inline(always)]
+fn balanced_with_left<T: Copy>(
+    alloc: Global,
+    left: &Tree<T>,
+    right: Tree<T>,
+) -> Result<Tree<T>, AllocError>
+    requires left { 0 < length left.now }
+    requires right { 0 < length right }
+    ensures { IfOk result (λ tree. tree ≡ left.now ++ right) }
+{
+    balanced(alloc, left.copy()?, right)
+}
+
+// The same, with a copy of the right one.
+#[inline(always)]
+fn balanced_with_right<T: Copy>(
+    alloc: Global,
+    left: Tree<T>,
+    right: &Tree<T>,
+) -> Result<Tree<T>, AllocError>
+    requires left { 0 < length left }
+    requires right { 0 < length right.now }
+    ensures { IfOk result (λ tree. tree ≡ left ++ right.now) }
+{
+    balanced(alloc, left, right.copy()?)
+}
+
+// The two rows, one behind the other, of which one may be too high for a fork of both, or empty.
 fn joined<T: Copy>(alloc: Global, left: Tree<T>, right: Tree<T>) -> Result<Tree<T>, AllocError>
     ensures { IfOk result (λ tree. tree ≡ left ++ right) }
 {
@@ -270,6 +404,51 @@ fn joined<T: Copy>(alloc: Global, left: Tree<T>, right: Tree<T>) -> Result<Tree<
         return Ok(left);
     }
     balanced(alloc, left, right)
+}
+
+// The same, with a copy of the left one.
+#[inline(always)]
+fn joined_with_left<T: Copy>(
+    alloc: Global,
+    left: &Tree<T>,
+    right: Tree<T>,
+) -> Result<Tree<T>, AllocError>
+    ensures { IfOk result (λ tree. tree ≡ left.now ++ right) }
+{
+    joined(alloc, left.copy()?, right)
+}
+
+// The same, with a copy of the right one.
+#[inline(always)]
+fn joined_with_right<T: Copy>(
+    alloc: Global,
+    left: Tree<T>,
+    right: &Tree<T>,
+) -> Result<Tree<T>, AllocError>
+    ensures { IfOk result (λ tree. tree ≡ left ++ right.now) }
+{
+    joined(alloc, left, right.copy()?)
+}
+
+// The row of the values of a leaf, which are these, with one more at this place.
+fn leaf_with_more<T: Copy>(
+    alloc: Global,
+    leaf: &Tree<T>,
+    values: &[T],
+    at: usize,
+    value: T,
+) -> Result<Tree<T>, AllocError>
+    requires same { leaf.now ≡ values.now }
+    requires within { at ≤ length values.now }
+    ensures { IfOk result (λ tree. tree ≡ insert values.now at value) }
+{
+    if values.len() < MOST {
+        return leaf_with(alloc, values, at, value);
+    }
+    if at < values.len() {
+        return parted(alloc, values, at, value);
+    }
+    joined_with_left(alloc, leaf, leaf_with(alloc, &[], 0, value)?)
 }
 
 impl<T: Copy> Tree<T> {
@@ -335,24 +514,15 @@ impl<T: Copy> Tree<T> {
     {
         match &self.node {
             Node::Empty => leaf_with(alloc, &[], at, value),
-            Node::Leaf(from, few) => {
-                let values = behind(few, *from);
-                if values.len() < MOST {
-                    return leaf_with(alloc, values, at, value);
-                }
-                if at < values.len() {
-                    return parted(alloc, values, at, value);
-                }
-                joined(alloc, self.copy()?, leaf_with(alloc, &[], 0, value)?)
-            }
+            Node::Leaf(from, few) => leaf_with_more(alloc, self, behind(few, *from), at, value),
             Node::Fork(pair) => {
                 let many = pair.left.len();
                 if at < many {
                     let left = pair.left.with(alloc, at, value)?;
-                    return balanced(alloc, left, pair.right.copy()?);
+                    return balanced_with_right(alloc, left, &pair.right);
                 }
                 let right = pair.right.with(alloc, at - many, value)?;
-                balanced(alloc, pair.left.copy()?, right)
+                balanced_with_left(alloc, &pair.left, right)
             }
         }
     }
@@ -376,10 +546,10 @@ impl<T: Copy> Tree<T> {
                 let many = pair.left.len();
                 if at < many {
                     let left = pair.left.without(alloc, at)?;
-                    return joined(alloc, left, pair.right.copy()?);
+                    return joined_with_right(alloc, left, &pair.right);
                 }
                 let right = pair.right.without(alloc, at - many)?;
-                joined(alloc, pair.left.copy()?, right)
+                joined_with_left(alloc, &pair.left, right)
             }
         }
     }
@@ -396,10 +566,10 @@ impl<T: Copy> Tree<T> {
                 let many = pair.left.len();
                 if at < many {
                     let left = pair.left.replaced(alloc, at, value)?;
-                    return fork(alloc, left, pair.right.copy()?);
+                    return fork_with_right(alloc, left, &pair.right);
                 }
                 let right = pair.right.replaced(alloc, at - many, value)?;
-                fork(alloc, pair.left.copy()?, right)
+                fork_with_left(alloc, &pair.left, right)
             }
         }
     }

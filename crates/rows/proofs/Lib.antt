@@ -2,6 +2,6 @@ pub mod Elements
 pub mod Digits
 pub mod Packing
 pub mod Marks
-pub mod Putting
 pub mod Without
+pub mod Listing
 pub mod Looking

@@ -1,12 +1,23 @@
 -- Invariant: rows of numbers as lists
-use Rattle.std.specs.Prelude.{ℕ, Option, Some, None, List, [], map, Vec}
+use Rattle.std.specs.Prelude.{◌≡◌, ℕ, Option, Some, None, List, [], map, Vec}
 use Rattle.std.specs.Global.{Global, Box}
-use Rattle.indexmap.specs.IndexSet.{IndexSet}
+use Rattle.std.specs.Hash as fed
+use Rattle.buckets.specs.Hashes.{hash_by}
+use Rattle.buckets.specs.Index.{Indexes, hash_bucket}
 
 abbrev pub items_of : Vec ℕ Global → List ℕ
 items_of row = row.items
 
+-- the hash of a list, by what its numbers feed
+abbrev pub list_hash : List ℕ → ℕ
+list_hash list = hash_by (fed.slice fed.usize) list
+
+-- lists, the hash of each, and an index of these
+pub record AreLists (lists : List (List ℕ)) (hashes last before : List ℕ) : Type 0 where
+  pub hashed : hashes ≡ map list_hash lists
+  pub index : Indexes hash_bucket hashes last before
+
 -- the lists in the box, and none where there is no box
-abbrev pub lists_in : {S : Type 0} → Option (Box (IndexSet (Vec ℕ Global) S)) → List (List ℕ)
+abbrev pub lists_in : Option (Box (List (List ℕ))) → List (List ℕ)
 lists_in None = []
-lists_in (Some kept) = map items_of kept.value.keys
+lists_in (Some kept) = kept.value

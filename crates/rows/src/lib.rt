@@ -2,7 +2,7 @@
 //!
 //! While its numbers are small, a row is one word of 128 bits with as many bits for each number, at first so few that it fills half
 //! of the word. The first larger number gives all rows the whole word; rows that grow longer are made anew, with fewer bits for
-//! each number; where one row fits no word, all become lists in a hash set. Words stand in a list, are put behind it and taken from its end, and
+//! each number; where one row fits no word, all become lists, found by an index of their hashes. Words stand in a list, are put behind it and taken from its end, and
 //! are found by an index of `buckets`. A copied set leaves its index behind, and makes it at the next put.
 //!
 //! A call takes memory only where its result can be `AllocError`, or a refusal for want of memory.
@@ -10,6 +10,7 @@
 
 mod index;
 mod list_set;
+mod lists;
 mod long_row;
 mod marked;
 mod row;

@@ -1,9 +1,9 @@
 //! Lists of numbers, none twice.
-ghost use Rattle.std.specs.Prelude.{◌≡◌, [], map, take, length, get_or, slice_get, option_copied, IfOk, OnOk, OnErr};
-ghost use Rattle.rows.specs.Lists.{items_of, lists_in};
+ghost use Rattle.std.specs.Prelude.{◌≡◌, [], take, length, get_or, slice_get, option_copied, IfOk, OnOk, OnErr};
+ghost use Rattle.rows.specs.Lists.{lists_in};
 ghost use Rattle.rows.specs.RowSets.{IsPut};
 
-use indexmap::IndexSet;
+use crate::lists::Lists;
 use std::alloc::{AllocError, Global};
 use std::marker::Model;
 
@@ -11,7 +11,7 @@ use std::marker::Model;
 /// there are none, as where rows are words, next to no room is taken.
 #[derive(Drop)]
 pub struct ListSet {
-    kept: Option<Box<IndexSet<Vec<usize>>>>,
+    kept: Option<Box<Lists>>,
 }
 
 impl Model for ListSet {
@@ -24,28 +24,14 @@ impl Model for ListSet {
 }
 
 // Takes out the lists that are kept; with none, makes a box for some.
-fn take_lists(
-    alloc: Global,
-    kept: &mut Option<Box<IndexSet<Vec<usize>>>>,
-) -> Result<Box<IndexSet<Vec<usize>>>, AllocError>
-    ensures taken { IfOk result (λ lists. map items_of lists.value.keys ≡ lists_in kept.old) }
+fn take_lists(alloc: Global, kept: &mut Option<Box<Lists>>) -> Result<Box<Lists>, AllocError>
+    ensures taken { IfOk result (λ lists. lists.value ≡ lists_in kept.old) }
     ensures err { OnErr result (lists_in kept.new ≡ lists_in kept.old) }
 {
     match kept.take() {
         Some(lists) => Ok(lists),
-        None => Ok(Box::new(alloc, IndexSet::new(alloc))?),
+        None => Ok(Box::new(alloc, Lists::new(alloc))?),
     }
-}
-
-// Puts the list with the others, if it is not there.
-#[tactic(auto, using(crate::proofs::Putting::is_put))]
-fn put_list(lists: &mut IndexSet<Vec<usize>>, list: Vec<usize>) -> Result<(), AllocError>
-    ensures put { let old = map items_of lists.old.keys in let new = map items_of lists.new.keys in
-        OnOk result (IsPut list.items old new) }
-    ensures err { OnErr result (lists.new.keys ≡ lists.old.keys) }
-{
-    lists.insert(list)?;
-    Ok(())
 }
 
 impl ListSet {
@@ -75,10 +61,7 @@ impl ListSet {
         let Some(lists) = &self.kept else {
             return None;
         };
-        match lists.get_index(at) {
-            Some(list) => Some(list.as_slice()),
-            None => None,
-        }
+        lists.get(at)
     }
 
     /// The number at this place of the list that stands here, and zero where there is none. Takes constant time.
@@ -105,15 +88,15 @@ impl ListSet {
         }
     }
 
-    /// Puts the list with the others, if it is not there. `AllocError` where memory was refused: then the lists are as they were.
-    /// Takes the time of its numbers, and looks it up by its hash.
+    /// Puts the list with the others, if it is not there. `AllocError` where memory was refused, or where there are too many lists
+    /// for places of 32 bits: then the lists are as they were. Takes the time of its numbers, and looks it up by its hash.
     #[inline(never)]
     pub fn put(&mut self, alloc: Global, list: Vec<usize>) -> Result<(), AllocError>
         ensures put { OnOk result (IsPut list.items self.old self.new) }
         ensures err { OnErr result (self.new ≡ self.old) }
     {
         let mut lists = take_lists(alloc, &mut self.kept)?;
-        let outcome = put_list(&mut *lists, list);
+        let outcome = lists.put(list);
         self.kept = Some(lists);
         outcome
     }
@@ -138,7 +121,7 @@ impl ListSet {
         let Some(lists) = &self.kept else {
             return Ok(ListSet::new());
         };
-        let copy = Box::new(alloc, (**lists).clone()?)?;
+        let copy = Box::new(alloc, lists.copied(alloc)?)?;
         Ok(ListSet { kept: Some(copy) })
     }
 }

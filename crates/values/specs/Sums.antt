@@ -11,9 +11,10 @@ use Rattle.values.specs.Multisets.{NeverFalls}
 unfoldable pub folded : ℕ → ℕ
 folded n = bit_xor ((bit_xor n 2685821657736338717 * 11400714819323198485) % 2 ^ 64) ((bit_xor n 2685821657736338717 * 11400714819323198485) % 2 ^ 64 / 2 ^ 32)
 
--- the product of that with what it is turned into once more
+-- the product of that with what it is turned into once more, each greater by 2^64, so that neither is zero
 unfoldable pub product : ℕ → ℕ
-product n = (folded n * ((bit_xor (folded n) 11507291218515648293 * 15485907386658061715) % 2 ^ 64)) % 2 ^ 128
+product n = (((folded n + 2 ^ 64) % 2 ^ 128)
+    * (((bit_xor (folded n) 11507291218515648293 * 15485907386658061715) % 2 ^ 64 + 2 ^ 64) % 2 ^ 128)) % 2 ^ 128
 
 -- a number spread over 128 bits: the product, its upper half laid over the lower one
 unfoldable pub spread : ℕ → ℕ

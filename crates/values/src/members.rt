@@ -66,14 +66,16 @@ impl Listed {
 }
 
 // What a value adds to the sum of its set, its multiset or its queue: a number that is spread over 128 bits, so that few have the
-// same sum, also where somebody has chosen the values for that.
+// same sum, also if somebody has chosen the values for that. Neither factor is zero, as one of them would be for two values.
 pub(crate) fn mixed(value: i64) -> u128
     ensures { result ≡ mixed value }
 {
     let lower = (value.cast_unsigned() ^ 0x2545_f491_4f6c_dd1d).wrapping_mul(0x9e37_79b9_7f4a_7c15);
     let folded = lower ^ (lower >> 32);
     let turned = (folded ^ 0x9fb2_1c65_1e98_df25).wrapping_mul(0xd6e8_feb8_6659_fd93);
-    let product = (folded as u128).wrapping_mul(turned as u128);
+    let product = (folded as u128)
+        .wrapping_add(1 << 64)
+        .wrapping_mul((turned as u128).wrapping_add(1 << 64));
     product ^ (product >> 64)
 }
 

@@ -1,14 +1,14 @@
 """What is found out about one illegal key: by the walk, and by questions to the program."""
 from __future__ import annotations
 
-import time
-from typing import Any, Callable, Iterable, List, Mapping, NamedTuple, Optional, Sequence
+from typing import Any, Callable, Iterable, List, Mapping, NamedTuple, Optional, Sequence, Tuple
 
+from ..effort import Effort
 from ..history import Event, Operation
 from ..objects import State
-from ..program import Options, ProgramError, check
+from ..program import Options, check
 from ..shrinking.part import as_asked, text_of
-from ..walk import UNBOUNDED, WORK, GaveUp, Stop, Walk, Walker
+from ..walk import UNBOUNDED, GaveUp, Stop, Walk, Walker
 from .names import Names
 
 ASKED = 4  # other answers that the program is asked about
@@ -49,7 +49,7 @@ class Case(NamedTuple):
     options: Options
     names: Names
     program: Optional[str]
-    until: float  # when the program is not asked any more
+    effort: Effort
 
     @property
     def object(self) -> str:
@@ -71,7 +71,9 @@ class Case(NamedTuple):
 
     def held(self) -> Optional[List[Any]]:
         """The states that were possible while the fatal operation was open; None where they can't be told."""
-        states = self.walked.while_open(self.fatal.invocation.index)
+        states = self.walked.while_open(self.fatal.invocation.index, self.effort.work)
+        if states is None:
+            self.effort.leave_out(f"what {self.object} can have held while the operation was open")
         return None if states is None else sorted(states, key=_by_size)
 
     def findings(self) -> List[Any]:
@@ -83,39 +85,40 @@ class Case(NamedTuple):
     def last_possible(self, test: Callable[[Any], bool]) -> Last:
         """When the object can last have had a state that passes the test, as the fatal operation needs it, or that operation can have
         taken place: looked for from behind, stop by stop."""
-        until = len(self.front) - 1
+        until, left = len(self.front) - 1, self.effort.work
         try:
             for stop in reversed(self.walked.stops):
-                last = self._last_between(stop, until, test)
+                last, left = self._last_between(stop, until, test, left)
                 if last is not None:
                     return Last(last is not self.front[-1], last if last is not self.front[-1] else None)
                 until = stop.steps
         except GaveUp:
+            self.effort.leave_out("when the answer was last possible")
             return Last(False, None)
         return Last(True, None)
 
-    def _last_between(self, stop: Stop, until: int, test: Callable[[Any], bool]) -> Optional[Event]:
-        """The last event from the stop up to such a place just before which the test was passed."""
+    def _last_between(self, stop: Stop, until: int, test: Callable[[Any], bool], work: int) -> Tuple[Optional[Event], int]:
+        """The last event from the stop up to such a place just before which the test was passed, and what is left of the work."""
         last: Optional[Event] = None
-        walker, fatal = stop.walker.copy(UNBOUNDED), self.fatal.invocation.index
+        walker, fatal = stop.walker.copy(UNBOUNDED, work), self.fatal.invocation.index
         for event in self.front[stop.steps:until + 1]:
             if event.kind in ("ok", "fail"):
                 walker.complete()
                 last = event if walker.can_have(fatal, test) else last
             if event is not self.front[-1]:
                 walker.take(event)
-        return last
+        return last, walker.work
 
     def forced_by(self) -> Optional[Event]:
         """The event from which on the fatal operation has taken place in each end. None where it can't be told."""
-        walker = Walker(self.model, UNBOUNDED, WORK, self.walked.walker.until)
+        walker = Walker(self.model, UNBOUNDED, self.effort.work)
         try:
             for event in self.front[:-1]:
                 walker.take(event)
                 if walker.is_forced(self.fatal.invocation.index):
                     return event
         except GaveUp:
-            pass
+            self.effort.leave_out("from which event on it must have taken place")
         return None
 
     def operation_of(self, event: Event) -> Operation:
@@ -123,21 +126,15 @@ class Case(NamedTuple):
         return next(operation for operation in self.operations if event in (operation.invocation, operation.completion))
 
     def legal_with(self, completions: Iterable[Event]) -> List[Event]:
-        """Those of these completions with which, in place of the fatal event, the program calls the key's events legal. It is not
-        asked when time is up."""
+        """Those of these completions with which, in place of the fatal event, the program calls the key's events legal."""
         return [completion for completion in completions if self._is_legal(completion)]
 
     def _is_legal(self, completion: Event) -> bool:
-        left = self.until - time.monotonic()
-        if left <= 0:
-            return False
         text = text_of(self.front[:-1] + [completion], self.options.concurrency)
-        try:
-            return check(text.encode(), as_asked(self.options), self.program, timeout=left).word == "legal"
-        except ProgramError:
-            if time.monotonic() >= self.until:
-                return False
-            raise
+        if not self.effort.may_ask(text, len(self.front)):
+            self.effort.leave_out("what jepmon says of another answer")
+            return False
+        return check(text.encode(), as_asked(self.options), self.program).word == "legal"
 
     def with_answers(self, answers: Sequence[Any]) -> List[Any]:
         """Those of these answers that the program calls legal in place of the one that was given."""

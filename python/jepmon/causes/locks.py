@@ -61,9 +61,10 @@ def last_operations(case: Case) -> List[Operation]:
     """Those of which one has taken place last, in each order that is possible just before the fatal event: acquires before an
     acquire, releases before a release. None where none has taken place, or that can't be told."""
     events = [event._replace(value=event.index) for event in case.front[:-1]]
-    walked = walk(events, BY_OPERATION, UNBOUNDED, until=case.walked.walker.until)
+    walked = walk(events, BY_OPERATION, UNBOUNDED, case.effort.work)
     try:
         ids = {abs(left.state) - 1 for left in walked.ends() if isinstance(left.state, int)}
     except GaveUp:
+        case.effort.leave_out("which operations took place last")
         return []
     return [operation for operation in case.operations if operation.invocation.index in ids]

@@ -1,14 +1,14 @@
 """Why a key is over its budget: how the possible outcomes grew, which operations did it, and what may be done."""
 from __future__ import annotations
 
-import time
 from typing import Dict, List, NamedTuple, Optional, Tuple
 
+from ..effort import Effort
 from ..history import Event, Operation, operations
 from ..kinds import BUDGETS
-from ..program import Options, ProgramError, check
+from ..program import Options, check
 from ..shrinking.part import as_asked, text_of
-from ..walk import GaveUp, TooMany, Walker
+from ..walk import GaveUp, TooMany, Walker, walk
 from .case import Found, Mention
 from .names import NOUNS, Names, client, listed
 
@@ -29,7 +29,7 @@ class Over(NamedTuple):
     options: Options
     names: Names
     program: Optional[str]
-    until: float
+    effort: Effort
 
 
 class Growth(NamedTuple):
@@ -80,7 +80,7 @@ def may_still_take_place(operation: Operation, index: int) -> bool:
 
 def growth_of(over: Over, pending: List[Operation]) -> Optional[Growth]:
     """None where there are too many to try, or the walk says another event than the program."""
-    walker = Walker(over.model, COUNTED, until=over.until)
+    walker = Walker(over.model, COUNTED, over.effort.work)
     steps: List[Tuple[int, int]] = []
     most = 1
     try:
@@ -139,18 +139,16 @@ def advice(over: Over, pending: List[Operation]) -> str:
 
 
 def with_greatest_budget(over: Over) -> str:
-    """What the program says of the key with the greatest budget."""
-    began = time.monotonic()
-    limit = (over.until - began) / 3
-    if over.options.budget >= GREATEST or limit < 0.2:
+    """What the program says of the key with the greatest budget, if a walk comes to an end with it."""
+    if over.options.budget >= GREATEST:
         return ""
-    try:
-        text = text_of(over.whole, over.options.concurrency)
-        report = check(text.encode(), as_asked(over.options)._replace(budget=GREATEST), over.program, timeout=limit)
-    except ProgramError:
-        if time.monotonic() - began < limit:
-            raise
-        return f"A check of this key with --budget {GREATEST} was not done in {limit:.1f} seconds."
+    walked = walk(over.whole, over.model, GREATEST, over.effort.work)
+    text = text_of(over.whole, over.options.concurrency)
+    over.effort.learn(walked)
+    if walked.status == "gave up" or not over.effort.may_ask(text, len(over.whole)):
+        over.effort.leave_out(f"what jepmon says of this key with --budget {GREATEST}")
+        return ""
+    report = check(text.encode(), as_asked(over.options)._replace(budget=GREATEST), over.program)
     asked = f"Asked of jepmon: with --budget {GREATEST} this key"
     if report.word == "legal" or report.index is None:
         return f"{asked} is legal to its end." if report.word == "legal" else ""

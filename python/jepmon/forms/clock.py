@@ -1,52 +1,152 @@
-"""Times of calls and returns: numbers of whatever unit, or dates with a time of day. All times of a history are of one clock."""
+"""Times of rows: numbers of a stated unit, of one that is not stated, or dates. All times of a history are of one clock.
+
+A time whose unit is known is in nanoseconds. If no unit is known, the number stands as it is: the order needs no unit. A date is known,
+and so is a number whose field or option names its unit. Known and unknown times, or dates with and without a zone, are not compared.
+If times have several units, a return in a coarse one is at the end of its unit, so that no order is made up.
+"""
 from __future__ import annotations
 
 import datetime
+import functools
 import json
 import math
 import re
-from typing import Any, Optional, Union
+from typing import Any, Optional, Set, Union
 
 from . import Refused
+from .account import UNIT, Account
+from .vocabulary import UNITS
 
 Time = Union[int, float]
 INTEGER = re.compile(r"-?[0-9]{1,30}")
-DATE = re.compile(r"(\d{4}-\d\d-\d\d)[T ](\d\d:\d\d:\d\d)(?:[.,](\d{1,12}))?\s*(Z|[+-]\d\d:?\d\d)?")
+DECIMAL = re.compile(r"-?[0-9]{1,20}\.[0-9]{1,20}")
+DATE = re.compile(r"(\d{4})-?(\d\d)-?(\d\d)[T ](\d\d):(\d\d):(\d\d)(?:[.,](\d{1,12}))?\s*(Z|[+-]\d\d:?(?:\d\d)?|UTC|GMT)?")
+NEVER = {(1 << 63) - 1, (1 << 64) - 1}  # the times of returns that never came, as Go prints the largest integers
+# The unit of a number that counts from 1970 to the years 2001 to 2100, by its size.
+SIZES = (("s", 10**9, 41 * 10**8), ("ms", 10**12, 41 * 10**11), ("us", 10**15, 41 * 10**14), ("ns", 10**18, 41 * 10**17))
 
 
 class Clock:
-    """Reads times, which are numbers throughout, or dates throughout."""
+    """Reads times."""
 
-    def __init__(self) -> None:
-        self._of_dates: Optional[bool] = None
+    def __init__(self, account: Account, unit: Optional[str] = None) -> None:
+        self._account, self._stated = account, unit
+        self._is_known: Optional[bool] = None  # whether the unit of the times is known
+        self._has_zone: Optional[bool] = None
+        self._units: Set[str] = set()
+        self.needs_unit = False  # whether the unit has to be known, as for a duration or a clock error
 
-    def time(self, line: int, field: Any) -> Optional[Time]:
-        """The time that a field says; dates become nanoseconds. None where it says none."""
-        if field is None:
+    def time(self, line: int, field: Any, unit: Optional[str]) -> Optional[Time]:
+        """The time that a field says, whose name may say its unit. None where it says none."""
+        if type(field) is int or type(field) is float:
+            return self._number(line, field, unit)
+        if field is None or field == "":
             return None
-        date = DATE.fullmatch(field.strip()) if isinstance(field, str) else None
-        if self._of_dates is None:
-            self._of_dates = date is not None
-        if self._of_dates != (date is not None):
-            raise Refused(f"line {line}: {_shown(field)} is a time of another kind than those before it: let all be of one clock")
-        if date is not None:
-            return _nanoseconds(line, *date.groups())
-        if isinstance(field, str) and INTEGER.fullmatch(field):
-            return int(field)
-        if isinstance(field, (int, float)) and not isinstance(field, bool) and math.isfinite(field):
-            return field
-        raise Refused(f"line {line}: {_shown(field)} is no time: a number, or a date as 2024-05-01T10:00:00.123Z")
+        if isinstance(field, str):
+            text = field.strip()
+            if INTEGER.fullmatch(text):
+                return self._number(line, int(text), unit)
+            if DECIMAL.fullmatch(text):
+                return self._number(line, float(text), unit)
+            return self._date(line, text)
+        raise Refused(f"line {line}: {_shown(field)} is not a time: a number, or a date as 2024-05-01T10:00:00.123Z")
+
+    def end(self, line: int, field: Any, unit: Optional[str]) -> Optional[Time]:
+        """The time of a return. None where it never came."""
+        return None if field in NEVER else self.time(line, field, unit)
+
+    def span(self, line: int, field: Any, unit: Optional[str]) -> Time:
+        """The nanoseconds that a duration takes."""
+        unit = unit or self._stated
+        if not isinstance(field, (int, float)) or isinstance(field, bool) or not math.isfinite(field) or field < 0:
+            raise Refused(f"line {line}: {_shown(field)} is not a duration: a number from 0 on, whose field names its unit, as duration_ms")
+        if unit is None:
+            raise Refused(f"line {line}: the unit of the duration {_shown(field)} is not known: name its field as duration_ms is, or say "
+                          "--map FIELD=duration_ms")
+        if not self._is_known:
+            raise Refused(f"line {line}: the unit of the times is not known, and that of this duration is {unit}: say --time-unit")
+        return field * UNITS[unit]
+
+    def coarsest(self) -> int:
+        """How many nanoseconds a return may be later than it says, if times have several units."""
+        return max(UNITS[unit] for unit in self._units) - 1 if len(self._units) > 1 else 0
+
+    def _number(self, line: int, number: Time, unit: Optional[str]) -> Time:
+        if isinstance(number, float) and not math.isfinite(number):
+            raise Refused(f"line {line}: {number} is not a time")
+        unit = unit or self._stated
+        if unit is None and self.needs_unit:
+            unit = self._stated = self._guessed(line, number)
+        self._test_known(line, number, unit is not None)
+        if unit is None:
+            return number
+        self._units.add(unit)
+        return number * UNITS[unit]
+
+    def _guessed(self, line: int, number: Time) -> str:
+        """The unit of a number that counts from 1970, by its size."""
+        for unit, least, most in SIZES:
+            if least <= number <= most:
+                self._account.guess(UNIT, f"{unit} since 1970, by the size of {number}", "--time-unit")
+                return unit
+        raise Refused(f"line {line}: the unit of the time {number} is not known: say --time-unit s, ms, us or ns")
+
+    def _test_known(self, line: int, field: Any, is_known: bool) -> None:
+        if self._is_known is None:
+            self._is_known = is_known
+        if self._is_known != is_known:
+            raise Refused(f"line {line}: {_shown(field)} is a time of another kind than those before it: let all be of one clock, and say "
+                          "--time-unit for numbers without one")
+
+    def _date(self, line: int, text: str) -> int:
+        time, has_zone = _date_of(text, line)
+        self._test_known(line, text, True)
+        self._units.add("ns")
+        if self._has_zone is None:
+            self._has_zone = has_zone
+        if self._has_zone != has_zone:
+            raise Refused(f"line {line}: {text} has {'a' if has_zone else 'no'} time zone, and dates before it have {'none' if has_zone else 'one'}")
+        return time
+
+
+def nanoseconds(text: str) -> int:
+    """The nanoseconds of a length of time with its unit, as 5ms."""
+    found = re.fullmatch(r"([0-9]+(?:\.[0-9]+)?)\s*(s|ms|us|ns)", text)
+    if found is None:
+        raise Refused(f"{text!r} is not a length of time: a number and s, ms, us or ns, as 5ms")
+    return math.ceil(float(found.group(1)) * UNITS[found.group(2)])
 
 
 def _shown(field: Any) -> str:
     return json.dumps(field)[:60]
 
 
-def _nanoseconds(line: int, day: str, clock: str, fraction: Optional[str], zone: Optional[str]) -> int:
-    """Nanoseconds since 1970; without a zone it is UTC."""
-    offset = "+00:00" if zone in (None, "Z") else f"{zone[:3]}:{zone[-2:]}"  # type: ignore[index]
+def _date_of(text: str, line: int) -> "tuple[int, bool]":
+    """Nanoseconds since 1970, and whether the date has a zone; one without is as in UTC."""
+    head, zone = text[:19], text[-1:]
+    seconds = _seconds(head)
+    if seconds is not None and zone == "Z":
+        fraction = text[20:-1]
+        if not fraction and len(text) == 20 or fraction.isdigit() and len(fraction) <= 12 and text[19] in ".,":
+            return seconds * 10**9 + int(fraction[:9].ljust(9, "0") or 0), True
+    date = DATE.fullmatch(text)
+    if date is None:
+        raise Refused(f"line {line}: {_shown(text)} is not a time: a number, or a date as 2024-05-01T10:00:00.123Z")
+    year, month, day, hour, minute, second, fraction, zone = date.groups()
+    offset = "+00:00" if zone in (None, "Z", "UTC", "GMT") else f"{zone[:3]}:{zone.replace(':', '')[3:] or '00'}"
     try:
-        seconds = datetime.datetime.fromisoformat(f"{day}T{clock}{offset}").timestamp()
+        made = datetime.datetime.fromisoformat(f"{year}-{month}-{day}T{hour}:{minute}:{second}{offset}").timestamp()
     except (ValueError, OverflowError) as fault:
-        raise Refused(f"line {line}: {day} {clock} is no time: {fault}") from fault
-    return int(seconds) * 10**9 + int((fraction or "")[:9].ljust(9, "0"))
+        raise Refused(f"line {line}: {text} is not a time: {fault}") from fault
+    return int(made) * 10**9 + int((fraction or "")[:9].ljust(9, "0")), zone is not None
+
+
+@functools.lru_cache(maxsize=1 << 12)
+def _seconds(head: str) -> Optional[int]:
+    """The seconds since 1970 of 2024-05-01T10:00:00 in UTC; None where it is none."""
+    if len(head) != 19 or head[4] != "-":
+        return None
+    try:
+        return int(datetime.datetime.fromisoformat(head + "+00:00").timestamp())
+    except (ValueError, OverflowError):
+        return None

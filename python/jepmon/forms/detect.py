@@ -3,31 +3,42 @@ from __future__ import annotations
 
 import re
 
-from . import Refused, logs
+from . import Refused, log_rows, logs, rows
 
-NOTHING, EDN, JSON, CSV, LOG = "nothing", "EDN", "JSON", "CSV", "log"
+NOTHING, EDN, JSON, CSV, LOG, LOGFMT, LINES = "nothing", "EDN", "JSON", "CSV", "log", "logfmt", "a log by a mapping"
 
 GAP = re.compile(r"(?:[\s,]+|;[^\n]*)*")
 # The front of a JSON text that has an object: a name in quotes, and a colon that begins no keyword of EDN.
 OBJECT = re.compile(r'[\[{][\s\[{]*"(?:[^"\\]|\\.)*"\s*:[^A-Za-z]')
+EDN_BEHIND = re.compile(r"[\s,;]*[({\[#][\s{\[]*[:#;]")
+REPR = re.compile(r"[\[({][\s\[({]*'[^'\n]*'\s*:")
 COLUMNS = re.compile(r"[A-Za-z_ .\"'-]+([,;\t][A-Za-z_ .\"'-]+){2,}\s*$")
+CELLS = re.compile(r"\"?-?[0-9][0-9.TZ:+ -]*\"?([,;\t][^,;\t\n]*){3,}$")  # CSV without the names of columns, whose first cell is a time
 EMPTY = re.compile(r"[\s,]*[\[(][\s,]*[\])][\s,]*")
 FRONT = 200_000  # characters within which a log's first event is looked for
 
 
 def form_of(text: str) -> str:
     """The form of a text. Refused where it is none of a history."""
+    comments = rows.COMMENTS.match(text)
+    if comments is not None and EDN_BEHIND.match(text, comments.end()) is None:
+        text = text[comments.end():]
     begin = GAP.match(text).end()  # type: ignore[union-attr]
     if begin == len(text) or EMPTY.fullmatch(text):
         return NOTHING
+    if REPR.match(text, begin):
+        raise Refused("this is printed by Python's repr, as {'op': 'read'}: let the test print json.dumps of it")
     if text[begin] in "{[":
         return JSON if OBJECT.match(text, begin) else EDN
     if text[begin] in "(#":
         return EDN
     if logs.LINE.search(text, 0, FRONT):
         return LOG
-    first = text[:10_000].lstrip("\r\n").split("\n", 1)[0]
-    if COLUMNS.match(first.rstrip("\r")):
+    first = text[:10_000].lstrip("\r\n").split("\n", 1)[0].rstrip("\r")
+    if COLUMNS.match(first) or CELLS.match(first):
         return CSV
+    if log_rows.LOGFMT.fullmatch(first):
+        return LOGFMT
     shown = text[begin:begin + 60].split("\n", 1)[0]
-    raise Refused(f"this is no form of a history that is known: it begins with {shown!r}")
+    raise Refused(f"this is no form of a history that is known: it begins with {shown!r}; --mapping FILE reads the lines of a log by a "
+                  "regular expression")

@@ -6,50 +6,56 @@ There a get of a missing key answers an empty text, and so does each key at firs
 """
 from __future__ import annotations
 
-from typing import Iterator, Optional
+from typing import Iterator
 
 from .. import edn, history
+from ..from_jepsen.clients import Clients
+from ..from_jepsen.collect import GAP, Counted
 from . import Refused, rows_told
-from .rows import Row, named
+from .account import Account
+from .files import Source
+from .rows import Row
 from .written import Written
 
 LOOKED_AT = 50  # elements within which the first event of a client is looked for
 PORCUPINE = ("get", "put", "append")
 
 
-def written(text: str) -> Optional[Written]:
-    """The history, where its events are of this form."""
-    if not _is_one(text):
-        return None
+def written(source: Source, account: Account, asked: rows_told.Asked) -> Written:
+    """The history."""
     is_porcupine = True
 
-    def rows() -> Iterator[Row]:
+    def rows(account: Account) -> Iterator[Row]:
         nonlocal is_porcupine
-        for element in edn.Reader(text).history():
+        pieces = Counted(source.texts())
+        for element in edn.Reader(pieces).history():
             fields = history.plain(element.value)
             if not isinstance(fields, dict):
                 raise Refused(f"line {element.line}: this is no map, so no event: {edn.shown(element.value, 60)}")
-            row = Row(element.line, named(fields))
+            account.skip_to(element.line, GAP)
+            account.took(element.line, element.last_line)
+            row = Row(element.line, fields)
             is_porcupine = is_porcupine and row.fields.get("f") in PORCUPINE
             if is_porcupine and row.fields.get("value") == "":
                 row.fields["value"] = None
             yield row
+        account.skip_to(pieces.lines + 1, GAP)
 
     try:
-        found = rows_told.written(rows())
+        found = rows_told.written(rows, account, asked)
     except edn.Unreadable as fault:
         raise Refused(str(fault)) from fault
     return found._replace(nil_is_absent=is_porcupine)
 
 
-def _is_one(text: str) -> bool:
+def is_one(text: str) -> bool:
     """Whether the first event of a client has a field of its key."""
     try:
         for _, element in zip(range(LOOKED_AT), edn.Reader(text).history()):
             fields = edn.fields_of(element.value)
             if fields is None:
                 return False
-            if edn.integer(fields.get(":process")) is not None:
+            if Clients().number_of(fields.get(":process"), True) is not None:
                 return ":key" in fields
     except edn.Unreadable:
         pass

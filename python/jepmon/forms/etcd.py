@@ -8,7 +8,8 @@ from __future__ import annotations
 from typing import Any, Dict, List, NoReturn, Optional
 
 from . import Refused
-from .rows import Row, named
+from .rows import Row
+from .vocabulary import plain
 from .written import Writer
 
 LEFT_OUT = ("defragment", "compact")
@@ -16,22 +17,30 @@ TYPES = ("range", "txn", "leasegrant", "leaserevoke") + LEFT_OUT
 CHECKED = "etcd's robustness tests check these by Porcupine"
 
 
+def named(fields: Dict[str, Any]) -> Dict[str, Any]:
+    """The fields by their plain names."""
+    return {plain(name): value for name, value in fields.items()}
+
+
 def is_one(row: Row) -> bool:
     """Whether the row is one of these operations."""
-    asked = row.fields.get("input")
-    return "clientid" in row.fields and isinstance(asked, dict) and str(asked.get("Type", "")).lower() in TYPES
+    asked = row.fields.get("Input", row.fields.get("input"))
+    return (isinstance(asked, dict) and str(asked.get("Type", asked.get("type", ""))).lower() in TYPES
+            and any(plain(name) == "clientid" for name in row.fields))
 
 
 def turned(row: Row, writer: Writer) -> Optional[Row]:
     """The row as one of a register; None where it changes no key."""
-    asked, came = named(row.fields["input"]), _inner(row, row.fields, "output")
+    own = named(row.fields)
+    asked, came = named(own["input"]), _inner(row, own, "output")
     kind = str(asked["type"]).lower()
     if kind in LEFT_OUT:
         writer.counts[f"operations left out, which change no key: {kind}"] += 1
         return None
-    fields: Dict[str, Any] = {name: row.fields.get(name) for name in ("clientid", "call", "return")}
-    if came.get("error") or came.get("persisted"):
-        fields["error"] = came.get("error") or "its response was lost"
+    fields: Dict[str, Any] = {name: own.get(name) for name in ("clientid", "call", "return")}
+    error = _error(row, came)
+    if error is not None:
+        fields["error"] = error
     if kind == "range":
         fields.update(_read(row, _inner(row, asked, "range"), came))
     elif kind == "txn":
@@ -39,6 +48,15 @@ def turned(row: Row, writer: Writer) -> Optional[Row]:
     else:
         _refuse(row, "a lease")
     return Row(row.line, fields)
+
+
+def _error(row: Row, came: Dict[str, Any]) -> Any:
+    """The error of an operation, after which it may have taken place; None if it has none."""
+    told = [came.get(name) for name in ("error", "clienterror", "err")] + [_inner(row, came, "txn").get("error")]
+    error = next((error for error in told if error not in (None, "", False)), None)
+    if _inner(row, came, "txn").get("failure"):
+        _refuse(row, "a transaction that took its other branch")
+    return error if error is not None else "its response was lost" if came.get("persisted") else None
 
 
 def _refuse(row: Row, what: str) -> NoReturn:
@@ -68,6 +86,8 @@ def _read(row: Row, asked: Dict[str, Any], came: Dict[str, Any]) -> Dict[str, An
         _refuse(row, "a range over several keys")
     if asked.get("revision"):
         _refuse(row, "a range of an old revision")
+    if any(named(one).get(name) for one in (options, asked) for name in ("countonly", "keysonly")):
+        _refuse(row, "a range without values")
     found = _list(row, _inner(row, came, "range"), "kvs")
     if len(found) > 1:
         _refuse(row, "a range over several keys")
@@ -84,6 +104,8 @@ def _write(row: Row, asked: Dict[str, Any]) -> Dict[str, Any]:
     kind = str(operation.get("type", "")).replace("-operation", "").lower()
     if kind == "put":
         put = _inner(row, operation, "put")
+        if any(put.get(name) for name in ("lease", "leaseid")):
+            _refuse(row, "a put with a lease")
         return {"f": "write", "key": put.get("key"), "value": _value(put.get("value"))}
     if kind == "delete":
         return {"f": "delete", "key": _inner(row, operation, "delete").get("key")}

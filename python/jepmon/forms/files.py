@@ -1,16 +1,18 @@
-"""Where a recorded history lies, and its text: a file, one compressed by gzip, a folder as Jepsen's store/latest, standard input."""
+"""Where a recorded history lies: a file, one compressed by gzip, a folder as Jepsen's store/latest, standard input."""
 from __future__ import annotations
 
 import io
 import os
 import pathlib
 import sys
-import zlib
-from typing import IO, Iterator, List, NamedTuple, Optional, Sequence
+import tempfile
+from typing import IO, Callable, Iterator, List, Optional, Sequence
 
-from . import Refused
+from . import Beyond, Refused, decoding
 
-MOST_BYTES = 1 << 30  # of a text; a history has 2^20 events at most
+MOST = 1 << 30  # characters of a text that is held
+FRONT = 1 << 16  # characters by which a form is told
+HELD = 1 << 25  # bytes of standard input that are held in memory
 DEEPEST = 4  # folders in one another that are looked through
 MOST_ENTRIES = 20_000  # of folders that are looked through
 LISTED = 12  # histories that a refusal names
@@ -21,46 +23,124 @@ ENDINGS = (".edn", ".jsonl", ".ndjson", ".json", ".csv")
 BESIDE = ("results.edn", "test.edn", "test.jepsen", "results.json")  # what Jepsen writes beside a history
 LATEST = ("latest", "current")
 
-# Files that have to be unpacked or turned first, by their first bytes.
-PACKED = (
-    (b"\x28\xb5\x2f\xfd", "it is compressed by zstd: zstdcat FILE | jepmon-judge"),
-    (b"BZh", "it is compressed by bzip2: bzcat FILE | jepmon-judge"),
-    (b"\xfd7zXZ\0", "it is compressed by xz: xzcat FILE | jepmon-judge"),
-    (b"PK\x03\x04", "it is a zip archive: unpack it, and name the history in it"),
-    (b"JEPSEN", "it is Jepsen's own binary file: name the history.edn beside it"),
-    (b"\xff\xfe", "it is UTF-16: iconv -f UTF-16 -t UTF-8 FILE | jepmon-judge"),
-    (b"\xfe\xff", "it is UTF-16: iconv -f UTF-16 -t UTF-8 FILE | jepmon-judge"),
-)
 
+class Source:
+    """A recorded history as it was found: a file, or what standard input gave. It can be read as often as one likes."""
 
-class Source(NamedTuple):
-    """A recorded history as it was found."""
+    def __init__(self, name: str, path: Optional[str], opened: Callable[[], IO[bytes]], notes: Sequence[str] = ()) -> None:
+        self.name = name  # how it is told of
+        self.path = path  # None of standard input
+        self._opened = opened
+        self._text: Optional[str] = None
+        self._feeds, self._last = 0, "\n"  # of the text that was read last: its line feeds, and its last character
+        with opened() as file:
+            begin = file.read(len(decoding.MARK))
+        self.is_plain = path is not None and not begin.startswith((decoding.GZIP, decoding.MARK))  # whether the text is the file, byte for byte
+        self.front = self._front()  # its first lines
+        marked = begin.startswith(decoding.MARK) or begin.startswith(decoding.GZIP) and self._is_marked()
+        self.notes: List[str] = [*notes, *([decoding.MARKED] if marked else [])]  # what is to be told of how it was found
 
-    name: str  # how it is told of
-    path: Optional[str]  # None of standard input
-    text: str
-    notes: Sequence[str]  # what is to be told of how it was found
-    is_plain: bool = False  # whether the text is the file, byte for byte
+    def texts(self) -> Iterator[str]:
+        """The text, in pieces of whole lines."""
+        self._feeds, self._last = 0, "\n"
+        with self._opened() as file:
+            for piece in decoding.texts_of(decoding.pieces_of(file)):  # type: ignore[arg-type]
+                self._feeds += piece.count("\n")
+                self._last = piece[-1:] or self._last
+                yield piece
+
+    @property
+    def text(self) -> str:
+        """The whole text, which is held from then on."""
+        if self._text is None:
+            pieces, count = [], 0
+            for piece in self.texts():
+                pieces.append(piece)
+                count += len(piece)
+                if count > MOST:
+                    raise Beyond(f"it has more than {MOST:,} characters")
+            self._text = "".join(pieces)
+        return self._text
+
+    def lines(self) -> int:
+        """How many lines the text has that was read last, to its end; the last one may lack its line feed."""
+        return self._feeds + (self._last != "\n")
+
+    def _front(self) -> str:
+        """The first lines, up to one that says something."""
+        front = ""
+        for piece in self.texts():
+            front += piece
+            if len(front) >= FRONT and front[-len(piece):].strip(" \t\r\n,"):
+                break
+        return front
+
+    def _is_marked(self) -> bool:
+        with self._opened() as file:
+            return next(decoding.unpacked(decoding.pieces_of(file)), b"").startswith(decoding.MARK)  # type: ignore[arg-type]
 
 
 def found(word: str) -> Source:
     """The history that a word of the command line names: a file, a folder, or - for standard input."""
-    if word == "-":
-        text, notes = decoded(_unpacked(_read(_standard_input())))
-        return Source("standard input", None, text, notes)
-    path = located(pathlib.Path(word))
-    told = [] if path == pathlib.Path(word) else [f"the history of {word} is {path}"]
+    path = "-" if word == "-" else str(located(pathlib.Path(word)))
     try:
-        with open(path, "rb") as file:
-            raw = _read(file)
+        return opened(path, [] if path in ("-", str(pathlib.Path(word))) else [f"the history of {word} is {path}"])
     except OSError as fault:
         raise Refused(f"{path}: {fault.strerror}") from fault
-    try:
-        unpacked = _unpacked(raw)
-        text, notes = decoded(unpacked)
     except Refused as refusal:
-        raise Refused(f"{path}: {refusal}{_beside(path)}") from refusal
-    return Source(str(path), str(path), text, told + notes, is_plain=unpacked is raw and not notes)
+        raise Refused(f"{'standard input' if word == '-' else path}: {refusal}{_beside(pathlib.Path(path))}") from refusal
+
+
+def opened(word: str, notes: Sequence[str] = ()) -> Source:
+    """The history in a file, or in standard input; what can't be opened is an OSError."""
+    if word == "-":
+        return of_pipe("standard input", _standard_input())
+    if os.path.isfile(word):
+        return Source(word, word, lambda: open(word, "rb"), notes)
+    with open(word, "rb") as pipe:
+        return of_pipe(word, pipe)
+
+
+def of_pipe(name: str, file: IO[bytes]) -> Source:
+    """The history that a pipe gives, which is kept to be read again: in memory, or in a file that has no name."""
+    kept = _Kept()
+    for piece in decoding.pieces_of(file):  # type: ignore[arg-type]
+        kept.file.write(piece)
+    return Source(name, None, lambda: _Again(kept))  # type: ignore[arg-type,return-value]
+
+
+class _Kept:
+    """A file without a name, which is gone with the last one who reads it."""
+
+    def __init__(self) -> None:
+        self.file = tempfile.SpooledTemporaryFile(HELD)
+
+    def __del__(self) -> None:
+        self.file.close()
+
+
+class _Again:
+    """A file that stays open, read from its beginning."""
+
+    def __init__(self, kept: _Kept) -> None:
+        self._kept, self._at = kept, 0
+
+    def read(self, size: int) -> bytes:
+        self._kept.file.seek(self._at)
+        piece = self._kept.file.read(size)
+        self._at += len(piece)
+        return piece
+
+    def __enter__(self) -> "_Again":
+        return self
+
+    def __exit__(self, *_: object) -> None:
+        pass
+
+
+def of_text(text: str, name: str = "text") -> Source:
+    """A history that is held already."""
+    return Source(name, None, lambda: io.BytesIO(text.encode()))
 
 
 # --- Folders ---
@@ -128,59 +208,7 @@ def _beside(path: pathlib.Path) -> str:
     return f" (it is there: {beside})" if path.name in BESIDE and beside.is_file() else ""
 
 
-# --- Bytes ---
-
-
 def _standard_input() -> IO[bytes]:
     if sys.stdin is None:
         raise Refused("standard input is closed")
     return sys.stdin.buffer
-
-
-def _read(file: IO[bytes]) -> bytes:
-    try:
-        raw = file.read(MOST_BYTES + 1)
-    except OSError as fault:
-        raise Refused(f"it can't be read: {fault.strerror}") from fault
-    return _bounded(raw)
-
-
-def _bounded(raw: bytes) -> bytes:
-    if len(raw) > MOST_BYTES:
-        raise Refused(f"it has more than {MOST_BYTES} bytes; a history has 1,048,576 events at most")
-    return raw
-
-
-def _unpacked(raw: bytes) -> bytes:
-    """The bytes, out of gzip where they are compressed by it, also of several parts."""
-    if not raw.startswith(b"\x1f\x8b"):
-        return raw
-    pieces = io.BytesIO()
-    try:
-        while raw.startswith(b"\x1f\x8b"):
-            inflate = zlib.decompressobj(wbits=31)
-            pieces.write(inflate.decompress(raw, MOST_BYTES + 1 - pieces.tell()))
-            _bounded(pieces.getvalue() if pieces.tell() > MOST_BYTES else b"")
-            if not inflate.eof:
-                raise Refused("it is compressed by gzip, and cut off")
-            raw = inflate.unused_data
-    except zlib.error as fault:
-        raise Refused(f"it is compressed by gzip, and damaged: {fault}") from fault
-    return pieces.getvalue()
-
-
-def decoded(raw: bytes) -> "tuple[str, List[str]]":
-    """The text that the bytes are, and what is to be told of them."""
-    for front, reason in PACKED:
-        if raw.startswith(front):
-            raise Refused(reason)
-    notes = []
-    if raw.startswith(b"\xef\xbb\xbf"):
-        raw, notes = raw[3:], ["a byte order mark at its front was left out"]
-    try:
-        text = raw.decode("utf-8")
-    except UnicodeDecodeError as fault:
-        raise Refused(f"it is no text: byte {fault.start} is no UTF-8") from fault
-    if "\0" in text:
-        raise Refused(f"it is no text: a byte of it is 0, the first at place {text.index(chr(0))} (is it binary, or UTF-16?)")
-    return text, notes

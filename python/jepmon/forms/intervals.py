@@ -7,16 +7,16 @@ nothing to linearizability, so those that overlap on one client are spread over 
 """
 from __future__ import annotations
 
-from typing import Any, Dict, Iterable, Iterator, List, NamedTuple, Optional, Tuple
+from bisect import bisect_right
+from typing import Any, Dict, Iterable, List, NamedTuple, Optional, Set, Tuple
 
+from ..from_jepsen.collect import Pair
 from . import Refused
+from .answers import UNANSWERED, answered, says_no
 from .clock import Time
-from .meaning import MISSING, Told
-from .written import Writer, Written, element, value_of, word
-
-ANSWERED = ("read", "dequeue")
-THREADS = 64
-Step = Tuple[int, str]  # an operation by its place, and the type of the event
+from .meaning import ANSWERED, MISSING, Told
+from .timeline import Timeline
+from .written import Writer, element, value_of, word
 
 
 class Interval(NamedTuple):
@@ -32,6 +32,16 @@ class Interval(NamedTuple):
     ends: Optional[Time]  # None where it never returned
     outcome: str  # "ok", "fail" or "info"
     error: Optional[str]
+    mark: int  # by which rows are told apart; 0 of a read
+
+
+class Fault(NamedTuple):
+    """What a nemesis did."""
+
+    time: Time
+    line: int
+    name: str
+    value: Pair
 
 
 def of_told(told: Told, writer: Writer) -> Interval:
@@ -40,18 +50,20 @@ def of_told(told: Told, writer: Writer) -> Interval:
     if told.call is None:
         raise Refused(f"line {line}: this operation has no time of its call, which those before it have")
     if told.name is None:
-        raise Refused(f"line {line}: this operation has no name, as read or write")
+        raise Refused(f"line {line}: this operation has no name, as read or write; say --map FIELD=op for the field that names it")
     if told.ends is not None and told.ends < told.call:
         raise Refused(f"line {line}: it returns at {told.ends}, before its call at {told.call}; leave the return out where there is none")
     argument, answer, outcome = told.value, told.answer, told.outcome
     if told.name in ANSWERED:
         if answer is MISSING:
             argument, answer = None, argument
-        elif argument not in (MISSING, None):
+        elif argument in (MISSING, None, ""):  # Go prints an empty text where there is none
+            argument = None
+        else:
             raise Refused(f"line {line}: a {told.name} has the argument {element(argument)[:60]}, and only an answer is known; "
                           "is it the key? let its field be called key")
-    elif answer is not MISSING and outcome is None:
-        outcome = _answered(line, told.name, answer)
+    elif answer is not MISSING and told.name in UNANSWERED and (outcome is None or outcome == "ok" and says_no(told.name, answer)):
+        outcome = answered(line, told.name, answer) or outcome
     if outcome is None:
         outcome = "info" if told.ends is None else "ok"
     if outcome == "ok" and told.ends is None:
@@ -61,107 +73,84 @@ def of_told(told: Told, writer: Writer) -> Interval:
     ends = told.ends
     if ends is None:
         writer.counts["operations that never returned, which may take place at any later time"] += outcome == "info"
-    return Interval(line, _hashable(told.client), word(line, told.name), told.key, argument, answer, told.call, ends, outcome, told.error)
-
-
-def _answered(line: int, name: str, answer: Any) -> Optional[str]:
-    """What the answer of an operation that has none says of how it ended."""
-    if answer is None or answer is True or isinstance(answer, str) and answer.lower() in ("", "ok", "true", "success"):
-        return None
-    if answer is False:
-        return "fail" if name in ("cas", "acquire") else "info"
-    if isinstance(answer, str) and answer.lower() in ("fail", "failed", "false"):
-        return "fail"
-    if isinstance(answer, str) and answer.lower() in ("info", "timeout", "unknown", "error"):
-        return "info"
-    raise Refused(f"line {line}: a {name} is answered by {element(answer)[:60]}: did it take place? let an outcome say ok, fail or info")
+    mark = 0 if told.name == "read" else hash(repr(told.fields))
+    return Interval(line, _hashable(told.client), word(line, told.name), told.key, argument, answer, told.call, ends, outcome, told.error, mark)
 
 
 def _hashable(client: Any) -> Any:
-    return client if client is None or isinstance(client, (str, int, float)) else element(client)
+    return None if client is MISSING else client if client is None or isinstance(client, (str, int, float)) else element(client)
 
 
-def written(intervals: List[Interval], writer: Writer, notes: List[str], nil_is_absent: bool = False) -> Written:
-    """The events of operations, in Jepsen's form."""
-    steps, processes = _scheduled(intervals)
-    overlaps = _overlaps(intervals, steps)
-    if overlaps:
-        writer.counts["operations that overlap or touch another one of their client, on threads of their own"] += overlaps
-    for (place, kind), process in zip(steps, processes):
-        interval = intervals[place]
-        is_answer = kind == "ok" and interval.name in ANSWERED
-        time = interval.call if kind == "invoke" else interval.ends
-        writer.event(interval.line, kind, str(process), interval.name,
-                     value_of(interval.key, interval.answer if is_answer else interval.argument), time,
-                     interval.error if kind != "invoke" else None)
-    return writer.written(notes, nil_is_absent)
+class Operations:
+    """Takes operations, and writes their events in the order of their times."""
+
+    def __init__(self, writer: Writer) -> None:
+        self._writer, self._timeline = writer, Timeline()
+        self._clients: Set[Any] = set()
+        self._count = self._returned = 0
+        self._calls: Dict[Any, List[Time]] = {}  # of each key, if they are kept
+        self._ends: Dict[Any, List[Time]] = {}  # of those that have certainly returned
+
+    def take(self, interval: Interval, keeps_times: bool) -> None:
+        line, client, name, key, argument, answer, call, ends, outcome, error, mark = interval
+        self._count += 1
+        self._returned += ends is not None
+        self._clients.add(client)
+        key = () if key is MISSING else key
+        value = answer if outcome == "ok" and name in ANSWERED else argument
+        begun = line, name, key, () if argument is MISSING else argument, call, None, mark
+        self._timeline.operation(client, call, ends, outcome, begun, (line, name, key, () if value is MISSING else value, ends, error, mark))
+        if keeps_times:
+            named = key if isinstance(key, (str, int, float)) else element(key)
+            self._calls.setdefault(named, []).append(call)
+            if ends is not None and outcome != "info":
+                self._ends.setdefault(named, []).append(ends)
+
+    def are_of_several(self) -> bool:
+        """Whether several clients may have done them."""
+        return self._count > 1 and (len(self._clients) > 1 or None in self._clients)
+
+    def test(self, names: str) -> None:
+        """Refuses operations of which none has returned, and one that is there twice, in each field, also in its times. A read that is
+        there twice changes nothing."""
+        if self._count and not self._returned:
+            raise Refused(f"none of its {self._count} operations has a time of its return. The fields are {names}; say --map FIELD=return for the "
+                          "field that has it")
+        seen: Dict[int, int] = {}
+        latest: Optional[Time] = None
+        for call, (line, *_, mark) in self._timeline.begun():
+            if call != latest:
+                seen, latest = {}, call
+            if mark and seen.setdefault(mark, line) != line:
+                raise Refused(f"line {line}: this operation is that of line {seen[mark]} in each field, also in its times: does the file have some "
+                              "lines twice? If they are two operations, let a field tell them apart")
+
+    def lost(self, skew: Time) -> int:
+        """How many pairs of operations of one key stand in an order by their times, and in none if each is wider by a clock error."""
+        count = 0
+        for key, ends in self._ends.items():
+            calls = sorted(self._calls[key])
+            count += sum(bisect_right(calls, end + 2 * skew) - bisect_right(calls, end) for end in ends)
+        return count
+
+    def write(self, faults: Iterable[Fault], skew: Time, coarse: int) -> None:
+        """Writes the events: each operation is begun earlier and ended later by a clock error; a return in a coarse unit is at the end of
+        that unit."""
+        waiting = sorted(faults, reverse=True)
+        last: Dict[int, Tuple[Any, ...]] = {}  # what was given of the invocation of each process
+        for kind, process, given in self._timeline.moments(skew, skew + coarse):
+            line, name, key, value, time, error, _ = given if given is not None else last.pop(process)
+            if kind == "invoke":
+                last[process] = given
+            while waiting and given is not None and waiting[-1].time < time:
+                _write(self._writer, waiting.pop())
+            self._writer.event(line, kind, str(process), name, value_of(MISSING if key == () else key, MISSING if value == () else value),
+                               time if given is not None else None, error)
+        for fault in reversed(waiting):
+            _write(self._writer, fault)
+        if self._timeline.overlaps:
+            self._writer.counts["operations that overlap or touch another one of their client, on threads of their own"] += self._timeline.overlaps
 
 
-def _scheduled(intervals: List[Interval]) -> Tuple[List[Step], List[int]]:
-    """The events in their order and the process of each: where 64 threads suffice for that, clients keep threads of their own,
-    and what never returned stays open."""
-    for stay_open, by_client in ((True, True), (False, True), (False, False)):
-        steps = list(_steps(intervals, stay_open))
-        threads, processes = _on_threads(intervals, steps, by_client)
-        if threads <= THREADS:
-            break
-    return steps, processes
-
-
-def _steps(intervals: List[Interval], stay_open: bool) -> Iterator[Step]:
-    """The events in their order. What never returned ends before its client's next invocation, or right after its own."""
-    points = [(interval.call, 0, place) for place, interval in enumerate(intervals)]
-    points += [(interval.ends, 1, place) for place, interval in enumerate(intervals) if interval.ends is not None]
-    points.sort()
-    waiting: Dict[Any, List[int]] = {}
-    for _, is_end, place in points:
-        interval = intervals[place]
-        if is_end:
-            yield place, interval.outcome
-            continue
-        for before in waiting.pop(interval.client, ()):
-            yield before, intervals[before].outcome
-        yield place, "invoke"
-        if interval.ends is None and (not stay_open or interval.outcome == "fail"):
-            yield place, interval.outcome
-        elif interval.ends is None and interval.client is not None:
-            waiting.setdefault(interval.client, []).append(place)
-
-
-def _overlaps(intervals: List[Interval], steps: Iterable[Step]) -> int:
-    """How many operations are invoked while their client has another one open."""
-    count, opened = 0, {}  # type: int, Dict[Any, int]
-    for place, kind in steps:
-        client = intervals[place].client
-        count += kind == "invoke" and client is not None and opened.get(client, 0) > 0
-        opened[client] = opened.get(client, 0) + (1 if kind == "invoke" else -1)
-    return count
-
-
-def _on_threads(intervals: List[Interval], steps: List[Step], by_client: bool) -> Tuple[int, List[int]]:
-    """How many threads there have to be, and the process of each event. By client, each keeps its thread where that is free."""
-    homes: Dict[Any, int] = {}
-    for interval in intervals if by_client else ():
-        if interval.client is not None:
-            homes.setdefault(interval.client, len(homes))
-    free, count = set(range(len(homes))), len(homes)
-    thread_of: Dict[int, int] = {}
-    threads: List[int] = []
-    for place, kind in steps:
-        if kind == "invoke":
-            thread = homes.get(intervals[place].client, -1)
-            if thread not in free:  # its own one is taken: one that is nobody's
-                thread = min((other for other in free if other >= len(homes)), default=count)
-            free.discard(thread)
-            count = max(count, thread + 1)
-            thread_of[place] = thread
-        else:
-            free.add(thread_of[place])
-        threads.append(thread_of[place])
-    current = list(range(count))
-    processes = []
-    for (_, kind), thread in zip(steps, threads):
-        processes.append(current[thread])
-        if kind == "info":
-            current[thread] += count
-    return count, processes
+def _write(writer: Writer, fault: Fault) -> None:
+    writer.event(fault.line, "info", ":nemesis", fault.name, fault.value, fault.time)

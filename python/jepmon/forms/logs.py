@@ -8,33 +8,47 @@ from __future__ import annotations
 
 import json
 import re
-from typing import List, Tuple
+from typing import Iterator
+
+from . import Refused
+from .account import Account
+from .clock import Clock
+from .files import Source
+from .order import Blocks
 
 LINE = re.compile(
-    r"^(?:[^\n]*\bjepsen\.util[^\t\n]*[-:] )?"  # what a logger writes before it
+    r"^(?:(\d{4}-\d\d-\d\d[T ]\d\d:\d\d:\d\d(?:[.,]\d+)?)?[^\n]*\bjepsen\.util[^\t\n]*[-:] )?"  # what a logger writes before it
     r"([0-9]+|:[A-Za-z][\w.-]*) *\t *:(invoke|ok|fail|info) *\t *(:[^\s]+)(?: *\t *([^\t\n]*))?(?:\t([^\n]*))?$",
     re.M,
 )
 
 
-def turned(text: str) -> Tuple[str, List[int], List[str]]:
-    """The events of a log as Jepsen writes them in EDN, the line of each in the log, and what is to be told of it."""
-    events, lines, place, line = [], [], 0, 1
-    for found in LINE.finditer(text):
-        line += text.count("\n", place, found.start())
-        place = found.start()
-        process, kind, name, value, error = found.groups()
-        further = f", :error {json.dumps(error)}" if error else ""
-        events.append(f"{{:process {process}, :type :{kind}, :f {name}, :value {value or 'nil'}{further}}}\n")
-        lines.append(line)
-    return "".join(events), lines, list(_notes(text, len(lines)))
+class Log:
+    """A log, whose lines are written as Jepsen has them in EDN. A line that tells of no operation is a blank one there."""
+
+    def __init__(self, source: Source) -> None:
+        self._source = source
+        self.blocks, self.has_times = Blocks(), False
+
+    def texts(self) -> Iterator[str]:
+        self.blocks, clock = Blocks(), Clock(Account())
+        for piece in self._source.texts():
+            lines, place = [], 0
+            for found in LINE.finditer(piece):
+                stamp, process, kind, name, value, error = found.groups()
+                self.blocks.take(process)
+                time = clock.time(0, stamp, None)
+                self.has_times = self.has_times or time is not None
+                further = ("" if time is None else f", :time {time}") + (f", :error {json.dumps(error)}" if error else "")
+                lines.append("\n" * piece.count("\n", place, found.start()))
+                lines.append(f"{{:process {process}, :type :{kind}, :f {name}, :value {value or 'nil'}{further}}}")
+                place = found.end()
+            lines.append("\n" * piece.count("\n", place))
+            yield "".join(lines)
+        test_end(piece)
 
 
-def _notes(text: str, count: int) -> "List[str]":
-    notes = []
-    others = sum(1 for line in text.split("\n") if line.strip()) - count
-    if others:
-        notes.append(f"lines that tell of no operation, which were passed over: {others}")
-    if not text.endswith("\n"):
-        notes.append("its last line has no line feed: was the file cut off?")
-    return notes
+def test_end(last: str) -> None:
+    """Refuses a text whose last line may lack its end."""
+    if not last.endswith(("\n", "\r")):
+        raise Refused("the last line has no line feed: was the file cut off? If it was not, add one")

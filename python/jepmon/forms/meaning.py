@@ -1,65 +1,27 @@
-"""What the fields of a row say: a row of JSON or CSV is an event, or an operation with the times of its call and its return."""
+"""What a row says: it is an event, or an operation with the times of its call and its return."""
 from __future__ import annotations
 
-import json
-from typing import Any, Dict, NamedTuple, Optional, Sequence, Tuple
+from typing import Any, Dict, List, NamedTuple, Optional, Sequence, Tuple
 
 from . import Refused
+from .account import Account
 from .clock import Clock, Time
-from .rows import Row, named
+from .mapping import Mapping
+from .outcomes import Outcomes, Said, error_of, truth
+from .rows import Row
+from .shapes import Fields, Shape, Shapes, Use, allowed, short, shown
+from .vocabulary import OF_STACKS, both_of, plain
+from .written import MISSING, element
 
-MISSING: Any = object()  # where a row has no such field
-
-# The names of fields, without _ and - and in small letters; of two that a row has the first one counts.
-FIELDS: Dict[str, Sequence[str]] = {
-    "client": ("process", "client", "clientid", "worker", "workerid", "thread", "threadid", "session", "proc", "pid"),
-    "type": ("type", "kind", "event", "eventtype", "phase"),
-    "f": ("f", "op", "operation", "function", "func", "method", "command", "cmd", "action", "name"),
-    "key": ("key", "k", "object", "register", "queue", "lock", "mutex", "topic"),
-    "value": ("value", "v", "val", "arg", "argument", "element", "item", "message", "member"),
-    "old": ("old", "expected", "expect", "from"),
-    "new": ("new", "desired", "update", "to"),
-    "answer": ("answer", "ret", "returned", "returnvalue", "result", "output", "out", "response", "reply", "got"),
-    "call": tuple(word + unit for word in ("call", "start", "invoke", "begin", "invocation", "sent", "started", "invoked")
-                  for unit in ("", "time", "at", "ns", "us", "ms", "ts", "timestamp", "timens")),
-    "return": tuple(word + unit for word in ("return", "end", "complete", "finish", "completion", "received", "ended", "finished",
-                                             "completed")
-                    for unit in ("", "time", "at", "ns", "us", "ms", "ts", "timestamp", "timens")),
-    "outcome": ("outcome", "status", "state"),
-    "ok": ("ok", "success", "succeeded", "acknowledged"),
-    "unknown": ("unknown", "timeout", "timedout", "indeterminate"),
-    "error": ("error", "err", "exception"),
-    "time": ("time", "timestamp", "ts", "timens", "at"),
-    "id": ("id", "opid", "operationid"),
-}
-MEANINGS = {name: meaning for meaning, names in FIELDS.items() for name in names}
-RANKS = {name: rank for names in FIELDS.values() for rank, name in enumerate(names)}
-
-OPERATIONS = {
-    "read": "read", "get": "read", "r": "read", "load": "read",
-    "write": "write", "put": "write", "set": "write", "w": "write", "store": "write",
-    "cas": "cas", "compareandset": "cas", "compareandswap": "cas", "compareexchange": "cas",
-    "acquire": "acquire", "lock": "acquire", "release": "release", "unlock": "release",
-    "enqueue": "enqueue", "push": "enqueue", "send": "enqueue", "offer": "enqueue", "produce": "enqueue", "publish": "enqueue",
-    "dequeue": "dequeue", "pop": "dequeue", "receive": "dequeue", "poll": "dequeue", "consume": "dequeue", "take": "dequeue",
-    "add": "add",
-    "delete": "delete", "del": "delete",
-}
-TYPES = {
-    "invoke": "invoke", "invocation": "invoke", "call": "invoke", "begin": "invoke", "start": "invoke", "request": "invoke",
-    "ok": "ok", "return": "ok", "complete": "ok", "completed": "ok", "end": "ok", "response": "ok", "success": "ok", "done": "ok",
-    "fail": "fail", "failed": "fail", "failure": "fail",
-    "info": "info", "timeout": "info", "timedout": "info", "unknown": "info", "crash": "info", "crashed": "info",
-    "indeterminate": "info", "error": "info",
-}
-DEFINITE = ("cas", "acquire", "read", "dequeue")  # that the store refused them is an answer: they did not take place
+__all__ = ["ANSWERED", "MISSING", "Reader", "Told"]
+ANSWERED = ("read", "dequeue")
 
 
 class Told(NamedTuple):
     """What a row tells."""
 
     line: int
-    kind: Optional[str]  # of an event "invoke", "ok", "fail" or "info"; None of an operation, and of an answer without a word
+    kind: Optional[str]  # of an event "invoke", "ok", "fail" or "info"; None of an operation
     client: Any
     name: Optional[str]  # of the operation; None where the row has none, as a completion may
     key: Any  # MISSING where there is none
@@ -68,93 +30,193 @@ class Told(NamedTuple):
     outcome: Optional[str]  # "ok", "fail" or "info", where the row says
     call: Optional[Time]
     ends: Optional[Time]
-    time: Optional[int]
-    is_operation: bool
+    time: Optional[Time]
     error: Optional[str]
+    id: Any
+    fields: Fields  # as the row has them
 
 
-def told(row: Row, clock: Clock) -> Told:
-    """What a row tells, by the names of its fields."""
-    fields = _fields(row.fields)
-    for container in ("value", "f"):  # as Porcupine's Input: an object that has the operation, its key and value
-        inner = fields.get(container)
-        if isinstance(inner, dict) and set(_fields(named(inner))) & {"f", "type", "key"}:
-            fields = {**{name: field for name, field in fields.items() if name != container}, **_fields(named(inner))}
-    answer = fields.get("answer", MISSING)
-    if isinstance(answer, dict):
-        inner = _fields(named(answer))
-        fields.update({name: inner[name] for name in ("ok", "unknown", "error", "outcome") if name in inner})
-        answer = inner.get("value", inner.get("answer", None))
-    is_operation = "call" in fields
-    name, kind = _name_and_kind(row, fields, is_operation)
-    value = _value(row, name, fields)
-    if name == "delete":
-        name, value = "write", None
-    return Told(row.line, kind, fields.get("client"), name, fields.get("key", MISSING), value, answer,
-                _outcome(row, name, fields), clock.time(row.line, fields.get("call")), clock.time(row.line, fields.get("return")),
-                _whole(fields.get("time")), is_operation, _error(fields))
+class Reader:
+    """Reads rows. Whether they are events or operations the first one says."""
+
+    def __init__(self, mapping: Mapping, account: Account, has_model: bool) -> None:
+        self.shapes = Shapes(mapping)
+        self.clock = Clock(account, mapping.time_unit)
+        self.clock.needs_unit = mapping.skew is not None
+        self.of_operations: Optional[bool] = None
+        self._mapping, self._account = mapping, account
+        self._outcomes = Outcomes(mapping.outcomes, account)
+        self._operations = {**mapping.operations, **OF_STACKS} if has_model else mapping.operations
+        self._words: Dict[Any, str] = {}  # the operations by their words
+        self._last_index = -1
+        self._by_duration: Optional[bool] = None  # whether returns are calls and durations
+
+    def told(self, row: Row) -> Optional[Told]:
+        """What a row tells; None if it names no client, operation, key or value."""
+        line = row.line
+        shape, fields = self.shapes.of(line, row.fields)
+        uses = shape.uses
+        if shape.is_bare and self._kind(self._one(line, "type", uses, fields)[1]) is None:
+            return None
+        call = self._one(line, "call", uses, fields)
+        word, said = self._one(line, "type", uses, fields), self._one(line, "f", uses, fields)[1]
+        if self.of_operations is None:
+            self.of_operations = (call[1] not in (None, MISSING) and self._kind(word[1]) != "invoke"
+                                  or "return" in uses and ("duration" in uses or not {"type", "time"} & set(uses)))
+        kind, name, of_type = self._kind_and_name(line, word, said)
+        if "index" in uses:
+            self._test_index(line, uses["index"][0], fields)
+        ends = self._one(line, "return", uses, fields)
+        answer, value = self._one(line, "answer", uses, fields)[1], self._value(line, name, uses, fields)
+        if "found" in uses and name in (*ANSWERED, None) and any(truth(line, use.name, fields[use.name]) is False for use in uses["found"]):
+            answer = None
+            value = MISSING if self.of_operations else value
+        outcome = self._outcomes.of(line, name, shape, fields, of_type)
+        time, at, end_at = self._times(line, shape, fields, kind, call, ends)
+        error = error_of(shape, fields) if "error" in uses else None
+        if name == "delete":
+            name, value = "write", None
+        return Told(line, kind, self._one(line, "client", uses, fields)[1], name, self._one(line, "key", uses, fields)[1], value, answer, outcome,
+                    at, end_at, time, None if error is None else error[1] if isinstance(error[1], str) else element(error[1]),
+                    self._one(line, "id", uses, fields)[1] if "id" in uses else MISSING, fields)
+
+    def close(self) -> List[str]:
+        """Fields that were not looked at; refused if one may say something."""
+        return self.shapes.close()
+
+    # --- One meaning ---
+
+    def _one(self, line: int, meaning: str, uses: Dict[str, List[Use]], fields: Fields) -> "Tuple[Optional[Use], Any]":
+        """The field of this meaning, and what it says. Two that say different things are refused."""
+        found = uses.get(meaning)
+        if found is None:
+            return NOTHING
+        if len(found) == 1:
+            return found[0], fields[found[0].name]
+        said = [use for use in found if fields[use.name] is not None] or found[:1]
+        first = fields[said[0].name]
+        for use in said[1:]:
+            other = fields[use.name]
+            if (other != first or type(other) is not type(first)) and meaning != "id":
+                raise Refused(f"line {line}: {shown(said[0].name)} is {short(first)} and {shown(use.name)} is {short(other)}, and each may be the "
+                              f"{meaning}: say --ignore {shown(use.name)}, or what it is, as --map {shown(use.name)}=NAME")
+        return said[0], first
+
+    def _value(self, line: int, name: Optional[str], uses: Dict[str, List[Use]], fields: Fields) -> Any:
+        value = self._one(line, "value", uses, fields)[1]
+        if name == "cas" and "old" in uses:
+            old, new = self._one(line, "old", uses, fields)[1], self._one(line, "new", uses, fields)[1]
+            return value if old is None and new is MISSING else [old, value if new is MISSING else new]
+        for meaning in ("old", "new"):
+            for use in uses.get(meaning, ()) if name not in ("cas", None) else ():
+                if fields[use.name] is not None:
+                    self.shapes.unused(line, use.name, fields[use.name])
+        return value
+
+    def _kind(self, word: Any) -> Optional[str]:
+        """The type that a word says."""
+        if isinstance(word, bool):  # Porcupine's events: a return is true
+            return "ok" if word else "invoke"
+        if not isinstance(word, str):
+            return None
+        kind = self._mapping.outcomes.get(plain(word))
+        if kind is None:
+            both = both_of(word)
+            kind = both[1] if both is not None else None
+        return kind
+
+    def _kind_and_name(self, line: int, word: "Tuple[Optional[Use], Any]", said: Any) -> Tuple[Optional[str], Optional[str], Optional[Said]]:
+        """The type of an event, the operation, and the outcome of an operation whose type says it."""
+        kind, use = self._kind(word[1]), word[0]
+        if said is MISSING or said is None:
+            both = both_of(word[1]) if isinstance(word[1], str) and plain(word[1]) not in self._mapping.outcomes else None
+            if both is not None:
+                return (None if self.of_operations else both[1]), both[0], None
+            if isinstance(word[1], str) and (self.of_operations or kind is None):
+                said, kind, use = word[1], None, None
+        operation = None if said is MISSING or said is None else self._operation(line, said)
+        if use is None or word[1] is None:
+            return None, operation, None
+        if kind is None:
+            if not self.of_operations:
+                raise Refused(f"line {line}: {shown(use.name)} is {short(word[1])}, which is none of invoke, ok, fail, info; say what it is by "
+                              f'"outcomes" of a mapping file, or --ignore {shown(use.name)}')
+            self.shapes.unused(line, use.name, word[1])
+            return None, operation, None
+        if not self.of_operations:
+            return kind, operation, None
+        if kind == "invoke":
+            raise Refused(f"line {line}: {shown(use.name)} is {short(word[1])}, as of an event, and the rows before it are operations with times")
+        return None, operation, (use.name, word[1], kind)
+
+    def _operation(self, line: int, said: Any) -> str:
+        """The operation that a word names. What no object has keeps its name, and is refused by it later."""
+        found = self._words.get(said) if isinstance(said, (str, int)) else None
+        if found is not None:
+            return found
+        if isinstance(said, bool) or not isinstance(said, (str, int)) or isinstance(said, int) and str(said) not in self._operations:
+            raise Refused(f"line {line}: its operation is {short(said)}, which says nothing here: let a word name it, or say what it is by "
+                          '"operations" of a mapping file')
+        word = plain(str(said))
+        if word in OF_STACKS and word not in self._operations:
+            raise Refused(f"line {line}: {said} is an operation of a queue or of a stack: say --model fifo-queue or --model unordered-queue if it "
+                          "is a queue's; a stack is not judged")
+        found = self._words[said] = self._operations.get(word, str(said).lstrip(":"))
+        return found
+
+    def _test_index(self, line: int, use: Use, fields: Fields) -> None:
+        index = fields[use.name]
+        if isinstance(index, int) and not self.of_operations:
+            if index <= self._last_index:
+                raise Refused(f"line {line}: {shown(use.name)} goes from {self._last_index} to {index}: the events are out of order, or of two "
+                              f"histories; say --ignore {shown(use.name)} if it does not number them")
+            self._last_index = index
+
+    # --- Times ---
+
+    def _times(self, line: int, shape: Shape, fields: Fields, kind: Optional[str], call: "Tuple[Optional[Use], Any]",
+               ends: "Tuple[Optional[Use], Any]") -> Tuple[Optional[Time], Optional[Time], Optional[Time]]:
+        """The time of an event, and those of the call and the return of an operation."""
+        clock, uses = self.clock, shape.uses
+        if not self.of_operations:
+            use, field = self._one(line, "time", uses, fields)
+            if use is None:
+                use, field = call if kind == "invoke" else ends
+            return (None if use is None else clock.time(line, field, use.slot.unit)), None, None
+        for other in uses.get("time", ()):
+            self.shapes.unused(line, other.name, None)
+        durations = uses.get("duration", ())
+        has_both = call[1] not in (MISSING, None) and ends[1] not in (MISSING, None)
+        if self._by_duration is None and (has_both or durations):
+            self._by_duration = not has_both
+            clock.needs_unit = clock.needs_unit or self._by_duration
+        at = None if call[0] is None else clock.time(line, call[1], call[0].slot.unit)
+        end_at = None if ends[0] is None else clock.end(line, ends[1], ends[0].slot.unit)
+        if self._by_duration and has_both:
+            raise Refused(f"line {line}: this operation has a call and a return, and those before it have durations: say --ignore for one of the "
+                          "three")
+        for use in durations:
+            if not self._by_duration or at is None and end_at is None:
+                self.shapes.unused(line, use.name, None)
+            elif fields[use.name] is not None:
+                span = clock.span(line, fields[use.name], use.slot.unit)
+                at, end_at = (at, at + span) if at is not None else ((end_at or 0) - span, end_at)
+        return None, at, end_at
+
+    def refuse_bare(self) -> None:
+        """Refuses rows that all tell of no operation."""
+        raise Refused(f"no row names a client, an operation, a key or a value; {_listed(self.shapes.names())}")
+
+    def refuse_no_kind(self, told: Told) -> None:
+        """Refuses an event without a type."""
+        raise Refused(f"line {told.line}: this event has no type (invoke, ok, fail or info), and no times of a call and a return; "
+                      f"{_listed(list(told.fields))}")
 
 
-def _fields(fields: Dict[str, Any]) -> Dict[str, Any]:
-    """The fields by what they mean."""
-    by_meaning: Dict[str, Tuple[int, Any]] = {}
-    for name, field in fields.items():
-        meaning = "value" if name in ("input", "request", "args") else MEANINGS.get(name)
-        if meaning is not None and (meaning not in by_meaning or RANKS.get(name, 99) < by_meaning[meaning][0]):
-            by_meaning[meaning] = (RANKS.get(name, 99), field)
-    return {meaning: field for meaning, (_, field) in by_meaning.items()}
+def _listed(names: List[str]) -> str:
+    """The fields that were seen, and those that are known."""
+    seen = "its columns have no names" if "1" in names else f"its fields are {', '.join(map(shown, names))}"
+    return f"{seen}. Say what they are, as --map {shown(names[0]) if names else 'FIELD'}=key, or in a --mapping FILE. {allowed()}"
 
 
-def _word(field: Any) -> str:
-    return field.lower().translate({ord(c): None for c in "_- :"}) if isinstance(field, str) else ""
-
-
-def _name_and_kind(row: Row, fields: Dict[str, Any], is_operation: bool) -> Tuple[Optional[str], Optional[str]]:
-    """The operation, and of an event its type. What no object has keeps its name, and is refused by it later."""
-    named_f, kind = fields.get("f"), fields.get("type")
-    if named_f is None and (is_operation or _word(kind) not in TYPES) and isinstance(kind, str):
-        named_f, kind = kind, None
-    if isinstance(kind, bool):  # Porcupine's events: a return is true
-        kind = "return" if kind else "call"
-    if named_f is not None and not isinstance(named_f, str):
-        raise Refused(f"line {row.line}: its operation is {json.dumps(named_f)[:60]}, which says nothing here: let a word name it")
-    if not is_operation and kind is not None and _word(kind) not in TYPES:
-        raise Refused(f"line {row.line}: its type is {json.dumps(kind)[:60]}, and none of invoke, ok, fail, info")
-    name = None if named_f is None else OPERATIONS.get(_word(named_f), named_f.lstrip(":"))
-    return name, None if is_operation else TYPES.get(_word(kind))
-
-
-def _value(row: Row, name: Optional[str], fields: Dict[str, Any]) -> Any:
-    if name == "cas" and "old" in fields and "new" in fields:
-        return [fields["old"], fields["new"]]
-    if name == "cas" and "old" in fields and "value" in fields:
-        return [fields["old"], fields["value"]]
-    return fields.get("value", MISSING)
-
-
-def _outcome(row: Row, name: Optional[str], fields: Dict[str, Any]) -> Optional[str]:
-    """How the operation ended, where the row says. An error leaves open whether it took place."""
-    if fields.get("unknown") is True:
-        return "info"
-    word = fields.get("outcome")
-    if word is not None:
-        outcome = TYPES.get(_word(word)) if isinstance(word, str) else None
-        if outcome in (None, "invoke"):
-            raise Refused(f"line {row.line}: its outcome is {json.dumps(word)[:60]}, and none of ok, fail, info")
-        return outcome
-    if fields.get("error"):
-        return "info"
-    ok = fields.get("ok")
-    if isinstance(ok, bool):
-        return "ok" if ok else "fail" if name in DEFINITE else "info"
-    return None
-
-
-def _error(fields: Dict[str, Any]) -> Optional[str]:
-    error = fields.get("error")
-    return None if not error else error if isinstance(error, str) else json.dumps(error, ensure_ascii=False)
-
-
-def _whole(field: Any) -> Optional[int]:
-    return field if isinstance(field, int) and not isinstance(field, bool) and 0 <= field < 1 << 63 else None
-
+NOTHING: "Tuple[Optional[Use], Any]" = (None, MISSING)

@@ -4,6 +4,7 @@ from __future__ import annotations
 from typing import Dict, Iterable, Optional, Tuple
 
 from .. import edn
+from ..from_jepsen.events import tuple_of
 
 LOOKED_AT = 200  # events of clients
 
@@ -65,5 +66,5 @@ def _is_several(value: Optional[edn.Value]) -> bool:
     if not isinstance(value, edn.Many) or not value.members:
         return False
     if value.opened == "{":
-        return True
+        return tuple_of(value) is None  # as jepsen.independent's, {:key k, :value v}
     return value.opened == "[" and all(isinstance(member, edn.Many) and member.opened == "[" for member in value.members)

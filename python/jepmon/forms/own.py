@@ -22,6 +22,7 @@ EVENT = re.compile(
     rf":value (?:\[([0-9]{{1,5}}) ({PART})\]|{DEEP})((?:,? :[a-z-]+ {DEEP})*)\}}\r?")
 NOTE = re.compile(r'#_\{(?:[^{}"\\]|"(?:[^"\\\n]|\\.)*")*\}[ \t\r]*')
 COMMAND = re.compile(r"\[:(?:(model) ([0-9]{1,5}) :([a-z-]+)|(budget) ([0-9]{1,5}) ([0-9]{1,6})|(rewind) ([0-9]{1,7})|verdict)\]\r?")
+COMMAND_LINE = re.compile(rf"^{COMMAND.pattern}$", re.M)
 INDEX = re.compile(r",? :index ([0-9]{1,10})(?![0-9])")
 FAULTS = frozenset({"partition", "heal", "pause", "resume", "crash", "restart", "lose-replies"})  # jepmon's own
 

@@ -1,26 +1,17 @@
 """A recorded history of whatever form, made into jepmon's own."""
 from __future__ import annotations
 
-import re
-from typing import List, Mapping, NamedTuple, Optional, Sequence
+from typing import Mapping, NamedTuple, Optional, Sequence
 
 from ..names import Names
 from ..notes import Fault
-from . import Refused, detect, edn_rows, faults, jepsen, logs, others, own, rows, rows_told
+from . import Refused, door, faults, jepsen, own
+from .account import Account
+from .door import Options, Translation
 from .files import Source
 from .own import Facts
-from .written import Written
 
-LINE = re.compile(r"\bline ([0-9]+)\b")
-NO_FILE: Sequence[int] = ()
-
-
-class Options(NamedTuple):
-    """What is said of the history."""
-
-    key: Optional[str] = None  # the key of a history without keys
-    nil_is_absent: bool = False
-    is_set: bool = False  # that it is to be judged as a set, whatever sort of one it seems to be
+__all__ = ["Options", "Recorded", "of_own", "of_translation", "recorded"]
 
 
 class Recorded(NamedTuple):
@@ -29,6 +20,7 @@ class Recorded(NamedTuple):
     form: str  # what it was, in words
     text: str  # events alone, and what check passes over
     facts: Facts
+    account: Account  # what became of each line of the input, and what was guessed
     possible: Mapping[int, Sequence[str]] = {}  # the models that a key may have, where that is not seen in its events
     stated: Mapping[int, str] = {}  # the models of keys that the history itself states, and their budgets
     budgets: Mapping[int, int] = {}
@@ -36,73 +28,43 @@ class Recorded(NamedTuple):
     value_names: Mapping[int, str] = {}
     notes: Sequence[str] = ()  # what is to be told of how it came about
     faults: Sequence[Fault] = ()
-    before: str = ""  # the text in Jepsen's form that it was made from
-    lines: Sequence[int] = ()  # the line of each event in that text, or in the file of jepmon's own form; 0 where it has none
-    file_lines: Sequence[int] = ()  # the line in the file of each line of that text, where it is not the file's own
+    translation: Optional[Translation] = None  # what it was made from
+    begun: int = 0  # events that come before the history's own
+    lines: Sequence[int] = ()  # the line of each event in the file; 0 where it has none
     is_own: bool = False
     has_commands: bool = False  # so that its text is not that of the file
 
     def line(self, index: int) -> int:
         """The line in the file of an event; 0 where it has none."""
-        line = self.lines[index]
-        return self.file_lines[line - 1] if line and self.file_lines else line
+        return self.lines[index]
 
 
 def recorded(source: Source, options: Options) -> Recorded:
     """The history that was found, in jepmon's own form."""
-    form = detect.form_of(source.text)
-    if form == detect.NOTHING:
-        raise Refused("there is no event in it: nothing was judged")
-    if form == detect.EDN and options.key is None and not options.nil_is_absent:
-        found = own.read(source.text)
-        if found is not None and found.facts.events and own.concurrency_of(found.facts) is not None:
-            names = Names.read(source.text) if "; " in source.text else Names()
-            return Recorded("jepmon's own form", found.text, found.facts, {}, found.models, found.budgets, names.keys, names.values,
-                            faults=faults.of_text(found.text), lines=found.facts.lines, is_own=True,
-                            has_commands=found.has_commands)
-    if form == detect.EDN:
-        return _edn(source.text, options)
-    if form == detect.LOG:
-        return _from_written("a log, an operation a line", Written(*logs.turned(source.text)), options)
-    of_rows = rows.of_json if form == detect.JSON else rows.of_csv
-    return _from_written(form, rows_told.written(of_rows(source.text)), options)
+    form = door.form_of(source, options)
+    found = of_own(source) if form == door.OWN else None
+    if found is not None:
+        return found
+    return of_translation(door.translated(source, door.JEPSEN if form == door.OWN else form, options))
 
 
-def _edn(text: str, options: Options) -> Recorded:
-    reason = others.named(text, options.is_set)
-    if reason is not None:
-        raise Refused(reason)
-    written = edn_rows.written(text)
-    if written is not None:
-        return _from_written("EDN with a key in each event", written, options)
-    return _from_jepsen("Jepsen's form", text, options, [], NO_FILE)
+def of_own(source: Source) -> Optional[Recorded]:
+    """A history in jepmon's own form; None if it is none that the program takes."""
+    found = own.read(source.text)
+    if found is None or not found.facts.events or own.concurrency_of(found.facts) is None:
+        return None
+    names = Names.read(source.text) if "; " in source.text else Names()
+    return Recorded(door.OWN, found.text, found.facts, Account(), {}, found.models, found.budgets, names.keys, names.values,
+                    faults=faults.of_text(found.text), lines=found.facts.lines, is_own=True, has_commands=found.has_commands)
 
 
-def _from_written(form: str, written: Written, options: Options) -> Recorded:
-    options = options._replace(nil_is_absent=options.nil_is_absent or written.nil_is_absent)
-    reason = others.named(written.text, options.is_set)
-    if reason is not None:
-        raise Refused(_with_lines(reason, written.lines))
-    return _from_jepsen(form, written.text, options, written.notes, written.lines)
-
-
-def _from_jepsen(form: str, text: str, options: Options, notes: List[str], file_lines: Sequence[int]) -> Recorded:
-    try:
-        made = jepsen.turned(text, options.key, options.nil_is_absent)
-    except Refused as refusal:
-        raise type(refusal)(_with_lines(str(refusal), file_lines)) from refusal
-    if file_lines:
-        made = made._replace(text=jepsen.with_lines(made.text, made.lines, file_lines))
-    found = own.read(made.text)
+def of_translation(made: Translation) -> Recorded:
+    """A history of another form."""
+    turned = made.turned(in_shards=False)
+    text = turned.text()
+    found = own.read(text)
     if found is None:
         raise Refused("a fault of this program: what it made of the history is not in jepmon's form")
-    return Recorded(form, made.text, found.facts, made.models, key_names=made.key_names, value_names=made.value_names,
-                    notes=notes + made.notes, faults=made.faults + faults.of_text(made.text), before=text, lines=made.lines,
-                    file_lines=file_lines)
-
-
-def _with_lines(reason: str, file_lines: Sequence[int]) -> str:
-    """The reason, with lines of the file in place of those of what was made of it."""
-    if not file_lines:
-        return reason
-    return LINE.sub(lambda found: f"line {file_lines[min(int(found.group(1)), len(file_lines)) - 1]}", reason)
+    return Recorded(made.form, text, found.facts, made.account, turned.models, key_names=turned.names.keys, value_names=turned.names.values,
+                    notes=[*made.notes, *jepsen.notes_of(turned)], lines=made.lines(turned.begun), translation=made, begun=turned.begun,
+                    faults=faults.of_nemesis(turned.history.nemesis, turned.begun) + faults.of_text(text))

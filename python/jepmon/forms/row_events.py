@@ -4,73 +4,86 @@ from __future__ import annotations
 from typing import Any, Dict, List, Optional, Tuple
 
 from . import Refused
-from .meaning import MISSING, Told
+from .account import ORDER, Account
+from .answers import answered, completed
+from .clock import Time
+from .mapping import LINES, Mapping
+from .meaning import ANSWERED, MISSING, Reader, Told
+from .order import Blocks
+from .unfinished import Unfinished
 from .written import Writer, element, value_of, word
 
 NEMESIS = "nemesis"
-ANSWERED = ("read", "dequeue")
+
+
+class TimesGoBack(Exception):
+    """The events do not stand in the order of their times."""
+
+    def __init__(self, line: int) -> None:
+        super().__init__(line)
+        self.line = line
 
 
 class Events:
     """Writes events as they come. Clients that are no numbers get numbers at first sight."""
 
-    def __init__(self, writer: Writer) -> None:
-        self._writer = writer
+    def __init__(self, writer: Writer, reader: Reader, account: Account, mapping: Mapping) -> None:
+        self._writer, self._reader, self._account, self._order = writer, reader, account, mapping.order
+        self._unfinished = Unfinished(account, mapping.unfinished)
         self._are_numbers: Optional[bool] = None  # whether clients are numbers, as the first one says
         self._clients: Dict[Any, int] = {}
         self._opened: Dict[str, Told] = {}  # the invocation of each process
-        self._latest, self._back, self._first_back = -1, 0, 0  # the latest time, how often times went back, and the first such line
+        self._latest: Optional[Time] = None
+        self._latest_client: Any = None
+        self._ties = self._timeless = 0  # events with the time of the one before, of another client; events without a time
+        self._first_tie = 0
+        self._blocks = Blocks()
 
     def take(self, told: Told) -> None:
         """Writes the event that a row tells."""
         self._test_time(told)
-        if isinstance(told.client, str) and told.client.lstrip(":") == NEMESIS:
-            name = told.name or "fault"
-            self._writer.event(told.line, "info", ":nemesis", word(told.line, name), element(_known(told.value)), told.time)
+        if is_nemesis(told):
+            self._writer.event(told.line, "info", ":nemesis", word(told.line, told.name or "fault"), value_of(MISSING, told.value), told.time)
             return
-        kind = self._kind(told)
+        kind = kind_of(told, self._reader)
         process = self._process(told)
-        name, key, value = self._parts(told, kind, self._opened.pop(process, None))
+        self._blocks.take(process)
+        invoked = self._opened.pop(process, None)
+        kind = completed(told, kind, told.name or (invoked.name if invoked else None), self._writer.counts)
         if kind == "invoke":
+            if invoked is not None:
+                self._unfinished.leave(invoked, told)
+                name, key, value = parts(invoked, "invoke", None)
+                self._writer.event(invoked.line, "info", process, word(invoked.line, name), value_of(key, value))
             self._opened[process] = told
+        elif invoked is not None:
+            self._unfinished.test(invoked, told)
+        name, key, value = parts(told, kind, invoked)
         error = told.error if kind != "invoke" else None
         self._writer.event(told.line, kind, process, word(told.line, name), value_of(key, value), told.time, error)
 
     def _test_time(self, told: Told) -> None:
-        if told.time is not None and told.time < self._latest:
-            self._back += 1
-            self._first_back = self._first_back or told.line
-        self._latest = max(self._latest, told.time or 0)
-
-    def _kind(self, told: Told) -> str:
-        kind = told.kind or told.outcome
-        if kind is None:
-            raise Refused(f"line {told.line}: this event has no type: invoke, ok, fail or info")
-        if kind == "ok" and told.outcome is not None and told.outcome != "ok":
-            self._writer.counts[f"completions that say of themselves that they are no ok, as :{told.outcome}"] += 1
-            return told.outcome
-        return kind
-
-    def _parts(self, told: Told, kind: str, invoked: Optional[Told]) -> Tuple[str, Any, Any]:
-        """The operation, the key and the part. What a completion leaves out is that of its invocation."""
-        name, key, value = told.name, told.key, told.value
-        if kind != "invoke" and invoked is not None:
-            name = name or invoked.name
-            key = invoked.key if key is MISSING else key
-            if name in ANSWERED and told.answer is not MISSING:
-                value = told.answer
-            elif name not in ANSWERED and value in (MISSING, None):
-                value = invoked.value
-        if name is None:
-            raise Refused(f"line {told.line}: this event has no operation, as read or write")
-        return name, key, value
+        if told.time is None:
+            self._timeless += 1
+            return
+        if self._latest is not None and told.time <= self._latest and self._order != LINES:
+            if told.time < self._latest:
+                raise TimesGoBack(told.line)
+            if told.client != self._latest_client:
+                self._ties += 1
+                self._first_tie = self._first_tie or told.line
+        self._latest, self._latest_client = told.time, told.client
 
     def _process(self, told: Told) -> str:
         """The process of the event's client."""
         client = told.client
         is_number = isinstance(client, int) and not isinstance(client, bool)
+        if client is MISSING and told.id is not MISSING:
+            raise Refused(f"line {told.line}: this event has no client, and its id tells of one operation: say --map "
+                          "FIELD=client for the field that names the client")
         if not is_number and not isinstance(client, str):
-            raise Refused(f"line {told.line}: its process is {element(_known(client))[:60]}, and neither a number nor a name")
+            raise Refused(f"line {told.line}: its process is {element(_known(client))[:60]}, and neither a number nor a name; say --map "
+                          "FIELD=client for the field that names the client")
         if self._are_numbers is None:
             self._are_numbers = is_number
         if not self._are_numbers:
@@ -80,9 +93,43 @@ class Events:
         return str(client)
 
     def notes(self) -> List[str]:
-        """What is to be told: the clients that got numbers, and times that go back."""
-        back = [f"times go back {self._back} times, first in line {self._first_back}: events are taken in the order in which they stand"]
-        return (back if self._back else []) + [f"client {number} is {element(name)}" for name, number in self._clients.items()]
+        """What is to be told: the clients that got numbers, and what is guessed of the order."""
+        self._unfinished.close()
+        if self._order is None and self._ties:
+            self._account.guess(ORDER, f"events of several clients have one time, {self._ties} times, first in line {self._first_tie}: they are taken "
+                                "in the order in which they stand, and --order times takes them as open at once", "--order")
+        if self._order is None and self._latest is None:
+            self._blocks.close(self._account)
+        return [f"client {number} is {element(name)}" for name, number in self._clients.items()]
+
+
+def is_nemesis(told: Told) -> bool:
+    return isinstance(told.client, str) and told.client.lstrip(":") == NEMESIS
+
+
+def kind_of(told: Told, reader: Reader) -> str:
+    """The type of an event. One that is ok, and says of itself that it is not, is no ok."""
+    kind = told.kind or told.outcome
+    if kind is None:
+        reader.refuse_no_kind(told)
+    return kind or ""
+
+
+def parts(told: Told, kind: str, invoked: Optional[Told]) -> Tuple[str, Any, Any]:
+    """The operation, the key and the part. What a completion leaves out is that of its invocation."""
+    name, key, value = told.name, told.key, told.value
+    if kind != "invoke" and invoked is not None:
+        name = name or invoked.name
+        key = invoked.key if key is MISSING else key
+        if name in ANSWERED and told.answer is not MISSING:
+            value = told.answer
+        elif name not in ANSWERED and value in (MISSING, None):
+            value = invoked.value
+    elif name in ANSWERED and value == "":  # Go prints an empty text where there is none
+        value = MISSING
+    if name is None:
+        raise Refused(f"line {told.line}: this event has no operation, as read or write; say --map FIELD=op for the field that names it")
+    return name, key, value
 
 
 def _known(value: Any) -> Any:

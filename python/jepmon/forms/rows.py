@@ -1,129 +1,303 @@
 """Rows of JSON and CSV: objects with fields, each with its line in the file.
 
-JSON: one object a line, objects over several lines, one array of objects, or one object whose only list of objects is the history.
-CSV: a line of column names, then a row a line; a cell that is a number, true, false, null or a JSON list is that, an empty one is
-null, and any other is text.
+JSON: one object a line, objects over several lines, one array of objects, one object whose only list of objects is the history, or spans
+as OTLP has them. CSV: a line of column names, then a row a line; without names the columns are 1, 2, 3, ... A cell that is a number,
+true, false, null or a JSON list is that, an empty one is null, and any other is text.
 """
 from __future__ import annotations
 
 import csv
-import functools
-import io
 import json
 import re
-from typing import Any, Dict, Iterator, List, NamedTuple, Optional
+from typing import Any, Dict, Iterable, Iterator, List, NamedTuple, Optional, Tuple
 
-from . import Refused
+from . import Refused, spans
+from .account import Account
+from .mapping import Mapping
+from .vocabulary import plain
 
-SPACE = re.compile(r"[\s,]*")
+SPACE = re.compile(r"(?:[\s,]+|(?:#|//)[^\n]*)*")  # also comments
+COMMENT = re.compile(r"\n[ \t]*(?:#|//)")
 CELL = re.compile(r"-?[0-9]+(\.[0-9]+)?([eE][+-]?[0-9]+)?|true|false|null|[\[{].*[\]}]", re.S)
-ABSENT = ("", "nil", "None", "NULL")  # cells that say nothing
-PLAIN = str.maketrans("", "", "_-. :")  # what the names of fields are compared without
+DATA = re.compile(r"-?[0-9]+([.:T ,-][0-9TZ:. ,-]*)?")  # a cell that is no name of a column
+COMMENTS = re.compile(r"(?:\s*#[ #!][^\n]*\n)+")  # before the first row
+BLANK, BRACKETS, HEADING = "blank", "brackets alone", "the heading"
+OF_A_ROW = {"f", "op", "process", "client", "clientid"}  # an object with a field of these is a row
 
 
 class Row(NamedTuple):
-    """An object: its line in the file, and its fields by their names in small letters, without _ and -."""
+    """An object: its line in the file, and its fields."""
 
     line: int
     fields: Dict[str, Any]
 
 
-def of_json(text: str) -> Iterator[Row]:
-    """The objects of a JSON text."""
-    decoder = json.JSONDecoder()
-    place = SPACE.match(text).end()  # type: ignore[union-attr]
-    lines = _Lines(text)
-    in_array = text[place:place + 1] == "["
+# --- JSON ---
+
+
+def of_json(texts: Iterable[str], mapping: Mapping, account: Account) -> Iterator[Row]:
+    """The objects of a JSON text, which comes in pieces of whole lines."""
+    text = _Pieces(texts)
+    decoder = json.JSONDecoder(object_pairs_hook=_object)
+    text.pass_gap()
+    in_array = text.begins("[")
+    gap = BRACKETS if in_array else BLANK
     if in_array:
-        place = SPACE.match(text, place + 1).end()  # type: ignore[union-attr]
-    while place < len(text) and not (in_array and text[place] == "]"):
-        line = lines.at(place)
-        value, place = _decoded(decoder, text, place, line)
-        yield from _rows(value, line)
-        place = SPACE.match(text, place).end()  # type: ignore[union-attr]
-    if in_array and place == len(text):
-        raise Refused(f"line {lines.at(place)}: the text ends within the array: was the file cut off?")
-    if in_array and text[place + 1:].strip():
-        raise Refused(f"line {lines.at(place)}: more follows the array that has the history")
+        text.at += 1
+        text.pass_gap()
+    while text.more() and not (in_array and text.begins("]")):
+        line, begin = text.line(), text.at
+        account.skip_to(line, gap, text.comments)
+        value, begin = _decoded(decoder, text)
+        account.took(line, text.line())
+        if mapping.rows is None and _is_plain(value):
+            yield Row(line, value)
+        else:
+            yield from _rows(decoder, value, line, (text.text, begin, text.at), mapping, account)
+        gap, text.comments = BLANK, 0
+        text.pass_gap()
+    if in_array and not text.more():
+        raise Refused(f"line {text.line()}: the text ends within the array: was the file cut off?")
+    if in_array:
+        line = text.line()
+        text.at += 1
+        text.pass_gap()
+        if text.more():
+            raise Refused(f"line {line}: more follows the array that has the history")
+    account.skip_to(text.lines() + 1, BRACKETS if in_array else BLANK, text.comments)
 
 
-class _Lines:
-    """The lines of places that are asked for in their order."""
+class _Pieces:
+    """A text in pieces, of which as much is held as is not read yet."""
 
-    def __init__(self, text: str) -> None:
-        self._text, self._place, self._line = text, 0, 1
+    def __init__(self, texts: Iterable[str]) -> None:
+        self._texts = iter(texts)
+        self.text, self.at = "", 0
+        self._line, self._counted = 1, 0  # the line of a place in the text
+        self._last = ""
+        self.comments = 0  # in the gap that was passed last
 
-    def at(self, place: int) -> int:
-        self._line += self._text.count("\n", self._place, place)
-        self._place = place
+    def add(self) -> bool:
+        """Adds the next piece; whether there is one."""
+        piece = next(self._texts, None)
+        if piece is None:
+            return False
+        self.line()
+        self.text, self.at, self._counted = self.text[self.at:] + piece, 0, 0
+        self._last = piece[-1:] or self._last
+        return True
+
+    def pass_gap(self) -> None:
+        """Goes on to what is neither white space, nor a comma, nor a comment; counts the comments."""
+        while True:
+            before, self.at = self.at, SPACE.match(self.text, self.at).end()  # type: ignore[union-attr]
+            if self.at - before > 1:
+                self.comments += len(COMMENT.findall(self.text[before:self.at] if before else "\n" + self.text[:self.at]))
+            if self.at < len(self.text) or not self.add():
+                return
+
+    def more(self) -> bool:
+        return self.at < len(self.text)
+
+    def begins(self, with_this: str) -> bool:
+        return self.text.startswith(with_this, self.at)
+
+    def line(self) -> int:
+        """The line here. It does not go back."""
+        if self.at > self._counted:
+            self._line += self.text.count("\n", self._counted, self.at)
+            self._counted = self.at
         return self._line
 
-
-def _decoded(decoder: json.JSONDecoder, text: str, place: int, line: int) -> Any:
-    try:
-        return decoder.raw_decode(text, place)
-    except json.JSONDecodeError as fault:
-        if fault.pos >= len(text.rstrip()) or fault.msg.startswith("Unterminated"):
-            raise Refused(f"line {line}: the text ends within the object that begins here: was the file cut off?") from fault
-        raise Refused(f"line {fault.lineno}: this is no JSON: {fault.msg}: {text[fault.pos:fault.pos + 40]!r}") from fault
-    except RecursionError as fault:
-        raise Refused(f"line {line}: too many lists or objects stand in one another") from fault
-    except ValueError as fault:  # a number of thousands of digits
-        raise Refused(f"line {line}: a number here has too many digits") from fault
+    def lines(self) -> int:
+        """How many lines the text has, at its end."""
+        return self.line() - (self._last == "\n" or self._last == "")
 
 
-def _rows(value: Any, line: int) -> Iterator[Row]:
-    """The rows of a value at the top: one, or those of the list in it that has the history."""
+def _object(pairs: "List[Tuple[str, Any]]") -> Dict[str, Any]:
+    """An object, of which no member stands there twice."""
+    made = dict(pairs)
+    if len(made) < len(pairs):
+        names = [name for name, _ in pairs]
+        raise _Twice(next(name for name in names if names.count(name) > 1))
+    return made
+
+
+class _Twice(Exception):
+    """An object has a member twice."""
+
+
+def _decoded(decoder: json.JSONDecoder, text: _Pieces) -> "Tuple[Any, int]":
+    """The value here, and where it begins in the text that is held."""
+    while True:
+        begin = text.at
+        try:
+            value, text.at = decoder.raw_decode(text.text, begin)
+            return value, begin
+        except json.JSONDecodeError as fault:
+            is_cut = fault.pos >= len(text.text.rstrip()) or fault.msg.startswith("Unterminated")
+            if is_cut and text.add():
+                continue
+            line = text.line()
+            if is_cut:
+                raise Refused(f"line {line}: the text ends within the object that begins here: was the file cut off?") from fault
+            line += text.text.count("\n", begin, fault.pos)
+            raise Refused(f"line {line}: this is no JSON: {fault.msg}: {text.text[fault.pos:fault.pos + 40]!r}") from fault
+        except _Twice as fault:
+            raise Refused(f"line {text.line()}: an object has the member {json.dumps(fault.args[0])} twice") from fault
+        except RecursionError as fault:
+            raise Refused(f"line {text.line()}: too many lists or objects stand in one another") from fault
+        except ValueError as fault:  # a number of thousands of digits
+            raise Refused(f"line {text.line()}: a number here has too many digits") from fault
+
+
+def _is_plain(value: Any) -> bool:
+    """Whether a value at the top is a row."""
+    if type(value) is not dict:
+        return False
+    return not any(type(field) is list and field and type(field[0]) is dict for field in value.values())
+
+
+def _rows(decoder: json.JSONDecoder, value: Any, line: int, place: Tuple[str, int, int], mapping: Mapping, account: Account) -> Iterator[Row]:
+    """The rows of a value at the top: one, or those of the lists in it that have the history."""
     if not isinstance(value, dict):
         raise Refused(f"line {line}: this is no object, so no event: {json.dumps(value)[:60]}")
-    lists = [field for field in value.values() if _is_history(field)]
-    if len(lists) == 1 and not set(map(plain, value)) & {"f", "op", "process", "clientid"}:
-        for member in lists[0]:
-            yield Row(line, named(member))
-    else:
-        yield Row(line, named(value))
+    path = mapping.rows or (spans.PATH if spans.PATH.split("[")[0] in value else None)
+    if path is not None:
+        yield from (Row(line, spans.row(member)) for member in spans.members(line, value, path))
+        return
+    lists = [name for name, field in value.items() if _is_history(field)]
+    if len(lists) != 1 or OF_A_ROW & set(map(plain, value)):
+        yield Row(line, value)
+        return
+    for name in value:
+        if name != lists[0]:
+            account.field(name)
+    members = value[lists[0]]
+    yield from map(Row, _lines_of_members(decoder, lists[0], members, line, place), members)
 
 
 def _is_history(field: Any) -> bool:
     return isinstance(field, list) and bool(field) and all(isinstance(member, dict) for member in field)
 
 
-@functools.lru_cache(maxsize=4096)
-def plain(name: str) -> str:
-    return name.translate(PLAIN).lower()
+def _lines_of_members(decoder: json.JSONDecoder, name: str, members: List[Any], line: int, place: Tuple[str, int, int]) -> List[int]:
+    """The line of each member of a list of this name in an object."""
+    text, begin, end = place
+    for found in re.compile(rf"{re.escape(json.dumps(name))}\s*:\s*\[\s*").finditer(text, begin, end):
+        at, lines, now, last = found.end(), [], line, begin
+        try:
+            for member in members:
+                now, last = now + text.count("\n", last, at), at
+                lines.append(now)
+                value, at = decoder.raw_decode(text, at)
+                if value != member:
+                    break
+                at = SPACE.match(text, at).end()  # type: ignore[union-attr]
+            else:
+                return lines
+        except ValueError:
+            continue
+    return [line] * len(members)
 
 
-def named(fields: Dict[str, Any]) -> Dict[str, Any]:
-    """The fields by the names that they are compared by."""
-    return {plain(name): value for name, value in fields.items()}
+# --- CSV ---
 
 
-def of_csv(text: str) -> Iterator[Row]:
-    """The rows of a CSV text."""
-    front = text[:10_000].lstrip("\r\n").split("\n", 1)[0]
-    reader = csv.reader(io.StringIO(text, newline=""), delimiter=max(",;\t", key=front.count), strict=True)
-    columns: Optional[List[str]] = None
+def of_csv(texts: Iterable[str], mapping: Mapping, account: Account) -> Iterator[Row]:
+    """The rows of a CSV text, which comes in pieces of whole lines."""
+    lines = Lines(texts, '"')
+    first_line = lines.front()
+    reader = csv.reader(lines, delimiter=delimiter(first_line), strict=True, skipinitialspace=True)
+    columns: Optional[List[str]] = list(mapping.columns) if mapping.columns else None
+    first = 1
     try:
         for cells in reader:
-            line = reader.line_num
+            line, first = first, reader.line_num + 1
+            if not any(cells) or columns is None and cells[0].startswith("#"):
+                account.skip("comment" if any(cells) else BLANK, reader.line_num + 1 - line)
+                continue
             if columns is None:
-                columns = [plain(cell) for cell in cells] or None
-            elif any(cells):
-                if len(cells) != len(columns):
-                    raise Refused(f"line {line}: it has {len(cells)} cells for {len(columns)} columns: was the file cut off?")
-                yield Row(line, {column: cell_value(cell) for column, cell in zip(columns, cells)})
+                columns = _columns(line, cells)
+                if columns[0] != "1":
+                    account.skip(HEADING, reader.line_num + 1 - line)
+                    continue
+            if len(cells) != len(columns):
+                raise Refused(f"line {line}: it has {len(cells)} cells for {len(columns)} columns: was the file cut off?")
+            account.took(line, reader.line_num)
+            yield Row(line, {column: cell_value(cell, mapping) for column, cell in zip(columns, cells)})
     except csv.Error as fault:
         raise Refused(f"line {reader.line_num}: this is no CSV: {fault}") from fault
 
 
-def cell_value(cell: str) -> Any:
-    """What a cell says."""
-    cell = cell.strip()
-    if cell in ABSENT:
+class Lines:
+    """The lines of a text that comes in pieces of whole lines, each with its end. Refuses a last one that may be cut off: without a line
+    feed, but for one that ends so."""
+
+    def __init__(self, texts: Iterable[str], but_for: str = "\r") -> None:
+        self._texts, self._but_for = iter(texts), but_for
+        self._held: List[str] = []  # lines, the next one last
+        self._count = 0
+
+    def __iter__(self) -> Iterator[str]:
+        return self
+
+    def __next__(self) -> str:
+        if not self._held:
+            self._take()
+        self._count += 1
+        return self._held.pop()
+
+    def front(self) -> str:
+        """The first line that is not blank, as far as it is held."""
+        if not self._held:
+            try:
+                self._take()
+            except StopIteration:
+                return ""
+        return next((line.rstrip("\r\n") for line in reversed(self._held) if line.strip("\r\n") and not line.startswith("#")), "")
+
+    def _take(self) -> None:
+        piece = next(self._texts)
+        lines = [line + "\n" for line in piece.split("\n")]
+        last = lines.pop()[:-1]
+        if last:
+            lines.append(last)
+            if not last.endswith(("\r", self._but_for)):
+                raise Refused(f"line {self._count + len(lines)}: the last line has no line feed: was the file cut off? If it was not, add one")
+        self._held = lines[::-1]
+
+
+def delimiter(first_line: str) -> str:
+    return max(",;\t", key=first_line.count)
+
+
+def has_heading(cells: List[str]) -> bool:
+    """Whether the first line of CSV names the columns: no cell is a number or a date."""
+    return not any(DATA.fullmatch(cell.strip()) for cell in cells)
+
+
+def _columns(line: int, cells: List[str]) -> List[str]:
+    """The names of the columns; numbers from 1 on if the line does not name them."""
+    if not has_heading(cells):
+        return [str(number + 1) for number in range(len(cells))]
+    names = [cell.strip() for cell in cells]
+    twice = next((name for name in names if [plain(other) for other in names].count(plain(name)) > 1), None)
+    if twice is not None:
+        raise Refused(f"line {line}: two columns are called {twice!r}")
+    return names
+
+
+def cell_value(cell: str, mapping: Mapping) -> Any:
+    """What a cell says. Blanks within quotes belong to a text."""
+    if cell.isdigit() and cell.isascii() and (cell[0] != "0" or cell == "0"):
+        return int(cell)
+    stripped = cell.strip()
+    if stripped in mapping.absent:
         return None
-    if CELL.fullmatch(cell):
+    if CELL.fullmatch(stripped):
         try:
-            return json.loads(cell)
+            return json.loads(stripped)
         except (ValueError, RecursionError):
             return cell
     return cell

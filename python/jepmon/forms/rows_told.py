@@ -1,44 +1,116 @@
-"""Rows of JSON or CSV made into a history in Jepsen's form: all are events, or all are operations with times."""
+"""Rows of JSON, CSV or a log made into a history in Jepsen's form: all are events, or all are operations with times."""
 from __future__ import annotations
 
-from typing import Iterable, List, Optional
+import itertools
+from typing import Callable, Iterable, Iterator, NamedTuple
 
-from . import Refused, etcd, intervals
-from .clock import Clock
-from .meaning import told
-from .row_events import Events
+from ..from_jepsen import collect
+from . import etcd, intervals
+from .account import ORDER, Account
+from .clock import nanoseconds
+from .log_rows import OTHERS
+from .mapping import LINES, TIMES, Mapping
+from .meaning import Reader, Told
+from .pairs import Pairs
+from .row_events import Events, TimesGoBack
 from .rows import Row
+from .shapes import shown
 from .written import Writer, Written
 
-EVENTS = 1 << 20  # of a history at most
+Rows = Callable[[Account], Iterable[Row]]  # which may be read twice, each time with an account of its own
 
 
-def written(rows: Iterable[Row]) -> Written:
+class Asked(NamedTuple):
+    """What is said of the rows."""
+
+    mapping: Mapping = Mapping()
+    has_model: bool = False
+    of_events: collect.Asked = collect.Asked()  # the same of the events that are made of them
+
+
+def written(rows: Rows, account: Account, asked: Asked = Asked()) -> Written:
     """The history that the rows tell."""
-    writer, clock = Writer(), Clock()
-    events, made = Events(writer), []  # type: Events, List[intervals.Interval]
-    of_operations: Optional[bool] = None
-    is_etcd = False
-    for count, row in enumerate(rows):
-        if count > EVENTS:
-            raise Refused(f"line {row.line}: a history has {EVENTS} events at most")
-        if etcd.is_one(row):
-            is_etcd = True
-            turned = etcd.turned(row, writer)
-            if turned is None:
-                continue
-            row = turned
-        fact = told(row, clock)
-        if of_operations is None:
-            of_operations = fact.is_operation
-        if of_operations != fact.is_operation:
-            both = "an operation with times, and those before it are events" if fact.is_operation else (
-                "an event, and those before it are operations with times")
-            raise Refused(f"line {row.line}: this is {both}")
-        if of_operations:
-            made.append(intervals.of_told(fact, writer))
-        else:
-            events.take(fact)
-    if of_operations:
-        return intervals.written(made, writer, [], is_etcd)
-    return writer.written(events.notes())
+    part = Account()
+    try:
+        made = _Turning(rows, part, asked).written()
+    except TimesGoBack as back:
+        part = Account()
+        if asked.mapping.order is None:
+            part.guess(ORDER, f"times go back, first in line {back.line}: the events are taken in the order of their times, which have to be of one "
+                       "clock", "--order times")
+        made = _Turning(rows, part, asked).by_times(back.line)
+    account.add(part)
+    return made
+
+
+class _Turning:
+    """Turns the rows, once."""
+
+    def __init__(self, rows: Rows, account: Account, asked: Asked) -> None:
+        self._rows, self._account, self._mapping = rows, account, asked.mapping
+        collector = collect.Collector(asked.of_events._replace(order=LINES), account)
+        collector.history.is_of_rows = True
+        self._writer = Writer(collector)
+        self._reader = Reader(asked.mapping, account, asked.has_model)
+        self._is_etcd = False
+
+    def written(self) -> Written:
+        told = self._told()
+        first = next(told, None)
+        if first is None:
+            if self._account.skipped[OTHERS]:
+                self._reader.refuse_bare()
+            return self._writer.written([])
+        told = itertools.chain([first], told)
+        if self._reader.of_operations:
+            return self._of_operations(intervals.of_told(each, self._writer) for each in told)
+        if self._mapping.order == TIMES or self._mapping.skew is not None:
+            return self._of_events_by_times(told, 0)
+        events = Events(self._writer, self._reader, self._account, self._mapping)
+        for each in told:
+            events.take(each)
+        self._close()
+        return self._writer.written(events.notes())
+
+    def by_times(self, first_back: int) -> Written:
+        """The events in the order of their times, which go back in this line."""
+        return self._of_events_by_times(self._told(), first_back)
+
+    def _of_events_by_times(self, told: Iterable[Told], first_back: int) -> Written:
+        pairs = Pairs(self._writer, self._reader, self._account, self._mapping, first_back)
+        return self._of_operations(pairs.of(told), pairs.faults)
+
+    def _of_operations(self, told: Iterable[intervals.Interval], faults: Iterable[intervals.Fault] = ()) -> Written:
+        operations, notes = intervals.Operations(self._writer), []
+        skew = self._mapping.skew
+        for interval in told:
+            operations.take(interval, skew is not None)
+        operations.test(", ".join(map(shown, self._reader.shapes.names())))
+        self._close()
+        error = 0 if skew is None else nanoseconds(skew)
+        if skew is not None:
+            notes.append(f"each clock may be wrong by {skew}: {operations.lost(error)} orders of two operations of a key are not certain, and "
+                         "what is illegal by these alone is not seen")
+        elif operations.are_of_several():
+            self._account.guess(ORDER, "the times of all clients are of one clock, or of clocks that agree", "--skew 0ms")
+        operations.write(faults, error, self._reader.clock.coarsest())
+        return self._writer.written(notes, self._is_etcd)
+
+    def _close(self) -> None:
+        for name in self._reader.close():
+            self._account.field(name)
+
+    def _told(self) -> Iterator[Told]:
+        """What the rows tell."""
+        for row in self._rows(self._account):
+            if etcd.is_one(row):
+                self._is_etcd = True
+                turned = etcd.turned(row, self._writer)
+                if turned is None:
+                    continue
+                row = turned
+            told = self._reader.told(row)
+            if told is None:
+                self._account.drop(OTHERS)
+            else:
+                yield told

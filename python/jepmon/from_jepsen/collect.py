@@ -23,13 +23,18 @@ may have taken nothing, and whatever was linearizable with something taken is so
 from __future__ import annotations
 
 import itertools
-from typing import Dict, Iterable, Iterator, NoReturn, Optional, Tuple
+import re
+from typing import Any, Dict, Iterable, Iterator, List, Mapping, NamedTuple, NoReturn, Optional, Tuple
 
 from .. import edn, faults, kinds
 from ..edn import Many, Value, canonical, integer, shown, spelling
+from ..forms.account import Account
+from .clients import NEMESIS, Clients, is_name
 from .events import Event, Fault, History, Left, Row, is_pair, tuple_of
+from .order import Order, number_of
+from .outcomes import Outcomes
 from .plain import Plain, plain_of
-from .refusal import NoKey, Refusal, refuse
+from .refusal import NoKey, Refusal, Unpaired, refuse
 from .spool import Spool, event_of, row_of, value_of
 
 DRAIN = ":drain"
@@ -40,50 +45,116 @@ ANSWERED = frozenset(f":{name}" for name in kinds.ANSWERED)
 WITHOUT_PART = frozenset([f":{name}" for name in kinds.WITHOUT_PART] + [DRAIN])
 NATURAL = range(0, 1 << 63)  # processes, and indices
 MOST_KNOWN = 10_000  # values of events that are remembered
+GAP = "blank, comment or bracket"  # lines between events
+MOST_ROWS = 1_000  # events that are held
+OK_WITH_ERROR = re.compile(r"^(?=[^\n]*:type :ok\b)[^\n]*:error (?!nil\b|false\b)", re.M)
+
+
+Pair = Tuple[Optional[Value], Value]  # the key, if there is one, and the part
+
+
+class Counted:
+    """Pieces of a text, whose lines are counted as they go by."""
+
+    def __init__(self, pieces: Iterable[str]) -> None:
+        self._pieces = iter(pieces)
+        self._feeds, self._last = 0, "\n"
+
+    def __iter__(self) -> Iterator[str]:
+        return self
+
+    def __next__(self) -> str:
+        piece = next(self._pieces)
+        self._feeds += piece.count("\n")
+        self._last = piece[-1:] or self._last
+        return piece
+
+    @property
+    def lines(self) -> int:
+        """How many lines there were; the last one may lack its line feed."""
+        return self._feeds + (self._last != "\n")
+
+
+class Asked(NamedTuple):
+    """What is said of a history beside its text."""
+
+    key: Optional[str] = None  # of a history without keys: each value v becomes [key v]
+    nil_is_absent: bool = False  # nil is what a missing key answers, and no read that says nothing
+    order: Optional[str] = None  # by which events are taken: "lines", "index" or "times"; None: as they stand, or by what they say
+    outcomes: Mapping[str, str] = {}  # the type of what is an :ok and says that it is none, by "false" and "error"
+    skew: int = 0  # nanoseconds by which each clock may be wrong
 
 
 class Collector:
     """Goes through the elements of a history, and keeps what jepmon takes in jepmon's form."""
 
-    def __init__(self, lone_key: Optional[str], nil_is_absent: bool) -> None:
-        self.lone_key = None if lone_key is None else canonical(lone_key)
-        self.nil_is_absent = nil_is_absent
+    def __init__(self, asked: Asked, account: Account) -> None:
+        self.lone_key = None if asked.key is None else canonical(asked.key)
+        self.nil_is_absent = asked.nil_is_absent
+        self.account = account
+        self.order: Optional[Order] = None if asked.order else Order()
+        self.clients, self.outcomes = Clients(), Outcomes(asked.outcomes)
         self.open: Dict[int, Row] = {}
         self.history = History(Spool())
         self.known: Dict[Tuple[str, str, Value], Tuple[Value, Value]] = {}  # the key and part of values that came, by :type and :f
+        self.nil_fault: Optional[Refusal] = None  # the first write of nil
+        self.rows: List[Row] = []  # events that were told, and not kept yet
+        self.count = 0  # of events
+        self.beside: Any = None  # what the event said beside its value
 
     def collect(self, pieces: Iterable[str]) -> History:
         """The history of a text that comes in pieces."""
-        pieces = iter(pieces)
+        pieces = Counted(pieces)
         front = next(pieces, "")
         plain = plain_of(front, self.lone_key is None)
         elements = edn.Reader(itertools.chain((front,), pieces)).history(plain.find if plain is not None else None)
-        count = 0
         try:
             for element in elements:
                 if plain is not None and element.rows:
-                    count = self.take_run(element, plain, count)
+                    self.count = self.take_run(element, plain, self.count)
                 else:
-                    self.take(element, count)
-                    count += 1
+                    self.take(element, self.count)
+                    self.count += 1
         except NoKey:
             refuse_others(elements)
             raise
         except edn.Unreadable as fault:
             raise Refusal(str(fault)) from fault
+        self.close(pieces.lines)
+        return self.finished()
+
+    def finished(self) -> History:
+        """The history of the events that were taken."""
+        count = self.count
+        self.keep_rows()
+        self.history.nil_fault = self.nil_fault
         if count == 0:
             raise Refusal("there is no event in it: the file is empty")
         if not self.history.keys and self.history.drained:
             raise Refusal("its clients did nothing but drains by which nothing came out: there is nothing to judge")
         if not self.history.keys:
             raise Refusal(f"none of its {count} events is of a client: there is nothing to judge")
+        self.outcomes.account(self.account)
+        self.history.clients = self.clients.names
+        if self.order is not None and self.order.back:
+            self.history.notes[f"times go back by {self.order.most} at most, first in line {self.order.first}, while each :index rises, which is the "
+                               "order"] = self.order.back
         return self.history
+
+    def close(self, lines: int) -> None:
+        """Accounts for the lines of the text between its events."""
+        self.account.skip(GAP, lines - self.account.taken - sum(self.account.skipped.values()))
+        self.account.close(lines)
 
     def take_run(self, run: edn.Element, plain: Plain, count: int) -> int:
         """Takes events by what plain.py finds in them, where there is nothing else to be said of them; gives how many there were by then."""
+        if self.is_odd(run, plain):
+            for count, element in enumerate(run.each(), count):
+                self.take(element, count)
+            return count + 1
         opened, tell, rows = self.open, self.history.count, []
         for row in plain.events(run, self.lone_key, count):
-            kind, process, name, key, part, _, line = row
+            kind, process, name, key, part, _, line, _ = row
             invoked = opened.get(process)
             if kind == ":invoke":
                 fits = invoked is None and (part == "nil") == (name in WITHOUT_PART) and (type(part) is tuple) == (name == ":cas")
@@ -111,9 +182,73 @@ class Collector:
         self.history.events.extend(rows)
         return count + line - run.line + 1
 
+    def is_odd(self, run: edn.Element, plain: Plain) -> bool:
+        """Whether there is more to be said of events of a run than of which is told there: of their order, or of how they ended."""
+        if self.clients.are_named or ":error" in run.text and OK_WITH_ERROR.search(run.text):
+            return True
+        if self.order is not None and not self.order.take_run(*plain.order(run)):
+            return True
+        self.account.took(run.line, run.line + len(run.rows) - 1)
+        self.clients.has_numbers()
+        return False
+
+    def take_told(self, line: int, kind: str, process: int, name: str, value: Pair, beside: Any) -> None:
+        """Takes an event that was told by something else than EDN, with what else that said: its time, and an error."""
+        key, part = value
+        if key is None and self.lone_key is not None:
+            key = self.lone_key
+        is_pair = name == ":cas" and type(part) is Many and len(part.members) == 2
+        flat: Any = ("[", part.members) if is_pair else part  # type: ignore[union-attr]
+        invoked = self.open.get(process)
+        if type(key) is not str or type(part) is not str and not (is_pair and all(type(one) is str and one != "nil" for one in flat[1])):
+            fits = False
+        elif kind == ":invoke":
+            fits = invoked is None and name in TAKEN and (part == "nil") == (name in WITHOUT_PART) and is_pair == (name == ":cas") and name != DRAIN
+        elif invoked is None or invoked[2] != name or invoked[3] != key:
+            fits = False
+        elif kind == ":ok" and name in ANSWERED:
+            fits = part != "nil" or name == ":read"
+        else:
+            fits = flat == invoked[4]
+        if fits:
+            row = kind, process, name, key, flat, self.count, line, beside
+            if kind == ":invoke":
+                self.open[process] = row
+            else:
+                del self.open[process]
+            if self.history.is_plain and not all(map(is_plain, flat[1] if is_pair else (flat,))):
+                self.history.is_plain = False
+            self.history.count(row)
+            self.rows.append(row)
+            if len(self.rows) >= MOST_ROWS:
+                self.keep_rows()
+        else:
+            self.keep_rows()
+            self.beside = beside
+            given = part if value[0] is None else Many("[", (value[0], part))
+            self.take_event(line, process, {":type": kind, ":f": name, ":value": given}, self.count)
+            self.beside = None
+        self.count += 1
+
+    def take_fault(self, line: int, name: str, value: Value, time: int) -> None:
+        """Takes an event of a nemesis that was told by something else than EDN."""
+        self.keep_rows()
+        fields: Dict[str, Value] = {":process": ":nemesis", ":type": ":info", ":f": f":{name}", ":value": value, ":time": str(time)}
+        if faults.is_fault(fields):
+            self.history.events.append(Fault(f":f :{name}, :value {spelling(value)}", self.count))
+        else:
+            self.history.left_out[":nemesis"] += 1
+            self.history.nemesis.append(Left(len(self.history.events), f":{name}", value, time))
+        self.count += 1
+
+    def keep_rows(self) -> None:
+        if self.rows:
+            self.history.events.extend(self.rows)
+            self.rows = []
+
     def take_odd(self, row: Row) -> None:
         """Takes an event of a run of which there is more to be said."""
-        kind, process, name, key, part, index, line = row
+        kind, process, name, key, part, index, line, _ = row
         value = value_of(part)
         if self.lone_key is None:
             value = Many("[", (key, value))
@@ -127,11 +262,16 @@ class Collector:
         if fields is None:
             text = shown(element.value, 60)
             refuse(element.line, f"this is no map, so no event: {text} (is this Jepsen's history.edn?)")
-        stated, process = integer(fields.get(":index")), integer(fields.get(":process"))
+        stated, kind = integer(fields.get(":index")), fields.get(":type")
         index = stated if stated is not None and stated in NATURAL else count
-        if process is not None and process in NATURAL:
+        process = self.clients.number_of(fields.get(":process"), kind == ":invoke")
+        if process is not None and not (kind == ":info" and process in self.clients.names and process not in self.open):
+            if self.order is not None:
+                self.order.take(element.line, stated, number_of(fields.get(":time")))
+            self.account.took(element.line, element.last_line)
             self.take_event(element.line, process, fields, index)
         elif faults.is_fault(fields):
+            self.account.took(element.line, element.last_line)
             self.history.events.append(Fault(f":f {fields[':f']}, :value {spelling(fields[':value'])}", index))
         else:
             self.leave_out(element, fields)
@@ -139,11 +279,14 @@ class Collector:
     def leave_out(self, element: edn.Element, fields: Dict[str, Value]) -> None:
         """Leaves out the event of a process that is no client, as :nemesis."""
         process = fields.get(":process")
-        if not isinstance(process, str) or not (process.startswith(":") or process == "nil"):
-            wanted = "its :process is neither a number of 64 bits from 0 on nor a keyword as :nemesis"
+        if not isinstance(process, str) or not (is_name(process) or process in NEMESIS or process == "nil"):
+            wanted = "its :process is neither a number of 64 bits from 0 on nor a name"
             refuse(element.line, f"{wanted}: {shown(element.value)}")
+        if is_name(process) and fields.get(":type") in (":ok", ":fail"):
+            raise Unpaired(f"line {element.line}: {process} completes {shown(fields.get(':f', 'nil'))} and has invoked nothing: is the beginning missing?")
         self.history.left_out[process] += 1
-        if process == ":nemesis":
+        self.account.took_none(f"of {process}", element.line, element.last_line)
+        if process in NEMESIS:
             name, value = spelling(fields.get(":f", "nil")), fields.get(":value", "nil")
             self.history.nemesis.append(Left(len(self.history.events), name, value, integer(fields.get(":time")) or 0))
 
@@ -155,17 +298,20 @@ class Collector:
             refuse_operation(line, name)
         if kind == ":invoke":
             self.invoke(line, process, name, value, index)
-        else:
-            self.complete(line, kind, process, name, value, index)
+            return
+        if kind == ":ok" and fields.get(":error", "nil") not in ("nil", "false"):
+            kind = self.outcomes.of_error(line, name)
+        self.complete(line, kind, process, name, value, index)
 
     def invoke(self, line: int, process: int, name: str, value: Value, index: int) -> None:
         if process in self.open:
             began = event_of(self.open[process]).line
-            refuse(line, f"process {process} invokes {name}, and its operation of line {began} is not completed")
+            who = self.clients.shown(process)
+            raise Unpaired(f"line {line}: {who} invokes {name}, and its operation of line {began} is not completed")
         key, part = self.key_and_part(line, ":invoke", name, value)
         if name in WITHOUT_PART and part != "nil":
             self.history.notes[f":invoke of {name} with a value, which is left out"] += 1
-        event = Event(":invoke", process, name, key, "nil" if name in WITHOUT_PART else part, index, line)
+        event = Event(":invoke", process, name, key, "nil" if name in WITHOUT_PART else part, index, line, self.beside)
         self.open[process] = row_of(event)
         if name == DRAIN:
             self.history.drained.add(key)
@@ -190,10 +336,10 @@ class Collector:
         """A completion repeats its invocation, but for the answer of a read or a dequeue that took place."""
         opened = self.open.pop(process, None)
         if opened is None:
-            refuse(line, f"process {process} completes {name} and has invoked nothing: is the beginning missing?")
+            raise Unpaired(f"line {line}: {self.clients.shown(process)} completes {name} and has invoked nothing: is the beginning missing?")
         invoked = event_of(opened)
         if invoked.name != name:
-            refuse(line, f"process {process} completes {name}, and has invoked {invoked.name} at line {invoked.line}")
+            raise Unpaired(f"line {line}: {self.clients.shown(process)} completes {name}, and has invoked {invoked.name} at line {invoked.line}")
         if name == DRAIN:
             self.drain(line, kind, invoked, value, index)
             return
@@ -202,9 +348,18 @@ class Collector:
             part = self.answer(line, invoked, value)
             kind = self.answered(kind, name, part)
             part = invoked.part if kind == ":fail" else part
+        elif kind == ":ok" and self.part_of(value) == "false" != part:
+            kind = self.outcomes.of_false(line, name)
+        elif name in WITHOUT_PART and kind == ":ok" and self.part_of(value) not in ("nil", "true"):
+            self.history.notes[f"{kind} of {name} with a value, which is left out"] += 1
         elif name not in WITHOUT_PART and not self.repeats(invoked, value):
             self.history.notes[f"{kind} of {name} with another value than their invocation, whose value stands"] += 1
-        self.history.add(Event(kind, process, name, invoked.key, part, index, line))
+        self.history.add(Event(kind, process, name, invoked.key, part, index, line, self.beside))
+
+    def give_up(self, process: int) -> None:
+        """Ends the operation of a process of which nothing more is known."""
+        invoked = event_of(self.open.pop(process))
+        self.history.add(invoked._replace(kind=":info"))
 
     def answer(self, line: int, invoked: Event, value: Value) -> Value:
         """The answer that an :ok tells, which is of the invocation's key."""
@@ -242,9 +397,13 @@ class Collector:
         known = self.known.get((":invoke", invoked.name, value))
         if known is not None:
             return known[1] == invoked.part
+        return self.part_of(value) == invoked.part
+
+    def part_of(self, value: Value) -> Value:
+        """The part of a completion's value, with a key or without one."""
         plain = canonical(value)
-        part = plain if self.lone_key is not None else (tuple_of(plain) or (plain, "nil"))[1]
-        return part == invoked.part
+        pair = tuple_of(plain) if self.lone_key is None else None
+        return plain if pair is None else pair[1]
 
     def taken_apart(self, line: int, name: str, value: Value) -> Tuple[Value, Value]:
         pair = tuple_of(value)
@@ -262,8 +421,17 @@ class Collector:
         if self.nil_is_absent and name in (":write", ":cas"):
             return
         if name not in WITHOUT_PART and "nil" in (part.members if name == ":cas" and isinstance(part, Many) else (part,)):
-            other = " or say --nil-is-absent" if name in (":write", ":cas") else ""
-            refuse(line, f"{name} of nil, which jepmon has not as a value; let the test write a number for it{other}")
+            is_register = name in (":write", ":cas")
+            other = " or say --nil-is-absent" if is_register else ""
+            fault = Refusal(f"line {line}: {name} of nil, which jepmon has not as a value; let the test write a number for it{other}")
+            if not is_register:
+                raise fault
+            self.nil_fault = self.nil_fault or fault
+
+
+def is_plain(part: str) -> bool:
+    """Whether a part is nil, or an integer that is a value of jepmon."""
+    return part == "nil" or len(part) < 19 and part.lstrip("-").isdigit()
 
 
 def refuse_operation(line: int, name: Optional[Value]) -> NoReturn:

@@ -1,25 +1,36 @@
 """What is to be told of a history that was turned, and how to have it judged."""
 from __future__ import annotations
 
-from typing import Iterator, Set
+import itertools
+from typing import Iterator, Mapping, Set
 
 from ..edn import Value
+from .clients import FIRST
 from .events import History
 from .models import Models, common
 from .write import Writer
 
+MOST_CLIENTS = 40  # whose names are told
+
 
 def notes(history: History, writer: Writer) -> Iterator[str]:
     """What was left out or changed, how the operations ended, and what numbers stand for."""
-    left_out = ", ".join(f"{count} of {process}" for process, count in history.left_out.items())
-    yield f"events: {len(history.events)}; left out: {left_out or 'none'}"
+    yield f"events: {len(history.events)}"
     yield from notes_of_outcomes(history)
+    yield from clients_of(history.clients)
     yield from (f"{note}: {count}" for note, count in history.notes.items())
     yield from notes_of_absent(history, writer) if writer.registers else notes_of_nil(history, writer.sets)
     if writer.processes.renumbered:
         yield "processes are numbered anew, Jepsen's own stand as :jepsen-process"
     yield from writer.keys.told("key")
     yield from writer.values.told("value")
+
+
+def clients_of(names: Mapping[int, str]) -> Iterator[str]:
+    """Which clients have names, and their numbers."""
+    if names:
+        shown = ", ".join(f"{number if number < FIRST else 'another'} is {name}" for number, name in itertools.islice(names.items(), MOST_CLIENTS))
+        yield f"clients are numbered: {shown}" + (f", .. ({len(names)} in all)" if len(names) > MOST_CLIENTS else "")
 
 
 def advice(history: History, models: Models, writer: Writer) -> Iterator[str]:

@@ -5,7 +5,7 @@ from __future__ import annotations
 import itertools
 import re
 from sys import intern
-from typing import Any, Dict, Iterable, Iterator, NamedTuple, Optional, Pattern, Tuple
+from typing import Any, Dict, Iterable, Iterator, List, NamedTuple, Optional, Pattern, Tuple
 
 from ..edn import Element, Rows, Value
 from .events import Row
@@ -14,7 +14,7 @@ NUMBER = "(?:0|[1-9][0-9]{0,17})"  # as it is spelled where it is written in one
 INTEGER = "(?:0|-?[1-9][0-9]{0,17})"
 FIELDS: Dict[str, str] = {
     ":type": "(?P<type>:invoke|:ok|:fail|:info)", ":f": "(?P<f>:read|:write|:cas|:enqueue|:dequeue|:add|:acquire|:release)",
-    ":process": f"(?P<process>{NUMBER})", ":time": NUMBER, ":index": f"(?P<index>{NUMBER})",
+    ":process": f"(?P<process>{NUMBER})", ":time": f"(?P<time>{NUMBER})", ":index": f"(?P<index>{NUMBER})",
 }
 PART = rf"(?:(?P<part>nil|{INTEGER})|\[(?P<pair>{INTEGER} {INTEGER})\])"
 WITH_KEY = rf"\[(?P<key>{NUMBER}|:[a-z][a-z0-9]*) {PART}\]"
@@ -40,6 +40,11 @@ class Plain(NamedTuple):
         rest = found[-1][-1]
         return found[:-1] if rest else found, end - len(rest)
 
+    def order(self, run: Element) -> Tuple[List[int], List[int]]:
+        """Each :index and each :time of a run; none if its events have none."""
+        groups = self.line.groupindex
+        return tuple([int(row[groups[name] - 1]) for row in run.rows] if name in groups else [] for name in ("index", "time"))  # type: ignore[return-value]
+
     def events(self, run: Element, lone_key: Optional[Value], count: int) -> Iterator[Row]:
         """The events of a run, before which so many came."""
         columns = dict(zip(self.line.groupindex, zip(*run.rows)))
@@ -49,7 +54,7 @@ class Plain(NamedTuple):
         keys = columns["key"] if lone_key is None else itertools.repeat(lone_key)
         indices = map(int, columns["index"]) if "index" in columns else itertools.count(count)
         found: Iterator[Any] = zip(map(intern, columns["type"]), map(int, columns["process"]), map(intern, columns["f"]), keys, parts, indices,
-                                   itertools.count(run.line))
+                                   itertools.count(run.line), itertools.repeat(None))
         return found
 
 

@@ -3,17 +3,22 @@ from __future__ import annotations
 
 from typing import NoReturn
 
+from ..forms import Beyond as TooMany
+from ..forms import Refused as Refusal
 
-class Refusal(Exception):
-    """The history can't be turned, for the reason that is told."""
-
-
-class TooMany(Refusal):
-    """One check does not take so many keys, or operations that are open at once."""
+__all__ = ["NoKey", "OutOfOrder", "Refusal", "TooMany", "Unpaired", "refuse"]
 
 
 class NoKey(Refusal):
     """A value has no key of its own, and none was named."""
+
+
+class OutOfOrder(Refusal):
+    """The events do not stand in the order in which they took place."""
+
+
+class Unpaired(Refusal):
+    """An event does not follow from those before it: they may stand in another order."""
 
 
 def refuse(line: int, reason: str) -> NoReturn:

@@ -1,104 +1,61 @@
-"""The text of a history, in pieces that end with a line's end: of a string, of bytes or of an open file, also out of gzip."""
+"""The text of a history, in pieces that end with a line's end, as often as it is asked for."""
 from __future__ import annotations
 
 import io
-import re
-import zlib
-from typing import BinaryIO, Callable, Iterator, List, Union, cast
+from typing import BinaryIO, Callable, Iterator, Protocol, Union, runtime_checkable
 
+from ..forms import decoding, detect
 from .refusal import Refusal
 
-PIECE = 1 << 18  # bytes that are read at once
-JSON = re.compile(r'\s*[\[{][\s\[{]*"[^"\\]*"\s*:[^A-Za-z]')  # the front of a text of it that has a map
 
-Source = Union[str, bytes, BinaryIO]
+@runtime_checkable
+class Texts(Protocol):
+    """What gives its text in pieces, again and again, as forms.files.Source."""
 
-
-class Again:
-    """A file from which some bytes were read, which come again."""
-
-    def __init__(self, front: bytes, file: BinaryIO) -> None:
-        self._front, self._file = front, file
-
-    def read(self, size: int = -1) -> bytes:
-        if not self._front:
-            return self._file.read(size)
-        if size < 0:
-            size = len(self._front)
-        got, self._front = self._front[:size], self._front[size:]
-        return got
-
-    def seek(self, place: int) -> None:
-        raise io.UnsupportedOperation(f"seek to {place}")
+    def texts(self) -> Iterator[str]: ...
 
 
-def texts(source: Source, say: Callable[[str], None]) -> Iterator[str]:
-    """The pieces of the text. Refuses what is no text of EDN, and says what it leaves out."""
-    before = 0
-    for piece in (source,) if isinstance(source, str) else decoded(opened(source), say):
-        if before == 0 and JSON.match(piece):
-            raise Refusal("it is JSON, and Jepsen's history.edn is EDN; is this the right file?")
-        if "\0" in piece:
-            place = before + piece.index("\0")
-            raise Refusal(f"it is no text: a byte of it is 0, the first at place {place} (is it binary, or UTF-16?)")
-        yield piece
-        before += len(piece)
+Source = Union[str, bytes, BinaryIO, Texts]
 
 
-def opened(source: Union[bytes, BinaryIO]) -> BinaryIO:
-    """The source as a file, out of gzip where it is compressed."""
-    file = io.BytesIO(source) if isinstance(source, bytes) else source
-    front = file.read(PIECE)
-    whole = cast(BinaryIO, Again(front, file))
-    if front[:2] != b"\x1f\x8b":
-        return whole
-    import gzip
-
-    return cast(BinaryIO, gzip.GzipFile(fileobj=whole))
+def texts_of(source: Source) -> Callable[[], Iterator[str]]:
+    """What gives the pieces of the text. Refuses what is no text of EDN."""
+    found: Texts = OfText(source) if isinstance(source, str) else OfFile(io.BytesIO(source)) if isinstance(source, bytes) else (
+        source if isinstance(source, Texts) else OfFile(source))
+    return lambda: tested(found.texts())
 
 
-def decoded(file: BinaryIO, say: Callable[[str], None]) -> Iterator[str]:
-    """The text of the bytes of a file, in pieces."""
-    place, front = 0, read(file)
-    refuse_encoding(front)
-    if front[:3] == b"\xef\xbb\xbf":
-        say("a byte order mark at its front was left out")
-        front = front[3:]
-    for raw in whole_lines(front, file):
-        try:
-            yield raw.decode("utf-8")
-        except UnicodeDecodeError as fault:
-            raise Refusal(f"it is no text: byte {place + fault.start} is no UTF-8") from fault
-        place += len(raw)
+class OfText:
+    """A text that is held."""
+
+    def __init__(self, text: str) -> None:
+        self._text = text
+
+    def texts(self) -> Iterator[str]:
+        yield self._text
 
 
-def refuse_encoding(front: bytes) -> None:
-    if front[:2] in (b"\xff\xfe", b"\xfe\xff"):
-        raise Refusal("it is UTF-16; bring it to UTF-8 first, as by iconv -f UTF-16 -t UTF-8")
-    if front[:6] == b"JEPSEN":
-        raise Refusal("it is Jepsen's own binary file; give the history.edn beside it")
+class OfFile:
+    """A file that is open for reading bytes, which can be read again if it can be gone back in."""
+
+    def __init__(self, file: BinaryIO) -> None:
+        self._file = file
+        self._begin = file.tell() if hasattr(file, "seekable") and file.seekable() else None
+        self._is_read = False
+
+    def texts(self) -> Iterator[str]:
+        if self._is_read and self._begin is None:
+            raise Refusal("it has to be read twice, and can't be: give a file")
+        if self._begin is not None:
+            self._file.seek(self._begin)
+        self._is_read = True
+        return decoding.texts_of(decoding.pieces_of(self._file))
 
 
-def whole_lines(front: bytes, file: BinaryIO) -> Iterator[bytes]:
-    """What was read, and the rest of the file, cut after line feeds."""
-    parts: List[bytes] = []
-    raw = front
-    while raw:
-        cut = raw.rfind(b"\n") + 1
-        if cut > 0:
-            yield b"".join(parts) + raw[:cut]
-            parts, raw = [], raw[cut:]
-        parts.append(raw)
-        raw = read(file)
-    yield b"".join(parts)
-
-
-def read(file: BinaryIO) -> bytes:
-    try:
-        return file.read(PIECE)
-    except (EOFError, zlib.error) as fault:
-        raise Refusal(f"gzip can't read it to its end, so it is cut off or damaged: {fault}") from fault
-    except OSError as fault:
-        if fault.strerror is None:  # of gzip
-            raise Refusal(f"gzip can't read it to its end, so it is cut off or damaged: {fault}") from fault
-        raise Refusal(f"it can't be read: {fault.strerror}") from fault
+def tested(pieces: Iterator[str]) -> Iterator[str]:
+    first = next(pieces, "")
+    begin = detect.GAP.match(first)
+    if begin is not None and detect.OBJECT.match(first, begin.end()):
+        raise Refusal("it is JSON, and Jepsen's history.edn is EDN; is this the right file?")
+    yield first
+    yield from pieces

@@ -29,10 +29,10 @@ from typing import Iterable
 
 from .. import command
 from ..edn import integer
+from ..forms import door, files, mapping_words
 from ..kinds import KEYS
 from .refusal import Refusal
-from .turn import Turned, turn
-from .write import OF_SHARDS, Limits
+from .turn import Turned
 
 NAME = "from-jepsen"
 NOTHING = "from-jepsen: nothing was turned; standard error says why\n"
@@ -48,6 +48,8 @@ def words() -> argparse.Namespace:
     parser.add_argument("file", nargs="?", default="-", metavar="FILE", help="Jepsen's history.edn; without it standard input")
     parser.add_argument("--key", metavar="K", help="the history has no keys: each of its values is of key K, 0 to 65535")
     parser.add_argument("--nil-is-absent", action="store_true", help="nil is what a missing key answers, and is judged")
+    parser.add_argument("--strict-input", action="store_true", help="refuse each guess, as of the order or of an outcome")
+    mapping_words.add_order(parser)
     parser.add_argument("--shards", action="store_true", help="for shards: any number of keys, and of operations that are open at once")
     try:
         given = parser.parse_args()
@@ -58,15 +60,19 @@ def words() -> argparse.Namespace:
     return given
 
 
-def turned(given: argparse.Namespace) -> Turned:
-    limits = OF_SHARDS if given.shards else Limits()
-    try:
-        if given.file == "-":
-            return turn(command.standard_input(), given.key, given.nil_is_absent, limits)
-        with open(given.file, "rb") as file:
-            return turn(file, given.key, given.nil_is_absent, limits)
-    except OSError as fault:
-        raise Refusal(f"it can't be read: {fault.strerror}") from fault
+def turned(given: argparse.Namespace, source: files.Source) -> Turned:
+    """The history in jepmon's form. Tells how it was read."""
+    options = door.Options(given.key, given.nil_is_absent, None, mapping_words.of_order(given), guesses_key=False)
+    form = door.form_of(source, options)
+    if form not in (door.OWN, door.JEPSEN, door.KEYED):
+        raise Refusal(f"it is {form}, and Jepsen's history.edn is EDN; {command.tool('from-json')} turns it")
+    made = door.translated(source, door.KEYED if form == door.KEYED else door.JEPSEN, options)
+    result = made.turned(given.shards)
+    for line in [*source.notes, *made.notes, *made.account.told(), *result.notes, *result.advice]:
+        command.say(NAME, line)
+    if given.strict_input:
+        made.account.test_strict()
+    return result
 
 
 def work() -> int:
@@ -76,10 +82,7 @@ def work() -> int:
     try:
         given = words()
         path = "" if given.file == "-" else f"{given.file}: "
-        result = turned(given)
-        for line in result.notes + result.advice:
-            command.say(NAME, line)
-        output, status = result.texts(), 0
+        output, status = turned(given, opened(given.file)).texts(), 0
     except Refusal as refusal:
         command.say(NAME, f"refused: {path}{refusal}")
     except KeyboardInterrupt:
@@ -92,6 +95,16 @@ def work() -> int:
         command.say(NAME, f"refused: {path}{fault}")
         return command.REFUSED
     return status
+
+
+def opened(word: str) -> files.Source:
+    """The file, or standard input."""
+    try:
+        if word == "-":
+            return files.of_pipe("standard input", command.standard_input())
+        return files.opened(word)
+    except OSError as fault:
+        raise Refusal(f"it can't be read: {fault.strerror}") from fault
 
 
 def main() -> int:

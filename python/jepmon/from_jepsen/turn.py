@@ -1,14 +1,19 @@
 """Turns a history: from the source of its text to the lines in jepmon's form, and what is to be told of them."""
 from __future__ import annotations
 
-from typing import Dict, Iterator, List, Optional
+from typing import Dict, Iterator, List, Mapping, Optional
 
+from ..forms.account import Account
+from ..forms.mapping import INDEX, TIMES
 from ..kinds import REGISTERS
 from ..names import Names
-from .collect import Collector
+from .collect import Asked, Collector
+from .events import History
 from .models import common, models_of_keys
 from .notes import advice, notes
-from .source import Source, texts
+from .ordering import ordered
+from .refusal import OutOfOrder, Unpaired
+from .source import Source, texts_of
 from .write import Limits, Writer
 
 
@@ -38,19 +43,46 @@ class Turned:
         return "".join(self.texts())
 
 
-def turn(source: Source, key: Optional[str] = None, nil_is_absent: bool = False, limits: Limits = Limits()) -> Turned:
-    """Turns a Jepsen history: its text, its bytes, or a file that is open for reading bytes.
+def turn(source: Source, key: Optional[str] = None, nil_is_absent: bool = False, limits: Limits = Limits(), account: Optional[Account] = None,
+         order: Optional[str] = None, outcomes: Mapping[str, str] = {}, skew: int = 0) -> Turned:
+    """Turns a Jepsen history: its text, its bytes, a file that is open for reading bytes, or what gives its text in pieces.
 
     key            for a history without independent keys: every value v becomes [key v]
     nil_is_absent  nil is what a missing key answers, and no read that says nothing
     limits         what is refused beyond: what one check does not take, or nothing where shards are made of it (OF_SHARDS)
+    account        where lines and guesses are recorded
+    order          by which events are taken: "lines", "index" or "times"; None: as they stand, or by what they say if these can't be so
+    outcomes       the type of an :ok that is answered by false ("false"), and of one with an :error ("error")
+    skew           by how much each clock may be wrong, in the unit of the times
     """
-    told: List[str] = []
-    history = Collector(key, nil_is_absent).collect(texts(source, told.append))
+    asked = Asked(key, nil_is_absent, order, outcomes, skew)
+    return written(collected(source, asked, Account() if account is None else account), nil_is_absent, limits)
+
+
+def collected(source: Source, asked: Asked, account: Account) -> History:
+    """The events of a history, in their order."""
+    texts, lines = texts_of(source), Account()
+    try:
+        if asked.order in (INDEX, TIMES) or asked.order is None and asked.skew:
+            history = ordered(texts, asked, lines, None)
+        else:
+            history = Collector(asked, lines).collect(texts())
+    except (OutOfOrder, Unpaired) as fault:
+        if asked.order is not None:
+            raise
+        lines = Account()
+        history = ordered(texts, asked, lines, fault)
+    account.add(lines)
+    return history
+
+
+def written(history: History, nil_is_absent: bool, limits: Limits) -> Turned:
+    """The history as it is written within these limits."""
+    if history.nil_fault is not None and not nil_is_absent:
+        raise history.nil_fault
     models = models_of_keys(history)
     if nil_is_absent:  # what begins with a write is no set
         models = {key: [model for model in possible if model in REGISTERS] or possible for key, possible in models.items()}
     writer = Writer(history, models, nil_is_absent, limits)
-    told += notes(history, writer)
     by_number = {writer.keys.number(key): possible for key, possible in models.items()}
-    return Turned(writer, by_number, common(models), told, list(advice(history, models, writer)))
+    return Turned(writer, by_number, common(models), list(notes(history, writer)), list(advice(history, models, writer)))

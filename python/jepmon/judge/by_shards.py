@@ -5,13 +5,15 @@ import contextlib
 import functools
 import os
 import sys
-from typing import Iterator, List, NamedTuple, Optional, Sequence, Tuple
+from typing import Dict, Iterator, List, NamedTuple, Optional, Sequence, Tuple
 
 from .. import command, kinds, shards
 from ..errors import ProgramError
 from ..explain.event import Options as Explained
 from ..explain.said import said as explained
-from ..forms import Refused
+from ..forms import Refused, door
+from ..forms.account import Account
+from ..forms.jepsen import notes_of
 from ..forms.own import Facts
 from ..forms.recorded import Recorded
 from ..from_jepsen import Turned
@@ -25,11 +27,11 @@ from ..shards.source import History
 from ..shards.splitting import judged_elsewhere
 from ..shards.tally import Tally
 from ..shrinking.part import as_asked, text_of
-from . import causes, large_key, results, turned, wide
-from .hints import MOST_EVENTS, PATIENCE, counted
+from . import as_json, bad_keys, causes, large_key, least, results, terminal, turned, wide
+from .hints import MOST_EVENTS, counted, is_legal_as
 from .judging import Task
 from .large import Large
-from .models import ALIKE, Choice
+from .models import ALIKE, Choice, account_for, by_operations
 from .outputs import Folder, Page
 from .words import NAME, Given
 
@@ -48,15 +50,19 @@ class Asked(NamedTuple):
     history: History
     concurrency: Optional[int]  # None: it is found
     made: Optional[Turned]
+    account: Account
 
 
 def asked(given: Given, found: Large) -> Asked:
-    if found.is_own and given.key is None and not given.nil_is_absent:
-        return Asked(found.history, given.concurrency, None)
-    made, notes = turned.turned(given, found)
-    for note in notes:
+    if found.made is None:
+        return Asked(found.history, given.concurrency, None, Account())
+    try:
+        made = found.made.turned(in_shards=True)
+    except Refused as refusal:
+        raise Refused(f"{found.name}: {refusal}") from refusal
+    for note in [*found.made.notes, *notes_of(made)]:
         say(note)
-    return Asked(made.texts(), given.concurrency or made.concurrency, made)
+    return Asked(made.texts(), given.concurrency or made.concurrency, made, found.made.account)
 
 
 @contextlib.contextmanager
@@ -65,32 +71,57 @@ def opened(given: Given, found: Large, history: Asked) -> Iterator[shards.Sessio
     options = Options(history.concurrency or 2, given.model or "register", given.budget)
     with shards.opened(history.history, options, given.jobs, temporary=given.temporary, progress=shards.Progress(sys.stderr),
                        finds_threads=history.concurrency is None) as session:
-        try:
-            session.read()
-        except shards.Refused as refused:
-            for hint in hints_of_refusal(found, str(refused), session.options):
-                say(hint)
-            raise
+        session.read()
         if session.tally.events == 0:
             raise Refused(f"{found.name}: there is no event in it: nothing was judged")
         yield session
 
 
+def judge_own(given: Given, found: Large, page: Optional[Page], folder: Optional[Folder]) -> Optional[int]:
+    """The same of a history in jepmon's own form; None if it is none after all, so that it is to be read as one of Jepsen's."""
+    try:
+        return _judge_asked(given, found, page, folder)
+    except shards.Refused as refused:
+        if not is_last_word(str(refused), given):
+            return None
+        return _refuse(given, found, str(refused))
+
+
+def is_last_word(line: str, given: Given) -> bool:
+    """Whether a refusal of jepmon's own form stands: that of processes, if the command line says how many threads there are. Whatever
+    else is refused may be a history of Jepsen's."""
+    return given.concurrency is not None and line.startswith("refused 2 ") or line.startswith("refused 20 ")
+
+
 def judge(given: Given, found: Large, page: Optional[Page], folder: Optional[Folder]) -> int:
     """Judges it, writes what was asked for, and gives the exit status."""
+    try:
+        return _judge_asked(given, found, page, folder)
+    except shards.Refused as refused:
+        return _refuse(given, found, str(refused))
+
+
+def _refuse(given: Given, found: Large, line: str) -> int:
+    for hint in hints_of_refusal(found, line, Options(given.concurrency or 2, given.model or "register", given.budget)):
+        say(hint)
+    if given.json:
+        as_json.write_refusal(line)
+    else:
+        command.write_output([f"{line}\n"])
+    return command.REFUSED
+
+
+def _judge_asked(given: Given, found: Large, page: Optional[Page], folder: Optional[Folder]) -> int:
     if found.reason:
         say(f"{found.name}: {found.reason}; it is judged in shards, {processes(given.jobs or os.cpu_count() or 1)}")
     history = asked(given, found)
-    try:
-        with opened(given, found, history) as session:
-            return _judge(given, found, history, session, page, folder)
-    except shards.Refused as refused:
-        command.write_output([f"{refused}\n"])
-        return command.REFUSED
+    with opened(given, found, history) as session:
+        return _judge(given, found, history, session, page, folder)
 
 
 def _judge(given: Given, found: Large, history: Asked, session: shards.Session, page: Optional[Page], folder: Optional[Folder]) -> int:
     choice = chosen(session.tally, given.model, history.made)
+    account_for(choice, history.account)
     options = session.options._replace(model=choice.common or EACH)
     path = os.path.join(session.tools.folder, "report.txt")
     with open(path, "wb") as file:
@@ -98,18 +129,38 @@ def _judge(given: Given, found: Large, history: Asked, session: shards.Session, 
     task = Task("", choice, {}, options, in_shards=True)
     for line in said(found, history, session.tally, verdict, task):
         say(line)
+    if given.strict_input:
+        history.account.test_strict()
+    say(judged_by(found, history, task))
     path, verdict, decided = anew(given, session, path, verdict)
     report = report_of(path, verdict)
-    task = task._replace(choice=of_bad_key(choice, report), wide_seconds=given.wide_seconds if decided else None)
-    command.write_output(texts_of(path))
-    for line in nil_hints(session.tally, choice):
+    task = task._replace(choice=of_bad_key(choice, report), wide_seconds=given.wide_seconds if decided else None, least=given.least)
+    tally = session.tally
+    few = least.reason(given, report.word, least.telling(tally.outcomes(), tally.number_of("read", "ok") - tally.reads_of_nil()))
+    if not given.json and not few:
+        command.write_output(texts_of(path))
+    recorded = _recorded(found, history)
+    of_report = bad_keys.found(filter(None, map(wide.key_line, lines_of(path))))
+    keys = bad_keys.shown(recorded, task, report, of_report.bad, functools.partial(events_of, session, found, history), given.cause, decided)
+    beside = [*nil_hints(tally, choice), *said_of_bad(report, task, keys, given.cause)]
+    for line in beside:
         say(line)
-    recorded = turned.recorded(history.made) if history.made is not None else Recorded("", "", Facts(), is_own=True)
-    key = shown(recorded, task, report, given.cause, bad_events(session, report, found, history, decided), decided)
-    if page is not None or folder is not None:
-        copies = {results.HISTORY: session.file.path, results.REPORT: path} if folder is not None else {}
-        results.write(page, folder, results.Results(found.name, recorded, task, report, key, copies))
+    if few:
+        raise Refused(f"{found.name}: {few}")
+    copies = {results.HISTORY: session.file.path, results.REPORT: path} if folder is not None else {}
+    done = results.Results(found.name, recorded, task, report, keys, terminal.told(recorded, keys), copies)
+    results.write(page, folder, done)
+    if given.json:
+        counted_up = as_json.Counted(session.tally.events, verdict.keys, None, form_of(found), session.tally.outcomes(), of_report)
+        as_json.write(as_json.of_results(done, found.path, counted_up, beside, given))
     return verdict.status
+
+
+def _recorded(found: Large, history: Asked) -> Recorded:
+    """What the history is beside its events."""
+    if found.made is None or history.made is None:
+        return Recorded("", "", Facts(), history.account, is_own=True)
+    return turned.recorded(found.made, history.made)
 
 
 def anew(given: Given, session: shards.Session, path: str, verdict: Verdict) -> Tuple[str, Verdict, wide.Decisions]:
@@ -130,15 +181,11 @@ def anew(given: Given, session: shards.Session, path: str, verdict: Verdict) -> 
     return marked, Verdict(found.line, found.word, found.found, found.status, verdict.keys), decided
 
 
-def bad_events(session: shards.Session, report: Report, found: Large, history: Asked, decided: wide.Decisions) -> List[Event]:
-    """The events of the bad key, where it was judged to its end, or of the first that was decided afterwards, with their lines in the
-    file that was given."""
-    key = next(iter(decided), None) if report.key is None else report.key
-    if key is None or report.keys and report.keys[0].status in CUT:
-        return []
-    if history.made is None:
-        return large_key.events_of(session, key, found.path)
-    return turned.with_lines(history.made, large_key.events_of(session, key, None), found.path)
+def events_of(session: shards.Session, found: Large, history: Asked, keys: List[int]) -> Dict[int, List[Event]]:
+    """The events of each of these keys, as far as they are judged, with their lines in the file that was given."""
+    if found.made is None or history.made is None:
+        return large_key.events_of(session, keys, found.path)
+    return turned.with_lines(found.made, history.made, large_key.events_of(session, keys, None))
 
 
 def judged(given: Given, session: shards.Session, options: Options) -> List[Judged]:
@@ -149,21 +196,15 @@ def judged(given: Given, session: shards.Session, options: Options) -> List[Judg
     return judged_elsewhere(session, options, engine)
 
 
-def shown(recorded: Recorded, task: Task, report: Report, with_cause: bool, events: Sequence[Event],
-          decided: wide.Decisions) -> Optional[causes.Shown]:
-    """What there is to show of the bad key, and tells it."""
-    line = report.keys[0] if report.keys else None
-    if line is not None and line.status in CUT:
-        say(CUT[line.status].format(line.key, line.index))
-    if line is None and not decided or line is not None and line.status in CUT:
-        return None
-    if line is not None and report.word == "illegal" and with_cause:
-        for hint in hints_of_order(events, task.options, line):
-            say(hint)
-    key = causes.shown(recorded, task, report, with_cause, events, decided)
-    for text in key.lines if key else []:
-        command.write_error(text)
-    return key
+def said_of_bad(report: Report, task: Task, keys: Sequence[causes.Shown], with_cause: bool) -> Iterator[str]:
+    """What is told of the first bad key beside its cause."""
+    if not keys:
+        return
+    line = keys[0].line
+    if line.status in CUT:
+        yield CUT[line.status].format(line.key, line.index)
+    elif report.word == "illegal" and with_cause:
+        yield from hints_of_order(keys[0].events, task.options, line)
 
 
 # --- The report ---
@@ -198,15 +239,15 @@ def chosen(tally: Tally, model: Optional[str], made: Optional[Turned] = None) ->
     if model is not None:
         return Choice({}, model, "as --model says")
     if made is not None and made.model is not None:
-        return Choice({}, made.model, by_operations(made.model, tally.names()))
+        return Choice({}, made.model, by_operations(made.model, tally.names()), is_guess=True)
     names, answers = tally.names(), tally.number_of("read", "ok") - tally.reads_of_nil() - tally.sets
     models = tally.models()
     found = "set" if names == ["read"] and tally.sets else models[0] if models else ""
     if not found or found in kinds.REGISTERS and tally.sets or found == "set" and answers > 0:
         if made is not None and made.history.drained:
             raise Refused("its keys are of several kinds, and of some all was drained, which has no order; say --model NAME")
-        return Choice({}, None, f"its keys are of several kinds, each judged by its own operations: {', '.join(names)}")
-    return Choice({}, found, by_operations(found, names))
+        return Choice({}, None, f"its keys are of several kinds, each judged by its own operations: {', '.join(names)}", is_guess=True)
+    return Choice({}, found, by_operations(found, names), is_guess=True)
 
 
 def of_bad_key(choice: Choice, report: Report) -> Choice:
@@ -216,13 +257,6 @@ def of_bad_key(choice: Choice, report: Report) -> Choice:
     return choice._replace(models={report.keys[0].key: report.keys[0].model})
 
 
-def by_operations(model: str, names: Sequence[str]) -> str:
-    """Why it is this model."""
-    other = ALIKE.get(model)
-    more = f"; the stricter of two: where no order was promised, say --model {other}" if other else ""
-    return f"by its operations: {', '.join(names)}{more}"
-
-
 # --- What is told ---
 
 
@@ -230,21 +264,29 @@ def processes(number: int) -> str:
     return f"by {number} processes side by side" if number > 1 else "by one process"
 
 
+def form_of(found: Large) -> str:
+    return door.OWN if found.made is None else found.made.form
+
+
 def said(found: Large, history: Asked, tally: Tally, verdict: Verdict, task: Task) -> Iterator[str]:
     """What the history was found to be."""
-    form = "jepmon's own form" if history.made is None else "Jepsen's form"
-    yield (f"{found.name}: {form}, {counted(tally.events, 'event')}, concurrency {task.options.concurrency:,}, "
+    yield (f"{found.name}: {form_of(found)}, {counted(tally.events, 'event')}, concurrency {task.options.concurrency:,}, "
            f"{counted(verdict.keys, 'key')}")
     outcomes = tally.outcomes()
     for name in tally.names():
         yield f"{name}: " + ", ".join(f"{outcomes[f'{name} {kind}']} {kind}" for kind in ("ok", "fail", "info"))
     if not any(outcome.endswith(" ok") for outcome in outcomes):
         yield "no operation is ok: nothing was judged"
-    yield f"model {task.choice.common}, {task.choice.reason}" if task.choice.common else task.choice.reason
+    yield from history.account.told()
+    if not task.choice.is_guess:
+        yield f"model {task.choice.common}, {task.choice.reason}"
+
+
+def judged_by(found: Large, history: Asked, task: Task) -> str:
+    """The command that judges it."""
     if history.made is None and found.path is not None:
-        yield f"judged in shards: {task.again(found.path)}"
-    else:
-        yield f"judged in shards: {task.again('FILE')}, where FILE is history.edn of --out DIR"
+        return f"judged in shards: {task.again(found.path)}"
+    return f"judged in shards: {task.again('FILE')}, where FILE is history.edn of --out DIR"
 
 
 def nil_hints(tally: Tally, choice: Choice) -> Iterator[str]:
@@ -262,7 +304,7 @@ def nil_hints(tally: Tally, choice: Choice) -> Iterator[str]:
 def hints_of_refusal(found: Large, line: str, options: Options) -> Iterator[str]:
     """Why an event is refused, where it is near the front of a file of jepmon's own form."""
     index = line.rpartition(" event ")[2]
-    if found.path is not None and found.is_own and index.isdigit() and int(index) < MOST_EVENTS and options.concurrency <= kinds.THREADS:
+    if found.path is not None and found.made is None and index.isdigit() and int(index) < MOST_EVENTS and options.concurrency <= kinds.THREADS:
         yield from explained(line, large_key.front_lines(found.path, int(index) + 1), Explained(options.concurrency, options.model))
 
 
@@ -271,9 +313,5 @@ def hints_of_order(events: Sequence[Event], options: Options, line: KeyLine) -> 
     other = ALIKE.get(line.model)
     if other is None:
         return
-    try:
-        asked = check(text_of(events, options.concurrency).encode(), as_asked(options)._replace(model=other), timeout=PATIENCE)
-    except ProgramError:
-        return
-    if asked.word == "legal":
+    if is_legal_as(other, events, options):
         yield f"key {line.key} is judged as a {line.model}, and is legal as an {other}: where no order was promised, say --model {other}"

@@ -1,28 +1,29 @@
 """The events of one key of a recorded history, without reading those of the others."""
 from __future__ import annotations
 
-import heapq
 import re
-from typing import Any, Dict, Iterable, List, Sequence
+from typing import Dict, Iterable, List
 
-from .. import edn, history
+from .. import history
 from ..forms.recorded import Recorded
 from ..history import Event
 
-FURTHER = ("time", "error")  # fields that are taken over from what the history was made from
-LONGEST = 200  # lines that one event of it may take
 KEY = re.compile(":value \\[([0-9]+) ")
 
 
 def of_key(found: Recorded, key: int) -> List[Event]:
-    """The events of a key, with their indices in the whole history and their lines in the file that was given; where that was of
-    another form, also with what it says of when they came and of errors."""
-    before = found.before.split("\n") if found.before else []
-    events: List[Event] = []
-    for event in of_keys(found, [key])[key]:
-        fields = {**event.fields, **(_further(before, found.lines[event.index]) if before else {})}
-        events.append(event._replace(fields=fields))
-    return events
+    """The events of a key, as of with_fields."""
+    return with_fields(found, [key])[key]
+
+
+def with_fields(found: Recorded, keys: Iterable[int]) -> Dict[int, List[Event]]:
+    """The events of each of these keys, with their indices in the whole history and their lines in the file that was given; where that
+    was of another form, also with what it says of when they came and of errors."""
+    events = of_keys(found, keys)
+    if found.translation is None:
+        return events
+    further = found.translation.beside({event.index for of_key in events.values() for event in of_key}, found.begun)
+    return {key: [event._replace(fields={**event.fields, **further.get(event.index, {})}) for event in of_key] for key, of_key in events.items()}
 
 
 def of_keys(found: Recorded, keys: Iterable[int]) -> Dict[int, List[Event]]:
@@ -38,43 +39,3 @@ def of_keys(found: Recorded, keys: Iterable[int]) -> Dict[int, List[Event]]:
                 if event.key in events:
                     events[event.key].append(event._replace(line=found.line(index)))
     return events
-
-
-def _further(before: Sequence[str], line: int) -> Dict[str, Any]:
-    """Further fields of the event that begins in this line of a text in Jepsen's form."""
-    if line == 0:
-        return {}
-    text = "\n".join(before[line - 1:line - 1 + LONGEST]).lstrip("[( ") if before[line - 1].count("{") != before[line - 1].count("}") \
-        else before[line - 1].lstrip("[( ")
-    try:
-        element = next(edn.Reader(text).elements(), None)
-    except edn.Unreadable:
-        return {}
-    fields = edn.fields_of(element.value) if element is not None else None
-    return {name: history.plain(fields[f":{name}"]) for name in FURTHER if f":{name}" in (fields or {})} if fields else {}
-
-
-def alone(events: List[Event], concurrency: int) -> str:
-    """A history of these events alone, all of one key, whose processes are numbered anew: an :info of another key is missing in it."""
-    current, free = list(range(concurrency)), list(range(concurrency))
-    thread_of: Dict[int, int] = {}
-    lines = []
-    for event in events:
-        if event.kind == "invoke":
-            thread_of[event.process] = heapq.heappop(free)
-        thread = thread_of[event.process]
-        lines.append(f"{{:type :{event.kind}, :process {current[thread]}, :f :{event.name}, :value [{event.key} {part_of(event)}]}}\n")
-        if event.kind == "info":
-            current[thread] += concurrency
-        if event.kind != "invoke":
-            heapq.heappush(free, thread_of.pop(event.process))
-    return "".join(lines)
-
-
-def part_of(event: Event) -> str:
-    """The part of an event, as it is written."""
-    if isinstance(event.value, tuple):
-        return f"[{event.value[0]} {event.value[1]}]"
-    if isinstance(event.value, frozenset):
-        return "#{" + " ".join(map(str, sorted(event.value))) + "}"
-    return "nil" if event.value is None else str(event.value)

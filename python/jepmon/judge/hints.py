@@ -1,7 +1,7 @@
 """What jepmon-judge says of a history beside the cause: what was found, what was not judged, what else may have been meant."""
 from __future__ import annotations
 
-from typing import Iterator, Optional
+from typing import Iterator, Optional, Sequence
 
 from ..explain.event import Options as Explained
 from ..explain.said import said as explained
@@ -10,13 +10,15 @@ from ..forms.files import Source
 from ..forms.own import Facts
 from ..forms.recorded import Options as Said
 from ..forms.recorded import Recorded, recorded
+from ..history import Event
 from ..program import Options, ProgramError, Report, check
+from ..shrinking.part import as_asked, text_of
+from ..walk import walk
 from . import models
-from .events import alone, of_key
+from .events import of_key
 from .judging import Task, judged
 from .models import ALIKE
 
-PATIENCE = 20.0  # seconds for what the program is asked for a hint
 MOST_EVENTS = 100_000  # of a history that is judged once more for a hint
 
 
@@ -33,14 +35,16 @@ def found(source: Source, history: Recorded, task: Task) -> Iterator[str]:
     if history.faults:
         yield f"faults, which the page shows: {len(history.faults)}"
     yield from outcomes(facts)
-    if task.choice.common:
-        yield f"model {task.choice.common}, {task.choice.reason}"
-    else:
-        yield task.choice.reason
+    yield from history.account.told()
+    if not task.choice.is_guess:
+        yield f"model {task.choice.common}, {task.choice.reason}" if task.choice.common else task.choice.reason
+
+
+def judged_by(source: Source, history: Recorded, task: Task) -> str:
+    """The command that judges it."""
     if source.path is not None and source.is_plain and history.is_own and not task.commands:
-        yield f"judged by: {task.again(source.path)}"
-    else:
-        yield f"judged by: {task.again('FILE')}, where FILE is history.edn of --out DIR"
+        return f"judged by: {task.again(source.path)}"
+    return f"judged by: {task.again('FILE')}, where FILE is history.edn of --out DIR"
 
 
 def outcomes(facts: Facts) -> Iterator[str]:
@@ -70,22 +74,22 @@ def _of_refusal(history: Recorded, task: Task, report: Report, index: int) -> It
         yield from explained(report.verdict, "\n".join(lines).encode(), Explained(task.options.concurrency, task.options.model))
 
 
-def _asked(history: Recorded, key: int, options: Options) -> Optional[Report]:
-    """What the program says of a key's own events by these options, where it does so in time."""
+def is_legal_as(model: str, events: Sequence[Event], options: Options) -> bool:
+    """Whether the program calls a key legal by another model. It is asked where a walk comes to that, which does not go on for ever."""
+    if walk(events, model, options.budget).status != "alive":
+        return False
     try:
-        return check(alone(of_key(history, key), options.concurrency).encode(), options, timeout=PATIENCE)
+        text = text_of(events, options.concurrency).encode()
+        return check(text, as_asked(options)._replace(model=model)).word == "legal"
     except ProgramError:
-        return None
+        return False
 
 
 def _of_order(history: Recorded, task: Task, key: int) -> Iterator[str]:
     """Where a key that is illegal would be legal by a model with the same operations."""
     model = task.choice.of(key)
     other = ALIKE.get(model)
-    if other is None:
-        return
-    asked = _asked(history, key, task.options._replace(model=other))
-    if asked is not None and asked.word == "legal":
+    if other is not None and is_legal_as(other, of_key(history, key), task.options):
         yield f"key {key} is judged as a {model}, and is legal as an {other}: where no order was promised, say --model {other}"
 
 

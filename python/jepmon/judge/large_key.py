@@ -1,7 +1,8 @@
 """The events of the bad key of a history that was judged by shards, with what the history's lines say beside them."""
 from __future__ import annotations
 
-from typing import Iterator, List, Optional, Tuple
+import re
+from typing import Dict, Iterator, List, Optional, Sequence, Tuple
 
 from .. import edn, history
 from ..history import Event
@@ -11,14 +12,15 @@ OWN_FIELDS = 6  # colons before a word in an event without further fields
 BLOCK = 4 << 20
 
 
-def events_of(session: Session, key: int, path: Optional[str]) -> List[Event]:
-    """The events of a key as far as they are judged; with their lines, and further fields, where the file of this path has an event a
+def events_of(session: Session, keys: Sequence[int], path: Optional[str]) -> Dict[int, List[Event]]:
+    """The events of each key as far as they are judged; with their lines, and further fields, where the file of this path has an event a
     line."""
-    events = [event_of(found, key) for found in session.events_of(key)]
+    events = {key: [event_of(each, key) for each in found] for key, found in session.events_of_keys(keys)}
     if path is None:
         return events
-    found = dict(lines_of(path, key, {event.index for event in events}))
-    return [told(event, *found[event.index]) if event.index in found else event for event in events]
+    found = dict(lines_of(path, keys, {event.index for of_key in events.values() for event in of_key}))
+    return {key: [told(event, *found[event.index]) if event.index in found else event for event in of_key]
+            for key, of_key in events.items()}
 
 
 def event_of(found: KeyEvent, key: int) -> Event:
@@ -35,19 +37,19 @@ def told(event: Event, number: int, line: str) -> Event:
     return event._replace(line=number, text=" ".join(line.split()), fields=history.further(fields or {}))
 
 
-def lines_of(path: str, key: int, indices: "set[int]") -> Iterator[Tuple[int, Tuple[int, str]]]:
-    """Of the events at these indices the number of the line, and the line, where each event is a line."""
-    wanted = b":value [%d " % key
+def lines_of(path: str, keys: Sequence[int], indices: "set[int]") -> Iterator[Tuple[int, Tuple[int, str]]]:
+    """Of the events of these keys at these indices the number of the line, and the line, where each event is a line."""
+    wanted = re.compile(rb":value \[(?:%s) " % b"|".join(b"%d" % key for key in keys))
     index, number = -1, 0
     for block in blocks_of(path):
-        if wanted not in block:
+        if wanted.search(block) is None:
             number += block.count(b"\n")
             index += block.count(b"\n{") + block.startswith(b"{")
             continue
         for line in block.split(b"\n")[:-1]:
             number += 1
             index += line.startswith(b"{")
-            if wanted in line and index in indices and line.startswith(b"{"):
+            if index in indices and line.startswith(b"{") and wanted.search(line):
                 yield index, (number, line.decode("utf-8", "replace"))
 
 

@@ -5,9 +5,10 @@ from typing import Dict, List, Mapping, NamedTuple, Optional, Sequence
 
 from .. import kinds
 from ..forms import Refused
+from ..forms.account import MODEL, Account
 from ..forms.own import Facts, KeyFacts, concurrency_of, possible
 
-__all__ = ["ALIKE", "Choice", "chosen", "clients_of", "concurrency_of", "possible"]
+__all__ = ["ALIKE", "Choice", "account_for", "answered", "by_operations", "chosen", "clients_of", "concurrency_of", "possible"]
 ALIKE = {"fifo-queue": "unordered-queue"}  # a stricter model, and the one with the same operations
 
 
@@ -17,6 +18,7 @@ class Choice(NamedTuple):
     models: Dict[int, str]
     common: Optional[str]  # that all keys have; None where they are of several kinds
     reason: str
+    is_guess: bool = False  # made by the operations that were seen
 
     def of(self, key: int) -> str:
         return self.common or self.models[key]
@@ -34,10 +36,17 @@ def chosen(facts: Facts, given: Optional[str], stated: Mapping[int, str], known:
         if not given and key not in stated:
             _test_counter(key, of_key, by_key[key])
     common = [model for model in kinds.MODELS if all(model in models for models in by_key.values())]
+    is_guess = given is None and any(key not in stated for key in facts.keys)
     if common:
-        return Choice({}, common[0], _reason(facts, common, given, stated))
+        return Choice({}, common[0], _reason(facts, common[0], given, stated), is_guess)
     models = {key: models[0] for key, models in by_key.items()}
-    return Choice(models, None, "its keys are of several kinds: " + _counted(models))
+    return Choice(models, None, "its keys are of several kinds: " + _counted(models), is_guess)
+
+
+def account_for(choice: Choice, account: Account) -> None:
+    """Records that the model is a guess, if it is one."""
+    if choice.is_guess:
+        account.guess(MODEL, f"{choice.common}, {choice.reason}" if choice.common else choice.reason, "--model NAME")
 
 
 def _test_counter(key: int, facts: KeyFacts, models: Sequence[str]) -> None:
@@ -47,7 +56,7 @@ def _test_counter(key: int, facts: KeyFacts, models: Sequence[str]) -> None:
                       "(jepsen.checker/counter does)")
 
 
-def _reason(facts: Facts, common: Sequence[str], given: Optional[str], stated: Mapping[int, str]) -> str:
+def _reason(facts: Facts, common: str, given: Optional[str], stated: Mapping[int, str]) -> str:
     """Why this model."""
     if not facts.keys:
         return ""
@@ -55,16 +64,24 @@ def _reason(facts: Facts, common: Sequence[str], given: Optional[str], stated: M
         return "as --model says"
     if stated and all(key in stated for key in facts.keys):
         return "as the history says"
-    names = ", ".join(sorted(set().union(*(of_key.names for of_key in facts.keys.values()))))
-    other = ALIKE.get(common[0])
-    if other:
-        return f"by its operations: {names}; the stricter of two: where no order was promised, say --model {other}"
-    return f"by its operations: {names}"
+    return by_operations(common, sorted(set().union(*(of_key.names for of_key in facts.keys.values()))))
+
+
+def by_operations(model: str, names: Sequence[str]) -> str:
+    """Why it is this model."""
+    other = ALIKE.get(model)
+    more = f"; the stricter of two: where no order was promised, say --model {other}" if other else ""
+    return f"by its operations: {', '.join(names)}{more}"
 
 
 def _counted(models: Dict[int, str]) -> str:
     counts = {model: list(models.values()).count(model) for model in kinds.MODELS}
     return ", ".join(f"{count} {model}" for model, count in counts.items() if count)
+
+
+def answered(facts: Facts) -> int:
+    """How many reads have an answer that says something: nil fits whatever a register holds."""
+    return sum(key.reads - key.reads_of_nil for key in facts.keys.values())
 
 
 def clients_of(facts: Facts, threads: int) -> int:

@@ -7,6 +7,7 @@ import stat
 from typing import Dict, List, Mapping, Optional
 
 from .. import command
+from ..errors import OutputError
 from ..forms import Refused
 
 AGAIN = "judge-again"  # the file by which a folder is known as one that was written here
@@ -23,8 +24,30 @@ class Page:
         if self.path.is_file() and not _is_page(self.path):
             raise Refused(f"{path}: this file is there, and is no page: it is not overwritten")
 
-    def put(self, text: str) -> None:
+    @property
+    def name_in_links(self) -> str:
+        return self.path.name
+
+    @property
+    def folder(self) -> str:
+        """The folder beside it for the pages of other keys, as links name it."""
+        return f"{self.path.stem}-keys"
+
+    @property
+    def keys(self) -> pathlib.Path:
+        return pathlib.Path(self.name).with_name(self.folder)
+
+    def put(self, text: str, keys: Mapping[str, str] = {}) -> None:
         command.write_file(self.name, text)
+        put_keys(self.path.with_name(self.folder), keys)
+
+    def remove(self) -> bool:
+        """Removes what an earlier run has written; whether there was anything."""
+        was_there = self.path.is_file() and self.path.stat().st_size > 0
+        if was_there:
+            self.path.unlink()
+            put_keys(self.path.with_name(self.folder), {})
+        return was_there
 
 
 class Folder:
@@ -68,6 +91,9 @@ class Folder:
         (self.path / AGAIN).chmod(mode | (mode & 0o444) >> 2)
         self._made = []
 
+    def put_keys(self, name: str, pages: Mapping[str, str]) -> None:
+        put_keys(self.path / name, pages)
+
     def give_up(self) -> None:
         """Takes away the folders that were made, where nothing came into them."""
         for folder in self._made:
@@ -75,6 +101,24 @@ class Folder:
                 folder.rmdir()
             except OSError:
                 return
+
+
+def put_keys(folder: pathlib.Path, pages: Mapping[str, str]) -> None:
+    """Writes these pages into a folder, in place of those of an earlier run, which are known by their names."""
+    try:
+        if pages:
+            folder.mkdir(exist_ok=True)
+        elif not folder.is_dir():
+            return
+        for name, text in pages.items():
+            command.write_file(folder / name, text)
+        for path in folder.glob("key-*.html"):
+            if path.name not in pages:
+                path.unlink()
+        if not pages and not any(folder.iterdir()):
+            folder.rmdir()
+    except OSError as fault:
+        raise OutputError(f"{folder}: {fault.strerror}") from fault
 
 
 def _test_file(path: pathlib.Path, name: str) -> None:

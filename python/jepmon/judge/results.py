@@ -1,18 +1,18 @@
-"""What --html and --out write: the page, and the folder with the history as judged and all that came of it."""
+"""What --html and --out write: the pages, and the folder with the history as judged and all that came of it."""
 from __future__ import annotations
 
-from typing import Dict, Mapping, NamedTuple, Optional
+from typing import Dict, List, Mapping, NamedTuple, Optional, Sequence
 
-from .. import command
+from .. import command, page
 from ..forms import faults
 from ..forms.recorded import Recorded
 from ..program import Report
-from . import causes
+from . import bad_keys, causes
 from .judging import Task
 from .outputs import AGAIN, VERDICT, Folder, Page
 from .words import NAME
 
-HISTORY, REPORT, CAUSE, PAGE = "history.edn", "report.txt", "cause.txt", "page.html"
+HISTORY, REPORT, CAUSE, PAGE, KEYS = "history.edn", "report.txt", "cause.txt", "page.html", "keys"
 
 
 class Results(NamedTuple):
@@ -22,41 +22,59 @@ class Results(NamedTuple):
     found: Recorded
     task: Task
     report: Report
-    key: Optional[causes.Shown]
+    keys: Sequence[causes.Shown]  # those that are not legal; else the first that was decided afterwards
+    lines: Sequence[str] = ()  # that tell the cause, for a terminal
     copies: Mapping[str, str] = {}  # files that are whole already: their names in the folder, and where they are
 
 
-def write(page: Optional[Page], folder: Optional[Folder], results: Results) -> None:
+def write(to: Optional[Page], folder: Optional[Folder], results: Results) -> None:
     """Writes what was asked for."""
-    if page is None and folder is None:
-        return
-    text = page_text(results)
-    if page is not None and text is None:
-        command.say(NAME, f"no page was written: it would show why a key is illegal or unknown, and the verdict is {results.report.word}")
-    elif page is not None and text is not None:
-        page.put(text)
-        command.say(NAME, f"the page is {page.name}")
+    if to is not None:
+        pages = pages_of(results, to.name_in_links, to.folder)
+        if pages:
+            to.put(pages.pop(to.name_in_links), pages)
+            command.say(NAME, f"the page is {to.name}" + (f"; those of {len(pages)} other keys are in {to.keys}" if pages else ""))
+        else:
+            removed = ", and that of an earlier run was removed" if results.report.word != "refused" and to.remove() else ""
+            command.say(NAME, f"no page was written{removed}: it would show why a key is illegal or unknown, and the verdict is "
+                        f"{results.report.word}")
     if folder is not None:
-        folder.put({name: each for name, each in files(results, text).items() if name not in results.copies}, results.copies)
+        pages = pages_of(results, PAGE, KEYS)
+        written = {**files(results), PAGE: pages.get(PAGE)}
+        folder.put({name: each for name, each in written.items() if name not in results.copies}, results.copies)
+        folder.put_keys(KEYS, {name: text for name, text in pages.items() if name != PAGE})
         command.say(NAME, f"what came of it is in {folder.path}")
 
 
-def page_text(results: Results) -> Optional[str]:
-    if results.key is None:
-        return None
-    return causes.page_of(results.name, results.found, results.task, results.report, results.key)
+def pages_of(results: Results, first: str, folder: str) -> Dict[str, str]:
+    """The page of the first key under its name, with links to those of the others, which have their names in the folder."""
+    keys = [key for key in results.keys if key.events]
+    if not keys:
+        return {}
+    name = [f"key-{key.line.key}.html" for key in keys]
+    others = [page.Other(bad_keys.named(results.found, key.line.key), bad_keys.word_of(key.line), key.line.index, bad_keys.said(key),
+                         f"{folder}/{name[place]}" if key.events else "")
+              for place, key in enumerate(keys) if place] + others_without_page(results)
+    pages = {first: page.render(causes.page_of(results.name, results.found, results.task, keys[0])._replace(others=others))}
+    for place, key in enumerate(keys[1:], 1):
+        given = causes.page_of(results.name, results.found, results.task, key)
+        pages[name[place]] = page.render(given._replace(back=f"../{first}"))
+    return pages
 
 
-def files(results: Results, page: Optional[str]) -> Dict[str, Optional[str]]:
-    """The files of the folder; None where there is none."""
+def others_without_page(results: Results) -> List[page.Other]:
+    return [page.Other(bad_keys.named(results.found, key.line.key), bad_keys.word_of(key.line), key.line.index, bad_keys.said(key), "")
+            for key in results.keys if not key.events]
+
+
+def files(results: Results) -> Dict[str, Optional[str]]:
+    """The files of the folder, without the pages; None where there is none."""
     found, task, report = results.found, results.task, results.report
-    lines = results.key.lines if results.key is not None else []
     text = task.text if found.is_own else faults.noted(task.text, found.faults)
     return {
         HISTORY: "".join(line + "\n" for line in task.commands) + text,
         REPORT: report.text or report.error,
-        CAUSE: "".join(line + "\n" for line in lines) or None,
-        PAGE: page,
+        CAUSE: "".join(line + "\n" for line in results.lines) or None,
         AGAIN: again(task),
         VERDICT: report.verdict + "\n",
     }

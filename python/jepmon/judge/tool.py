@@ -1,21 +1,22 @@
 """`jepmon-judge HISTORY`: the steps from the command line to the exit status."""
 from __future__ import annotations
 
+import contextlib
 import functools
 import shutil
 import signal
 import sys
 import threading
 from types import FrameType
-from typing import List, Optional
+from typing import Iterator, List, Optional, Tuple
 
-from .. import command
+from .. import command, kinds
 from ..errors import OutputError, ProgramError
-from ..forms import Beyond, Refused, files
-from ..forms.recorded import Options as Said
-from ..forms.recorded import Recorded, recorded
+from ..forms import Beyond, Refused, door, files
+from ..forms.door import Translation
+from ..forms.recorded import Recorded, of_own, of_translation
 from ..program import CURE, Options, find_program
-from . import by_shards, causes, events, hints, large, models, results, wide, words
+from . import as_json, bad_keys, by_shards, events, hints, large, least, models, results, terminal, wide, words
 from .judging import Task, judged
 from .outputs import Folder, Page
 from .words import NAME, Given
@@ -30,21 +31,28 @@ def say(line: str) -> None:
 def main(arguments: Optional[List[str]] = None) -> int:
     """Judges what the words of the command line name. Gives the exit status."""
     command.collect_seldom()
+    is_json = "--json" in (sys.argv[1:] if arguments is None else arguments)
     try:
         if threading.current_thread() is threading.main_thread():
             signal.signal(signal.SIGTERM, _terminated)
         return _judge(words.given(arguments))
-    except (Refused, ProgramError, OutputError) as fault:
+    except OutputError as fault:
         say(str(fault))
+        return command.REFUSED
+    except (Refused, ProgramError) as fault:
+        reason = str(fault)
     except KeyboardInterrupt:
         say("interrupted")
         return command.INTERRUPTED
     except MemoryError:
-        say("the memory does not suffice for this history")
+        reason = "the memory does not suffice for this history"
     except OSError as fault:
-        say(f"{fault.filename or 'a file'}: {fault.strerror}")
+        reason = f"{fault.filename or 'a file'}: {fault.strerror}"
     except Exception as fault:
-        say(f"a fault of {NAME} itself: {fault!r}")
+        reason = f"a fault of {NAME} itself: {fault!r}"
+    say(reason)
+    if is_json:
+        as_json.write_refusal(reason)
     return command.REFUSED
 
 
@@ -69,50 +77,96 @@ def _judge(given: Given) -> int:
 
 
 def _judge_to(given: Given, page: Optional[Page], folder: Optional[Folder]) -> int:
-    long = large.large(given)
-    if long is not None:
-        return by_shards.judge(given, long, page, folder)
     source = files.found(given.history)
-    try:
-        return _judge_whole(source, given, page, folder)
-    except Beyond as beyond:
-        long = large.beyond(given, str(beyond))
-        if long is None:
-            raise Refused(f"{source.name}: {beyond}; --jobs N judges it in shards, which take more") from beyond
-    return by_shards.judge(given, long, page, folder)
-
-
-def _judge_whole(source: files.Source, given: Given, page: Optional[Page], folder: Optional[Folder]) -> int:
     for note in source.notes:
         say(note)
-    if len(source.text) > LARGE:
-        say(f"{source.name}: {len(source.text):,} characters, which take some time to read")
-    said = Said(given.key, given.nil_is_absent, given.model == "set")
+    with named(source):
+        form = door.form_of(source, given.said)
+    if form == door.OWN:
+        status = _judge_own(source, given, page, folder)
+        if status is not None:
+            return status
+        form = door.JEPSEN
+    reason: Optional[str] = ""
+    with named(source):
+        made = door.translated(source, form, given.said)
+        if not large.is_asked(given):
+            reason, found = _whole(made)
+    if reason is not None:
+        return by_shards.judge(given, large.Large(source, made, reason), page, folder)
+    assert found is not None
+    return _judge_whole(source, found, given, page, folder)
+
+
+@contextlib.contextmanager
+def named(source: files.Source) -> Iterator[None]:
+    """Refusals that name the history."""
     try:
-        found = recorded(source, said)
-        task = _task(found, given)
-    except Beyond:
-        raise
+        yield
     except Refused as refusal:
         raise Refused(f"{source.name}: {refusal}") from refusal
+
+
+def _whole(made: Translation) -> Tuple[Optional[str], Optional[Recorded]]:
+    """The history for one check, or why one does not take it."""
+    reason = made.reason_for_shards()
+    try:
+        return reason, of_translation(made) if reason is None else None
+    except Beyond as beyond:
+        return str(beyond), None
+
+
+def _judge_own(source: files.Source, given: Given, page: Optional[Page], folder: Optional[Folder]) -> Optional[int]:
+    """Judges a history in jepmon's own form; None if it is none after all, so that it is read as one of Jepsen's."""
+    with named(source):
+        reason = "" if large.is_asked(given) else large.reason_of_own(source)
+        found = of_own(source) if reason is None else None
+        if reason == "":
+            large.refuse_commands(source.front)
+        if reason is None and found is None and large.has_wide_key(source.text):
+            reason = f"a key above {kinds.KEYS[-1]}, which one check does not take"
+    if found is not None:
+        return _judge_whole(source, found, given, page, folder)
+    return None if reason is None else by_shards.judge_own(given, large.Large(source, None, reason), page, folder)
+
+
+def _judge_whole(source: files.Source, found: Recorded, given: Given, page: Optional[Page], folder: Optional[Folder]) -> int:
+    if len(found.text) > LARGE:
+        say(f"{source.name}: {len(found.text):,} characters, which take some time to read")
+    with named(source):
+        task = _task(found, given)
     for line in hints.found(source, found, task):
         say(line)
+    if given.strict_input:
+        found.account.test_strict()
+    say(hints.judged_by(source, found, task))
     report = judged(task)
     report, decided = wide.anew(report, task.options, functools.partial(events.of_keys, found), given.wide_seconds)
-    task = task._replace(wide_seconds=given.wide_seconds if decided else None)
-    command.write_output([report.text or report.error])
-    for line in hints.after(found, task, report, source, said, given.cause):
+    task = task._replace(wide_seconds=given.wide_seconds if decided else None, least=given.least)
+    beside = list(hints.after(found, task, report, source, given.said, given.cause))
+    few = least.reason(given, report.word, least.telling(found.facts.outcomes, models.answered(found.facts)))
+    if not given.json and not few:
+        command.write_output([report.text or report.error])
+    for line in beside:
         say(line)
-    key = causes.shown(found, task, report, given.cause, decided=decided)
-    for line in key.lines if key else []:
-        command.write_error(line)
-    results.write(page, folder, results.Results(source.name, found, task, report, key))
+    if few:
+        raise Refused(f"{source.name}: {few}")
+    of_report = bad_keys.found(report.keys)
+    keys = bad_keys.shown(found, task, report, of_report.bad, functools.partial(events.with_fields, found), given.cause, decided)
+    done = results.Results(source.name, found, task, report, keys, terminal.told(found, keys))
+    results.write(page, folder, done)
+    if given.json:
+        facts = found.facts
+        counted = as_json.Counted(facts.events, len(facts.keys), models.clients_of(facts, task.options.concurrency), found.form, facts.outcomes,
+                                  of_report)
+        as_json.write(as_json.of_results(done, source.path, counted, [*source.notes, *found.notes, *beside], given))
     return report.status
 
 
 def _task(found: Recorded, given: Given) -> Task:
     """How the history is to be judged."""
     choice = models.chosen(found.facts, given.model, found.stated, found.possible)
+    models.account_for(choice, found.account)
     concurrency = given.concurrency or models.concurrency_of(found.facts)
     if concurrency is None:
         raise Refused("its processes fit no concurrency from 1 to 64")

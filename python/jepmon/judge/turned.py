@@ -1,72 +1,26 @@
-"""A history in Jepsen's form that is judged by shards: turned into jepmon's own, event by event."""
+"""A history of another form than jepmon's own that is judged by shards: its events as those of the file."""
 from __future__ import annotations
 
-from typing import BinaryIO, Dict, Iterator, List, Optional, Sequence, cast
+from typing import Dict, List, Mapping, Sequence
 
-from .. import edn, history
-from ..forms import Refused, faults
-from ..forms.jepsen import NO_KEYS, notes_of
+from ..forms import faults
+from ..forms.door import Translation
 from ..forms.own import Facts
 from ..forms.recorded import Recorded
-from ..from_jepsen import Refusal, Turned, turn
-from ..from_jepsen.events import Event as JepsenEvent
-from ..from_jepsen.refusal import NoKey
-from ..from_jepsen.write import OF_SHARDS
+from ..from_jepsen import Turned
 from ..history import Event
-from .events import FURTHER
-from .large import Large, Pieces
-from .words import Given
 
 
-def turned(given: Given, found: Large) -> "tuple[Turned, List[str]]":
-    """What comes of it, and what is to be told."""
-    try:
-        try:
-            made, notes = _turn(found, given.key, given), []  # type: Turned, List[str]
-        except NoKey:
-            if given.key is not None or found.path is None:
-                raise
-            made, notes = _turn(found, "0", given), [NO_KEYS]
-    except Refusal as refusal:
-        raise Refused(f"{found.name}: {refusal}") from refusal
-    return made, [*notes, *notes_of(made)]
-
-
-def _turn(found: Large, key: Optional[str], given: Given) -> Turned:
-    if found.path is not None:
-        with open(found.path, "rb") as file:
-            return turn(file, key, given.nil_is_absent, OF_SHARDS)
-    return turn(cast(BinaryIO, Pieces(cast("Iterator[bytes]", found.history))), key, given.nil_is_absent, OF_SHARDS)
-
-
-def recorded(made: Turned) -> Recorded:
+def recorded(made: Translation, turned: Turned) -> Recorded:
     """What the history is beside its events."""
-    return Recorded("", "", Facts(), key_names=made.names.keys, value_names=made.names.values,
-                    faults=faults.of_nemesis(made.history.nemesis, made.begun))
+    return Recorded(made.form, "", Facts(), made.account, key_names=turned.names.keys, value_names=turned.names.values, translation=made,
+                    faults=faults.of_nemesis(turned.history.nemesis, turned.begun))
 
 
-def with_lines(made: Turned, events: Sequence[Event], path: Optional[str]) -> List[Event]:
-    """The events with their lines in the file, and what else these say of them."""
-    wanted = {event.index for event in events}
-    lines: Dict[int, int] = {}
-    for index, event in enumerate(made.history.events, made.begun):
-        if index in wanted and isinstance(event, JepsenEvent):
-            lines[index] = event.line
-    further = dict(_further(path, set(lines.values()))) if path is not None else {}
-    return [event._replace(line=lines.get(event.index, 0), fields=further.get(lines.get(event.index, 0), event.fields)) for event in events]
-
-
-def _further(path: str, wanted: "set[int]") -> "Iterator[tuple[int, dict[str, object]]]":
-    with open(path, "rb") as file:
-        for number, line in enumerate(file, 1):
-            if number in wanted:
-                fields = _fields(line.decode("utf-8", "replace"))
-                yield number, {name: history.plain(fields[f":{name}"]) for name in FURTHER if f":{name}" in fields}
-
-
-def _fields(line: str) -> Dict[str, edn.Value]:
-    try:
-        element = next(edn.Reader(line.lstrip("[( ")).elements(), None)
-    except edn.Unreadable:
-        return {}
-    return (edn.fields_of(element.value) or {}) if element is not None else {}
+def with_lines(made: Translation, turned: Turned, keys: Mapping[int, Sequence[Event]]) -> Dict[int, List[Event]]:
+    """The events of each key with their lines in the file, and what else these say of them."""
+    wanted = {event.index for events in keys.values() for event in events}
+    lines = {index: line for index, line in enumerate(made.lines(turned.begun)) if index in wanted}
+    further = made.beside(wanted, turned.begun)
+    return {key: [event._replace(line=lines.get(event.index, 0), fields={**event.fields, **further.get(event.index, {})}) for event in events]
+            for key, events in keys.items()}

@@ -5,11 +5,14 @@ import argparse
 import sys
 from typing import List, NamedTuple, Optional
 
-from .. import __version__, command, kinds
-from ..forms import Refused
+from .. import command, kinds
+from ..forms import Refused, mapping_words
+from ..forms.door import Options as Said
+from ..forms.mapping import Mapping
 
 NAME = "judge"
 MOST_JOBS = 1024
+MOST_LEAST = 1_000_000_000
 SHORT, LONG, MOST_SECONDS = 10, 600, 1_000_000  # seconds for keys that are over their budget
 DESCRIPTION = """Judges a recorded history: finds out its form, the model and the concurrency, has it judged by the proved program, and tells the cause.
 
@@ -40,6 +43,15 @@ class Given(NamedTuple):
     dask: Optional[str]
     temporary: Optional[str]
     wide_seconds: int = 0  # for keys that are over their budget
+    strict_input: bool = False
+    json: bool = False
+    least: int = 1
+    mapping: Mapping = Mapping()  # what is said of the fields of rows
+
+    @property
+    def said(self) -> Said:
+        """What is said of the history."""
+        return Said(self.key, self.nil_is_absent, self.model, self.mapping)
 
 
 class Words(command.Words):
@@ -83,6 +95,8 @@ def given(words: Optional[List[str]]) -> Given:
     parser.add_argument("--key", metavar="K", type=number("a key", kinds.KEYS),
                         help="the history has no keys: each value in it is of key K")
     parser.add_argument("--nil-is-absent", action="store_true", help="nil is what a missing key answers, and is judged")
+    parser.add_argument("--strict-input", action="store_true", help="refuse each guess, as of the model or of a key, in place of judging by it")
+    mapping_words.add(parser)
     parser.add_argument("--wide", action="store_true", help=f"take up to {LONG} seconds, in place of {SHORT}, to decide keys that are over "
                         "their budget by what is known afterwards")
     parser.add_argument("--wide-seconds", metavar="N", type=number("a number of seconds", range(0, MOST_SECONDS + 1)),
@@ -90,10 +104,14 @@ def given(words: Optional[List[str]]) -> Given:
     parser.add_argument("--html", metavar="PAGE", help="write a page that shows the cause")
     parser.add_argument("--out", metavar="DIR", help="write the history as judged, the report, the cause, the page, and the command "
                         "that judges it again, into this folder")
-    parser.add_argument("--version", action="version", version=f"jepmon (Python) {__version__}")
+    parser.add_argument("--least", metavar="N", type=number("a number of operations", range(0, MOST_LEAST + 1)), default=1,
+                        help="there is no verdict where fewer operations were ok whose answers say something: status 3 (1)")
+    parser.add_argument("--json", action="store_true", help="print one JSON object in place of the report, for other programs "
+                        "(docs/FORMATS.md has its fields)")
     parser.add_argument("--no-cause", dest="cause", action="store_false", help="the verdict alone")
     try:
         parsed = parser.parse_args(words)
+        mapping = mapping_words.of(parsed)
         if parsed.history is None and sys.stdin is not None and sys.stdin.isatty():
             parser.error("no history is named, and standard input is a terminal")
     except Refused as fault:
@@ -101,4 +119,5 @@ def given(words: Optional[List[str]]) -> Given:
     key = None if parsed.key is None else str(parsed.key)
     seconds = parsed.wide_seconds if parsed.wide_seconds is not None else LONG if parsed.wide else SHORT
     return Given(parsed.history or "-", parsed.model, parsed.concurrency, parsed.budget, parsed.workers, key, parsed.nil_is_absent,
-                 parsed.html, parsed.out, parsed.cause, parsed.jobs, parsed.dask, parsed.temporary, seconds)
+                 parsed.html, parsed.out, parsed.cause, parsed.jobs, parsed.dask, parsed.temporary, seconds, parsed.strict_input,
+                 parsed.json, parsed.least, mapping)

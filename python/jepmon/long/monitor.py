@@ -30,13 +30,16 @@ import pathlib
 import time
 import uuid
 from types import TracebackType
-from typing import Callable, Counter, Dict, Iterator, Optional, Type, Union
+from typing import Callable, Counter, Dict, Iterator, NoReturn, Optional, Type, Union
 
 from ..clients import run_clients
+from ..conclusion import say_if_idle
 from ..endings import Exceptions, endings
 from ..kinds import MODELS
 from ..notes import BEGIN, END, NOTE, folded
-from ..verdicts import NotLegal
+from ..owner import not_sent
+from ..telling import test_unknown
+from ..verdicts import NotLegal, Unknown
 from .folder import LongFolder
 from .handle import Handle
 from .limits import limits, room
@@ -45,17 +48,22 @@ from .settings import Settings
 from .tally import add_counts
 
 EVENTS = 1 << 18
+NOT_ALL = "unknown: not all was judged"
 
 
 class LongMonitor:
     """As Monitor, for any number of events, objects and clients. Any number of threads may use it, and coroutines. Of the words those that
     Monitor has mean the same; a key over its budget is always left, and counted.
 
+    unknown  "raise": where not all was judged, the end of the monitor's block raises Unknown, which says what was not. "drop": it does not;
+             see close
+
     out      a folder, as "runs/": the run gets one of its own there, with a folder for each part, which is all that one program has judged
     keep     so many legal parts stay in it, the newest; None: all. A part has some 20 megabytes
     forget   is called with the name of each object that is judged no more, so that the store may delete it
     events   after so many of a part its objects are replaced: the memory of the test goes with it
     keys     objects of a part
+    page     whether the run's folder gets a page of it at the end
     names    what the names of objects begin with: a number follows. Unless given it is what no other run has, so that no name is met
              twice in a store
     """
@@ -75,14 +83,17 @@ class LongMonitor:
         events: int = EVENTS,
         keys: int = 1 << 16,
         names: Optional[str] = None,
+        unknown: str = "raise",
+        page: bool = True,
     ) -> None:
+        test_unknown(unknown)
         if keep is not None and keep < 0:
             raise ValueError(f"keep is a number of parts, not {keep}")
         begun, clock = datetime.datetime.now().astimezone(), time.monotonic_ns()
         names = f"{uuid.uuid4().hex[:12]}-" if names is None else names
         settings = Settings(program, model, budget, timeout, endings(expected, failed), begun, clock, names, {})
-        folder = LongFolder(out, begun, keep) if out is not None else None
-        self._model, self._folder = model, folder
+        folder = LongFolder(out, begun, keep, page) if out is not None else None
+        self._model, self._folder, self._unknown = model, folder, unknown
         self._parts = Parts(settings, limits(events, keys, concurrency), folder, forget)
 
     def fresh(self, model: Optional[str] = None, changes: Optional[int] = None) -> Handle:
@@ -168,14 +179,31 @@ class LongMonitor:
     def close(self) -> str:
         """Ends the programs. Gives the final verdict: `legal` where all was judged and is; else the first reply that was not, with its
         part, and, each on a line, what was not judged."""
-        return self._parts.close(None)
+        return self._close(None)
+
+    def _close(self, error: Optional[BaseException]) -> str:
+        is_first = not self._parts.is_closed
+        verdict = self._parts.close(error)
+        if is_first and verdict == "legal" and error is None:
+            say_if_idle(self.counts)
+        return verdict
 
     def __enter__(self) -> LongMonitor:
         return self
 
+    def __reduce__(self) -> NoReturn:
+        not_sent(self)
+
     def __exit__(
         self, kind: Optional[Type[BaseException]], error: Optional[BaseException], trace: Optional[TracebackType]
     ) -> None:
-        self._parts.close(error)
-        if error is None and self.failure is not None:
+        if error is not None and not self._parts.lock.is_here:
+            return  # a forked process ends, and the test goes on elsewhere
+        verdict = self._close(error)
+        if error is not None:
+            return
+        if self.failure is not None:
             raise copy.copy(self.failure)
+        if self._unknown == "raise" and verdict != "legal":
+            legal, _, not_judged = verdict.partition("\n")
+            raise Unknown(f"{NOT_ALL}\n{not_judged}" if legal == "legal" else verdict, folder=str(self.folder or ""))

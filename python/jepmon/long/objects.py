@@ -60,6 +60,7 @@ class LongObject(Operations):
         self._parts, self._room = parts, room
         self._answers = 0  # since it was replaced
         self._changes = 0
+        self._held = 0  # how often a lock was taken, and not given back yet
 
     def release(self) -> LongOperation:
         """Gives back a lock that was taken of this object."""
@@ -88,8 +89,10 @@ class LongObject(Operations):
 
     @property
     def is_read_enough(self) -> bool:
-        """Since it was replaced. A lock has nothing to read."""
-        return self._answers >= (EMPTY if self.model in QUEUES else ANSWERS) or self.model == "mutex"
+        """Since it was replaced. A lock has nothing to read, and its release is to be judged."""
+        if self.model == "mutex":
+            return self._held <= 0
+        return self._answers >= (EMPTY if self.model in QUEUES else ANSWERS)
 
     @property
     def is_undrained(self) -> bool:
@@ -104,6 +107,7 @@ class LongObject(Operations):
     def ended(self, name: str, outcome: Optional[str], is_answered: bool) -> None:
         """An operation of it has ended so: a dequeue that failed with an answer has found it empty."""
         self._changes += name in CHANGES
+        self._held += ((name, outcome) == ("acquire", "ok")) - (name == "release" and outcome != "fail")
         if outcome == "info" and name != "read":
             self.timeouts += 1
         if is_answered and (name, outcome) in (("read", "ok"), ("dequeue", "fail")) and self.is_replaced:  # a queue is read to its end

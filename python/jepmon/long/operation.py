@@ -5,8 +5,7 @@ from types import TracebackType
 from typing import TYPE_CHECKING, Optional, Type, Union
 
 from ..kinds import REGISTERS
-from ..operation import UNSET, Operation
-from ..values import Value
+from ..operation import Block, Operation
 from ..verdicts import NotLegal
 
 if TYPE_CHECKING:
@@ -15,17 +14,17 @@ if TYPE_CHECKING:
     from .parts import Parts
 
 
-class LongOperation:
+class LongOperation(Block):
     """As Operation. Its object is chosen where the block begins, and it ends there, whatever has come in its place."""
 
+    _parts: Parts
+    _chooser: Union[Handle, LongObject]
+    _part: str
+    _object: Optional[LongObject] = None
+    _inner: Optional[Operation] = None
+
     def __init__(self, parts: Parts, chooser: Union[Handle, LongObject], name: str, part: str) -> None:
-        self.value: Value = UNSET  # of a read or a dequeue: what it answered
-        self.outcome: Optional[str] = None  # "ok", "fail" or "info", once the block has ended
-        self.told = False  # whether jepmon was told of it: not where its object was judged no more
-        self._parts, self._chooser, self._name, self._part = parts, chooser, name, part
-        self._object: Optional[LongObject] = None
-        self._inner: Optional[Operation] = None
-        self._said: Optional[str] = None
+        self.__dict__.update(_parts=parts, _chooser=chooser, _name=name, _part=part)
 
     @property
     def object(self) -> LongObject:
@@ -39,23 +38,15 @@ class LongOperation:
         """By which the store is to know the object."""
         return self.object.name
 
-    def fail(self) -> None:
-        """The operation certainly did not take place."""
-        self._said = "fail"
-
-    def info(self) -> None:
-        """The operation may have taken place, or may yet, as after a timeout that raised nothing."""
-        self._said = "info"
-
     def __enter__(self) -> LongOperation:
         if self._object is not None:
             raise ValueError(f"this {self._name} has had its block already: make one for each block")
         one, telling = self._parts.begin(self._chooser, self._name)
-        self._object = one
-        self._inner = Operation(telling or Nobody(self._parts, one.model), self._name, one.key, self._part)
+        inner = Operation(telling or Nobody(self._parts, one.model), self._name, one.key, self._part)
+        self.__dict__.update(_object=one, _inner=inner)
         try:
-            self._inner.__enter__()
-            self.told = self._inner.told
+            inner.__enter__()
+            self.__dict__.update(_told=inner.told)
             return self
         except NotLegal:
             self._end(False)
@@ -68,19 +59,21 @@ class LongOperation:
         self, kind: Optional[Type[BaseException]], error: Optional[BaseException], trace: Optional[TracebackType]
     ) -> bool:
         inner = self._inner
-        assert inner is not None, "no block has begun"
-        inner.value, inner._said = self.value, self._said
+        if inner is None:
+            raise ValueError(f"the block of this {self._name} has not begun, or has ended already")
+        inner._take(self)
         try:
             return inner.__exit__(kind, error, trace)
         except NotLegal:
             pass
         finally:
-            self.outcome = inner.outcome
+            self.__dict__.update(_outcome=inner.outcome)
             self._end(error is None)
         raise self._parts.not_legal()
 
     def _end(self, is_answered: bool) -> None:
-        inner, self._inner = self._inner, None  # an operation that a client keeps does not keep its program's events
+        inner = self._inner
+        self.__dict__.update(_inner=None)  # an operation that a client keeps does not keep its program's events
         if inner is not None and not isinstance(inner._telling, Nobody):
             self._parts.end(self.object, self._name, self.outcome, self.told, is_answered)
 

@@ -87,7 +87,7 @@ class Part:
         if one.model != self.model:
             self.telling.set_model(one.key, one.model)
         with self.telling.lock:
-            self.telling.numbers[one.name] = one.key  # for the part's folder
+            self.telling.names[one.key] = one.name  # for the part's folder
         self.objects.append(one)
         self.makers.append(maker)
         self.waiting += 1

@@ -10,6 +10,7 @@ from typing import Callable, List, Optional, Tuple, Union
 
 from ..endings import Endings
 from ..notes import BEGIN, END
+from ..owner import OwnedLock
 from ..telling import Telling
 from ..verdicts import NotLegal, Refused
 from .folder import LongFolder
@@ -25,7 +26,7 @@ class Parts:
     """One lock for all of them: of it a part's own lock may be taken, and never the other way round."""
 
     def __init__(self, settings: Settings, limits: Limits, folder: Optional[LongFolder], forget: Optional[Callable[[str], object]]) -> None:
-        self.lock = threading.Lock()
+        self.lock = OwnedLock()
         self.draws = random.Random(1)
         self.tally = Tally()
         self.failure: Optional[NotLegal] = None
@@ -33,7 +34,7 @@ class Parts:
         self.broken_off: Optional[Refused] = None  # while clients are waited for, of which one has raised an exception
         self.is_closed = False
         self._settings, self._limits, self._folder, self._forget = settings, limits, folder, forget
-        self._freed = threading.Condition(self.lock)
+        self._freed = threading.Condition(self.lock)  # type: ignore[arg-type]
         self.begun = 0  # parts
         self._made = 0  # objects
         self._faults: List[str] = []  # that hold

@@ -10,7 +10,7 @@ from __future__ import annotations
 from .bars import bars
 from .from_order import ordered
 from .from_walk import walked
-from .given import End, Fault, PageInput, Walked
+from .given import End, Fault, Other, PageInput, Walked
 from .document import render
 
-__all__ = ["End", "Fault", "PageInput", "Walked", "bars", "ordered", "render", "walked"]
+__all__ = ["End", "Fault", "Other", "PageInput", "Walked", "bars", "ordered", "render", "walked"]

@@ -19,6 +19,7 @@ from .ends import ends_table
 from .from_walk import walked
 from .given import PageInput, smallest_of
 from .labels import MARKS, Labels, printable
+from .others import others_table
 from .words import PROVED, SIGNS, agreement, facts, fatal_of, headline, left_out, number
 
 HERE = pathlib.Path(__file__).resolve().parent
@@ -52,6 +53,7 @@ def render(given: PageInput) -> str:
         "switch": switch(page),
         "legend": legend(page),
         "ends": ends_table(page, page.walked) if page.walked is not None else "",
+        "others": others_table(given),
         "text": html.escape(as_text(page)),
         "data": text_of(data(page)),
         "script": script,

@@ -44,11 +44,23 @@ class Walked(NamedTuple):
     is_order: bool = False  # no walk found it: the one end is that of an order which was found afterwards
 
 
+class Other(NamedTuple):
+    """Another key of the history that is not legal: its name, "illegal" or "unknown" from the event of this index on, its cause in a
+    sentence, and where its page is, "" where it has none."""
+
+    name: str
+    word: str
+    at: Optional[int]
+    headline: str
+    link: str
+
+
 class PageInput(NamedTuple):
     """All that a page shows. `verdict` is jepmon's last line and `report` its line of this key; `headline` and `sentences` say
     the cause; `smallest` has the events of the smallest illegal part, or their indices; `names` says what numbered values stand
     for, and `key_name` what the key's number stands for; `again` is the command that judges the history again; `proviso` says what is
-    proved, where that is not what it is of most pages."""
+    proved, where that is not what it is of most pages; `others` are the other keys that are not legal, and `back` is where the page of
+    the first one is."""
 
     verdict: str
     key: int
@@ -67,6 +79,8 @@ class PageInput(NamedTuple):
     key_name: str = ""
     again: str = ""
     proviso: str = ""
+    others: Sequence[Other] = ()
+    back: str = ""
 
 
 def smallest_of(given: PageInput) -> List[Event]:

@@ -9,7 +9,7 @@ import sys
 import tempfile
 import threading
 from types import FrameType
-from typing import Callable, Dict, Iterator, Optional
+from typing import TYPE_CHECKING, Callable, Dict, Iterator, Optional
 
 from .. import command, kinds
 from ..errors import ProgramError
@@ -20,6 +20,10 @@ from .doubt import ShardsError
 from .models import EACH
 from .session import Refused
 from .splitting import finish, join, judge, new_folder, split
+
+if TYPE_CHECKING:
+    from ..judge import large
+    from ..judge import words as judge_words
 
 NAME = "shards"
 DESCRIPTION = """Judges a recorded history of any length in shards by key, on as many machines as there are.
@@ -80,24 +84,38 @@ def work() -> int:
 
 
 def splits(given: argparse.Namespace) -> int:
+    from ..forms import files
     from ..judge import by_shards, large, words as judge_words  # which stand on this package
 
-    folder = given.folder
     more = [word for name in ("concurrency", "model", "budget", "jobs", "temporary") for value in [getattr(given, name)]
             if value is not None for word in (f"--{name}", str(value))]
     asked = judge_words.given([given.history, *more])
-    found = large.asked(asked)
+    source = files.found(asked.history)
+    for note in source.notes:
+        command.say(NAME, note)
+    found = large.asked(source, asked)
+    with new_folder(given.folder):
+        try:
+            return _split(given, asked, found)
+        except Refused as refused:
+            if found.made is not None or by_shards.is_last_word(str(refused), asked):
+                raise
+        return _split(given, asked, large.of_jepsen(source, asked))
+
+
+def _split(given: argparse.Namespace, asked: "judge_words.Given", found: "large.Large") -> int:
+    from ..judge import by_shards
+
     history = by_shards.asked(asked, found)
-    with new_folder(folder):
-        with by_shards.opened(asked, found, history) as session:
-            choice = by_shards.chosen(session.tally, given.model, history.made)
-            options = session.options._replace(model=choice.common or EACH)
-            shards = split(session, options, folder)
-            finish(session, options, folder, shards)
+    with by_shards.opened(asked, found, history) as session:
+        choice = by_shards.chosen(session.tally, given.model, history.made)
+        options = session.options._replace(model=choice.common or EACH)
+        shards = split(session, options, given.folder)
+        finish(session, options, given.folder, shards)
     command.say(NAME, f"{found.name}: {session.tally.events:,} events, shards: {len(shards)}; "
                 f"{f'model {choice.common}' if choice.common else 'each key by its own model'}, "
                 f"concurrency {options.concurrency}, budget {options.budget}")
-    command.write_output(os.path.join(folder, f"{shard.name}.edn") + "\n" for shard in shards)
+    command.write_output(os.path.join(given.folder, f"{shard.name}.edn") + "\n" for shard in shards)
     return 0
 
 

@@ -11,6 +11,7 @@ from types import TracebackType
 from typing import Dict, List, Optional, Type
 
 from . import clocks
+from .crashes import LogWatch
 from .disks import Disk
 from .family import adopt
 from .guard import Guard
@@ -51,6 +52,7 @@ class Cluster:
                 self._ended.callback(self.links.end)
             self.server = kind(self.nodes, model, plant)
             self.server.patience = patience or self.server.patience
+            self._logs = LogWatch(self.nodes, self.server.crashes)
             self.server.durability = durability or self.server.durability
         except BaseException:
             self._ended.close()
@@ -129,8 +131,10 @@ class Cluster:
         self._start(node)
 
     def test_alive(self) -> None:
+        """Raises a Died where a node has ended by itself, or its log says that it has crashed."""
         for node in self.nodes:
             node.test_alive()
+        self._logs.look()
 
     def wait_until_all_ready(self) -> None:
         """Where nothing strikes any more."""

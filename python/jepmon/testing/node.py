@@ -11,7 +11,7 @@ import threading
 import time
 from typing import TYPE_CHECKING, Callable, Dict, List, Optional, Sequence, Tuple
 
-from .errors import ServerError
+from .errors import Died, ServerError
 from .family import MARK, adopt, continue_family, kill_family, kill_strays, stop_family
 
 if TYPE_CHECKING:
@@ -111,7 +111,7 @@ class Node:
         with self._lock:
             status = self._process.poll() if self._process is not None else None
         if status is not None:
-            raise ServerError(f"{self.name} has died by itself, {ended(status)}{self.said()}")
+            raise Died(self.name, f"has died by itself, {ended(status)}", self.log, self.said())
 
     # --- Waiting ---
 

@@ -3,7 +3,8 @@ from __future__ import annotations
 
 from typing import Iterator, List
 
-from ..run_folder import CAUSE, PAGE
+from ..run_folder import CAUSE, PAGE, RUN_PAGE
+from . import losses
 from .links import NAMESPACES, PROXY
 from .run import Given, Outcome
 from .strikes.plan import Plan
@@ -41,9 +42,10 @@ def _lines(outcome: Outcome) -> Iterator[str]:
     yield from outcome.not_judged
     if outcome.strikes:
         yield "strikes: " + ", ".join(f"{count} {name}" for name, count in sorted(outcome.strikes.items()) if count)
-    has_page = (outcome.part / PAGE).exists()
-    yield f"folder: {outcome.folder}" + (f", its page: {outcome.part / PAGE}" if has_page else "")
-    yield (outcome.verdict or "no verdict") + (f", and {outcome.lost} messages are lost" if outcome.lost else "")
+    yield f"folder: {outcome.folder}, its page: {outcome.folder / RUN_PAGE}"
+    if (outcome.part / PAGE).exists():
+        yield f"page of the bad key: {outcome.part / PAGE}"
+    yield outcome.verdict or "no verdict"
 
 
 def cause(outcome: Outcome) -> List[str]:
@@ -51,4 +53,4 @@ def cause(outcome: Outcome) -> List[str]:
     try:
         return (outcome.part / CAUSE).read_text(errors="replace").splitlines()
     except OSError:
-        return []
+        return losses.for_terminal(outcome.folder)

@@ -11,11 +11,15 @@ from typing import TYPE_CHECKING, Any, Callable, Counter, Dict, Iterator, List, 
 from .. import command
 from ..errors import OutputError
 from ..kinds import BUDGETS
+from ..notes import OVER
 from ..run_folder import VERDICT
 from ..verdicts import NotLegal, Refused
-from . import client_log
+from . import client_log, losses
+from .after import FINDING, after_a_finding
 from .cluster import Cluster
-from .errors import ServerError, where
+from .crashes import finding
+from .errors import Died, ServerError, where
+from .facts import facts_of, leave_facts, leave_pages
 from .generators import Pace, Phases
 from .links import network
 from .needs import planned
@@ -29,6 +33,7 @@ if TYPE_CHECKING:
 
 EVENTS = 1 << 18  # of a part
 PART = " of part-"  # in a verdict
+COUNTED = ("lost", "crashed")  # the first words of verdicts that no history shows
 PAUSE = 0.01  # seconds after an operation that was not ok: not thousands of refused connections a second
 
 
@@ -51,6 +56,7 @@ class Given(NamedTuple):
     out: str
     keep: Optional[int]  # of parts that are legal
     durability: str = ""  # how the server keeps what it acknowledges; empty: as its first one
+    keep_nodes: str = FINDING  # when the nodes' data are kept
 
 
 class Outcome(NamedTuple):
@@ -89,6 +95,7 @@ class Test:
         self.begun = self.ended = 0.0
         self.at_work: Dict[str, Counter[str]] = {}
         self.struck: Counter[str] = Counter()
+        self.crash = ""  # the verdict on a server that has crashed
         self.broken_off: Optional[Outcome] = None  # what there was, where Ctrl-C or a signal ended the test
 
     def run(self) -> Outcome:
@@ -99,8 +106,9 @@ class Test:
         given = self.given
         client, kind = self.client, works_of(given.server)[given.model]
         monitor = LongMonitor(model=kind.model or given.model, budget=BUDGETS[-1], expected=client.unsure, failed=client.certain, out=given.out,
-                              keep=given.keep, events=EVENTS, names="")
+                              keep=given.keep, events=EVENTS, names="", page=False)
         assert monitor.folder is not None
+        leave_facts(monitor.folder, facts_of(given, self.network, self.plan.names))
         work = kind(monitor, given.clients, given.keys)
         reason = ""
         try:
@@ -108,6 +116,9 @@ class Test:
                 self._run(monitor, work)
         except NotLegal as found:
             reason = "" if not isinstance(found, Refused) else first_line(str(found))
+        except Died as died:
+            self.crash = (finding(died) or "") if self.begun else ""
+            reason = str(died)
         except ServerError as fault:
             reason = str(fault)
         except Exception as fault:
@@ -115,9 +126,11 @@ class Test:
         except BaseException:  # Ctrl-C
             self.broken_off = self._outcome(monitor, work, "the test was broken off")
             leave(monitor.folder, self.broken_off.verdict, self.broken_off.reason)
+            leave_pages(monitor.folder)
             raise
         outcome = self._outcome(monitor, work, reason)
         leave(outcome.folder, outcome.verdict, outcome.reason)
+        leave_pages(outcome.folder)
         return outcome
 
     def _fault(self, fault: Exception) -> str:
@@ -130,7 +143,8 @@ class Test:
         given = self.given
         assert monitor.folder is not None
         with Cluster(given.server, given.model, given.plant, given.nodes, monitor.folder, self.network, given.patience,
-                     self.plan.needs(NEEDS_DISK), self.plan.needs(NEEDS_CLOCK), given.durability) as cluster:
+                     self.plan.needs(NEEDS_DISK), self.plan.needs(NEEDS_CLOCK), given.durability) as cluster, \
+                after_a_finding(cluster, monitor.folder, given.keep_nodes, lambda: work.lost):
             self.begun = time.monotonic()
             nemesis = Nemesis(monitor, cluster, self.plan.known, self.plan.lanes(given.seed, given.seconds), given.seconds)
             self.struck = nemesis.struck
@@ -169,7 +183,7 @@ class Test:
 
     def _finish(self, monitor: LongMonitor, work: Work, cluster: Cluster) -> None:
         """All is mended by now. Each node must answer what is left to ask."""
-        monitor.note("the faults are over")
+        monitor.note(OVER)
         with contextlib.ExitStack() as over:
             cluster.wait_until_all_ready()
             over.enter_context(cluster.clients())
@@ -202,24 +216,30 @@ class Test:
                if counts.get(name, Counter())["ok"] < self.given.least]
         if verdict.startswith("illegal"):
             status = 1
+        elif self.crash:
+            verdict, status, reason = self.crash, 1, ""
         elif reason:
             verdict, status = "", 3
         elif few:
             verdict, status = "", 3
             reason = f"fewer than {self.given.least} operations were ok ({', '.join(few)}), of which nothing is said"
         elif work.lost:
-            status, reason = 1, f"{work.lost} messages were acknowledged, and never came: this was counted, and is not proved"
+            verdict, status = f"lost {work.lost} messages: acknowledged, and never dequeued; this was counted, and is not proved", 1
+            losses.leave(monitor.folder, work.lost, work.missing)
         elif not verdict.startswith("legal"):
             status = 2
+        elif not_judged:
+            verdict, status, reason = "unknown", 2, "what was judged is legal, and not all was judged"
         return Outcome(verdict, reason, status, counts, monitor.length, self.at_work, max(self.ended - self.begun, 0.001), monitor.parts,
                        not_judged, self.struck, work.lost, monitor.folder)
 
 
 def leave(folder: pathlib.Path, verdict: str, reason: str) -> None:
     """The folder must not say legal where the test does not."""
-    if reason:
+    if reason or verdict.split(" ")[0] in COUNTED:
         try:
-            command.write_file(folder / VERDICT, (f"{verdict}; {reason}" if verdict else f"no verdict: {reason}") + "\n")
+            said = f"no verdict: {reason}" if not verdict else f"{verdict}; {reason}" if reason else verdict
+            command.write_file(folder / VERDICT, said + "\n")
         except OutputError:
             (folder / VERDICT).unlink(missing_ok=True)  # on a disk that is full
 

@@ -76,6 +76,7 @@ class Server:
     size: int = 1  # how many nodes there are, where --nodes does not say
     sizes: range = range(1, 8)
     in_turn: bool = False  # whether a node is started once the one before is ready
+    crashes: Sequence[str] = ()  # regular expressions: a line of a node's log that one of them matches is a crash, which is a finding
     patience: float = 120.0  # seconds until a node is ready, and until it answers again at the end
 
     def __init__(self, nodes: Sequence[Node], model: str, plant: str) -> None:
@@ -88,6 +89,11 @@ class Server:
         if missing:
             packages = " ".join(sorted({cls.programs[program] for program in missing}))
             raise ServerError(f"{', '.join(missing)} is not installed: on Debian, apt-get install {packages}")
+
+    @classmethod
+    def version(cls) -> Sequence[str]:
+        """The words that print the version of the server, which the page of a run shows; none, where it has none."""
+        return ()
 
     def command(self, node: Node) -> List[str]:
         """The words that start a node, by the whole path of its program: it is run in node.folder, where its data go. It listens at

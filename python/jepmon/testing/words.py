@@ -9,6 +9,7 @@ import sys
 from typing import Dict, Iterable, Iterator, List, Optional, Type
 
 from .. import command, kinds
+from .after import ALWAYS, FINDING, NEVER
 from .errors import ServerError, where
 from .links import AUTO, NETWORKS
 from .needs import planned
@@ -64,7 +65,7 @@ def given(words: Optional[List[str]]) -> Optional[Given]:
         raise ServerError(f"--durability {parsed.durability}: {parsed.server} has {_listed(server.durabilities) or 'none'}")
     nemesis = parsed.nemesis or (plant.nemesis if plant else "all")
     given = Given(server, model, parsed.plant or "", parsed.time, parsed.clients, parsed.keys, parsed.seed, nemesis, parsed.rate, nodes,
-                  parsed.network, parsed.least, parsed.patience, parsed.out, parsed.keep, parsed.durability or "")
+                  parsed.network, parsed.least, parsed.patience, parsed.out, parsed.keep, parsed.durability or "", parsed.keep_nodes)
     planned(given)  # what can't be is said before anything starts
     return given
 
@@ -88,12 +89,15 @@ def _parser() -> Words:
     parser.add_argument("--network", choices=NETWORKS, default=AUTO, help="by what links are cut and slow: namespaces, of which each node "
                         "has one (as root on Linux), or a proxy on the loopback; auto takes namespaces where it can")
     parser.add_argument("--least", metavar="N", type=_within("operations", 1, 1_000_000), default=20,
-                        help="there is no verdict where fewer of some operation were ok (20)")
+                        help="there is no verdict where fewer of some operation were ok: status 3 (20)")
     parser.add_argument("--patience", metavar="SECONDS", type=_positive("seconds"), default=0.0,
                         help="for a node to start, and to answer again at the end, before there is no verdict (120, of RabbitMQ 300)")
     parser.add_argument("--out", metavar="FOLDER", default="runs", help="the run gets a folder of its own there (runs)")
     parser.add_argument("--keep", metavar="N", type=_within("parts", 0, 1_000_000),
                         help="legal parts that stay in the folder, the newest (all); a part is 262,144 events, of some 20 megabytes")
+    parser.add_argument("--keep-nodes", choices=(FINDING, ALWAYS, NEVER), default=FINDING,
+                        help="when the data of each node are copied into the run's folder, as n1.data: after a finding, always or never "
+                        f"({FINDING})")
     return parser
 
 

@@ -4,9 +4,9 @@ from __future__ import annotations
 import itertools
 import random
 import time
-from typing import TYPE_CHECKING, Any, Callable, Dict, Iterator, Optional, Tuple, Type, Union
+from typing import TYPE_CHECKING, Any, Callable, Dict, Iterator, List, Optional, Tuple, Type, Union
 
-from .messages import Messages
+from .messages import Messages, Missing
 
 if TYPE_CHECKING:
     from ..long import Handle, LongMonitor, LongObject, LongOperation
@@ -47,6 +47,11 @@ class Work:
     def lost(self) -> int:
         """How many values were taken, and certainly lost, of which no event tells."""
         return 0
+
+    @property
+    def missing(self) -> List[Missing]:
+        """Where they were."""
+        return []
 
 
 class Registers(Work):
@@ -213,6 +218,10 @@ class Queues(Work):
     @property
     def lost(self) -> int:
         return self.messages.lost if self.is_drained else 0
+
+    @property
+    def missing(self) -> List[Missing]:
+        return self.messages.listed if self.is_drained else []
 
     def backlog(self, handle: Handle) -> int:
         newest: Optional[LongObject] = self.newest.get(handle)

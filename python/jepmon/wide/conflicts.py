@@ -5,6 +5,7 @@ from __future__ import annotations
 from typing import AbstractSet, FrozenSet, List, Optional, Sequence
 
 from .. import kinds
+from ..effort import Effort
 from ..history import Operation
 from ..program import Options, check
 from ..shrink import Part, Search
@@ -19,10 +20,10 @@ class BySearch(Search):
     """The search for the smallest part, by the answers of this package in place of the program's."""
 
     def __init__(self, options: Options, fatal: int, hints: FrozenSet[int], clock: Clock) -> None:
-        super().__init__(options, fatal, hints, None, 0.0)
+        super().__init__(options, fatal, hints, None, Effort())
         self.clock = clock
 
-    def is_late(self) -> bool:
+    def is_over(self) -> bool:
         return self.clock.left() <= 0
 
     def is_illegal(self, part: List[Operation]) -> bool:

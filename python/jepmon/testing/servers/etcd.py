@@ -9,7 +9,7 @@ import base64
 import http.client
 import json
 import uuid
-from typing import Any, Dict, List, Optional, Type, Union
+from typing import Any, Dict, List, Optional, Sequence, Type, Union
 
 from ...endings import Exceptions
 from ..node import At, Node
@@ -141,6 +141,10 @@ class Etcd(Server):
         "serializable": Plant("reads are serializable: a member answers without asking the others", "cas-register", "pause,part"),
         "lease": Plant("the lease is shorter than the work", "mutex"),
     }
+
+    @classmethod
+    def version(cls) -> Sequence[str]:
+        return ("etcd", "--version")
 
     def command(self, node: Node) -> List[str]:
         members = ",".join(f"{other.name}={url(other, other.reach['peer'])}" for other in self.nodes)

@@ -10,7 +10,7 @@ import os
 import pathlib
 import pwd
 import shutil
-from typing import Dict, List, Optional, Type
+from typing import Dict, List, Optional, Sequence, Type
 
 from ...endings import Exceptions
 from ..errors import ServerError
@@ -136,6 +136,10 @@ class PostgreSQL(Server):
     def test_installed(cls) -> None:
         if binaries() is None:
             raise ServerError("PostgreSQL is not installed: on Debian, apt-get install postgresql")
+
+    @classmethod
+    def version(cls) -> Sequence[str]:
+        return (program("postgres"), "--version")
 
     def prepare(self, node: Node) -> None:
         node.user = user()

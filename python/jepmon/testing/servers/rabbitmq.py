@@ -15,7 +15,7 @@ import pathlib
 import shutil
 import threading
 import time
-from typing import Dict, List, Optional, Tuple, Type
+from typing import Dict, List, Optional, Sequence, Tuple, Type
 
 from ...verdicts import Failed
 from ..came import Came
@@ -116,6 +116,10 @@ class RabbitMQ(Server):
         "early": Plant("messages are confirmed before they are on the disk: they are not persistent", "unordered-queue", "kill:n1"),
         "twice": Plant("what comes again after a kill is taken for another message", "unordered-queue", "kill:n1"),
     }
+
+    @classmethod
+    def version(cls) -> Sequence[str]:
+        return (str(PROGRAM.with_name("rabbitmqctl")), "version")
 
     @classmethod
     def test_installed(cls) -> None:

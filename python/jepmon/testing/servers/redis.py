@@ -7,7 +7,7 @@ What an error says: a refused connection sent nothing, and an error as an answer
 from __future__ import annotations
 
 import uuid
-from typing import Dict, List, Optional, Type
+from typing import Dict, List, Optional, Sequence, Type
 
 from ...endings import Exceptions
 from ..node import At, Node
@@ -109,6 +109,10 @@ class Redis(Server):
         "members": Plant("members are read at a replica, which is a write behind", "set", "part"),
         "lease": Plant("the lease is shorter than the work", "mutex", nodes=1),
     }
+
+    @classmethod
+    def version(cls) -> Sequence[str]:
+        return ("redis-server", "--version")
 
     def command(self, node: Node) -> List[str]:
         keeps = "no" if self.plant in ("forgetful", "early") else "yes"

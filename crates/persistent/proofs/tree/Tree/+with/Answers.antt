@@ -4,14 +4,14 @@ use Rattle.persistent.specs.Trees.{values_of}
 use Rattle.persistent.proofs.Rows.{with_right}
 use Rattle.persistent.proofs.tree.Tree.+with.Goals as goal
 
-pub returns-in_ok-copy-in-Fork-2 : goal.returns-in_ok-copy-in-Fork-2
-returns-in_ok-copy-in-Fork-2 g t c =
+pub returns-in_ok-right-in-Fork : goal.returns-in_ok-right-in-Fork
+returns-in_ok-right-in-Fork g t c =
     let p = c.in-Fork.pair.value in
     let v = c.args.value in
-    subst (λ l. IfOk c.balanced-in-Fork.result (λ tree. tree ≡ l))
-    (with_right c.args.self.now p.left p.right c.deref-in-Fork-2.result.now.right c.in_ok-right-in-Fork.right c.in_ok-copy-in-Fork-2.field-0
+    subst (λ l. IfOk c.balanced_with_left.result (λ tree. tree ≡ l))
+    (with_right c.args.self.now p.left p.right c.deref-in-Fork-2.result.now.right c.in_ok-right-in-Fork.right c.deref-in-Fork-3.result.now.left
     c.len-many.result c.args.at v v
-    (sym c.self.view_is ∙ ap values_of c.in-Fork.is) (c.in_ok-copy-in-Fork-2.ensures ∙ ap (λ (q : Pair g.row.T.Denot). q.left) c.deref-in-Fork-3.ensures)
+    (sym c.self.view_is ∙ ap values_of c.in-Fork.is) (ap (λ (q : Pair g.row.T.Denot). q.left) c.deref-in-Fork-3.ensures)
     (ap (λ (q : Pair g.row.T.Denot). q.right) c.deref-in-Fork-2.ensures) (sym (c.len-many.ensures ∙ ap (λ (q : Pair g.row.T.Denot). length q.left) c.deref-in-Fork.ensures))
     c.if-at-many.false refl c.in_ok-right-in-Fork.ensures)
-    c.balanced-in-Fork.ensures
+    c.balanced_with_left.ensures

@@ -1,0 +1,37 @@
+//! Hashes of values, and their index.
+ghost use Rattle.std.specs.Prelude.{◌≡◌, ◌<◌, length, OnOk};
+ghost use Rattle.buckets.specs.Hashes.{hash_by};
+ghost use Rattle.buckets.specs.Index.{Indexes, hash_bucket};
+
+use crate::index::{Index, index_all};
+use std::alloc::AllocError;
+use std::hash::{FoldHasher, Hash, Hasher};
+
+// There are always fewer hashes in an index, since its places are of 32 bits.
+const MANY: usize = 1073741820;
+
+/// The hash of the value. Takes the time of what the value feeds.
+#[tactic(auto, unfolding(crate::specs::Hashes::hash_by))]
+pub fn hash_of<T: Hash>(value: &T) -> u64
+    ensures { result ≡ hash_by T.hash_input value.now }
+{
+    let mut hasher = FoldHasher::default();
+    value.hash(&mut hasher);
+    hasher.finish()
+}
+
+/// Indexes all hashes, by more buckets than there are hashes. `AllocError` where memory was refused, or where there are too many
+/// hashes for places of 32 bits. Takes the time of the hashes that are not indexed yet, and of all where new buckets are made.
+#[inline(never)]
+pub fn index_hashes(hashes: &[u64], index: &mut Index) -> Result<(), AllocError>
+    requires index { Indexes hash_bucket hashes.now index.old.last.items index.old.before.items }
+    ensures index { Indexes hash_bucket hashes.now index.new.last.items index.new.before.items }
+    ensures all { OnOk result (length index.new.before.items ≡ length hashes.now) }
+    ensures few { OnOk result (length hashes.now < length index.new.last.items) }
+{
+    let many = hashes.len();
+    if many >= MANY {
+        return Err(AllocError);
+    }
+    index_all(hashes, 4 * many + 8, index)
+}

@@ -1,0 +1,130 @@
+"""The account of an input: what became of each of its lines, and what was assumed that it does not say.
+
+`recorded` makes an Account for each reading and returns it as Recorded.account; every reader of a form gets it and records in it
+
+    account.took(first, last)             the lines of one event or operation in the file, in the order of the file
+    account.skip("blank", 2)              lines that belong to no event, with the reason: a short noun phrase
+    account.guess(KEY, "..", "--key K")   an assumption, and the option that settles it
+
+and at the end account.close(lines), with the number of lines of the input. The input is refused if a line is missing in the account.
+Parts of an input that are read by themselves (several files, pieces of a long one) have accounts of their own; add() joins them.
+
+jepmon-judge prints told(); --strict-input then refuses by test_strict() if there is a guess. An Account holds no file and no
+function, so that a process can send it to another one.
+"""
+from __future__ import annotations
+
+import collections
+from typing import Counter, Iterator, List, NamedTuple
+
+from . import Refused
+
+# What a guess may be of.
+MODEL, KEY, CLIENT, UNIT, ORDER, TYPE, ABSENT, OUTCOME = (
+    "the model", "the key", "the client", "the unit of time", "the order", "the type of values", "the absent value", "the outcome")
+
+
+class Guess(NamedTuple):
+    """Something that the input does not say."""
+
+    of: str  # one of those above
+    assumed: str  # what is taken, and why
+    option: str  # the option that settles it, as the user writes it
+
+    def __str__(self) -> str:
+        return f"guess of {self.of}: {self.assumed}; {self.option} settles it"
+
+
+class Account:
+    """What became of the lines of an input, and what was assumed of it."""
+
+    def __init__(self) -> None:
+        self.lines = 0  # of the input, once it is closed
+        self.taken = 0  # lines that hold an event or a part of one
+        self.skipped: Counter[str] = collections.Counter()  # lines that hold none, by the reason
+        self.guesses: List[Guess] = []
+        self.fields: List[str] = []  # that were not looked at, as a user names them
+        self._until = 0  # the last line that was taken
+        self._latest = 0  # how many lines were taken last
+
+    def took(self, first: int, last: int) -> None:
+        """Records the lines of an event. A line that holds several events counts once."""
+        self._latest = max(last - max(first - 1, self._until), 0)
+        self.taken += self._latest
+        self._until = max(self._until, last)
+
+    def drop(self, reason: str) -> None:
+        """Skips the lines that were taken last: they hold no event."""
+        self.taken -= self._latest
+        self.skip(reason, self._latest)
+        self._latest = 0
+
+    def took_none(self, reason: str, first: int, last: int) -> None:
+        """Records the lines of what is no event, with the reason; those that hold a part of one too are not counted again."""
+        if last > self._until:
+            self.skip(reason, last - max(first - 1, self._until))
+            self._until = last
+
+    def skip(self, reason: str, lines: int = 1) -> None:
+        """Records lines without an event."""
+        if lines:
+            self.skipped[reason] += lines
+
+    def guess(self, of: str, assumed: str, option: str) -> None:
+        """Records an assumption, once."""
+        guess = Guess(of, assumed, option)
+        if guess not in self.guesses:
+            self.guesses.append(guess)
+
+    def field(self, name: str) -> None:
+        """Records a field that was not looked at."""
+        if name not in self.fields:
+            self.fields.append(name)
+
+    def skip_to(self, line: int, reason: str, comments: int = 0) -> None:
+        """Records the lines between the last one taken and this one, of which so many are comments."""
+        if line > self._until + 1:
+            self.skip(reason, line - 1 - self._until - comments)
+            self.skip("comment", comments)
+            self._until = line - 1
+
+    def close(self, lines: int) -> None:
+        """Tests that each line of the input is accounted for."""
+        self.lines = lines
+        if self.taken + sum(self.skipped.values()) != lines:
+            raise Refused(f"a fault of this program: of {lines} lines {self.taken} are of events, and {sum(self.skipped.values())} were "
+                          "skipped: nothing was judged")
+
+    def add(self, other: Account) -> None:
+        """Joins the account of another part of the input, which was closed."""
+        self.lines += other.lines
+        self.taken += other.taken
+        self.skipped.update(other.skipped)
+        for guess in other.guesses:
+            self.guess(*guess)
+        for name in other.fields:
+            self.field(name)
+
+    def told(self) -> Iterator[str]:
+        """What is said of the lines and of each guess."""
+        if self.skipped:
+            reasons = ", ".join(f"{count} {reason}" for reason, count in self.skipped.items())
+            yield f"{self.lines} lines, {self.taken} of events; skipped: {reasons}"
+        if self.fields:
+            yield f"fields that were not looked at: {', '.join(self.fields)}"
+        yield from map(str, self.guesses)
+
+    def test_strict(self) -> None:
+        """Refuses guesses, for --strict-input."""
+        if self.guesses:
+            options = ", ".join(dict.fromkeys(guess.option for guess in self.guesses))
+            raise Refused(f"--strict-input takes no guess, and there {_are(len(self.guesses))}: say {options}")
+
+
+def lines_of(text: str) -> int:
+    """How many lines a text has; the last one may lack its line feed."""
+    return text.count("\n") + (not text.endswith("\n") and text != "")
+
+
+def _are(count: int) -> str:
+    return "is 1" if count == 1 else f"are {count}"

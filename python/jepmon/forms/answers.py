@@ -1,0 +1,59 @@
+"""What the answer of an operation that has none says: whether it took place."""
+from __future__ import annotations
+
+from typing import Any, Counter, Optional
+
+from . import Refused
+from .meaning import MISSING, Told
+from .written import element
+
+YES = ("", "ok", "true", "success", "yes", "1", "acquired", "released", "stored", "applied")
+NO = ("fail", "failed", "false", "no", "0")
+OPEN = ("info", "timeout", "unknown", "error")
+UNANSWERED = ("write", "cas", "acquire", "release", "enqueue", "add")
+DECIDES = ("cas", "acquire", "release")  # whose answer is true or false
+
+
+def answered(line: int, name: str, answer: Any) -> Optional[str]:
+    """How an operation with this answer ended; None if the answer says that it took place, or nothing."""
+    if answer is None and name == "cas":
+        raise Refused(f"line {line}: a cas is answered by null: did it take place? let an outcome say ok, fail or info")
+    if answer is None or answer is True:
+        return None
+    if answer is False:
+        return "fail" if name in ("cas", "acquire") else "info"
+    if isinstance(answer, (int, float)) and name in DECIDES and answer in (0, 1):
+        return None if answer == 1 else answered(line, name, False)
+    if isinstance(answer, str):
+        word = answer.strip().lower()
+        if word in YES:
+            return None
+        if word in NO:
+            return "fail" if name in ("cas", "acquire") or word.startswith("fail") else "info"
+        if word in OPEN:
+            return "info"
+    raise Refused(f"line {line}: a {name} is answered by {element(answer)[:60]}: did it take place? let an outcome say ok, fail or info, or say "
+                  "--ignore for the field with this answer")
+
+
+def says_no(name: str, answer: Any) -> bool:
+    """Whether an operation that is ok is answered by false, as a cas whose compare failed."""
+    return name in DECIDES and (answer is False or isinstance(answer, str) and answer.strip().lower() == "false")
+
+
+def completed(told: Told, kind: str, name: Optional[str], counts: Counter[str]) -> str:
+    """The type of a completion, which may say of itself that it is not ok."""
+    if kind != "ok":
+        return kind
+    if told.outcome is not None and told.outcome != "ok":
+        counts[f"completions that say of themselves that they are no ok, as :{told.outcome}"] += 1
+        return told.outcome
+    if name not in UNANSWERED:
+        return kind
+    said = told.answer
+    if said is MISSING and isinstance(told.value, bool) and name in DECIDES:
+        said = told.value
+    found = answered(told.line, name, said) if said is not MISSING and said is not None else None
+    if found is not None:
+        counts[f"completions whose answer says that they are no ok, as :{found}"] += 1
+    return found or kind

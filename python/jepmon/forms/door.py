@@ -1,0 +1,190 @@
+"""The one front door: which form a history has, and what is made of it, for each tool that takes one.
+
+A history in jepmon's own form is judged as it stands (own.py, or jepmon.shards). Any other one becomes a Translation, event by event,
+of which one check or shards are given what they take.
+"""
+from __future__ import annotations
+
+import array
+import itertools
+from typing import Any, Dict, Iterable, Iterator, List, NamedTuple, Optional, Sequence, Set
+
+from .. import edn, history, kinds
+from ..from_jepsen.collect import Asked
+from ..from_jepsen.events import History
+from ..from_jepsen.refusal import NoKey
+from ..from_jepsen.source import Texts
+from ..from_jepsen.turn import Turned, collected, written
+from ..from_jepsen.write import OF_SHARDS, Limits
+from . import Refused, detect, edn_rows, log_rows, logs, others, own_front, rows, rows_told
+from .account import KEY, Account
+from .clock import nanoseconds
+from .files import Source
+from .mapping import LINES, Mapping
+from .written import Written
+
+OWN, JEPSEN, KEYED, LOG = "jepmon's own form", "Jepsen's form", "EDN with a key in each event", "a log, an operation a line"
+NO_KEYS = (KEY, "its values have no keys: all of it is one object, key 0", "--key K")
+FURTHER = ("time", "error")  # fields that are taken over from what the history was made from
+MOST_WHOLE = 250_000  # events that are judged by one check, if nobody asked for shards
+LONGEST = 200  # lines that one event of it may take
+
+
+class Options(NamedTuple):
+    """What is said of the history."""
+
+    key: Optional[str] = None  # the key of a history without keys
+    nil_is_absent: bool = False
+    model: Optional[str] = None  # that is stated for all keys
+    mapping: Mapping = Mapping()  # what is said of the fields of rows, and of the order of events
+    guesses_key: bool = True  # whether a history without keys is one object, if no key is said
+
+    def asked(self, order: Optional[str]) -> Asked:
+        """The same of events in Jepsen's form, which are taken in this order."""
+        skew = 0 if self.mapping.skew is None else nanoseconds(self.mapping.skew)
+        return Asked(self.key, self.nil_is_absent, order, self.mapping.contradictions, 0 if order == LINES else skew)
+
+
+def form_of(source: Source, options: Options) -> str:
+    """The form of a history, by how it begins. Refused if it is none that is known, or has no event."""
+    if options.mapping.line is not None:
+        return detect.LINES
+    form = detect.CSV if options.mapping.columns else detect.form_of(source.front)
+    if form == detect.NOTHING:
+        raise Refused("there is no event in it: nothing was judged")
+    if form != detect.EDN:
+        return LOG if form == detect.LOG else form
+    is_plain = options.key is None and not options.nil_is_absent and options.mapping.order in (None, LINES) and options.mapping.skew is None
+    if is_plain and own_front.is_own(source.front):
+        return OWN
+    return KEYED if edn_rows.is_one(source.front) else JEPSEN
+
+
+class Translation:
+    """A history of another form than jepmon's own, event by event."""
+
+    def __init__(self, form: str, read: History, account: Account, nil_is_absent: bool, notes: Sequence[str], texts: Optional[Texts]) -> None:
+        self.form = form
+        self.history = read
+        self.account = account
+        self.nil_is_absent = nil_is_absent
+        self.notes = notes  # of how it came about
+        self._texts = texts  # in EDN, whose events say more than was kept of them
+
+    def reason_for_shards(self) -> Optional[str]:
+        """Why one check is not given it; None if one is."""
+        events, keys = len(self.history.events), len(self.history.keys)
+        if events > kinds.EVENTS:
+            return f"{events:,} events, which one check does not take"
+        return f"{keys:,} keys, which one check does not take" if keys > len(kinds.KEYS) else "" if events > MOST_WHOLE else None
+
+    def turned(self, in_shards: bool) -> Turned:
+        """It in jepmon's own form."""
+        return written(self.history, self.nil_is_absent, OF_SHARDS if in_shards else Limits())
+
+    def beside(self, wanted: Set[int], begun: int) -> Dict[int, Dict[str, Any]]:
+        """What the events of these indices say of when they came, and of errors; so many events come before the history's own."""
+        rows = {index: row for index, row in self._rows(begun) if index in wanted and len(row) > 2}
+        if self._texts is None:
+            return {index: {name: said for name, said in zip(FURTHER, row[7]) if said is not None} for index, row in rows.items() if row[7] is not None}
+        said = dict(_beside(self._texts.texts(), {row[6] for row in rows.values()}))
+        return {index: said.get(row[6], {}) for index, row in rows.items()}
+
+    def lines(self, begun: int) -> "array.array[int]":
+        """The line of each event; 0 if it has none."""
+        return array.array("Q", itertools.chain(itertools.repeat(0, begun), (row[6] if len(row) > 2 else 0 for _, row in self._rows(begun))))
+
+    def _rows(self, begun: int) -> "Iterator[tuple[int, tuple[Any, ...]]]":
+        return enumerate(itertools.chain.from_iterable(self.history.events.batches()), begun)
+
+
+def translated(source: Source, form: str, options: Options) -> Translation:
+    """What is made of a history that is not in jepmon's own form."""
+    account = Account()
+    if form == JEPSEN:
+        _refuse_others(source.front, options)
+        read = _collected(source, options, account)
+        return Translation(form, read, account, options.nil_is_absent, (), source)
+    if form == LOG:
+        log = logs.Log(source)
+        read = _collected(log, options, account)
+        read.is_of_rows = True
+        if not log.has_times:
+            log.blocks.close(account)
+        return Translation(form, read, account, options.nil_is_absent, (), log)
+    made = _of_rows(source, form, options, account)
+    return Translation(form, made.history, account, options.nil_is_absent or made.nil_is_absent, made.notes, None)
+
+
+def _of_rows(source: Source, form: str, options: Options, account: Account) -> Written:
+    """The events of rows; those without keys are of the one object that they are then."""
+    asked = rows_told.Asked(options.mapping, options.model is not None, options.asked(LINES))
+    try:
+        return _written(source, form, asked, account)
+    except NoKey:
+        if options.key is not None or not options.guesses_key:
+            raise
+    made = _written(source, form, asked._replace(of_events=asked.of_events._replace(key="0")), account)
+    account.guess(*NO_KEYS)
+    return made
+
+
+def _written(source: Source, form: str, asked: rows_told.Asked, account: Account) -> Written:
+    if form == KEYED:
+        made = edn_rows.written(source, account, asked)
+    else:
+        made = rows_told.written(lambda part: rows_of(form, source.texts(), asked.mapping, part), account, asked)
+    account.close(source.lines())
+    return made
+
+
+def rows_of(form: str, texts: Iterable[str], mapping: Mapping, account: Account) -> Iterator[rows.Row]:
+    """The rows of a text of this form."""
+    if form == detect.JSON:
+        return rows.of_json(texts, mapping, account)
+    if form == detect.LOGFMT:
+        return log_rows.of_logfmt(texts, mapping, account)
+    if form == detect.LINES and mapping.line is not None:
+        return log_rows.of_pattern(texts, mapping, mapping.line, account)
+    return rows.of_csv(texts, mapping, account)
+
+
+def _collected(texts: Texts, options: Options, account: Account) -> History:
+    """The events of EDN; those whose values have no keys are of the one object that they are then."""
+    asked = options.asked(options.mapping.order)
+    try:
+        return collected(texts, asked, account)
+    except NoKey:
+        if options.key is not None or not options.guesses_key:
+            raise
+    read = collected(texts, asked._replace(key="0"), account)
+    account.guess(*NO_KEYS)
+    return read
+
+
+def _refuse_others(text: str, options: Options) -> None:
+    reason = others.named(text, options.model == "set")
+    if reason is not None:
+        raise Refused(reason)
+
+
+def _beside(pieces: Iterable[str], wanted: Set[int]) -> Iterator["tuple[int, dict[str, Any]]"]:
+    number = 1
+    for piece in pieces:
+        lines = piece.split("\n")
+        for at in range(len(lines) if wanted else 0):
+            if number + at in wanted:
+                yield number + at, _fields(lines[at:at + LONGEST])
+        number += len(lines) - 1
+
+
+def _fields(lines: List[str]) -> Dict[str, Any]:
+    """The further fields of the event that begins in the first of these lines."""
+    is_whole = lines[0].count("{") == lines[0].count("}")
+    text = (lines[0] if is_whole else "\n".join(lines)).lstrip("[( ")
+    try:
+        element = next(edn.Reader(text).elements(), None)
+    except edn.Unreadable:
+        return {}
+    fields = edn.fields_of(element.value) if element is not None else None
+    return {name: history.plain(fields[f":{name}"]) for name in FURTHER if f":{name}" in fields} if fields else {}

@@ -1,0 +1,187 @@
+"""The shape of a row: which of its fields means what. Rows with the same names have one shape, which is found once.
+
+Objects within a row that hold its fields, as Porcupine's Input or the attributes of a span, are laid open: their members get names with
+dots, as Input.Key, and mean what their last part says.
+"""
+from __future__ import annotations
+
+import json
+from typing import Any, Dict, List, NamedTuple, Optional, Sequence, Tuple
+
+from . import Refused
+from .mapping import Mapping
+from .vocabulary import ARGUMENTS, CONTAINERS, HARMLESS, MEANINGS, Slot, plain, slot_of
+
+Fields = Dict[str, Any]
+SAYS = {"client", "f", "key", "value", "answer", "call", "return", "id"}  # a row without one of these is of no operation
+DEEPEST = 4  # objects within one another that are laid open
+ASKS = ("f", "type", "key")  # an object with one of these is no value: it has the operation
+ANSWERED = ("value", "answer", "ok", "failed", "unknown", "error", "outcome", "found")  # what the members of an answer may be
+SHOWN = 4  # fields that a refusal shows with what they say
+
+
+class Use(NamedTuple):
+    """A field that means something."""
+
+    name: str
+    slot: Slot
+
+
+class Shape:
+    """What the fields of rows with the same names mean."""
+
+    def __init__(self, names: Sequence[str], mapping: Mapping) -> None:
+        self.names = names
+        self.count = 0  # rows that have it
+        self.uses: Dict[str, List[Use]] = {}
+        self.unknown: List[str] = []
+        mapped = {mapping.fields[plain(name)].meaning for name in names if plain(name) in mapping.fields}
+        for name in names:
+            slot = slot_in(name, mapping)
+            if slot is not None and (slot.meaning not in mapped or plain(name) in mapping.fields):
+                self.uses.setdefault(slot.meaning, []).append(Use(name, slot))
+            elif plain(name) not in mapping.ignored and (slot is None or slot.meaning not in mapped):
+                self.unknown.append(name)
+        self.is_bare = not SAYS & set(self.uses)
+        for uses in self.uses.values():
+            uses.sort(key=lambda use: use.slot.rank)
+        # Fields that may hold an object to be laid open.
+        kept = {use.name for meaning in ("key", "old", "new", "error") for use in self.uses.get(meaning, ())}
+        self.objects = [name for name in names if name not in kept and plain(name) not in mapping.ignored]
+
+
+def slot_in(name: str, mapping: Mapping) -> Optional[Slot]:
+    """What a field means, by its whole name, or by its last part within an object."""
+    slot = mapping.fields.get(plain(name)) if mapping.fields else None
+    if slot is not None or plain(name) in mapping.ignored:
+        return slot
+    outer, dot, inner = name.rpartition("\0")
+    if not dot:
+        slot = slot_of(name)
+        return slot if slot is not None else Slot("value", None, 99) if plain(name) in ARGUMENTS else None
+    return _member(plain(outer.rpartition("\0")[2]), slot_of(inner), inner)
+
+
+def _member(outer: str, slot: Optional[Slot], inner: str) -> Optional[Slot]:
+    """What a member of an object means."""
+    of_outer = slot_of(outer)
+    if of_outer is not None and of_outer.meaning == "answer":
+        return slot._replace(meaning="answer") if slot is not None and slot.meaning in ("value", "answer") else (
+            slot if slot is not None and slot.meaning in ANSWERED else None)
+    if of_outer is not None and of_outer.meaning == "outcome":
+        return slot if slot is not None and slot.meaning in ("outcome", "error") else None
+    if outer in CONTAINERS or of_outer is not None and of_outer.meaning in ("value", "f"):
+        return slot
+    return None
+
+
+class Shapes:
+    """The shapes of the rows so far."""
+
+    def __init__(self, mapping: Mapping) -> None:
+        self._mapping = mapping
+        self._shapes: Dict[Tuple[str, ...], Shape] = {}
+        self._said: Dict[str, List[Any]] = {}  # by the name of a field that means nothing: the first two things that it says
+        self._first: Dict[str, int] = {}  # its first line
+
+    def of(self, line: int, fields: Fields) -> "Tuple[Shape, Fields]":
+        """The shape of a row, and its fields, of which objects are laid open."""
+        names = tuple(fields)
+        shape = self._shapes.get(names)
+        if shape is None:
+            shape = self._shapes[names] = Shape(names, self._mapping)
+        for name in shape.objects:
+            if type(fields[name]) is dict:
+                opened = self._opened(line, fields)
+                if opened is not fields:
+                    return self.of(line, opened)
+                break
+        if shape.is_bare:
+            return shape, fields
+        shape.count += 1
+        for name in shape.unknown:
+            self.unused(line, name, fields[name])
+        return shape, fields
+
+    def unused(self, line: int, name: str, field: Any) -> None:
+        """Records that a field says nothing."""
+        said = self._said.get(name)
+        if said is None:
+            self._said[name], self._first[name] = [field], line
+        elif len(said) == 1 and said[0] != field:
+            said.append(field)
+
+    def _opened(self, line: int, fields: Fields) -> Fields:
+        """The fields, with the members of objects that are no values in place of these."""
+        opened: Fields = {}
+        has_some = False
+        for name, field in fields.items():
+            if type(field) is dict and name.count("\0") < DEEPEST and self._is_open(line, name, field):
+                has_some = True
+                opened.update((f"{name}\0{member}", value) for member, value in field.items())
+            else:
+                opened[name] = field
+        return opened if has_some else fields
+
+    def _is_open(self, line: int, name: str, field: Fields) -> bool:
+        """Whether an object is no value, and its members are fields."""
+        slot = slot_in(name, self._mapping)
+        whole = plain(name)
+        if any(mapped.startswith(whole) and mapped != whole for mapped in (*self._mapping.fields, *self._mapping.ignored)):
+            return True
+        if whole in self._mapping.fields or whole in self._mapping.ignored:
+            return False
+        if slot is None or plain(name.rpartition("\0")[2]) in CONTAINERS or slot.meaning in ("outcome", "time"):
+            return True
+        if slot.meaning in ("value", "f", "type"):
+            return any(inner is not None and inner.meaning in ASKS for inner in map(slot_of, field))
+        return slot.meaning == "answer" and self._is_open_answer(line, name, field)
+
+    def _is_open_answer(self, line: int, name: str, field: Fields) -> bool:
+        """Whether the members of an answer say what it is and how the operation ended. An answer without such members is a value."""
+        slots = {member: slot_of(member) for member in field}
+        others = [member for member, slot in slots.items() if (slot is None or slot.meaning not in ANSWERED) and not is_harmless(member)]
+        if len(others) == len(field) > 0:
+            return False
+        if others:
+            raise Refused(f"line {line}: {shown(name)} is {short(field)}: is it the answer, or is a member of it? say "
+                          f"--map {shown(name)}=answer, or --ignore {shown(name)}.{others[0]}")
+        return True
+
+    # --- Fields that mean nothing ---
+
+    def names(self) -> List[str]:
+        """All fields that were seen."""
+        return list(dict.fromkeys(name for names in self._shapes for name in names))
+
+    def close(self) -> List[str]:
+        """The fields that were not looked at. Refused if one may say something of the history."""
+        total = sum(shape.count for shape in self._shapes.values())
+        counts = {name: sum(shape.count for shape in self._shapes.values() if name in shape.names) for name in self._said}
+        doubtful = [name for name, said in self._said.items() if not is_harmless(name) and (len(said) > 1 or counts[name] < total)
+                    and not (counts[name] < total and said == [None])]
+        if doubtful:
+            listed = "; ".join(f"{shown(name)}: {', '.join(map(short, self._said[name]))} (line {self._first[name]})" for name in doubtful[:SHOWN])
+            more = f"; and {len(doubtful) - SHOWN} more" if len(doubtful) > SHOWN else ""
+            first = shown(doubtful[0])
+            raise Refused(f"fields that are not known, and may say something of the history: {listed}{more}. Say what each one is, as --map "
+                          f"{first}=key, or that it is nothing, as --ignore {first}. {allowed()}")
+        return [f"{shown(name)} ({counts[name]})" for name in self._said]
+
+
+def is_harmless(name: str) -> bool:
+    return plain(name.rpartition("\0")[2]) in HARMLESS
+
+
+def shown(name: str) -> str:
+    """A field's name as a user writes it."""
+    return name.replace("\0", ".")
+
+
+def allowed() -> str:
+    return f"Names are {', '.join(MEANINGS)}, and others of docs/FORMATS.md"
+
+
+def short(field: Any) -> str:
+    text = json.dumps(field, ensure_ascii=False, default=str)
+    return text if len(text) <= 24 else text[:21] + "..."

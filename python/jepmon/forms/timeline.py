@@ -1,0 +1,120 @@
+"""Operations in whatever order they were written down, as events in the order of their times.
+
+If one operation returns at the very time at which another one is called, both count as open at once: the invocation comes before the
+completion. So no order is made up, and a history that is legal stays so, whatever was shorter than the clock shows. An operation of
+one client that is invoked while an earlier one of it is open gets a process of its own: which client did an operation says nothing to
+linearizability. An operation that never returned stays open, or ends as an :info when its client goes on.
+"""
+from __future__ import annotations
+
+import collections
+import heapq
+from typing import Any, Dict, Iterator, List, NamedTuple, Optional, Tuple, Union
+
+from ..kinds import THREADS
+from ..sorted_rows import SortedRows
+
+Time = Union[int, float]
+
+
+class Moment(NamedTuple):
+    """An event: its type, its process, and what was given of it."""
+
+    kind: str
+    process: int
+    given: Any  # None of the end of an operation that never returned
+
+
+class Timeline:
+    """Takes operations, and gives their events."""
+
+    def __init__(self) -> None:
+        self._begins, self._ends = SortedRows(), SortedRows()
+        self._homes: Dict[Any, int] = {}  # the seat of each client
+        self._count = 0
+        self.overlaps = 0  # operations that are invoked while another one of their client is open
+
+    def operation(self, client: Any, call: Time, ends: Optional[Time], outcome: str, begun: Any, ended: Any) -> None:
+        """Takes an operation: its client, which may be None; when it was called, and when it returned, if it did; "ok", "fail" or
+        "info"; and what is given of its two events, as marshal takes it."""
+        home = -1 if client is None else self._homes.setdefault(client, len(self._homes))
+        number, self._count = self._count, self._count + 1
+        self._begins.put((call, number, home, "" if ends is not None else outcome, begun))
+        if ends is not None:
+            self._ends.put((ends, number, outcome, ended))
+
+    def begun(self) -> Iterator[Tuple[Time, Any]]:
+        """When each operation was called, and what is given of that, in the order of the calls."""
+        for call, _, _, _, given in self._begins:
+            yield call, given
+
+    def moments(self, earlier: Time = 0, later: Time = 0) -> Iterator[Moment]:
+        """The events in the order of the times, if each call was earlier by so much, and each return later. After the :info of a process
+        its thread goes on as another one, by jepmon's rule."""
+        stay_open, seats = True, _Seats(len(self._homes))
+        collections.deque(self._on_seats(seats, stay_open, earlier + later), 0)
+        if seats.most > THREADS:
+            stay_open, seats = False, _Seats(len(self._homes))
+            collections.deque(self._on_seats(seats, stay_open, earlier + later), 0)
+        self.overlaps, threads = seats.overlaps, seats.count
+        current = list(range(threads))
+        for seat, kind, given in self._on_seats(_Seats(len(self._homes)), stay_open, earlier + later):
+            yield Moment(kind, current[seat], given)
+            if kind == "info":
+                current[seat] += threads
+
+    def _on_seats(self, seats: _Seats, stay_open: bool, apart: Time) -> Iterator[Tuple[int, str, Any]]:
+        """The events, each with the seat of its operation; what never returned stays open until its client goes on, or ends at once.
+        A call comes after the returns that were earlier by more than this."""
+        waiting: Dict[int, List[Tuple[int, str]]] = {}
+        ends = iter(self._ends)
+        end = next(ends, None)
+        for call, number, home, outcome, given in self._begins:
+            while end is not None and end[0] < call - apart:
+                yield seats.leave(end[1]), end[2], end[3]
+                end = next(ends, None)
+            for before, ended in waiting.pop(home, ()) if waiting else ():
+                yield seats.leave(before), ended, None
+            yield seats.take(number, home), "invoke", given
+            if outcome and (not stay_open or outcome == "fail"):
+                yield seats.leave(number), outcome, None
+            elif outcome and home >= 0:
+                waiting.setdefault(home, []).append((number, outcome))
+        while end is not None:
+            yield seats.leave(end[1]), end[2], end[3]
+            end = next(ends, None)
+
+
+class _Seats:
+    """Which seat each open operation has: that of its client, if this is free."""
+
+    def __init__(self, homes: int) -> None:
+        self.count = homes
+        self.most = 0  # operations open at once
+        self.overlaps = 0
+        self._homes = homes
+        self._free_homes = set(range(homes))
+        self._free: List[int] = []  # those of no client
+        self._seats: Dict[int, int] = {}
+
+    def take(self, number: int, home: int) -> int:
+        if home in self._free_homes:
+            self._free_homes.discard(home)
+            seat = home
+        else:
+            self.overlaps += home >= 0
+            if self._free:
+                seat = heapq.heappop(self._free)
+            else:
+                seat, self.count = self.count, self.count + 1
+        self._seats[number] = seat
+        self.most = max(self.most, len(self._seats))
+        return seat
+
+    def leave(self, number: int) -> int:
+        seat = self._seats.pop(number)
+        if seat < self._homes:
+            self._free_homes.add(seat)
+        else:
+            heapq.heappush(self._free, seat)
+        return seat

@@ -1,0 +1,238 @@
+"""Brings events into the order in which they took place, if the lines of a file stand in another one.
+
+By the :index, if each event has its own: a file that was sorted by something else. By the :time, if clients' files stand one behind
+another: each client's events stand in their order, so that they are paired into operations, and these go by their times (timeline.py).
+Two runs in one file are no history: there the :index begins again, and a client goes on on both sides. Then, and where neither the
+:index nor the :time gives an order, the file is refused.
+"""
+from __future__ import annotations
+
+import itertools
+from typing import Callable, Dict, Iterable, Iterator, List, Optional, Set, Tuple
+
+from .. import edn
+from ..edn import Value, integer, spelling
+from ..forms.account import ORDER, Account
+from ..forms.mapping import INDEX, LINES, TIMES
+from ..forms.timeline import Timeline
+from ..sorted_rows import SortedRows
+from .clients import Clients
+from .collect import GAP, Asked, Collector, Counted
+from .events import History
+from .order import Time, number_of
+from .refusal import OutOfOrder, Refusal, refuse
+
+Texts = Callable[[], Iterator[str]]
+Fields = Dict[str, Value]
+SETTLES = "--order lines|index|times"
+
+
+class Facts:
+    """What the events of clients say of their order, as they stand."""
+
+    def __init__(self) -> None:
+        self.lines: List[int] = []
+        self.processes: List[str] = []
+        self.indices: List[Optional[int]] = []
+        self.times: List[Optional[Time]] = []
+        self._begun: Dict[str, Optional[int]] = {}  # the :index of each client's invocation
+        self._of_operations = True  # whether each completion has the :index of its invocation
+
+    def take(self, line: int, process: str, fields: Fields) -> None:
+        index = integer(fields.get(":index"))
+        if fields.get(":type") == ":invoke":
+            self._begun[process] = index
+        elif index is None or self._begun.get(process) != index:
+            self._of_operations = False
+        self.lines.append(line)
+        self.processes.append(process)
+        self.indices.append(index)
+        self.times.append(number_of(fields.get(":time")))
+
+    def close(self) -> None:
+        """Forgets each :index if these are numbers of operations, which say nothing of the order of events."""
+        if self._of_operations:
+            self.indices = [None] * len(self.indices)
+
+    def is_indexed(self) -> bool:
+        """Whether each event has an :index of its own."""
+        return None not in self.indices and len(set(self.indices)) == len(self.indices)
+
+    def begins_again(self) -> Optional[int]:
+        """The place of the first event whose :index is less than that of the one before it."""
+        last = -1
+        for place, index in enumerate(self.indices):
+            if index is not None:
+                if index < last:
+                    return place
+                last = index
+        return None
+
+    def goes_back(self) -> Optional[int]:
+        """The place of the first event whose :time goes back."""
+        last: Optional[Time] = None
+        for place, time in enumerate(self.times):
+            if time is not None:
+                if last is not None and time < last:
+                    return place
+                last = time
+        return None
+
+    def on_both_sides(self) -> Optional[str]:
+        """A client that has events before and after its file's :index begins again."""
+        before: Set[str] = set()
+        now: Set[str] = set()
+        last = -1
+        for process, index in zip(self.processes, self.indices):
+            if index is not None:
+                if index < last:
+                    before |= now
+                    now.clear()
+                last = index
+            if process in before:
+                return process
+            now.add(process)
+        return None
+
+
+def ordered(texts: Texts, asked: Asked, account: Account, fault: Optional[Refusal]) -> History:
+    """The history, with its events in their order. The fault of the order in which they stand is raised if no other one is known."""
+    facts = read(texts(), account)
+    order = asked.order or (TIMES if asked.skew else found(facts, account, fault))
+    collector = Collector(asked._replace(order=order), scratch := Account())
+    if order == LINES:
+        history = collector.collect(texts())
+    else:
+        collector.count = by_index(texts(), facts, collector) if order == INDEX else by_time(texts(), asked.skew, collector)
+        history = collector.finished()
+    for guess in scratch.guesses:
+        account.guess(*guess)
+    return history
+
+
+def read(texts: Iterable[str], account: Account) -> Facts:
+    """What the events say of their order; their lines are accounted for."""
+    facts, pieces = Facts(), Counted(texts)
+    for element, process, fields in elements(pieces):
+        if process is None:
+            account.took_none(f"of {spelling(fields.get(':process', 'nil'))}", element.line, element.last_line)
+        else:
+            account.took(element.line, element.last_line)
+            facts.take(element.line, process, fields)
+    facts.close()
+    account.skip(GAP, pieces.lines - account.taken - sum(account.skipped.values()))
+    account.close(pieces.lines)
+    return facts
+
+
+def elements(texts: Iterable[str]) -> Iterator[Tuple[edn.Element, Optional[str], Fields]]:
+    """The events, each with its client, if it is of one."""
+    clients = Clients()
+    try:
+        for element in edn.Reader(texts).history():
+            fields = edn.fields_of(element.value)
+            if fields is None:
+                refuse(element.line, f"this is no map, so no event: {edn.shown(element.value, 60)} (is this Jepsen's history.edn?)")
+            is_client = clients.number_of(fields.get(":process"), fields.get(":type") == ":invoke") is not None
+            yield element, spelling(fields[":process"]) if is_client else None, fields
+    except edn.Unreadable as unreadable:
+        raise Refusal(str(unreadable)) from unreadable
+
+
+def found(facts: Facts, account: Account, fault: Optional[Refusal]) -> str:
+    """By what the events are in order; refused if nothing says so."""
+    again, back = facts.begins_again(), facts.goes_back()
+    if again is None and back is None:
+        if fault is None or not isinstance(fault, OutOfOrder):
+            raise fault or OutOfOrder("there is no order")
+        return LINES
+    if facts.is_indexed() and again is not None:
+        if back is None and None not in facts.times:
+            refuse(facts.lines[again], f"the :index goes back, and the :time does not: which is the order? say {SETTLES}")
+        account.guess(ORDER, f"the :index goes back in line {facts.lines[again]}; events are taken in the order of the :index", "--order index")
+        return INDEX
+    both = facts.on_both_sides()
+    if again is not None and both is not None:
+        raise OutOfOrder(f"line {facts.lines[again]}: the :index begins again, and process {both} is on both sides: are there two runs in one "
+                         "file? judge each by itself; --order lines takes them as one")
+    if None in facts.times:
+        place = facts.lines[again if again is not None else back or 0]
+        raise OutOfOrder(f"line {place}: events do not stand in their order, and the one of line {facts.lines[facts.times.index(None)]} "
+                         f"has no :time: which came first? {SETTLES}")
+    if back is None:
+        account.guess(ORDER, f"the :index begins again in line {facts.lines[again or 0]}, of other clients, and the :time rises: events are taken "
+                      "as they stand", "--order lines")
+        return LINES
+    account.guess(ORDER, f"the :time goes back in line {facts.lines[back]}; operations are taken in the order of the :time, which has to be of "
+                  "one clock", "--order times")
+    return TIMES
+
+
+def by_index(texts: Iterable[str], facts: Facts, collector: Collector) -> int:
+    """Takes the events in the order of the :index, what is no client's behind the event before which it stands."""
+    if not facts.is_indexed():
+        raise OutOfOrder("not each event has an :index of its own: there is no order by it")
+    rows, last = SortedRows(), -1
+    for place, (element, process, fields) in enumerate(elements(texts)):
+        index = integer(fields.get(":index"))
+        last = last if index is None else index
+        rows.put((last, place, element.line, element.text))
+    count = 0
+    for count, (_, _, line, text) in enumerate(rows, 1):
+        collector.take(again(line, text), count - 1)
+    return count
+
+
+def by_time(texts: Iterable[str], skew: int, collector: Collector) -> int:
+    """Takes the operations in the order of their times, each wider by a clock error."""
+    timeline, faults = timeline_of(texts)
+    count = 0
+    for moment in timeline.moments(skew, skew):
+        while faults and moment.given is not None and faults[-1][0] <= moment.given[2]:
+            collector.take(again(*faults.pop()[2:]), count)
+        if moment.given is None:
+            collector.give_up(moment.process)
+            continue
+        line, text, _ = moment.given
+        fields = edn.fields_of(again(line, text).value) or {}
+        collector.take_event(line, moment.process, fields, count)
+        count += 1
+    if timeline.overlaps:
+        collector.history.notes["operations that touch another one of their client, as processes of their own"] = timeline.overlaps
+    for _, _, line, text in reversed(faults):
+        collector.take(again(line, text), count)
+    return count
+
+
+def timeline_of(texts: Iterable[str]) -> Tuple[Timeline, List[Tuple[Time, int, int, str]]]:
+    """The operations of clients, and what the nemesis did, by its time, the latest first."""
+    timeline, faults = Timeline(), []  # type: Timeline, List[Tuple[Time, int, int, str]]
+    opened: Dict[str, Tuple[Time, int, str]] = {}
+    latest: Dict[str, Time] = {}
+    for element, process, fields in elements(texts):
+        time, line = number_of(fields.get(":time")), element.line
+        if process is None:
+            faults.append((0 if time is None else time, -line, line, element.text))
+            continue
+        if time is None:
+            raise OutOfOrder(f"line {line}: this event has no :time: there is no order by it")
+        if time < latest.get(process, time):
+            raise OutOfOrder(f"line {line}: the :time of process {process} goes back: are there two runs in one file? judge each by itself")
+        latest[process] = time
+        if fields.get(":type") == ":invoke":
+            if process in opened:
+                refuse(line, f"process {process} invokes {edn.shown(fields.get(':f', 'nil'))}, and its operation of line {opened[process][1]} is not completed")
+            opened[process] = time, line, element.text
+            continue
+        if process not in opened:
+            refuse(line, f"process {process} completes {edn.shown(fields.get(':f', 'nil'))} and has invoked nothing: is the beginning missing?")
+        call, begun, text = opened.pop(process)
+        timeline.operation(process, call, time, (edn.keyword(fields.get(":type")) or ""), (begun, text, call), (line, element.text, time))
+    for process, (call, begun, text) in opened.items():
+        timeline.operation(process, call, None, "info", (begun, text, call), None)
+    return timeline, sorted(faults, reverse=True)
+
+
+def again(line: int, text: str) -> edn.Element:
+    """The element of this text."""
+    return next(itertools.islice(edn.Reader(text, line=line).elements(), 1))

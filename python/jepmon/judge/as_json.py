@@ -1,0 +1,122 @@
+"""What came of a history as one JSON object, for programs in other languages. docs/FORMATS.md has its fields."""
+from __future__ import annotations
+
+import json
+from typing import Any, Dict, List, Mapping, NamedTuple, Optional, Sequence
+
+from .. import __version__, command, edn
+from ..causes.names import Names
+from ..history import Event, Operation, operations
+from ..kinds import ANSWERED
+from ..program import STATUSES
+from . import bad_keys
+from .causes import Shown, proviso
+from .results import Results
+from .words import Given
+
+VERSION = 1  # of the object's fields: a greater one where one of them says something else, or is gone
+Object = Dict[str, Any]
+
+
+class Counted(NamedTuple):
+    """What a history has."""
+
+    events: int
+    keys: int
+    clients: Optional[int]  # None where they were not counted
+    form: str
+    outcomes: Mapping[str, int]  # of operations, as "read ok"
+    of_report: bad_keys.Found
+
+
+def write(what: Object) -> None:
+    command.write_output([json.dumps(what, ensure_ascii=False, indent=1) + "\n"])
+
+
+def front(verdict: str, line: str) -> Object:
+    return {"version": VERSION, "tool": f"jepmon-judge {__version__}", "verdict": verdict, "status": STATUSES[verdict], "line": line}
+
+
+def write_refusal(reason: str) -> None:
+    """Of a history that was not judged."""
+    write({**front("refused", reason if reason.startswith("refused ") else ""), "reason": reason})
+
+
+def of_results(done: Results, path: Optional[str], counted: Counted, notes: Sequence[str], given: Given) -> Object:
+    """The whole."""
+    report, task, account = done.report, done.task, done.found.account
+    line = report.verdict
+    found: Object = front(report.word, line)
+    if report.word == "refused":
+        found["reason"] = line
+    found.update(
+        history={"name": done.name, "file": path, "form": counted.form, "events": counted.events, "keys": counted.keys,
+                 "clients": counted.clients, "concurrency": task.options.concurrency},
+        lines={"all": account.lines, "of_events": account.taken, "skipped": dict(account.skipped)},
+        guesses=[guess._asdict() for guess in account.guesses],
+        operations=outcomes_of(counted.outcomes),
+        budget=task.options.budget,
+        models=counted.of_report.models,
+        keys=counted.of_report.counts,
+        bad_keys=[of_key(done, key, path) for key in done.keys if key.report.word != "legal"],
+        notes=list(notes),
+        page=given.html, folder=given.out)
+    return found
+
+
+def outcomes_of(outcomes: Mapping[str, int]) -> Dict[str, Dict[str, int]]:
+    """How the operations ended, by name."""
+    names = sorted({outcome.split(" ")[0] for outcome in outcomes})
+    return {name: {kind: outcomes.get(f"{name} {kind}", 0) for kind in ("ok", "fail", "info")} for name in names}
+
+
+def of_key(done: Results, key: Shown, path: Optional[str]) -> Object:
+    """A key that is not legal."""
+    names = Names(done.found.value_names, done.found.key_names)
+    event = next((event for event in key.events if event.index == key.line.index), None)
+    part = key.cause.part if key.cause is not None else None
+    return {
+        "key": key.line.key, "name": typed(bad_keys.named(done.found, key.line.key)), "verdict": bad_keys.word_of(key.line),
+        "status": key.line.status, "model": key.line.model, "budget": key.line.budget, "events": key.line.events,
+        "event": {"index": key.line.index, **where(event, path)},
+        "cause": None if key.cause is None else {"headline": key.cause.headline, "sentences": list(key.cause.sentences),
+                                                 "proviso": key.cause.proviso},
+        "is_proved": key.decided is None or not proviso(key),
+        "smallest_part": None if part is None else {
+            "operations": [of_operation(operation, names, path) for operation in operations(part.events, key.options.concurrency)],
+            "of": part.of, "is_smallest": part.finished},
+    }
+
+
+def of_operation(operation: Operation, names: Names, path: Optional[str]) -> Object:
+    name, asked = operation.invocation.name, operation.invocation.value
+    answer = operation.completion.value if operation.completion is not None and name in ANSWERED and operation.outcome == "ok" else None
+    return {"client": operation.thread, "name": name, "value": shown(asked, names), "answer": shown(answer, names),
+            "outcome": operation.outcome, "invoked": at(operation.invocation, path),
+            "completed": at(operation.completion, path) if operation.completion is not None else None}
+
+
+def shown(value: Any, names: Names) -> Any:
+    """A value as the history has it; a list of a cas and of a set's members."""
+    if isinstance(value, tuple):
+        return [shown(member, names) for member in value]
+    if isinstance(value, frozenset):
+        return [shown(member, names) for member in sorted(value)]
+    return None if value is None else typed(names.value(value))
+
+
+def typed(spelled: str) -> Any:
+    """An integer or a text as JSON has it; what else there is, as a keyword of EDN, as it is spelled."""
+    if edn.integer(spelled) is not None:
+        return int(spelled)
+    return edn.string(spelled) if spelled.startswith('"') else spelled
+
+
+def at(event: Event, path: Optional[str]) -> Object:
+    return {"index": event.index, **where(event, path), **({"time": event.fields["time"]} if "time" in event.fields else {})}
+
+
+def where(event: Optional[Event], path: Optional[str]) -> Object:
+    """Where the event stands in the file; null where it stands in none, as the write by which a key begins."""
+    line = event.line if event is not None and event.line else None
+    return {"file": path if line is not None else None, "line": line}

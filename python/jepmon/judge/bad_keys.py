@@ -1,0 +1,130 @@
+"""The keys that are not legal: which they are, and the cause of each, so far as the work for that reaches."""
+from __future__ import annotations
+
+from typing import Callable, Dict, Iterable, Iterator, List, Mapping, NamedTuple, Optional, Sequence
+
+from ..effort import Effort
+from ..forms.recorded import Recorded
+from ..history import Event
+from ..program import STATUSES, KeyLine, Options, Report
+from ..walk import WORK
+from ..wide import Decided
+from .causes import Shown, explained
+from .judging import Task
+
+EventsOf = Callable[[List[int]], Mapping[int, List[Event]]]
+DEAD = ("dead", "dead-by")
+GOOD = ("alive", "confirmed")
+IN_PART = ("full", "wide")  # judged to some event, since one check takes no more
+FEW_EVENTS = 200_000  # of the keys that are explained beside the first one, together
+OTHERS, SHARE, LEAST = 10_000_000.0, 500_000.0, 20_000.0  # the effort for these, for each at most, and that which is too little for one
+OTHERS_WORK = WORK // 20
+SHOWN = 20  # keys that are shown on a terminal
+
+
+class Found(NamedTuple):
+    """What the lines of a report say of its keys."""
+
+    bad: List[KeyLine]  # the one that the verdict names first, then those that are illegal, then the others
+    counts: Dict[str, int]  # "legal", "illegal" and "unknown"
+    models: Dict[str, int]  # how many keys have which
+
+
+def word_of(line: KeyLine) -> str:
+    return "legal" if line.status in GOOD else "illegal" if line.status in DEAD else "unknown"
+
+
+def found(lines: Iterable[KeyLine]) -> Found:
+    bad: List[KeyLine] = []
+    counts, models = {"legal": 0, "illegal": 0, "unknown": 0}, {}  # type: Dict[str, int], Dict[str, int]
+    for line in lines:
+        counts[word_of(line)] += 1
+        models[line.model] = models.get(line.model, 0) + 1
+        if line.status not in GOOD:
+            bad.append(line)
+    return Found(sorted(bad, key=lambda line: (line.status not in DEAD, line.index or 0, line.key)), counts, models)
+
+
+def of_key(report: Report, line: KeyLine) -> Report:
+    """What the report says of a key alone."""
+    if line.status in GOOD:
+        return report
+    word = word_of(line)
+    verdict = f"{word} key {line.key} index {line.index}"
+    text = f"key {line.key} model {line.model} budget {line.budget} events {line.events} status {line.status} {line.index}\n{verdict}\n"
+    return Report(text, [line], verdict, word, line.key, line.index, STATUSES[word], "")
+
+
+def shown(recorded: Recorded, task: Task, report: Report, lines: Sequence[KeyLine], events_of: EventsOf, with_cause: bool,
+          decided: Mapping[int, Decided]) -> List[Shown]:
+    """What there is to show of each bad key; of a history that is legal, of the first key that was decided afterwards."""
+    if not lines and report.word == "legal" and decided:
+        number = next(iter(decided))
+        lines = [line for line in report.keys if line.key == number] or [line_of(number, decided[number].options)]
+    keys = [Shown(line, of_key(report, line), options_of(task, line, decided.get(line.key)), decided=decided.get(line.key)) for line in lines]
+    chosen = [key.line.key for key in those_looked_at(keys)]
+    events = events_of(chosen) if chosen else {}
+    keys = [key._replace(events=events.get(key.line.key, ())) for key in keys]
+    return list(with_causes(recorded, keys)) if with_cause and report.word != "legal" else keys
+
+
+def line_of(key: int, options: Options) -> KeyLine:
+    return KeyLine(key, options.model, options.budget, 0, "confirmed", None)
+
+
+def options_of(task: Task, line: KeyLine, decided: Optional[Decided]) -> Options:
+    return decided.options if decided is not None else task.options._replace(model=line.model, budget=line.budget)
+
+
+def those_looked_at(keys: Sequence[Shown]) -> Iterator[Shown]:
+    """The first key, and as many others as may be held at once."""
+    events = 0
+    for place, key in enumerate(keys):
+        if key.line.status in IN_PART:
+            continue
+        events += key.line.events if place else 0
+        if events > FEW_EVENTS:
+            return
+        yield key
+
+
+def with_causes(recorded: Recorded, keys: Sequence[Shown]) -> Iterator[Shown]:
+    left = OTHERS
+    for place, key in enumerate(keys):
+        share = min(SHARE, left)
+        if not key.events or place and share < LEAST:
+            yield key
+            continue
+        effort = Effort(share, OTHERS_WORK) if place else Effort()
+        yield explained(recorded, key, effort)
+        left -= max(share - effort.left, LEAST / 10) if place else 0
+
+
+def named(recorded: Recorded, key: int) -> str:
+    """The key as the user knows it."""
+    return recorded.key_names.get(key, str(key))
+
+
+def others_told(recorded: Recorded, keys: Sequence[Shown]) -> Iterator[str]:
+    """The keys beside the first one, each with its cause in a line."""
+    others = keys[1:]
+    if not others:
+        return
+    dead = sum(key.line.status in DEAD for key in others)
+    counts = [f"{dead} not linearizable"] * (dead > 0) + [f"{len(others) - dead} not judged to the end"] * (dead < len(others))
+    yield f"other keys: {', '.join(counts)}"
+    for key in others[:SHOWN]:
+        line = next((event.line for event in key.events if event.index == key.line.index), 0)
+        where = f"event {key.line.index}" + (f", line {line}" if line else "")
+        yield f"  key {named(recorded, key.line.key)}, {where}: {said(key)}"
+    if len(others) > SHOWN:
+        yield f"  and {len(others) - SHOWN} more, which --json and --out name"
+
+
+def said(key: Shown) -> str:
+    """The cause in a sentence."""
+    if key.cause is not None:
+        return key.cause.headline
+    if key.line.status in IN_PART:
+        return "judged up to there, and no further"
+    return "not linearizable from there on" if key.line.status in DEAD else "over its budget"

@@ -1,0 +1,19 @@
+"""The cause as it is told on standard error: of the first bad key in full, of each other one in a line."""
+from __future__ import annotations
+
+from typing import List, Sequence
+
+from .. import command
+from ..forms.recorded import Recorded
+from . import bad_keys, causes
+
+
+def told(found: Recorded, keys: Sequence[causes.Shown]) -> List[str]:
+    """Tells it, and gives the lines."""
+    lines: List[str] = []
+    if keys:
+        lines += causes.lines(found, keys[0])
+        lines += bad_keys.others_told(found, keys)
+    for line in lines:
+        command.write_error(line)
+    return lines

@@ -1,0 +1,35 @@
+"""The process that a live test is of. A process that was forked from it has a copy of the monitor, which learns nothing of what the others
+do: its events would make a history that never was."""
+from __future__ import annotations
+
+import os
+import threading
+from typing import NoReturn
+
+CURE = "let threads of that process do the operations, or send it what came of them"
+
+
+class OwnedLock:
+    """A lock that no other process than its own takes: a ValueError there, in place of waiting for what another thread held as the process
+    was forked, and is never free in the new one."""
+
+    def __init__(self) -> None:
+        self._process, self._lock = os.getpid(), threading.Lock()
+        self.acquire, self.release = self._lock.acquire, self._lock.release
+
+    @property
+    def is_here(self) -> bool:
+        return os.getpid() == self._process
+
+    def __enter__(self) -> None:
+        if os.getpid() != self._process:
+            raise ValueError(f"this monitor is of process {self._process}, and this is process {os.getpid()}: {CURE}")
+        self._lock.acquire()
+
+    def __exit__(self, *_: object) -> None:
+        self._lock.release()
+
+
+def not_sent(monitor: object) -> NoReturn:
+    """What pickling or copying a monitor raises."""
+    raise TypeError(f"a {type(monitor).__name__} can't be copied or sent to another process: {CURE}")

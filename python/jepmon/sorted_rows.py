@@ -1,0 +1,66 @@
+"""Rows in the order of their fronts: a few are held, and many are sorted in runs, which are written to a file that has no name."""
+from __future__ import annotations
+
+import heapq
+import marshal
+from typing import IO, Any, Iterator, List, Optional, Tuple
+
+Row = Tuple[Any, ...]  # what marshal takes; of two rows one comes first by what stands before anything that can't be compared
+
+HELD = 20_000  # rows
+BATCH = 250  # of a run that are read at once
+
+
+class SortedRows:
+    """Takes rows in any order, and gives them in theirs, as often as one likes."""
+
+    def __init__(self, held: int = HELD) -> None:
+        self._held = held
+        self._rows: List[Row] = []
+        self._runs: List[List[Tuple[int, int]]] = []  # of each run the batches: where they begin in the file, and their bytes
+        self._file: Optional[IO[bytes]] = None
+        self._is_sorted = True
+        self._count = 0
+
+    def put(self, row: Row) -> None:
+        self._rows.append(row)
+        self._count += 1
+        self._is_sorted = False
+        if len(self._rows) >= self._held:
+            self._write()
+
+    def __len__(self) -> int:
+        return self._count
+
+    def __iter__(self) -> Iterator[Row]:
+        if not self._is_sorted:
+            self._rows.sort()
+            self._is_sorted = True
+        if not self._runs:
+            return iter(self._rows)
+        return iter(heapq.merge(*map(self._of_run, self._runs), self._rows))
+
+    def __del__(self) -> None:
+        if self._file is not None:
+            self._file.close()
+
+    def _write(self) -> None:
+        if self._file is None:
+            import tempfile  # which takes a while, and is seldom needed
+
+            self._file = tempfile.TemporaryFile()
+        self._rows.sort()
+        run: List[Tuple[int, int]] = []
+        at = self._file.seek(0, 2)
+        for begin in range(0, len(self._rows), BATCH):
+            length = self._file.write(marshal.dumps(self._rows[begin:begin + BATCH]))
+            run.append((at, length))
+            at += length
+        self._runs.append(run)
+        self._rows = []
+
+    def _of_run(self, run: List[Tuple[int, int]]) -> Iterator[Row]:
+        for at, length in run:
+            assert self._file is not None
+            self._file.seek(at)
+            yield from marshal.loads(self._file.read(length))

@@ -1,0 +1,1 @@
+"""The parts of the fuzzer of forms (tests/fuzz_forms.py)."""

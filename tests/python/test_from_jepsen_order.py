@@ -1,0 +1,164 @@
+"""The order of events in EDN, clients with names, and an :ok that says of itself that it is none. What is right is said by hand."""
+from __future__ import annotations
+
+import unittest
+from typing import Any, List
+
+from jepmon.forms.account import Account
+from jepmon.from_jepsen import Refusal, turn
+from jepmon.from_jepsen.events import Event
+
+HOLD = ("0 invoke acquire nil 1", "0 ok acquire nil 2", "0 invoke release nil 7", "0 ok release nil 8", "1 invoke acquire nil 3",
+        "1 ok acquire nil 4")  # two clients that hold one lock, their files one behind the other
+IN_TIME = [HOLD[place] for place in (0, 1, 4, 5, 2, 3)]
+
+
+def text(*events: str, times: bool = True, indices: str = "") -> str:
+    lines = []
+    for place, event in enumerate(events):
+        process, kind, name, value, *time = event.split(" ")
+        further = f", :time {time[0]}" if times and time else ""
+        further += f", :index {indices.split()[place]}" if indices else ""
+        lines.append(f"{{:process {process}, :type :{kind}, :f :{name}, :value {value}{further}}}\n")
+    return "".join(lines)
+
+
+class Turned(unittest.TestCase):
+    def turned(self, given: str, **options: Any) -> List[str]:
+        """The events that come of it: the client, the type and the operation; and what is guessed."""
+        self.account = Account()
+        made = turn(given, "0", account=self.account, **options)
+        self.notes = made.notes
+        return [f"{event.process} {event.kind[1:]} {event.name[1:]}" for event in made.history.events if isinstance(event, Event)]
+
+    def refused(self, given: str, **options: Any) -> str:
+        with self.assertRaises(Refusal) as caught:
+            self.turned(given, **options)
+        return str(caught.exception)
+
+    def guesses(self) -> List[str]:
+        return [guess.option for guess in self.account.guesses]
+
+
+class Order(Turned):
+    def want(self, events: List[str]) -> List[str]:
+        return [" ".join(event.split(" ")[:3]) for event in events]
+
+    def test_times_that_go_back(self) -> None:
+        """Operations are paired by client, and go by their times."""
+        self.assertEqual(self.turned(text(*HOLD)), self.want(IN_TIME))
+        self.assertEqual(self.guesses(), ["--order times"])
+        self.assertEqual(self.turned(text(*HOLD), order="times"), self.want(IN_TIME))
+        self.assertEqual(self.guesses(), [])
+        self.assertEqual(self.turned(text(*HOLD), order="lines"), self.want(list(HOLD)))
+
+    def test_times_in_fractions(self) -> None:
+        events = [f"{event[:-1]}1.0000000{event[-1]}" for event in HOLD]
+        self.assertEqual(self.turned(text(*events)), self.want(IN_TIME))
+
+    def test_times_that_are_missing(self) -> None:
+        self.assertIn("the one of line 6 has no :time: which came first?", self.refused(text(*HOLD[:5], "1 ok acquire nil")))
+
+    def test_operations_that_touch_are_open_at_once(self) -> None:
+        events = ("0 invoke write 1 1", "0 ok write 1 5", "1 invoke read nil 5", "1 ok read nil 6", "2 invoke read nil 0", "2 ok read nil 9")
+        self.assertEqual(self.turned(text(*events))[-4:-1], ["1 invoke read", "0 ok write", "1 ok read"])
+
+    def test_a_clock_error(self) -> None:
+        events = ("0 invoke write 1 1", "0 ok write 1 5", "1 invoke read nil 8", "1 ok read nil 9")
+        self.assertEqual(self.turned(text(*events), skew=1)[1], "0 ok write")
+        self.assertEqual(self.turned(text(*events), skew=2)[1], "1 invoke read")
+
+    def test_a_client_whose_times_go_back(self) -> None:
+        events = ("0 invoke write 1 3", "0 ok write 1 4", "0 invoke read nil 1", "0 ok read 1 2")
+        self.assertIn("line 3: the :time of process 0 goes back", self.refused(text(*events)))
+
+    def test_an_index_that_rises_is_the_order(self) -> None:
+        """Jepsen takes the time a moment before it writes the event down."""
+        self.assertEqual(self.turned(text(*HOLD, indices="0 1 5 6 7 9")), self.want(list(HOLD)))
+        self.assertEqual(self.guesses(), [])
+        self.assertIn("times go back by 5 at most, first in line 5, while each :index rises, which is the order: 2", self.notes)
+
+    def test_lines_that_were_sorted_by_something_else(self) -> None:
+        given = text(*HOLD, times=False, indices="0 1 4 5 2 3")
+        self.assertEqual(self.turned(given), self.want(IN_TIME))
+        self.assertEqual(self.guesses(), ["--order index"])
+        self.assertEqual(self.turned(given, order="index"), self.want(IN_TIME))
+
+    def test_an_index_against_the_times(self) -> None:
+        self.assertIn("the :index goes back, and the :time does not: which is the order?", self.refused(text(*IN_TIME, indices="0 1 4 5 2 3")))
+
+    def test_two_runs(self) -> None:
+        events = ("0 invoke write 1", "0 ok write 1", "0 invoke read nil", "0 ok read 0")
+        self.assertIn("line 3: the :index begins again, and process 0 is on both sides: are there two runs in one file?",
+                      self.refused(text(*events, indices="0 1 0 1")))
+        self.assertEqual(self.turned(text(*events, indices="0 1 0 1"), order="lines"), self.want(list(events)))
+
+    def test_files_of_clients_with_an_index_each(self) -> None:
+        self.assertEqual(self.turned(text(*HOLD, indices="0 1 2 3 0 1")), self.want(IN_TIME))
+        self.assertIn("events do not stand in their order", self.refused(text(*HOLD, times=False, indices="0 1 2 3 0 1")))
+
+    def test_files_that_pass(self) -> None:
+        """Edited files: with gaps, with one :index twice, without some; and an :index that is the number of an operation."""
+        events = ("0 invoke write 1 1", "1 invoke read nil 2", "0 ok write 1 3", "1 ok read 1 4")
+        for indices in ("3 5 9 11", "3 3 4 4", "0 1 0 1", "7 7 7 7"):
+            with self.subTest(indices=indices):
+                self.assertEqual(self.turned(text(*events, indices=indices)), self.want(list(events)))
+                self.assertEqual(self.guesses(), [])
+
+    def test_events_that_do_not_pair_as_they_stand(self) -> None:
+        self.assertEqual(self.turned(text(*(HOLD[place] for place in (1, 0, 2, 3, 5, 4)), indices="1 0 4 5 3 2")), self.want(IN_TIME))
+        self.assertIn("line 1: process 0 completes :acquire and has invoked nothing", self.refused(text(HOLD[1], HOLD[3])))
+
+    def test_lines_are_accounted_for(self) -> None:
+        for given in (text(*HOLD), text(*IN_TIME)):
+            self.turned("; a comment\n\n" + given + "{:process :nemesis, :type :info, :f :kill,\n :time 9}\n\n")
+            self.assertEqual((self.account.lines, self.account.taken, dict(self.account.skipped)),
+                             (11, 6, {"of :nemesis": 2, "blank, comment or bracket": 3}))
+
+
+class Clients(Turned):
+    def test_names(self) -> None:
+        for name in (":c1", '"n1-4"', "c1"):
+            self.assertEqual(self.turned(text(f"{name} invoke write 1", f"{name} ok write 1", ":other info x nil")), ["0 invoke write", "0 ok write"])
+            self.assertIn(f"clients are numbered: 0 is {name}", self.notes)
+        self.assertEqual(self.account.skipped["of :other"], 1)
+        self.assertIn(":c1 completes write and has invoked nothing".replace("write", ":write"), self.refused(text(":c1 ok write 1")))
+
+    def test_names_beside_numbers(self) -> None:
+        self.assertEqual(self.turned(text("0 invoke write 1", ":c invoke write 2", "0 ok write 1"))[::2], ["0 invoke write", "0 ok write"])
+        self.assertEqual(self.turned(text(":c invoke write 2", "0 invoke write 1", "0 ok write 1"))[1:], ["1 invoke write", "1 ok write"])
+
+
+class Outcomes(Turned):
+    def kinds(self, *events: str, **options: Any) -> List[str]:
+        return [event.split(" ")[1] for event in self.turned(text(*events), **options)]
+
+    def test_answers_of_false(self) -> None:
+        for name, value, kind in (("acquire", "nil", "fail"), ("cas", "[1,2]", "fail"), ("release", "nil", "info"), ("write", "1", "info")):
+            events = (f"0 invoke {name} {value}", f"0 ok {name} false")
+            self.assertEqual(self.kinds(*events), ["invoke", kind])
+            self.assertEqual(self.guesses(), [f"--outcome false={kind}"])
+            self.assertEqual(self.kinds(*events, outcomes={"false": "ok"}), ["invoke", "ok"])
+            self.assertEqual(self.guesses(), [])
+        self.assertEqual(self.kinds("0 invoke write false", "0 ok write false", "0 invoke read nil", "0 ok read false")[1::2], ["ok", "ok"])
+
+    def test_an_ok_with_an_error(self) -> None:
+        given = text("0 invoke write 1", "0 ok write 1").replace("}\n{", "}\n{:error :timeout, ")
+        self.assertEqual(self.turned(given)[1], "0 ok write")
+        self.assertEqual(self.guesses(), ["--outcome error=ok"])
+        self.assertEqual(self.turned(given, outcomes={"error": "info"})[1], "0 info write")
+        self.turned(given.replace(":timeout", "nil"))
+        self.assertEqual(self.guesses(), [])
+
+    def test_a_value_of_a_lock_is_told(self) -> None:
+        self.turned(text("0 invoke acquire nil", "0 ok acquire 17"))
+        self.assertIn(":ok of :acquire with a value, which is left out: 1", self.notes)
+
+    def test_nil_in_a_set(self) -> None:
+        made = turn(text("0 invoke add [0,1]", "0 ok add [0,1]", "0 invoke read [0,nil]", "0 ok read [0,#{1,nil}]"))
+        self.assertIn(":value [0 #{0 1}]", made.text())
+        self.assertEqual(made.names.value(1), "nil")
+
+
+if __name__ == "__main__":
+    unittest.main()

@@ -1,0 +1,119 @@
+"""One front door: a history has one verdict, whether one check judges it or shards do, and of whatever form it is."""
+from __future__ import annotations
+
+import contextlib
+import os
+import pathlib
+import shutil
+import subprocess
+import sys
+import tempfile
+import unittest
+from typing import Iterator, List, Tuple
+from unittest import mock
+
+from jepmon import command
+from jepmon.judge import tool
+
+from . import TOP
+
+GIVEN = ("args", "stdout", "stderr", "status", "tool", "make.py")
+# Histories that shards refuse by name.
+APART = {"rewound": "commands of jepmon script", "several_kinds": "the same"}
+
+
+def own(key: str, end: str) -> str:
+    """A write of 1, and a read that this ends."""
+    return "".join(f"{{:type :{kind}, :process {process}, :f :{name}, :value [{key} {part}]}}\n" for kind, process, name, part in (
+        ("invoke", 0, "write", "1"), ("ok", 0, "write", "1"), ("invoke", 1, "read", "nil"), ("ok", 1, "read", end)))
+
+
+@contextlib.contextmanager
+def quiet(output: List[str]) -> Iterator[None]:
+    with mock.patch.object(command, "write_error", lambda _: None), mock.patch.object(command, "write_output", output.extend), \
+            mock.patch.object(command, "collect_seldom", lambda: None):
+        yield
+
+
+def judged(arguments: List[str]) -> Tuple[int, str]:
+    """The status, and the verdict."""
+    output: List[str] = []
+    with quiet(output):
+        status = tool.main(arguments + ["--no-cause"])
+    return status, "".join(output).rstrip("\n").rpartition("\n")[2] if status != 3 else ""
+
+
+class Ways(unittest.TestCase):
+    def setUp(self) -> None:
+        scratch = tempfile.TemporaryDirectory()
+        self.addCleanup(scratch.cleanup)
+        self.room = pathlib.Path(scratch.name)
+        before = os.getcwd()
+        self.addCleanup(os.chdir, before)
+        os.chdir(self.room)
+
+    def agree(self, arguments: List[str], *jobs: str) -> Tuple[int, str]:
+        plain = judged(arguments)
+        for number in jobs or ("1",):
+            self.assertEqual(judged(arguments + ["--jobs", number]), plain, arguments)
+        return plain
+
+    def test_cases(self) -> None:
+        seen = 0
+        for case in sorted((TOP / "tests" / "judge").iterdir()):
+            words = (case / "args").read_text().split("\n")[:-1] if (case / "args").exists() else []
+            if case.name in APART or (case / "tool").exists() or not words or words[0] == "-" or "--jobs" in words or "--out" in words:
+                continue
+            room = self.room / case.name
+            shutil.copytree(case, room, ignore=lambda _, names: [name for name in names if name in GIVEN])
+            if (case / "make.py").exists():
+                subprocess.run([sys.executable, str(case / "make.py")], cwd=room, check=True)
+            os.chdir(room)
+            with self.subTest(case=case.name):
+                self.agree(words)
+            seen += 1
+        self.assertGreater(seen, 40)
+
+    def test_keys_have_one_numbering(self) -> None:
+        for key in ("7", "65535", "65536", "123456789", ":x", '"a b"', "[1 2]"):
+            for end in ("1", "2"):
+                with self.subTest(key=key, end=end):
+                    (self.room / "h.edn").write_text(own(key, end))
+                    number = "123456789" if key == "123456789" else "65536" if key == "65536" else key if key.isdigit() else "0"
+                    want = (0, "legal") if end == "1" else (1, f"illegal key {number} index 3")
+                    self.assertEqual(self.agree(["h.edn"]), want)
+
+    def test_a_mark_and_gzip_and_tuples_as_maps(self) -> None:
+        import gzip
+        text = own("7", "2")
+        for name, raw in (("a.edn", b"\xef\xbb\xbf" + text.encode()), ("b.edn.gz", gzip.compress(text.encode())),
+                          ("c.edn.gz", gzip.compress(b"\xef\xbb\xbf" + text.encode())),
+                          ("d.edn", text.replace("[7 ", "{:key 7, :value ").replace("]}", "}}").encode())):
+            (self.room / name).write_bytes(raw)
+            with self.subTest(name=name):
+                self.assertEqual(self.agree([name]), (1, "illegal key 7 index 3"))
+
+    def test_what_begins_as_jepmons_own_form_and_is_none(self) -> None:
+        text = own("7", "1")
+        for more, want in (("{:type :info, :process :nemesis, :f :kill, :value nil}\n", 0), ("{:type :invoke, :process 9, :f :read, :value [:a nil]}\n", 0),
+                           ("{:type :ok, :process 1, :f :read, :value [7 1]}\n", 3), ("{:type :invoke, :process 0, :f :append, :value [7 1]}\n", 3),
+                           ("{:type", 3), ("#{1}\n", 3)):
+            (self.room / "h.edn").write_text(text + more)
+            with self.subTest(more=more):
+                self.assertEqual(self.agree(["h.edn"])[0], want)
+
+    def test_commands(self) -> None:
+        (self.room / "h.edn").write_text("[:model 7 :register]\n" + own("7", "1"))
+        said: List[str] = []
+        with quiet([]), mock.patch.object(command, "write_error", said.append):
+            self.assertEqual((tool.main(["h.edn"]), tool.main(["h.edn", "--jobs", "1"])), (0, 3))
+        self.assertIn("line 1: [:model 7 :register] is a command of jepmon script, which shards do not take", said[-1])
+
+    def test_two_processes(self) -> None:
+        (self.room / "h.edn").write_text("".join(
+            f"{{:process 0, :type :{kind}, :f :write, :key :{key}, :value 1}}\n" for key in "abc" for kind in ("invoke", "ok")))
+        self.assertEqual(self.agree(["h.edn"], "1", "2"), (0, "legal"))
+
+
+if __name__ == "__main__":
+    unittest.main()
