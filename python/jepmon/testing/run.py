@@ -6,7 +6,7 @@ import pathlib
 import random
 import sys
 import time
-from typing import TYPE_CHECKING, Any, Callable, Counter, Dict, Iterator, List, NamedTuple, Optional, Type
+from typing import TYPE_CHECKING, Any, Callable, Counter, Dict, Iterator, List, NamedTuple, Optional, Tuple, Type
 
 from .. import command
 from ..errors import OutputError
@@ -20,7 +20,8 @@ from .cluster import Cluster
 from .crashes import finding
 from .errors import Died, ServerError, where
 from .facts import facts_of, leave_facts, leave_pages
-from .generators import Pace, Phases
+from .course import Course, Stage
+from .generators import Pace
 from .links import network
 from .needs import planned
 from .server import Client, Server
@@ -57,6 +58,9 @@ class Given(NamedTuple):
     keep: Optional[int]  # of parts that are legal
     durability: str = ""  # how the server keeps what it acknowledges; empty: as its first one
     keep_nodes: str = FINDING  # when the nodes' data are kept
+    stages: Tuple[Stage, ...] = ()  # of --phases
+    reserved: Tuple[float, ...] = ()  # of --reserve
+    times: int = 1  # how many tests, with one seed after the other
 
 
 class Outcome(NamedTuple):
@@ -146,16 +150,17 @@ class Test:
                      self.plan.needs(NEEDS_DISK), self.plan.needs(NEEDS_CLOCK), given.durability) as cluster, \
                 after_a_finding(cluster, monitor.folder, given.keep_nodes, lambda: work.lost):
             self.begun = time.monotonic()
-            nemesis = Nemesis(monitor, cluster, self.plan.known, self.plan.lanes(given.seed, given.seconds), given.seconds)
+            course = Course(given.seed, given.rate, given.stages, given.reserved)
+            nemesis = Nemesis(monitor, cluster, self.plan.known, self.plan.lanes(given.seed, given.seconds), given.seconds,
+                              course.calm_from)
             self.struck = nemesis.struck
-            phases = Phases(given.seed)
 
             def thread(number: int) -> None:
                 try:
                     if number == given.clients:
                         nemesis.run()
                     else:
-                        self._client(monitor, work, cluster, phases, number)
+                        self._client(monitor, work, cluster, course, number)
                 except BaseException:
                     cluster.stopped.set()
                     raise
@@ -166,17 +171,17 @@ class Test:
                 self.ended, self.at_work = time.monotonic(), monitor.counts
             self._finish(monitor, work, cluster)
 
-    def _client(self, monitor: LongMonitor, work: Work, cluster: Cluster, phases: Phases, number: int) -> None:
+    def _client(self, monitor: LongMonitor, work: Work, cluster: Cluster, course: Course, number: int) -> None:
         """What one client does until the time is up."""
         given = self.given
         draws = random.Random(f"client {number} {given.seed}")
-        pace = Pace(given.rate / given.clients, draws)
+        pace = Pace(draws)
         end = self.begun + given.seconds
         with cluster.clients(), closing(cluster.server.client(number)) as client:
             while time.monotonic() < end and not cluster.stopped.is_set():
-                phase = phases.at(time.monotonic() - self.begun)
-                pace.wait(phase.speed)
-                if work.step(number, client, draws, phase.changes).outcome != "ok":
+                now = course.next(time.monotonic() - self.begun, number)
+                pace.wait(now.rate / given.clients)
+                if not now.goes_on or work.step(number, client, draws, now.changes).outcome != "ok":
                     time.sleep(PAUSE)
                 if number == 0:
                     self._progress(time.monotonic() - self.begun, monitor, sum(self.struck.values()))

@@ -2,9 +2,10 @@
 from __future__ import annotations
 
 import contextlib
+import math
 import threading
 import time
-from typing import TYPE_CHECKING, Counter, Dict, Iterator, List, Mapping, Optional, Set, Tuple
+from typing import TYPE_CHECKING, Callable, Counter, Dict, Iterator, List, Mapping, Optional, Set, Tuple
 
 from .kind import ALONE, PROCESS, Strike
 from .plan import Lane, Planned
@@ -19,9 +20,12 @@ GLANCE = 0.1  # seconds between two looks at the nodes
 
 
 class Nemesis:
-    """Strikes until the time is up. `struck` counts how often what has struck."""
+    """Strikes until the time is up, but while `calm_from` says so: it gives when the next calm begins, in seconds. `struck` counts how often
+    what has struck."""
 
-    def __init__(self, monitor: LongMonitor, cluster: Cluster, strikes: Mapping[str, Strike], lanes: List[Lane], seconds: float) -> None:
+    def __init__(self, monitor: LongMonitor, cluster: Cluster, strikes: Mapping[str, Strike], lanes: List[Lane], seconds: float,
+                 calm_from: Callable[[float], float] = lambda seconds: math.inf) -> None:
+        self._calm_from = calm_from
         self._monitor, self._cluster, self._strikes, self._lanes = monitor, cluster, strikes, lanes
         self._begun = time.monotonic()
         self._end = self._begun + seconds
@@ -50,19 +54,27 @@ class Nemesis:
         try:
             late = 0.0  # by which strikes took longer than planned, as a restart does
             for planned in lane.strikes:
-                if not self._wait(self._begun + planned.begin + late):
+                if not self._wait(self._begun + planned.begin + late) or not self._wait_for_calm_to_end():
                     return
                 with self._node(planned) as node:
                     if node is None:
                         return
                     with self._strike(planned, node):
-                        went_on = self._wait(time.monotonic() + planned.lasting)
+                        now = time.monotonic()
+                        went_on = self._wait(min(now + planned.lasting, self._begun + self._calm_from(now - self._begun)))
                     if not went_on or planned.settles and lane.is_shifted and not self._settled(planned, node):
                         return
                 if lane.is_shifted:
                     late = max(0.0, time.monotonic() - self._begun - planned.begin - planned.lasting)
         except BaseException as fault:
             self._stop(fault)
+
+    def _wait_for_calm_to_end(self) -> bool:
+        """Gives whether the run goes on after that."""
+        while self._calm_from(time.monotonic() - self._begun) <= time.monotonic() - self._begun:
+            if not self._wait(time.monotonic() + GLANCE):
+                return False
+        return True
 
     def _stop(self, fault: BaseException) -> None:
         """The first fault ends all lanes."""
