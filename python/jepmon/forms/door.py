@@ -59,7 +59,8 @@ def form_of(source: Source, options: Options) -> str:
         return LOG if form == detect.LOG else form
     is_plain = options.key is None and not options.nil_is_absent and options.mapping.order in (None, LINES) and options.mapping.skew is None
     if is_plain and own_front.is_own(source.front):
-        return OWN
+        is_asked = options.mapping.order == LINES
+        return OWN if is_asked or own_front.is_in_order(source.front, source.texts()) else JEPSEN
     return KEYED if edn_rows.is_one(source.front) else JEPSEN
 
 

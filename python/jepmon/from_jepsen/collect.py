@@ -220,7 +220,7 @@ class Collector:
                 self.open[process] = row
             else:
                 del self.open[process]
-            if self.history.is_plain and not all(map(is_plain, flat[1] if is_pair else (flat,))):
+            if self.history.is_plain and not (all(map(is_plain, flat[1])) if is_pair else is_plain(flat)):
                 self.history.is_plain = False
             self.history.count(row)
             self.rows.append(row)
@@ -441,7 +441,7 @@ class Collector:
 
 def is_plain(part: str) -> bool:
     """Whether a part is nil, or an integer that is a value of jepmon."""
-    return part == "nil" or len(part) < 19 and part.lstrip("-").isdigit()
+    return part.isdigit() and part.isascii() and len(part) < 19 or part == "nil" or part[0] == "-" and part[1:].isdigit() and len(part) < 19
 
 
 def refuse_operation(line: int, name: Optional[Value]) -> NoReturn:
