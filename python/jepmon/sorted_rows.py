@@ -7,8 +7,8 @@ from typing import IO, Any, Iterator, List, Optional, Tuple
 
 Row = Tuple[Any, ...]  # what marshal takes; of two rows one comes first by what stands before anything that can't be compared
 
-HELD = 100_000  # rows
-BATCH = 2_000
+HELD = 20_000  # rows
+BATCH = 250  # of a run that are read at once
 
 
 class SortedRows:

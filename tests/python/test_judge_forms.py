@@ -7,7 +7,7 @@ import re
 import unittest
 from typing import Any, Dict, List, Optional
 
-from jepmon.forms import Refused, detect, logs
+from jepmon.forms import Refused, detect
 from jepmon.forms.account import Account
 from jepmon.forms.own import read
 from jepmon.forms.recorded import Options, Recorded, recorded
@@ -222,16 +222,14 @@ class Logs(unittest.TestCase):
         text = ("2024-05-01 10:00:00,101{GMT}\tINFO\t[jepsen worker 0] jepsen.util: 0\t:invoke\t:write\t[7 1]\n"
                 "2024-05-01 10:00:00,102{GMT}\tINFO\t[jepsen test runner] jepsen.core: Running test\n"
                 "2024-05-01 10:00:00,104{GMT}\tINFO\t[jepsen worker 0] jepsen.util: 0\t:info\t:write\t[7 1]\t:timeout \"x\"\n")
-        account = Account()
-        found = logs.written(text, account)
-        account.close(3)
-        self.assertEqual(found.text.splitlines(), ['{:process 0, :type :invoke, :f :write, :value [7 1], :time 1714557600101000000}',
-                                              '{:process 0, :type :info, :f :write, :value [7 1], :time 1714557600104000000, :error ":timeout \\"x\\""}'])
-        self.assertEqual((found.lines, dict(account.skipped)), ([1, 3], {"of a log that tell of no operation": 1}))
+        found = made(text)
+        self.assertEqual(found.text.splitlines(), ["{:type :invoke, :process 0, :f :write, :value [7 1], :line 1}",
+                                                   "{:type :info, :process 0, :f :write, :value [7 1], :line 3}"])
+        self.assertEqual((list(found.lines), found.account.lines, sum(found.account.skipped.values())), ([1, 3], 3, 1))
 
     def test_a_last_line_that_may_be_cut_off(self) -> None:
-        with self.assertRaisesRegex(Refused, "line 2: the last line has no line feed: was the file cut off?"):
-            logs.written("0\t:invoke\t:read\tnil\n0\t:ok\t:read\t12", Account())
+        with self.assertRaisesRegex(Refused, "the last line has no line feed: was the file cut off?"):
+            made("0\t:invoke\t:read\tnil\n0\t:ok\t:read\t12")
 
 
 class LegalStaysLegal(unittest.TestCase):

@@ -5,26 +5,28 @@ of which one check or shards are given what they take.
 """
 from __future__ import annotations
 
-import re
+import array
+import itertools
 from typing import Any, Dict, Iterable, Iterator, List, NamedTuple, Optional, Sequence, Set
 
 from .. import edn, history, kinds
 from ..from_jepsen.collect import Asked
 from ..from_jepsen.events import History
 from ..from_jepsen.refusal import NoKey
+from ..from_jepsen.source import Texts
 from ..from_jepsen.turn import Turned, collected, written
 from ..from_jepsen.write import OF_SHARDS, Limits
 from . import Refused, detect, edn_rows, log_rows, logs, others, own_front, rows, rows_told
-from .account import KEY, Account, lines_of
+from .account import KEY, Account
 from .clock import nanoseconds
-from .files import Source, of_text
+from .files import Source
 from .mapping import LINES, Mapping
 from .written import Written
 
 OWN, JEPSEN, KEYED, LOG = "jepmon's own form", "Jepsen's form", "EDN with a key in each event", "a log, an operation a line"
 NO_KEYS = (KEY, "its values have no keys: all of it is one object, key 0", "--key K")
 FURTHER = ("time", "error")  # fields that are taken over from what the history was made from
-LINE = re.compile(r"\bline ([0-9]+)\b")
+MOST_WHOLE = 250_000  # events that are judged by one check, if nobody asked for shards
 LONGEST = 200  # lines that one event of it may take
 
 
@@ -61,101 +63,109 @@ def form_of(source: Source, options: Options) -> str:
 class Translation:
     """A history of another form than jepmon's own, event by event."""
 
-    def __init__(self, form: str, read: History, account: Account, nil_is_absent: bool, made: Optional[Written], source: Source) -> None:
+    def __init__(self, form: str, read: History, account: Account, nil_is_absent: bool, notes: Sequence[str], texts: Optional[Texts]) -> None:
         self.form = form
         self.history = read
         self.account = account
         self.nil_is_absent = nil_is_absent
-        self.notes: List[str] = made.notes if made is not None else []  # of how it came about
-        self.file_lines: Sequence[int] = made.lines if made is not None else ()  # of each line of what it was made from first
-        self._text = of_text(made.text) if made is not None else source
+        self.notes = notes  # of how it came about
+        self._texts = texts  # in EDN, whose events say more than was kept of them
 
     def reason_for_shards(self) -> Optional[str]:
-        """Why one check does not take it; None if one does."""
-        most = {f"{len(self.history.events):,} events": len(self.history.events) > kinds.EVENTS,
-                f"{len(self.history.keys):,} keys": len(self.history.keys) > len(kinds.KEYS)}
-        return next((f"{what}, which one check does not take" for what, is_too_many in most.items() if is_too_many), None)
+        """Why one check is not given it; None if one is."""
+        events, keys = len(self.history.events), len(self.history.keys)
+        if events > kinds.EVENTS:
+            return f"{events:,} events, which one check does not take"
+        return f"{keys:,} keys, which one check does not take" if keys > len(kinds.KEYS) else "" if events > MOST_WHOLE else None
 
     def turned(self, in_shards: bool) -> Turned:
         """It in jepmon's own form."""
         return written(self.history, self.nil_is_absent, OF_SHARDS if in_shards else Limits())
 
-    def line(self, line: int) -> int:
-        """The line in the file of an event of this line in what it was made from."""
-        return self.file_lines[line - 1] if line and self.file_lines else line
+    def beside(self, wanted: Set[int], begun: int) -> Dict[int, Dict[str, Any]]:
+        """What the events of these indices say of when they came, and of errors; so many events come before the history's own."""
+        rows = {index: row for index, row in self._rows(begun) if index in wanted and len(row) > 2}
+        if self._texts is None:
+            return {index: {name: said for name, said in zip(FURTHER, row[7]) if said is not None} for index, row in rows.items() if row[7] is not None}
+        said = dict(_beside(self._texts.texts(), {row[6] for row in rows.values()}))
+        return {index: said.get(row[6], {}) for index, row in rows.items()}
 
-    def beside(self, lines: Set[int]) -> Dict[int, Dict[str, Any]]:
-        """What events that begin in these lines say of when they came, and of errors."""
-        return dict(_beside(self._text.texts(), lines))
+    def lines(self, begun: int) -> "array.array[int]":
+        """The line of each event; 0 if it has none."""
+        return array.array("Q", itertools.chain(itertools.repeat(0, begun), (row[6] if len(row) > 2 else 0 for _, row in self._rows(begun))))
+
+    def _rows(self, begun: int) -> "Iterator[tuple[int, tuple[Any, ...]]]":
+        return enumerate(itertools.chain.from_iterable(self.history.events.batches()), begun)
 
 
 def translated(source: Source, form: str, options: Options) -> Translation:
     """What is made of a history that is not in jepmon's own form."""
     account = Account()
     if form == JEPSEN:
-        _refuse_others(source.front, options, ())
-        read = _collected(source, options, options.asked(options.mapping.order), account, account)
-        return Translation(form, read, account, options.nil_is_absent, None, source)
-    made = _written(source, form, options, account)
-    options = options._replace(nil_is_absent=options.nil_is_absent or made.nil_is_absent)
-    _refuse_others(made.text, options, made.lines)
-    order, part = options.mapping.order if form == LOG else LINES, Account()
-    try:
-        read = _collected(of_text(made.text), options, options.asked(order), part, part)
-    except Refused as refusal:
-        raise type(refusal)(with_lines(str(refusal), made.lines)) from refusal
-    for guess in part.guesses:
-        account.guess(guess.of, with_lines(guess.assumed, made.lines), guess.option)
-    return Translation(form, read, account, options.nil_is_absent, made, source)
-
-
-def _written(source: Source, form: str, options: Options, account: Account) -> Written:
-    asked = rows_told.Asked(options.mapping, options.model is not None)
-    if form == KEYED:
-        return edn_rows.written(source.text, account, asked)
+        _refuse_others(source.front, options)
+        read = _collected(source, options, account)
+        return Translation(form, read, account, options.nil_is_absent, (), source)
     if form == LOG:
-        made = logs.written(source.text, account)
-    else:
-        made = rows_told.written(lambda part: rows_of(form, source.text, options.mapping, part), account, asked)
-    account.close(lines_of(source.text))
-    return made
+        log = logs.Log(source)
+        read = _collected(log, options, account)
+        read.is_of_rows = True
+        if not log.has_times:
+            log.blocks.close(account)
+        return Translation(form, read, account, options.nil_is_absent, (), log)
+    made = _of_rows(source, form, options, account)
+    return Translation(form, made.history, account, options.nil_is_absent or made.nil_is_absent, made.notes, None)
 
 
-def rows_of(form: str, text: str, mapping: Mapping, account: Account) -> Iterator[rows.Row]:
-    """The rows of a text of this form."""
-    if form == detect.JSON:
-        return rows.of_json(text, mapping, account)
-    if form == detect.LOGFMT:
-        return log_rows.of_logfmt(text, mapping, account)
-    if form == detect.LINES and mapping.line is not None:
-        return log_rows.of_pattern(text, mapping, mapping.line, account)
-    return rows.of_csv(text, mapping, account)
-
-
-def _collected(source: Source, options: Options, asked: Asked, account: Account, lines: Account) -> History:
-    """The events; those whose values have no keys are of the one object that they are then. Lines are accounted for in an account of
-    their own, if these are not the file's."""
+def _of_rows(source: Source, form: str, options: Options, account: Account) -> Written:
+    """The events of rows; those without keys are of the one object that they are then."""
+    asked = rows_told.Asked(options.mapping, options.model is not None, options.asked(LINES))
     try:
-        return collected(source, asked, lines)
+        return _written(source, form, asked, account)
     except NoKey:
         if options.key is not None or not options.guesses_key:
             raise
-    read = collected(source, asked._replace(key="0"), lines)
+    made = _written(source, form, asked._replace(of_events=asked.of_events._replace(key="0")), account)
+    account.guess(*NO_KEYS)
+    return made
+
+
+def _written(source: Source, form: str, asked: rows_told.Asked, account: Account) -> Written:
+    if form == KEYED:
+        made = edn_rows.written(source, account, asked)
+    else:
+        made = rows_told.written(lambda part: rows_of(form, source.texts(), asked.mapping, part), account, asked)
+    account.close(source.lines())
+    return made
+
+
+def rows_of(form: str, texts: Iterable[str], mapping: Mapping, account: Account) -> Iterator[rows.Row]:
+    """The rows of a text of this form."""
+    if form == detect.JSON:
+        return rows.of_json(texts, mapping, account)
+    if form == detect.LOGFMT:
+        return log_rows.of_logfmt(texts, mapping, account)
+    if form == detect.LINES and mapping.line is not None:
+        return log_rows.of_pattern(texts, mapping, mapping.line, account)
+    return rows.of_csv(texts, mapping, account)
+
+
+def _collected(texts: Texts, options: Options, account: Account) -> History:
+    """The events of EDN; those whose values have no keys are of the one object that they are then."""
+    asked = options.asked(options.mapping.order)
+    try:
+        return collected(texts, asked, account)
+    except NoKey:
+        if options.key is not None or not options.guesses_key:
+            raise
+    read = collected(texts, asked._replace(key="0"), account)
     account.guess(*NO_KEYS)
     return read
 
 
-def _refuse_others(text: str, options: Options, file_lines: Sequence[int]) -> None:
+def _refuse_others(text: str, options: Options) -> None:
     reason = others.named(text, options.model == "set")
     if reason is not None:
-        raise Refused(with_lines(reason, file_lines))
-
-
-def with_lines(reason: str, file_lines: Sequence[int]) -> str:
-    """The reason, with lines of the file in place of those of what was made of it."""
-    if not file_lines:
-        return reason
-    return LINE.sub(lambda found: f"line {file_lines[min(int(found.group(1)), len(file_lines)) - 1]}", reason)
+        raise Refused(reason)
 
 
 def _beside(pieces: Iterable[str], wanted: Set[int]) -> Iterator["tuple[int, dict[str, Any]]"]:

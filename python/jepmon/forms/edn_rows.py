@@ -10,8 +10,10 @@ from typing import Iterator
 
 from .. import edn, history
 from ..from_jepsen.clients import Clients
+from ..from_jepsen.collect import GAP, Counted
 from . import Refused, rows_told
 from .account import Account
+from .files import Source
 from .rows import Row
 from .written import Written
 
@@ -19,21 +21,25 @@ LOOKED_AT = 50  # elements within which the first event of a client is looked fo
 PORCUPINE = ("get", "put", "append")
 
 
-def written(text: str, account: Account, asked: rows_told.Asked) -> Written:
+def written(source: Source, account: Account, asked: rows_told.Asked) -> Written:
     """The history."""
     is_porcupine = True
 
-    def rows(_account: Account) -> Iterator[Row]:
+    def rows(account: Account) -> Iterator[Row]:
         nonlocal is_porcupine
-        for element in edn.Reader(text).history():
+        pieces = Counted(source.texts())
+        for element in edn.Reader(pieces).history():
             fields = history.plain(element.value)
             if not isinstance(fields, dict):
                 raise Refused(f"line {element.line}: this is no map, so no event: {edn.shown(element.value, 60)}")
+            account.skip_to(element.line, GAP)
+            account.took(element.line, element.last_line)
             row = Row(element.line, fields)
             is_porcupine = is_porcupine and row.fields.get("f") in PORCUPINE
             if is_porcupine and row.fields.get("value") == "":
                 row.fields["value"] = None
             yield row
+        account.skip_to(pieces.lines + 1, GAP)
 
     try:
         found = rows_told.written(rows, account, asked)

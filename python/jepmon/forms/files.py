@@ -32,6 +32,7 @@ class Source:
         self.path = path  # None of standard input
         self._opened = opened
         self._text: Optional[str] = None
+        self._feeds, self._last = 0, "\n"  # of the text that was read last: its line feeds, and its last character
         with opened() as file:
             begin = file.read(len(decoding.MARK))
         self.is_plain = path is not None and not begin.startswith((decoding.GZIP, decoding.MARK))  # whether the text is the file, byte for byte
@@ -41,8 +42,12 @@ class Source:
 
     def texts(self) -> Iterator[str]:
         """The text, in pieces of whole lines."""
+        self._feeds, self._last = 0, "\n"
         with self._opened() as file:
-            yield from decoding.texts_of(decoding.pieces_of(file))  # type: ignore[arg-type]
+            for piece in decoding.texts_of(decoding.pieces_of(file)):  # type: ignore[arg-type]
+                self._feeds += piece.count("\n")
+                self._last = piece[-1:] or self._last
+                yield piece
 
     @property
     def text(self) -> str:
@@ -56,6 +61,10 @@ class Source:
                     raise Beyond(f"it has more than {MOST:,} characters")
             self._text = "".join(pieces)
         return self._text
+
+    def lines(self) -> int:
+        """How many lines the text has that was read last, to its end; the last one may lack its line feed."""
+        return self._feeds + (self._last != "\n")
 
     def _front(self) -> str:
         """The first lines, up to one that says something."""

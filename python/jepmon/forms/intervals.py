@@ -8,16 +8,15 @@ nothing to linearizability, so those that overlap on one client are spread over 
 from __future__ import annotations
 
 from bisect import bisect_right
-from typing import Any, Dict, Iterable, Iterator, List, NamedTuple, Optional, Tuple
+from typing import Any, Dict, Iterable, List, NamedTuple, Optional, Set, Tuple
 
+from ..from_jepsen.collect import Pair
 from . import Refused
 from .answers import UNANSWERED, answered, says_no
 from .clock import Time
 from .meaning import ANSWERED, MISSING, Told
-from .written import Writer, Written, element, value_of, word
-
-THREADS = 64
-Step = Tuple[int, str]  # an operation by its place, and the type of the event
+from .timeline import Timeline
+from .written import Writer, element, value_of, word
 
 
 class Interval(NamedTuple):
@@ -42,7 +41,7 @@ class Fault(NamedTuple):
     time: Time
     line: int
     name: str
-    value: str
+    value: Pair
 
 
 def of_told(told: Told, writer: Writer) -> Interval:
@@ -82,141 +81,76 @@ def _hashable(client: Any) -> Any:
     return None if client is MISSING else client if client is None or isinstance(client, (str, int, float)) else element(client)
 
 
-def test_twice(intervals: List[Interval]) -> None:
-    """Refuses an operation that is there twice, in each field, also in its times. A read that is there twice changes nothing."""
-    seen: Dict[Tuple[Time, int], int] = {}
-    latest: Optional[Time] = None
-    for call, mark, line in sorted((interval.call, interval.mark, interval.line) for interval in intervals if interval.mark):
-        if call != latest:
-            seen, latest = {}, call
-        first = seen.setdefault((call, mark), line)
-        if first != line:
-            raise Refused(f"line {line}: this operation is that of line {first} in each field, also in its times: does the file have some lines "
-                          "twice? If they are two operations, let a field tell them apart")
+class Operations:
+    """Takes operations, and writes their events in the order of their times."""
 
+    def __init__(self, writer: Writer) -> None:
+        self._writer, self._timeline = writer, Timeline()
+        self._clients: Set[Any] = set()
+        self._count = self._returned = 0
+        self._calls: Dict[Any, List[Time]] = {}  # of each key, if they are kept
+        self._ends: Dict[Any, List[Time]] = {}  # of those that have certainly returned
 
-def test_returns(intervals: List[Interval], names: str) -> None:
-    """Refuses a history in which no operation has returned."""
-    if intervals and all(interval.ends is None for interval in intervals):
-        raise Refused(f"none of its {len(intervals)} operations has a time of its return. The fields are {names}; say --map FIELD=return for the "
-                      "field that has it")
+    def take(self, interval: Interval, keeps_times: bool) -> None:
+        line, client, name, key, argument, answer, call, ends, outcome, error, mark = interval
+        self._count += 1
+        self._returned += ends is not None
+        self._clients.add(client)
+        key = () if key is MISSING else key
+        value = answer if outcome == "ok" and name in ANSWERED else argument
+        begun = line, name, key, () if argument is MISSING else argument, call, None, mark
+        self._timeline.operation(client, call, ends, outcome, begun, (line, name, key, () if value is MISSING else value, ends, error, mark))
+        if keeps_times:
+            named = key if isinstance(key, (str, int, float)) else element(key)
+            self._calls.setdefault(named, []).append(call)
+            if ends is not None and outcome != "info":
+                self._ends.setdefault(named, []).append(ends)
 
+    def are_of_several(self) -> bool:
+        """Whether several clients may have done them."""
+        return self._count > 1 and (len(self._clients) > 1 or None in self._clients)
 
-def widened(intervals: List[Interval], skew: Time, coarse: int) -> List[Interval]:
-    """The operations, each begun earlier and ended later by a clock error; a return in a coarse unit is at the end of that unit."""
-    return [each._replace(call=each.call - skew, ends=None if each.ends is None else each.ends + skew + coarse) for each in intervals]
+    def test(self, names: str) -> None:
+        """Refuses operations of which none has returned, and one that is there twice, in each field, also in its times. A read that is
+        there twice changes nothing."""
+        if self._count and not self._returned:
+            raise Refused(f"none of its {self._count} operations has a time of its return. The fields are {names}; say --map FIELD=return for the "
+                          "field that has it")
+        seen: Dict[int, int] = {}
+        latest: Optional[Time] = None
+        for call, (line, *_, mark) in self._timeline.begun():
+            if call != latest:
+                seen, latest = {}, call
+            if mark and seen.setdefault(mark, line) != line:
+                raise Refused(f"line {line}: this operation is that of line {seen[mark]} in each field, also in its times: does the file have some "
+                              "lines twice? If they are two operations, let a field tell them apart")
 
+    def lost(self, skew: Time) -> int:
+        """How many pairs of operations of one key stand in an order by their times, and in none if each is wider by a clock error."""
+        count = 0
+        for key, ends in self._ends.items():
+            calls = sorted(self._calls[key])
+            count += sum(bisect_right(calls, end + 2 * skew) - bisect_right(calls, end) for end in ends)
+        return count
 
-def lost(intervals: List[Interval], skew: Time) -> int:
-    """How many pairs of operations of one key stand in an order by their times, and in none if each interval is wider by a clock error."""
-    calls: Dict[Any, List[Time]] = {}
-    for interval in intervals:
-        calls.setdefault(_name_of(interval.key), []).append(interval.call)
-    for of_key in calls.values():
-        of_key.sort()
-    count = 0
-    for interval in intervals:
-        if interval.ends is not None and interval.outcome != "info":
-            of_key = calls[_name_of(interval.key)]
-            count += bisect_right(of_key, interval.ends + 2 * skew) - bisect_right(of_key, interval.ends)
-    return count
-
-
-def _name_of(key: Any) -> Any:
-    return None if key is MISSING else key if isinstance(key, (str, int, float)) else element(key)
-
-
-def written(intervals: List[Interval], writer: Writer, notes: List[str], nil_is_absent: bool = False,
-            faults: Iterable[Fault] = ()) -> Written:
-    """The events of operations, in Jepsen's form."""
-    steps, processes = _scheduled(intervals)
-    waiting = sorted(faults, reverse=True)
-    overlaps = _overlaps(intervals, steps)
-    if overlaps:
-        writer.counts["operations that overlap or touch another one of their client, on threads of their own"] += overlaps
-    for (place, kind), process in zip(steps, processes):
-        interval = intervals[place]
-        is_answer = kind == "ok" and interval.name in ANSWERED
-        time = interval.call if kind == "invoke" else interval.ends
-        while waiting and time is not None and waiting[-1].time < time:
-            _write(writer, waiting.pop())
-        writer.event(interval.line, kind, str(process), interval.name,
-                     value_of(interval.key, interval.answer if is_answer else interval.argument), time,
-                     interval.error if kind != "invoke" else None)
-    for fault in reversed(waiting):
-        _write(writer, fault)
-    return writer.written(notes, nil_is_absent)
+    def write(self, faults: Iterable[Fault], skew: Time, coarse: int) -> None:
+        """Writes the events: each operation is begun earlier and ended later by a clock error; a return in a coarse unit is at the end of
+        that unit."""
+        waiting = sorted(faults, reverse=True)
+        last: Dict[int, Tuple[Any, ...]] = {}  # what was given of the invocation of each process
+        for kind, process, given in self._timeline.moments(skew, skew + coarse):
+            line, name, key, value, time, error, _ = given if given is not None else last.pop(process)
+            if kind == "invoke":
+                last[process] = given
+            while waiting and given is not None and waiting[-1].time < time:
+                _write(self._writer, waiting.pop())
+            self._writer.event(line, kind, str(process), name, value_of(MISSING if key == () else key, MISSING if value == () else value),
+                               time if given is not None else None, error)
+        for fault in reversed(waiting):
+            _write(self._writer, fault)
+        if self._timeline.overlaps:
+            self._writer.counts["operations that overlap or touch another one of their client, on threads of their own"] += self._timeline.overlaps
 
 
 def _write(writer: Writer, fault: Fault) -> None:
     writer.event(fault.line, "info", ":nemesis", fault.name, fault.value, fault.time)
-
-
-def _scheduled(intervals: List[Interval]) -> Tuple[List[Step], List[int]]:
-    """The events in their order and the process of each: where 64 threads suffice for that, clients keep threads of their own,
-    and what never returned stays open."""
-    for stay_open, by_client in ((True, True), (False, True), (False, False)):
-        steps = list(_steps(intervals, stay_open))
-        threads, processes = _on_threads(intervals, steps, by_client)
-        if threads <= THREADS:
-            break
-    return steps, processes
-
-
-def _steps(intervals: List[Interval], stay_open: bool) -> Iterator[Step]:
-    """The events in their order. What never returned ends before its client's next invocation, or right after its own."""
-    points = [(interval.call, 0, place) for place, interval in enumerate(intervals)]
-    points += [(interval.ends, 1, place) for place, interval in enumerate(intervals) if interval.ends is not None]
-    points.sort()
-    waiting: Dict[Any, List[int]] = {}
-    for _, is_end, place in points:
-        interval = intervals[place]
-        if is_end:
-            yield place, interval.outcome
-            continue
-        for before in waiting.pop(interval.client, ()):
-            yield before, intervals[before].outcome
-        yield place, "invoke"
-        if interval.ends is None and (not stay_open or interval.outcome == "fail"):
-            yield place, interval.outcome
-        elif interval.ends is None and interval.client is not None:
-            waiting.setdefault(interval.client, []).append(place)
-
-
-def _overlaps(intervals: List[Interval], steps: Iterable[Step]) -> int:
-    """How many operations are invoked while their client has another one open."""
-    count, opened = 0, {}  # type: int, Dict[Any, int]
-    for place, kind in steps:
-        client = intervals[place].client
-        count += kind == "invoke" and client is not None and opened.get(client, 0) > 0
-        opened[client] = opened.get(client, 0) + (1 if kind == "invoke" else -1)
-    return count
-
-
-def _on_threads(intervals: List[Interval], steps: List[Step], by_client: bool) -> Tuple[int, List[int]]:
-    """How many threads there have to be, and the process of each event. By client, each keeps its thread where that is free."""
-    homes: Dict[Any, int] = {}
-    for interval in intervals if by_client else ():
-        if interval.client is not None:
-            homes.setdefault(interval.client, len(homes))
-    free, count = set(range(len(homes))), len(homes)
-    thread_of: Dict[int, int] = {}
-    threads: List[int] = []
-    for place, kind in steps:
-        if kind == "invoke":
-            thread = homes.get(intervals[place].client, -1)
-            if thread not in free:  # its own one is taken: one that is nobody's
-                thread = min((other for other in free if other >= len(homes)), default=count)
-            free.discard(thread)
-            count = max(count, thread + 1)
-            thread_of[place] = thread
-        else:
-            free.add(thread_of[place])
-        threads.append(thread_of[place])
-    current = list(range(count))
-    processes = []
-    for (_, kind), thread in zip(steps, threads):
-        processes.append(current[thread])
-        if kind == "info":
-            current[thread] += count
-    return count, processes

@@ -2,12 +2,12 @@
 from __future__ import annotations
 
 import re
-from typing import Any, Dict, Iterator, Pattern
+from typing import Any, Dict, Iterable, Iterator, Pattern
 
 from . import Refused
 from .account import Account
 from .mapping import Mapping
-from .rows import BLANK, Row, cell_value, test_end
+from .rows import BLANK, Lines, Row, cell_value
 
 PAIR = re.compile(r'([\w.@/\-]+)=(?:"((?:[^"\\]|\\.)*)"|([^\s"]*))(?:\s+|$)')
 LOGFMT = re.compile(r'\s*(?:[\w.@/\-]+=(?:"(?:[^"\\\n]|\\.)*"|[^\s"]*)(?:[ \t]+|\r?$)){2,}', re.M)
@@ -16,10 +16,9 @@ ESCAPES = {"n": "\n", "t": "\t", "r": "\r"}
 OTHERS = "of a log that tell of no operation"
 
 
-def of_logfmt(text: str, mapping: Mapping, account: Account) -> Iterator[Row]:
+def of_logfmt(texts: Iterable[str], mapping: Mapping, account: Account) -> Iterator[Row]:
     """The rows of logfmt: name=value, blanks between them, and quotes around a value with blanks."""
-    test_end(text)
-    for number, line in enumerate(_lines(text), 1):
+    for number, line in enumerate(_lines(texts), 1):
         if not line.strip():
             account.skip(BLANK)
             continue
@@ -38,11 +37,10 @@ def of_logfmt(text: str, mapping: Mapping, account: Account) -> Iterator[Row]:
         yield Row(number, fields)
 
 
-def of_pattern(text: str, mapping: Mapping, pattern: Pattern[str], account: Account) -> Iterator[Row]:
+def of_pattern(texts: Iterable[str], mapping: Mapping, pattern: Pattern[str], account: Account) -> Iterator[Row]:
     """The lines that a pattern matches, by its named groups. Groups that take no part have no field."""
-    test_end(text)
     count = 0
-    for number, line in enumerate(_lines(text), 1):
+    for number, line in enumerate(_lines(texts), 1):
         found = pattern.search(line)
         if found is None:
             account.skip(OTHERS if line.strip() else BLANK)
@@ -54,13 +52,10 @@ def of_pattern(text: str, mapping: Mapping, pattern: Pattern[str], account: Acco
         raise Refused('"line" of the mapping matches no line of it')
 
 
-def _lines(text: str) -> Iterator[str]:
-    """The lines; the last one may lack its line feed."""
-    lines = text.split("\n")
-    if lines[-1] == "":
-        lines.pop()
-    for line in lines:
-        yield line.rstrip("\r")
+def _lines(texts: Iterable[str]) -> Iterator[str]:
+    """The lines without their ends."""
+    for line in Lines(texts):
+        yield line.rstrip("\r\n")
 
 
 def _unescaped(text: str) -> str:

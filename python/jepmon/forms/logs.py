@@ -8,13 +8,13 @@ from __future__ import annotations
 
 import json
 import re
+from typing import Iterator
 
-from .account import Account, lines_of
+from . import Refused
+from .account import Account
 from .clock import Clock
-from .log_rows import OTHERS
+from .files import Source
 from .order import Blocks
-from .rows import BLANK, test_end
-from .written import Written
 
 LINE = re.compile(
     r"^(?:(\d{4}-\d\d-\d\d[T ]\d\d:\d\d:\d\d(?:[.,]\d+)?)?[^\n]*\bjepsen\.util[^\t\n]*[-:] )?"  # what a logger writes before it
@@ -23,28 +23,32 @@ LINE = re.compile(
 )
 
 
-def written(text: str, account: Account) -> Written:
-    """The events of a log as Jepsen writes them in EDN, and the line of each in the log."""
-    test_end(text)
-    events, lines, place, line = [], [], 0, 1
-    blocks, clock, has_times = Blocks(), Clock(account), False
-    for found in LINE.finditer(text):
-        line += text.count("\n", place, found.start())
-        place = found.start()
-        stamp, process, kind, name, value, error = found.groups()
-        blocks.take(process)
-        time = clock.time(line, stamp, None)
-        further = ("" if time is None else f", :time {time}") + (f", :error {json.dumps(error)}" if error else "")
-        events.append(f"{{:process {process}, :type :{kind}, :f {name}, :value {value or 'nil'}{further}}}\n")
-        lines.append(line)
-        has_times = has_times or time is not None
-        if process == ":nemesis":
-            account.took_none("of :nemesis", line, line)
-        else:
-            account.took(line, line)
-    others = sum(1 for each in text.split("\n") if each.strip()) - len(lines)
-    account.skip(OTHERS, others)
-    account.skip(BLANK, lines_of(text) - len(lines) - others)
-    if not has_times:
-        blocks.close(account)
-    return Written("".join(events), lines, [])
+class Log:
+    """A log, whose lines are written as Jepsen has them in EDN. A line that tells of no operation is a blank one there."""
+
+    def __init__(self, source: Source) -> None:
+        self._source = source
+        self.blocks, self.has_times = Blocks(), False
+
+    def texts(self) -> Iterator[str]:
+        self.blocks, clock = Blocks(), Clock(Account())
+        for piece in self._source.texts():
+            lines, place = [], 0
+            for found in LINE.finditer(piece):
+                stamp, process, kind, name, value, error = found.groups()
+                self.blocks.take(process)
+                time = clock.time(0, stamp, None)
+                self.has_times = self.has_times or time is not None
+                further = ("" if time is None else f", :time {time}") + (f", :error {json.dumps(error)}" if error else "")
+                lines.append("\n" * piece.count("\n", place, found.start()))
+                lines.append(f"{{:process {process}, :type :{kind}, :f {name}, :value {value or 'nil'}{further}}}")
+                place = found.end()
+            lines.append("\n" * piece.count("\n", place))
+            yield "".join(lines)
+        test_end(piece)
+
+
+def test_end(last: str) -> None:
+    """Refuses a text whose last line may lack its end."""
+    if not last.endswith(("\n", "\r")):
+        raise Refused("the last line has no line feed: was the file cut off? If it was not, add one")

@@ -29,13 +29,14 @@ class Recorded(NamedTuple):
     notes: Sequence[str] = ()  # what is to be told of how it came about
     faults: Sequence[Fault] = ()
     translation: Optional[Translation] = None  # what it was made from
-    lines: Sequence[int] = ()  # the line of each event in that, or in the file of jepmon's own form; 0 where it has none
+    begun: int = 0  # events that come before the history's own
+    lines: Sequence[int] = ()  # the line of each event in the file; 0 where it has none
     is_own: bool = False
     has_commands: bool = False  # so that its text is not that of the file
 
     def line(self, index: int) -> int:
         """The line in the file of an event; 0 where it has none."""
-        return self.lines[index] if self.translation is None else self.translation.line(self.lines[index])
+        return self.lines[index]
 
 
 def recorded(source: Source, options: Options) -> Recorded:
@@ -60,13 +61,10 @@ def of_own(source: Source) -> Optional[Recorded]:
 def of_translation(made: Translation) -> Recorded:
     """A history of another form."""
     turned = made.turned(in_shards=False)
-    lines = jepsen.lines_of(turned)
     text = turned.text()
-    if made.file_lines:
-        text = jepsen.with_lines(text, lines, made.file_lines)
     found = own.read(text)
     if found is None:
         raise Refused("a fault of this program: what it made of the history is not in jepmon's form")
     return Recorded(made.form, text, found.facts, made.account, turned.models, key_names=turned.names.keys, value_names=turned.names.values,
-                    notes=[*made.notes, *jepsen.notes_of(turned)], lines=lines, translation=made,
+                    notes=[*made.notes, *jepsen.notes_of(turned)], lines=made.lines(turned.begun), translation=made, begun=turned.begun,
                     faults=faults.of_nemesis(turned.history.nemesis, turned.begun) + faults.of_text(text))

@@ -43,7 +43,7 @@ class Events:
         """Writes the event that a row tells."""
         self._test_time(told)
         if is_nemesis(told):
-            self._writer.event(told.line, "info", ":nemesis", word(told.line, told.name or "fault"), element(_known(told.value)), told.time)
+            self._writer.event(told.line, "info", ":nemesis", word(told.line, told.name or "fault"), value_of(MISSING, told.value), told.time)
             return
         kind = kind_of(told, self._reader)
         process = self._process(told)

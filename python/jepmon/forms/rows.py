@@ -7,13 +7,12 @@ true, false, null or a JSON list is that, an empty one is null, and any other is
 from __future__ import annotations
 
 import csv
-import io
 import json
 import re
-from typing import Any, Dict, Iterator, List, NamedTuple, Optional, Tuple
+from typing import Any, Dict, Iterable, Iterator, List, NamedTuple, Optional, Tuple
 
 from . import Refused, spans
-from .account import Account, lines_of
+from .account import Account
 from .mapping import Mapping
 from .vocabulary import plain
 
@@ -36,38 +35,90 @@ class Row(NamedTuple):
 # --- JSON ---
 
 
-def of_json(text: str, mapping: Mapping, account: Account) -> Iterator[Row]:
-    """The objects of a JSON text."""
+def of_json(texts: Iterable[str], mapping: Mapping, account: Account) -> Iterator[Row]:
+    """The objects of a JSON text, which comes in pieces of whole lines."""
+    text = _Pieces(texts)
     decoder = json.JSONDecoder(object_pairs_hook=_object)
-    end, place = 0, SPACE.match(text).end()  # type: ignore[union-attr]
-    lines = _Lines(text)
-    in_array = text[place:place + 1] == "["
+    text.pass_gap()
+    in_array = text.begins("[")
     gap = BRACKETS if in_array else BLANK
     if in_array:
-        place = SPACE.match(text, place + 1).end()  # type: ignore[union-attr]
-    while place < len(text) and not (in_array and text[place] == "]"):
-        line, begin = lines.at(place), place
-        account.skip_to(line, gap, _comments(text, end, place))
-        value, place = _decoded(decoder, text, place, line)
-        end, last = place, lines.at(place)
-        account.took(line, last)
+        text.at += 1
+        text.pass_gap()
+    while text.more() and not (in_array and text.begins("]")):
+        line, begin = text.line(), text.at
+        account.skip_to(line, gap, text.comments())
+        value, begin = _decoded(decoder, text)
+        account.took(line, text.line())
         if mapping.rows is None and _is_plain(value):
             yield Row(line, value)
         else:
-            yield from _rows(decoder, value, line, (text, begin, place), mapping, account)
-        gap, place = BLANK, SPACE.match(text, place).end()  # type: ignore[union-attr]
-    if in_array and place == len(text):
-        raise Refused(f"line {lines.at(place)}: the text ends within the array: was the file cut off?")
-    if in_array and SPACE.fullmatch(text, place + 1) is None:
-        raise Refused(f"line {lines.at(place)}: more follows the array that has the history")
-    account.skip_to(lines_of(text) + 1, BRACKETS if in_array else BLANK, _comments(text, end, len(text)))
+            yield from _rows(decoder, value, line, (text.text, begin, text.at), mapping, account)
+        gap = BLANK
+        text.pass_gap()
+    if in_array and not text.more():
+        raise Refused(f"line {text.line()}: the text ends within the array: was the file cut off?")
+    if in_array:
+        line = text.line()
+        text.at += 1
+        text.pass_gap()
+        if text.more():
+            raise Refused(f"line {line}: more follows the array that has the history")
+    account.skip_to(text.lines() + 1, BRACKETS if in_array else BLANK, text.comments())
 
 
-def _comments(text: str, begin: int, end: int) -> int:
-    """How many lines between two events are comments."""
-    if end - begin < 2:
-        return 0
-    return len(COMMENT.findall(text[begin:end])) + (begin == 0 and text[:end].lstrip(" \t").startswith(("#", "//")))
+class _Pieces:
+    """A text in pieces, of which as much is held as is not read yet."""
+
+    def __init__(self, texts: Iterable[str]) -> None:
+        self._texts = iter(texts)
+        self.text, self.at = "", 0
+        self._line, self._counted = 1, 0  # the line of a place in the text
+        self._last = ""
+        self._comments = 0  # lines
+
+    def add(self) -> bool:
+        """Adds the next piece; whether there is one."""
+        piece = next(self._texts, None)
+        if piece is None:
+            return False
+        self.line()
+        self.text, self.at, self._counted = self.text[self.at:] + piece, 0, 0
+        self._last = piece[-1:] or self._last
+        return True
+
+    def pass_gap(self) -> None:
+        """Goes on to what is neither white space nor a comma nor a comment."""
+        while True:
+            begin = self.at
+            self.at = SPACE.match(self.text, begin).end()  # type: ignore[union-attr]
+            if self.at > begin + 1:
+                gap = self.text[begin:self.at]
+                self._comments += len(COMMENT.findall(gap)) + (begin == 0 and gap.lstrip(" \t").startswith(("#", "//")))
+            if self.at < len(self.text) or not self.add():
+                return
+
+    def comments(self) -> int:
+        """How many lines are comments since this was asked last."""
+        count, self._comments = self._comments, 0
+        return count
+
+    def more(self) -> bool:
+        return self.at < len(self.text)
+
+    def begins(self, with_this: str) -> bool:
+        return self.text.startswith(with_this, self.at)
+
+    def line(self) -> int:
+        """The line here. It does not go back."""
+        if self.at > self._counted:
+            self._line += self.text.count("\n", self._counted, self.at)
+            self._counted = self.at
+        return self._line
+
+    def lines(self) -> int:
+        """How many lines the text has, at its end."""
+        return self.line() - (self._last == "\n" or self._last == "")
 
 
 def _object(pairs: "List[Tuple[str, Any]]") -> Dict[str, Any]:
@@ -83,31 +134,28 @@ class _Twice(Exception):
     """An object has a member twice."""
 
 
-class _Lines:
-    """The lines of places that are asked for in their order."""
-
-    def __init__(self, text: str) -> None:
-        self._text, self._place, self._line = text, 0, 1
-
-    def at(self, place: int) -> int:
-        self._line += self._text.count("\n", self._place, place)
-        self._place = place
-        return self._line
-
-
-def _decoded(decoder: json.JSONDecoder, text: str, place: int, line: int) -> Any:
-    try:
-        return decoder.raw_decode(text, place)
-    except json.JSONDecodeError as fault:
-        if fault.pos >= len(text.rstrip()) or fault.msg.startswith("Unterminated"):
-            raise Refused(f"line {line}: the text ends within the object that begins here: was the file cut off?") from fault
-        raise Refused(f"line {fault.lineno}: this is no JSON: {fault.msg}: {text[fault.pos:fault.pos + 40]!r}") from fault
-    except _Twice as fault:
-        raise Refused(f"line {line}: an object has the member {json.dumps(fault.args[0])} twice") from fault
-    except RecursionError as fault:
-        raise Refused(f"line {line}: too many lists or objects stand in one another") from fault
-    except ValueError as fault:  # a number of thousands of digits
-        raise Refused(f"line {line}: a number here has too many digits") from fault
+def _decoded(decoder: json.JSONDecoder, text: _Pieces) -> "Tuple[Any, int]":
+    """The value here, and where it begins in the text that is held."""
+    while True:
+        begin = text.at
+        try:
+            value, text.at = decoder.raw_decode(text.text, begin)
+            return value, begin
+        except json.JSONDecodeError as fault:
+            is_cut = fault.pos >= len(text.text.rstrip()) or fault.msg.startswith("Unterminated")
+            if is_cut and text.add():
+                continue
+            line = text.line()
+            if is_cut:
+                raise Refused(f"line {line}: the text ends within the object that begins here: was the file cut off?") from fault
+            line += text.text.count("\n", begin, fault.pos)
+            raise Refused(f"line {line}: this is no JSON: {fault.msg}: {text.text[fault.pos:fault.pos + 40]!r}") from fault
+        except _Twice as fault:
+            raise Refused(f"line {text.line()}: an object has the member {json.dumps(fault.args[0])} twice") from fault
+        except RecursionError as fault:
+            raise Refused(f"line {text.line()}: too many lists or objects stand in one another") from fault
+        except ValueError as fault:  # a number of thousands of digits
+            raise Refused(f"line {text.line()}: a number here has too many digits") from fault
 
 
 def _is_plain(value: Any) -> bool:
@@ -163,11 +211,11 @@ def _lines_of_members(decoder: json.JSONDecoder, name: str, members: List[Any], 
 # --- CSV ---
 
 
-def of_csv(text: str, mapping: Mapping, account: Account) -> Iterator[Row]:
-    """The rows of a CSV text."""
-    if not text.endswith('"'):
-        test_end(text)
-    reader = csv.reader(io.StringIO(text, newline=""), delimiter=delimiter(text), strict=True, skipinitialspace=True)
+def of_csv(texts: Iterable[str], mapping: Mapping, account: Account) -> Iterator[Row]:
+    """The rows of a CSV text, which comes in pieces of whole lines."""
+    lines = Lines(texts, '"')
+    first_line = lines.front()
+    reader = csv.reader(lines, delimiter=delimiter(first_line), strict=True, skipinitialspace=True)
     columns: Optional[List[str]] = list(mapping.columns) if mapping.columns else None
     first = 1
     try:
@@ -189,15 +237,46 @@ def of_csv(text: str, mapping: Mapping, account: Account) -> Iterator[Row]:
         raise Refused(f"line {reader.line_num}: this is no CSV: {fault}") from fault
 
 
-def test_end(text: str) -> None:
-    """Refuses a text whose last line may lack its end."""
-    if not text.endswith(("\n", "\r")):
-        raise Refused(f"line {lines_of(text)}: the last line has no line feed: was the file cut off? If it was not, add one")
+class Lines:
+    """The lines of a text that comes in pieces of whole lines, each with its end. Refuses a last one that may be cut off: without a line
+    feed, but for one that ends so."""
+
+    def __init__(self, texts: Iterable[str], but_for: str = "\r") -> None:
+        self._texts, self._but_for = iter(texts), but_for
+        self._held: List[str] = []  # lines, the next one last
+        self._count = 0
+
+    def __iter__(self) -> Iterator[str]:
+        return self
+
+    def __next__(self) -> str:
+        if not self._held:
+            self._take()
+        self._count += 1
+        return self._held.pop()
+
+    def front(self) -> str:
+        """The first line that is neither blank nor a comment, as far as it is held."""
+        if not self._held:
+            try:
+                self._take()
+            except StopIteration:
+                return ""
+        return next((line.rstrip("\r\n") for line in reversed(self._held) if line.strip("\r\n") and not COMMENTS.match(line)), "")
+
+    def _take(self) -> None:
+        piece = next(self._texts)
+        lines = [line + "\n" for line in piece.split("\n")]
+        last = lines.pop()[:-1]
+        if last:
+            lines.append(last)
+            if not last.endswith(("\r", self._but_for)):
+                raise Refused(f"line {self._count + len(lines)}: the last line has no line feed: was the file cut off? If it was not, add one")
+        self._held = lines[::-1]
 
 
-def delimiter(text: str) -> str:
-    front = COMMENTS.sub("", text[:10_000]).lstrip("\r\n").split("\n", 1)[0]
-    return max(",;\t", key=front.count)
+def delimiter(first_line: str) -> str:
+    return max(",;\t", key=first_line.count)
 
 
 def has_heading(cells: List[str]) -> bool:

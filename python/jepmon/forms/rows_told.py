@@ -2,13 +2,14 @@
 from __future__ import annotations
 
 import itertools
-from typing import Callable, Iterable, Iterator, List, NamedTuple, Optional
+from typing import Callable, Iterable, Iterator, NamedTuple
 
-from . import Refused, etcd, intervals
+from ..from_jepsen import collect
+from . import etcd, intervals
 from .account import ORDER, Account
 from .clock import nanoseconds
 from .log_rows import OTHERS
-from .mapping import TIMES, Mapping
+from .mapping import LINES, TIMES, Mapping
 from .meaning import Reader, Told
 from .pairs import Pairs
 from .row_events import Events, TimesGoBack
@@ -16,7 +17,6 @@ from .rows import Row
 from .shapes import shown
 from .written import Writer, Written
 
-EVENTS = 1 << 20  # of a history at most
 Rows = Callable[[Account], Iterable[Row]]  # which may be read twice, each time with an account of its own
 
 
@@ -25,6 +25,7 @@ class Asked(NamedTuple):
 
     mapping: Mapping = Mapping()
     has_model: bool = False
+    of_events: collect.Asked = collect.Asked()  # the same of the events that are made of them
 
 
 def written(rows: Rows, account: Account, asked: Asked = Asked()) -> Written:
@@ -47,7 +48,9 @@ class _Turning:
 
     def __init__(self, rows: Rows, account: Account, asked: Asked) -> None:
         self._rows, self._account, self._mapping = rows, account, asked.mapping
-        self._writer = Writer()
+        collector = collect.Collector(asked.of_events._replace(order=LINES), account)
+        collector.history.is_of_rows = True
+        self._writer = Writer(collector)
         self._reader = Reader(asked.mapping, account, asked.has_model)
         self._is_etcd = False
 
@@ -77,25 +80,21 @@ class _Turning:
         pairs = Pairs(self._writer, self._reader, self._account, self._mapping, first_back)
         return self._of_operations(pairs.of(told), pairs.faults)
 
-    def _of_operations(self, operations: Iterable[intervals.Interval], faults: Iterable[intervals.Fault] = ()) -> Written:
-        made, notes = list(operations), []
-        intervals.test_returns(made, ", ".join(map(shown, self._reader.shapes.names())))
+    def _of_operations(self, told: Iterable[intervals.Interval], faults: Iterable[intervals.Fault] = ()) -> Written:
+        operations, notes = intervals.Operations(self._writer), []
+        skew = self._mapping.skew
+        for interval in told:
+            operations.take(interval, skew is not None)
+        operations.test(", ".join(map(shown, self._reader.shapes.names())))
         self._close()
-        intervals.test_twice(made)
-        self._guess_clocks(made)
-        skew, coarse = self._mapping.skew, self._reader.clock.coarsest()
         error = 0 if skew is None else nanoseconds(skew)
         if skew is not None:
-            notes.append(f"each clock may be wrong by {skew}: {intervals.lost(made, error)} orders of two operations of a key are not certain, and "
+            notes.append(f"each clock may be wrong by {skew}: {operations.lost(error)} orders of two operations of a key are not certain, and "
                          "what is illegal by these alone is not seen")
-        if error or coarse:
-            made = intervals.widened(made, error, coarse)
-        return intervals.written(made, self._writer, notes, self._is_etcd, faults)
-
-    def _guess_clocks(self, made: List[intervals.Interval]) -> None:
-        clients = {each.client for each in made}
-        if self._mapping.skew is None and len(made) > 1 and (len(clients) > 1 or None in clients):
+        elif operations.are_of_several():
             self._account.guess(ORDER, "the times of all clients are of one clock, or of clocks that agree", "--skew 0ms")
+        operations.write(faults, error, self._reader.clock.coarsest())
+        return self._writer.written(notes, self._is_etcd)
 
     def _close(self) -> None:
         for name in self._reader.close():
@@ -103,9 +102,7 @@ class _Turning:
 
     def _told(self) -> Iterator[Told]:
         """What the rows tell."""
-        for count, row in enumerate(self._rows(self._account)):
-            if count > EVENTS:
-                raise Refused(f"line {row.line}: a history has {EVENTS} events at most")
+        for row in self._rows(self._account):
             if etcd.is_one(row):
                 self._is_etcd = True
                 turned = etcd.turned(row, self._writer)

@@ -15,7 +15,6 @@ from ..kinds import THREADS
 from ..sorted_rows import SortedRows
 
 Time = Union[int, float]
-BEGIN, END = 0, 1  # of an operation; at one time each begins before any ends
 
 
 class Moment(NamedTuple):
@@ -29,9 +28,8 @@ class Moment(NamedTuple):
 class Timeline:
     """Takes operations, and gives their events."""
 
-    def __init__(self, skew: Time = 0) -> None:
-        self._skew = skew  # by which the clocks of two clients may differ
-        self._points = SortedRows()
+    def __init__(self) -> None:
+        self._begins, self._ends = SortedRows(), SortedRows()
         self._homes: Dict[Any, int] = {}  # the seat of each client
         self._count = 0
         self.overlaps = 0  # operations that are invoked while another one of their client is open
@@ -41,31 +39,40 @@ class Timeline:
         "info"; and what is given of its two events, as marshal takes it."""
         home = -1 if client is None else self._homes.setdefault(client, len(self._homes))
         number, self._count = self._count, self._count + 1
-        self._points.put((call - self._skew, BEGIN, number, home, "" if ends is not None else outcome, begun))
+        self._begins.put((call, number, home, "" if ends is not None else outcome, begun))
         if ends is not None:
-            self._points.put((ends + self._skew, END, number, home, outcome, ended))
+            self._ends.put((ends, number, outcome, ended))
 
-    def moments(self) -> Iterator[Moment]:
-        """The events in the order of the times. After the :info of a process its thread goes on as another one, by jepmon's rule."""
+    def begun(self) -> Iterator[Tuple[Time, Any]]:
+        """When each operation was called, and what is given of that, in the order of the calls."""
+        for call, _, _, _, given in self._begins:
+            yield call, given
+
+    def moments(self, earlier: Time = 0, later: Time = 0) -> Iterator[Moment]:
+        """The events in the order of the times, if each call was earlier by so much, and each return later. After the :info of a process
+        its thread goes on as another one, by jepmon's rule."""
         stay_open, seats = True, _Seats(len(self._homes))
-        collections.deque(self._on_seats(seats, stay_open), 0)
+        collections.deque(self._on_seats(seats, stay_open, earlier + later), 0)
         if seats.most > THREADS:
             stay_open, seats = False, _Seats(len(self._homes))
-            collections.deque(self._on_seats(seats, stay_open), 0)
+            collections.deque(self._on_seats(seats, stay_open, earlier + later), 0)
         self.overlaps, threads = seats.overlaps, seats.count
         current = list(range(threads))
-        for seat, kind, given in self._on_seats(_Seats(len(self._homes)), stay_open):
+        for seat, kind, given in self._on_seats(_Seats(len(self._homes)), stay_open, earlier + later):
             yield Moment(kind, current[seat], given)
             if kind == "info":
                 current[seat] += threads
 
-    def _on_seats(self, seats: _Seats, stay_open: bool) -> Iterator[Tuple[int, str, Any]]:
-        """The events, each with the seat of its operation; what never returned stays open until its client goes on, or ends at once."""
+    def _on_seats(self, seats: _Seats, stay_open: bool, apart: Time) -> Iterator[Tuple[int, str, Any]]:
+        """The events, each with the seat of its operation; what never returned stays open until its client goes on, or ends at once.
+        A call comes after the returns that were earlier by more than this."""
         waiting: Dict[int, List[Tuple[int, str]]] = {}
-        for _, point, number, home, outcome, given in self._points:
-            if point == END:
-                yield seats.leave(number), outcome, given
-                continue
+        ends = iter(self._ends)
+        end = next(ends, None)
+        for call, number, home, outcome, given in self._begins:
+            while end is not None and end[0] < call - apart:
+                yield seats.leave(end[1]), end[2], end[3]
+                end = next(ends, None)
             for before, ended in waiting.pop(home, ()) if waiting else ():
                 yield seats.leave(before), ended, None
             yield seats.take(number, home), "invoke", given
@@ -73,6 +80,9 @@ class Timeline:
                 yield seats.leave(number), outcome, None
             elif outcome and home >= 0:
                 waiting.setdefault(home, []).append((number, outcome))
+        while end is not None:
+            yield seats.leave(end[1]), end[2], end[3]
+            end = next(ends, None)
 
 
 class _Seats:

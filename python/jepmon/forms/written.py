@@ -1,43 +1,48 @@
-"""Events written as Jepsen writes them, each with the line of the file that it comes from."""
+"""Events of rows, handed over one by one as events of Jepsen, each with the line of the file that it comes from."""
 from __future__ import annotations
 
 import collections
 import json
-from typing import Any, Counter, List, NamedTuple, Optional
+import json.encoder
+from typing import Any, Callable, Counter, List, NamedTuple, Optional
 
-from . import Refused
+from ..edn import Many, Value, canonical
+from ..from_jepsen.collect import Collector, Pair
+from ..from_jepsen.events import History
+from . import Refused, others
 from .clock import Time
 
+TEXT: Callable[[str], str] = json.encoder.encode_basestring  # type: ignore[attr-defined]
 MISSING: Any = object()  # if a row has no such field
 
 
 class Written(NamedTuple):
-    """A history in Jepsen's form, an event a line."""
+    """A history that was made of rows."""
 
-    text: str
-    lines: List[int]  # of the file, for each line of the text
+    history: History
     notes: List[str]  # what is to be told of how it came about
     nil_is_absent: bool = False  # whether the form itself says that nil is what a missing key answers
 
 
 class Writer:
-    """Writes events one by one."""
+    """Writes events one by one, as Jepsen has them."""
 
-    def __init__(self) -> None:
-        self._events: List[str] = []
-        self._lines: List[int] = []
+    def __init__(self, collector: Collector) -> None:
+        self._collector = collector
         self.counts: Counter[str] = collections.Counter()  # of what is to be told
 
-    def event(self, line: int, kind: str, process: str, name: str, value: str, time: Optional[Time] = None, error: Optional[str] = None) -> None:
-        further = f", :time {int(time)}" if time is not None and 0 <= time < 1 << 63 else ""
-        if error:
-            further += f", :error {element(error)}"
-        self._events.append(f"{{:process {process}, :type :{kind}, :f :{name}, :value {value}{further}}}\n")
-        self._lines.append(line)
+    def event(self, line: int, kind: str, process: str, name: str, value: Pair, time: Optional[Time] = None, error: Optional[str] = None) -> None:
+        beside = None if time is None and not error else (None if time is None else int(time), error or None)
+        if process == ":nemesis":
+            self._collector.take_fault(line, name, value[1], 0 if time is None else int(time))
+            return
+        if name in others.OTHERS:
+            raise Refused(others.reason(line, name))
+        self._collector.take_told(line, f":{kind}", int(process), f":{name}", value, beside)
 
     def written(self, notes: List[str], nil_is_absent: bool = False) -> Written:
         counted = [f"{note}: {count}" for note, count in self.counts.items()]
-        return Written("".join(self._events), self._lines, notes + counted, nil_is_absent)
+        return Written(self._collector.finished(), notes + counted, nil_is_absent)
 
 
 def element(value: Any) -> str:
@@ -49,10 +54,24 @@ def element(value: Any) -> str:
     return "{" + ", ".join(f"{element(name)} {element(field)}" for name, field in value.items()) + "}"
 
 
-def value_of(key: Any, part: Any) -> str:
-    """The value of an event: [key part], or the part alone where there is no key."""
-    part = None if part is MISSING else part
-    return element(part) if key is MISSING else f"[{element(key)} {element(part)}]"
+def value_of(key: Any, part: Any) -> Pair:
+    """The value of an event: its key, if it has one, and its part."""
+    return (None if key is MISSING else edn_of(key)), edn_of(None if part is MISSING else part)
+
+
+def edn_of(value: Any) -> Value:
+    """A value of JSON in EDN."""
+    if type(value) is str:
+        return TEXT(value)
+    if type(value) is int:
+        return str(value)
+    if value is None:
+        return "nil"
+    if isinstance(value, list):
+        return Many("[", tuple(map(edn_of, value)))
+    if isinstance(value, dict):
+        return canonical(Many("{", tuple(edn_of(one) for pair in value.items() for one in pair)))
+    return json.dumps(value)
 
 
 def word(line: int, name: str) -> str:

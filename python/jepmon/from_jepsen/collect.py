@@ -24,7 +24,7 @@ from __future__ import annotations
 
 import itertools
 import re
-from typing import Dict, Iterable, Iterator, Mapping, NamedTuple, NoReturn, Optional, Tuple
+from typing import Any, Dict, Iterable, Iterator, List, Mapping, NamedTuple, NoReturn, Optional, Tuple
 
 from .. import edn, faults, kinds
 from ..edn import Many, Value, canonical, integer, shown, spelling
@@ -45,7 +45,12 @@ ANSWERED = frozenset(f":{name}" for name in kinds.ANSWERED)
 WITHOUT_PART = frozenset([f":{name}" for name in kinds.WITHOUT_PART] + [DRAIN])
 NATURAL = range(0, 1 << 63)  # processes, and indices
 MOST_KNOWN = 10_000  # values of events that are remembered
+GAP = "blank, comment or bracket"  # lines between events
+MOST_ROWS = 1_000  # events that are held
 OK_WITH_ERROR = re.compile(r"^(?=[^\n]*:type :ok\b)[^\n]*:error (?!nil\b|false\b)", re.M)
+
+
+Pair = Tuple[Optional[Value], Value]  # the key, if there is one, and the part
 
 
 class Counted:
@@ -92,6 +97,10 @@ class Collector:
         self.open: Dict[int, Row] = {}
         self.history = History(Spool())
         self.known: Dict[Tuple[str, str, Value], Tuple[Value, Value]] = {}  # the key and part of values that came, by :type and :f
+        self.nil_fault: Optional[Refusal] = None  # the first write of nil
+        self.rows: List[Row] = []  # events that were told, and not kept yet
+        self.count = 0  # of events
+        self.beside: Any = None  # what the event said beside its value
 
     def collect(self, pieces: Iterable[str]) -> History:
         """The history of a text that comes in pieces."""
@@ -99,24 +108,26 @@ class Collector:
         front = next(pieces, "")
         plain = plain_of(front, self.lone_key is None)
         elements = edn.Reader(itertools.chain((front,), pieces)).history(plain.find if plain is not None else None)
-        count = 0
         try:
             for element in elements:
                 if plain is not None and element.rows:
-                    count = self.take_run(element, plain, count)
+                    self.count = self.take_run(element, plain, self.count)
                 else:
-                    self.take(element, count)
-                    count += 1
+                    self.take(element, self.count)
+                    self.count += 1
         except NoKey:
             refuse_others(elements)
             raise
         except edn.Unreadable as fault:
             raise Refusal(str(fault)) from fault
         self.close(pieces.lines)
-        return self.finished(count)
+        return self.finished()
 
-    def finished(self, count: int) -> History:
-        """The history, of which so many events were taken."""
+    def finished(self) -> History:
+        """The history of the events that were taken."""
+        count = self.count
+        self.keep_rows()
+        self.history.nil_fault = self.nil_fault
         if count == 0:
             raise Refusal("there is no event in it: the file is empty")
         if not self.history.keys and self.history.drained:
@@ -132,7 +143,7 @@ class Collector:
 
     def close(self, lines: int) -> None:
         """Accounts for the lines of the text between its events."""
-        self.account.skip("blank, comment or bracket", lines - self.account.taken - sum(self.account.skipped.values()))
+        self.account.skip(GAP, lines - self.account.taken - sum(self.account.skipped.values()))
         self.account.close(lines)
 
     def take_run(self, run: edn.Element, plain: Plain, count: int) -> int:
@@ -143,7 +154,7 @@ class Collector:
             return count + 1
         opened, tell, rows = self.open, self.history.count, []
         for row in plain.events(run, self.lone_key, count):
-            kind, process, name, key, part, _, line = row
+            kind, process, name, key, part, _, line, _ = row
             invoked = opened.get(process)
             if kind == ":invoke":
                 fits = invoked is None and (part == "nil") == (name in WITHOUT_PART) and (type(part) is tuple) == (name == ":cas")
@@ -181,9 +192,63 @@ class Collector:
         self.clients.has_numbers()
         return False
 
+    def take_told(self, line: int, kind: str, process: int, name: str, value: Pair, beside: Any) -> None:
+        """Takes an event that was told by something else than EDN, with what else that said: its time, and an error."""
+        key, part = value
+        if key is None and self.lone_key is not None:
+            key = self.lone_key
+        is_pair = name == ":cas" and type(part) is Many and len(part.members) == 2
+        flat: Any = ("[", part.members) if is_pair else part  # type: ignore[union-attr]
+        invoked = self.open.get(process)
+        if type(key) is not str or type(part) is not str and not (is_pair and all(type(one) is str and one != "nil" for one in flat[1])):
+            fits = False
+        elif kind == ":invoke":
+            fits = invoked is None and name in TAKEN and (part == "nil") == (name in WITHOUT_PART) and is_pair == (name == ":cas") and name != DRAIN
+        elif invoked is None or invoked[2] != name or invoked[3] != key:
+            fits = False
+        elif kind == ":ok" and name in ANSWERED:
+            fits = part != "nil" or name == ":read"
+        else:
+            fits = flat == invoked[4]
+        if fits:
+            row = kind, process, name, key, flat, self.count, line, beside
+            if kind == ":invoke":
+                self.open[process] = row
+            else:
+                del self.open[process]
+            if self.history.is_plain and not all(map(is_plain, flat[1] if is_pair else (flat,))):
+                self.history.is_plain = False
+            self.history.count(row)
+            self.rows.append(row)
+            if len(self.rows) >= MOST_ROWS:
+                self.keep_rows()
+        else:
+            self.keep_rows()
+            self.beside = beside
+            given = part if value[0] is None else Many("[", (value[0], part))
+            self.take_event(line, process, {":type": kind, ":f": name, ":value": given}, self.count)
+            self.beside = None
+        self.count += 1
+
+    def take_fault(self, line: int, name: str, value: Value, time: int) -> None:
+        """Takes an event of a nemesis that was told by something else than EDN."""
+        self.keep_rows()
+        fields: Dict[str, Value] = {":process": ":nemesis", ":type": ":info", ":f": f":{name}", ":value": value, ":time": str(time)}
+        if faults.is_fault(fields):
+            self.history.events.append(Fault(f":f :{name}, :value {spelling(value)}", self.count))
+        else:
+            self.history.left_out[":nemesis"] += 1
+            self.history.nemesis.append(Left(len(self.history.events), f":{name}", value, time))
+        self.count += 1
+
+    def keep_rows(self) -> None:
+        if self.rows:
+            self.history.events.extend(self.rows)
+            self.rows = []
+
     def take_odd(self, row: Row) -> None:
         """Takes an event of a run of which there is more to be said."""
-        kind, process, name, key, part, index, line = row
+        kind, process, name, key, part, index, line, _ = row
         value = value_of(part)
         if self.lone_key is None:
             value = Many("[", (key, value))
@@ -246,7 +311,7 @@ class Collector:
         key, part = self.key_and_part(line, ":invoke", name, value)
         if name in WITHOUT_PART and part != "nil":
             self.history.notes[f":invoke of {name} with a value, which is left out"] += 1
-        event = Event(":invoke", process, name, key, "nil" if name in WITHOUT_PART else part, index, line)
+        event = Event(":invoke", process, name, key, "nil" if name in WITHOUT_PART else part, index, line, self.beside)
         self.open[process] = row_of(event)
         if name == DRAIN:
             self.history.drained.add(key)
@@ -289,7 +354,7 @@ class Collector:
             self.history.notes[f"{kind} of {name} with a value, which is left out"] += 1
         elif name not in WITHOUT_PART and not self.repeats(invoked, value):
             self.history.notes[f"{kind} of {name} with another value than their invocation, whose value stands"] += 1
-        self.history.add(Event(kind, process, name, invoked.key, part, index, line))
+        self.history.add(Event(kind, process, name, invoked.key, part, index, line, self.beside))
 
     def give_up(self, process: int) -> None:
         """Ends the operation of a process of which nothing more is known."""
@@ -356,8 +421,17 @@ class Collector:
         if self.nil_is_absent and name in (":write", ":cas"):
             return
         if name not in WITHOUT_PART and "nil" in (part.members if name == ":cas" and isinstance(part, Many) else (part,)):
-            other = " or say --nil-is-absent" if name in (":write", ":cas") else ""
-            refuse(line, f"{name} of nil, which jepmon has not as a value; let the test write a number for it{other}")
+            is_register = name in (":write", ":cas")
+            other = " or say --nil-is-absent" if is_register else ""
+            fault = Refusal(f"line {line}: {name} of nil, which jepmon has not as a value; let the test write a number for it{other}")
+            if not is_register:
+                raise fault
+            self.nil_fault = self.nil_fault or fault
+
+
+def is_plain(part: str) -> bool:
+    """Whether a part is nil, or an integer that is a value of jepmon."""
+    return part == "nil" or len(part) < 19 and part.lstrip("-").isdigit()
 
 
 def refuse_operation(line: int, name: Optional[Value]) -> NoReturn:

@@ -20,9 +20,10 @@ class Event(NamedTuple):
     part: Value
     own_index: int
     line: int
+    beside: Any = None  # the time and the error of one that was told by something else than EDN, if it has some
 
 
-Row = Tuple[str, int, str, Any, Any, int, int]  # an event, with its key and part as spool.py has them
+Row = Tuple[str, int, str, Any, Any, int, int, Any]  # an event, with its key and part as spool.py has them
 
 
 class Fault(NamedTuple):
@@ -90,6 +91,8 @@ class History:
         self.notes: Counter[str] = collections.Counter()
         self.drained: Set[Value] = set()  # the keys that have drains
         self.clients: Dict[int, str] = {}  # the names of clients by their numbers, if they have names
+        self.nil_fault: Optional[Exception] = None  # the first write of nil, which is refused unless nil is what a missing key answers
+        self.is_of_rows = False  # whether it was made of rows, whose events have no index of their own
         self.is_plain = True  # whether the part of each event is nil, or one or more plain integers
         self._begun: Set[int] = set()  # the processes that have begun, and have not crashed
         self._open = 0
@@ -104,7 +107,7 @@ class History:
 
     def count(self, event: Union[Event, Row]) -> None:
         """Counts the next event of a client, which is kept apart: one whose part is nil, or one or more plain integers."""
-        kind, process, name, key, part, _, line = event
+        kind, process, name, key, part, _, line, _ = event
         if kind == ":invoke":
             seen = self.keys.get(key)
             if seen is None:

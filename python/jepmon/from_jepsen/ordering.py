@@ -17,7 +17,7 @@ from ..forms.mapping import INDEX, LINES, TIMES
 from ..forms.timeline import Timeline
 from ..sorted_rows import SortedRows
 from .clients import Clients
-from .collect import Asked, Collector, Counted
+from .collect import GAP, Asked, Collector, Counted
 from .events import History
 from .order import Time, number_of
 from .refusal import OutOfOrder, Refusal, refuse
@@ -103,7 +103,8 @@ def ordered(texts: Texts, asked: Asked, account: Account, fault: Optional[Refusa
     if order == LINES:
         history = collector.collect(texts())
     else:
-        history = collector.finished(by_index(texts(), facts, collector) if order == INDEX else by_time(texts(), asked.skew, collector))
+        collector.count = by_index(texts(), facts, collector) if order == INDEX else by_time(texts(), asked.skew, collector)
+        history = collector.finished()
     for guess in scratch.guesses:
         account.guess(*guess)
     return history
@@ -119,7 +120,7 @@ def read(texts: Iterable[str], account: Account) -> Facts:
             account.took(element.line, element.last_line)
             facts.take(element.line, process, fields)
     facts.close()
-    account.skip("blank, comment or bracket", pieces.lines - account.taken - sum(account.skipped.values()))
+    account.skip(GAP, pieces.lines - account.taken - sum(account.skipped.values()))
     account.close(pieces.lines)
     return facts
 
@@ -184,9 +185,9 @@ def by_index(texts: Iterable[str], facts: Facts, collector: Collector) -> int:
 
 def by_time(texts: Iterable[str], skew: int, collector: Collector) -> int:
     """Takes the operations in the order of their times, each wider by a clock error."""
-    timeline, faults = timeline_of(texts, skew)
+    timeline, faults = timeline_of(texts)
     count = 0
-    for moment in timeline.moments():
+    for moment in timeline.moments(skew, skew):
         while faults and moment.given is not None and faults[-1][0] <= moment.given[2]:
             collector.take(again(*faults.pop()[2:]), count)
         if moment.given is None:
@@ -203,9 +204,9 @@ def by_time(texts: Iterable[str], skew: int, collector: Collector) -> int:
     return count
 
 
-def timeline_of(texts: Iterable[str], skew: int) -> Tuple[Timeline, List[Tuple[Time, int, int, str]]]:
+def timeline_of(texts: Iterable[str]) -> Tuple[Timeline, List[Tuple[Time, int, int, str]]]:
     """The operations of clients, and what the nemesis did, by its time, the latest first."""
-    timeline, faults = Timeline(skew), []  # type: Timeline, List[Tuple[Time, int, int, str]]
+    timeline, faults = Timeline(), []  # type: Timeline, List[Tuple[Time, int, int, str]]
     opened: Dict[str, Tuple[Time, int, str]] = {}
     latest: Dict[str, Time] = {}
     for element, process, fields in elements(texts):

@@ -54,7 +54,7 @@ class Plain(NamedTuple):
         keys = columns["key"] if lone_key is None else itertools.repeat(lone_key)
         indices = map(int, columns["index"]) if "index" in columns else itertools.count(count)
         found: Iterator[Any] = zip(map(intern, columns["type"]), map(int, columns["process"]), map(intern, columns["f"]), keys, parts, indices,
-                                   itertools.count(run.line))
+                                   itertools.count(run.line), itertools.repeat(None))
         return found
 
 

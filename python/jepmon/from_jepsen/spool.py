@@ -79,8 +79,8 @@ def flat(event: Kept) -> Tuple[Any, ...]:
 
 
 def row_of(event: Event) -> Row:
-    kind, process, name, key, part, own_index, line = event
-    return kind, process, name, flat_value(key), flat_value(part), own_index, line
+    kind, process, name, key, part, own_index, line, beside = event
+    return kind, process, name, flat_value(key), flat_value(part), own_index, line, beside
 
 
 def flat_value(value: Value) -> Any:
@@ -92,8 +92,8 @@ def kept_of(flat: Tuple[Any, ...]) -> Kept:
 
 
 def event_of(row: Tuple[Any, ...]) -> Event:
-    kind, process, name, key, part, own_index, line = row
-    return Event(kind, process, name, value_of(key), value_of(part), own_index, line)
+    kind, process, name, key, part, own_index, line, beside = row
+    return Event(kind, process, name, value_of(key), value_of(part), own_index, line, beside)
 
 
 def value_of(flat: Any) -> Value:

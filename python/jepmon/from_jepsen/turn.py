@@ -78,6 +78,8 @@ def collected(source: Source, asked: Asked, account: Account) -> History:
 
 def written(history: History, nil_is_absent: bool, limits: Limits) -> Turned:
     """The history as it is written within these limits."""
+    if history.nil_fault is not None and not nil_is_absent:
+        raise history.nil_fault
     models = models_of_keys(history)
     if nil_is_absent:  # what begins with a write is no set
         models = {key: [model for model in possible if model in REGISTERS] or possible for key, possible in models.items()}

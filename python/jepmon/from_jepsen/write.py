@@ -32,6 +32,7 @@ class Writer:
 
     def __init__(self, history: History, models: Models, nil_is_absent: bool, limits: Limits) -> None:
         self.history = history
+        self.is_of_shards = limits is OF_SHARDS
         self.registers = {key for key, possible in models.items() if nil_is_absent and possible[0] in REGISTERS}
         self.sets = {key for key, possible in models.items() if possible == ["set"]}
         self.keys = Numbering(lambda: history.keys, KEYS if len(history.keys) <= len(KEYS) else limits.keys)
@@ -82,23 +83,30 @@ class Writer:
             if len(row) == 2:
                 yield fault_line(row)
                 continue
-            kind, process, name, key, part, own_index, _ = row
+            kind, process, name, key, part, own_index, line, _ = row
             if type(part) is not str:
                 part = f"[{' '.join(part[1])}]" if name == ":cas" else self.part(event_of(row))
-            yield f"{{:type {kind}, :process {process}, :f {name}, :value [{key} {part}], :jepsen-index {own_index}}}\n"
+            yield f"{{:type {kind}, :process {process}, :f {name}, :value [{key} {part}]{self.place(own_index, line)}}}\n"
 
     def line(self, row: Tuple[Any, ...], processes: OwnProcesses) -> str:
         if len(row) == 2:
             return fault_line(row)
-        kind, process, name, key, part, own_index, _ = row
+        kind, process, name, key, part, own_index, line, _ = row
         text = self.known.get((kind, name, key, part))
         if text is None:
             event = event_of(row)
             text = f":f {name}, :value [{self.keys(event.key)} {self.part(event)}]"
             if len(self.known) < MOST_KNOWN and isinstance(part, str):
                 self.known[kind, name, key, part] = text
-        own = f", :jepsen-process {process}" if self.processes.renumbered and process not in self.history.clients else ""
-        return f"{{:type {kind}, :process {processes.process_of(kind, process)}, {text}, :jepsen-index {own_index}{own}}}\n"
+        own = f", :jepsen-process {process}" if self.processes.renumbered and process not in self.history.clients \
+            and not self.history.is_of_rows else ""
+        return f"{{:type {kind}, :process {processes.process_of(kind, process)}, {text}{self.place(own_index, line)}{own}}}\n"
+
+    def place(self, own_index: int, line: int) -> str:
+        """Where an event stood: its index, or if it had none its line."""
+        if not self.history.is_of_rows:
+            return f", :jepsen-index {own_index}"
+        return "" if self.is_of_shards else f", :line {line}"
 
     def part(self, event: Event) -> str:
         of_set = event.key in self.sets

@@ -22,9 +22,8 @@ def with_fields(found: Recorded, keys: Iterable[int]) -> Dict[int, List[Event]]:
     events = of_keys(found, keys)
     if found.translation is None:
         return events
-    further = found.translation.beside({found.lines[event.index] for of_key in events.values() for event in of_key} - {0})
-    return {key: [event._replace(fields={**event.fields, **further.get(found.lines[event.index], {})}) for event in of_key]
-            for key, of_key in events.items()}
+    further = found.translation.beside({event.index for of_key in events.values() for event in of_key}, found.begun)
+    return {key: [event._replace(fields={**event.fields, **further.get(event.index, {})}) for event in of_key] for key, of_key in events.items()}
 
 
 def of_keys(found: Recorded, keys: Iterable[int]) -> Dict[int, List[Event]]:

@@ -8,7 +8,6 @@ from ..forms.door import Translation
 from ..forms.own import Facts
 from ..forms.recorded import Recorded
 from ..from_jepsen import Turned
-from ..from_jepsen.events import Event as JepsenEvent
 from ..history import Event
 
 
@@ -21,11 +20,7 @@ def recorded(made: Translation, turned: Turned) -> Recorded:
 def with_lines(made: Translation, turned: Turned, keys: Mapping[int, Sequence[Event]]) -> Dict[int, List[Event]]:
     """The events of each key with their lines in the file, and what else these say of them."""
     wanted = {event.index for events in keys.values() for event in events}
-    lines: Dict[int, int] = {}
-    for index, event in enumerate(turned.history.events, turned.begun):
-        if index in wanted and isinstance(event, JepsenEvent):
-            lines[index] = event.line
-    further = made.beside(set(lines.values()))
-    return {key: [event._replace(line=made.line(lines.get(event.index, 0)),
-                                 fields={**event.fields, **further.get(lines.get(event.index, 0), {})}) for event in events]
+    lines = {index: line for index, line in enumerate(made.lines(turned.begun)) if index in wanted}
+    further = made.beside(wanted, turned.begun)
+    return {key: [event._replace(line=lines.get(event.index, 0), fields={**event.fields, **further.get(event.index, {})}) for event in events]
             for key, events in keys.items()}
