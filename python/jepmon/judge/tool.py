@@ -16,7 +16,7 @@ from ..forms import Beyond, Refused, door, files
 from ..forms.door import Translation
 from ..forms.recorded import Recorded, of_own, of_translation
 from ..program import CURE, Options, find_program
-from . import as_json, bad_keys, by_shards, events, hints, large, models, results, terminal, wide, words
+from . import as_json, bad_keys, by_shards, events, hints, large, models, results, terminal, ties, wide, words
 from .judging import Task, judged
 from .outputs import Folder, Page
 from .words import NAME, Given
@@ -143,6 +143,8 @@ def _judge_whole(source: files.Source, found: Recorded, given: Given, page: Opti
     report = judged(task)
     report, decided = wide.anew(report, task.options, functools.partial(events.of_keys, found), given.wide_seconds)
     task = task._replace(wide_seconds=given.wide_seconds if decided else None)
+    with named(source):
+        ties.test(source, found, task, report, given.said)
     if not given.json:
         command.write_output([report.text or report.error])
     beside = list(hints.after(found, task, report, source, given.said, given.cause))
